@@ -1,0 +1,250 @@
+-- One processor: what the events of any core run tell is a history.
+use Rattle.std.proofs.Common.{◌≡◌, ℕ, zero, suc, ◌+◌, ◌<◌, ◌≤◌, ◌^◌, true, Option, Some, None, List, [], ◌∷◌, ◌++◌, map, replicate, length, refl, ap, sym, ◌∙◌, subst, arith, append_assoc}
+use Rattle.std.specs.Prelude.{slice_get, slice_index_or, slice_set, nat_lt}
+use Rattle.std.specs.Option.{option_map}
+use Rattle.std.specs.List.{range_with_len}
+use Rattle.std.proofs.lemmas.List.{length-map}
+use Rattle.std.proofs.lemmas.Bool.{ltb-true}
+use Rattle.l4_model.specs.Machine.{Declaration, Machine}
+use Rattle.l4_model.specs.World.{Thread, World, Send, Phase, Ready, Sending, Receiving, Ordering, Ended, Deleted, opening, opening_thread, changed, is_ready}
+use Rattle.l4_model.specs.Steps.{Step, Tick, next}
+use Rattle.l4_model.specs.Conditions.{◌>>=◌}
+use Rattle.l4_model.specs.History.{run, IsHistory}
+use Rattle.l4_model.proofs.Chains.{bind_then, guard_then, some_is}
+use Rattle.l4_core_model.specs.Local.{Local, is_own, own_places, opening_local, thread}
+use Rattle.l4_core_model.specs.Acts.{Work, ◌▷◌, tells, does}
+use Rattle.l4_core_model.specs.Turns.{turn, opened, advance, clock_is}
+use Rattle.l4_core_model.specs.Runs.{Happening, Handles, Turns, Ticks, Event, Happened, happens, done, Run, then_event, core_run, opening_run, told, letters, IsMachine, TellsHistories}
+use Rattle.l4_core_model.specs.Schedules.{or_stays, entry_event, replays, replay}
+use Rattle.l4_core_model.proofs.Knows.{IsSingle, Knows, AreSeats, blocks, told as tell}
+use Rattle.l4_core_model.proofs.Fit.{IsFit, IsGood, IsReadyAt, AreDistinct, NotIn, SendIsSince, PhaseIsSince, all-map, distinct-filter}
+use Rattle.l4_core_model.proofs.Pieces.{Goes}
+use Rattle.l4_core_model.proofs.Single.{own_below, opened_goes, turn_goes}
+
+-- A tick
+
+send_later : (now to : ℕ) (o : Option Send) → now ≤ to → SendIsSince now o → SendIsSince to o
+send_later now to None le h = tt
+send_later now to (Some send) le h = omega arith
+
+phase_later : (now to : ℕ) (p : Phase) → now ≤ to → PhaseIsSince now p → PhaseIsSince to p
+phase_later now to Ready le h = tt
+phase_later now to Sending le h = tt
+phase_later now to (Receiving receive since) le h = omega arith
+phase_later now to Ordering le h = tt
+phase_later now to Ended le h = tt
+phase_later now to Deleted le h = tt
+
+fit-clock : (m : Machine) (l : Local) (to : ℕ) → IsFit m l → l.clock ≤ to → IsFit m (clock_is to l)
+fit-clock m l to fit le = record {
+  threads = fit.threads;
+  lists = fit.lists;
+  good = λ i lt. let g = fit.good i lt in record { suits = g.suits; sends = send_later l.clock to (thread l i).send le g.sends; receives = phase_later l.clock to (thread l i).phase le g.receives };
+  seats = fit.seats;
+  ready = fit.ready;
+  once = fit.once;
+  armed = fit.armed;
+}
+
+tick_possible : (m : Machine) (w : World) (to now : ℕ) → w.clocks ≡ now ∷ [] → nat_lt now to ≡ true → nat_lt to (2 ^ 62) ≡ true → next m w (Tick 0 to) ≡ Some (record w { clocks = slice_set w.clocks 0 to })
+tick_possible m w to now at above below = rw (at, above, below)
+
+advance_goes : (m : Machine) (w : World) (l : Local) (to : ℕ) (x : Work) → IsSingle m → Knows m w l → IsFit m l → advance m 0 to l ≡ Some x → Goes m w x
+advance_goes m w l to x single k fit h =
+    guard_then (nat_lt l.clock to) _ x h λ above rest.
+    guard_then (nat_lt to (2 ^ 62)) _ x rest λ below rest.
+    let go = opened_goes m w l 0 k fit in
+    let y : Work = opened 0 l ▷ tells (Tick 0 to) ▷ does (clock_is to) in
+    let u : World = go.follows.now in
+    let at : Knows m u (opened 0 l).local = go.follows.knows in
+    let v : World = record u { clocks = slice_set u.clocks 0 to } in
+    let known : Knows m v y.local = record { threads = at.threads; waiting = at.waiting; clocks = ap (λ cs. slice_set cs 0 to) at.clocks; size = at.size } in
+    let ticks : Goes m w y = record {
+      follows = tell m w (opened 0 l) (Tick 0 to) y.local v go.follows (tick_possible m u to l.clock at.clocks above below) known;
+      fit = fit-clock m (opened 0 l).local to go.fit (ltb-true_le l.clock to above);
+      no_letters = refl;
+    } in
+    subst (Goes m w) (some_is y x rest) ticks
+  where
+    ltb-true_le : (a b : ℕ) → nat_lt a b ≡ true → a ≤ b
+    ltb-true_le a b h = let lt = ltb-true a b h in omega arith
+
+-- A core run so far
+
+run-append : (m : Machine) (xs ys : List Step) (w : World) → run m w (xs ++ ys) ≡ (run m w xs >>= λ v. run m v ys)
+run-append m [] ys w = refl
+run-append m (x ∷ xs) ys w = by (next m w x) (λ v. run-append m xs ys v)
+  where
+    by : (o : Option World) → ((v : World) → run m v (xs ++ ys) ≡ (run m v xs >>= λ u. run m u ys)) → (o >>= λ v. run m v (xs ++ ys)) ≡ ((o >>= λ v. run m v xs) >>= λ v. run m v ys)
+    by None rest = refl
+    by (Some v) rest = rest v
+
+append_nil : {A : Type 0} (xs : List A) → xs ++ [] ≡ xs
+append_nil [] = refl
+append_nil (x ∷ xs) = ap (λ ys. x ∷ ys) (append_nil xs)
+
+told-last : (es : List Event) (e : Event) → told (es ++ e ∷ []) ≡ told es ++ e.steps
+told-last [] e = append_nil e.steps
+told-last (x ∷ es) e = ap (λ ys. x.steps ++ ys) (told-last es e) ∙ sym (append_assoc x.steps (told es) e.steps)
+
+record Leads (m : Machine) (r : Run) : Type 0 where
+  w : World
+  reaches : run m (opening m) (told r.events) ≡ Some w
+  l : Local
+  locals : r.system.locals ≡ l ∷ []
+  mail : r.system.mail ≡ []
+  knows : Knows m w l
+  fit : IsFit m l
+
+-- An event of the one processor.
+event_leads : (m : Machine) (r : Run) (x : Work) → (s : Leads m r) → Goes m s.w x → Leads m (then_event r (done 0 r.system x))
+event_leads m r x s go =
+    let f = go.follows in
+    let before = s.reaches in
+    let after = f.reaches in
+    let quiet = go.no_letters in
+    let all = told-last r.events (record { cpu = 0; stamp = x.local.stamp; steps = x.steps }) in
+    record {
+      w = f.now;
+      reaches = ap (run m (opening m)) all ∙ run-append m (told r.events) x.steps (opening m) ∙ ap (λ o. o >>= λ v. run m v x.steps) before ∙ after;
+      l = x.local;
+      locals = ap (λ ls. changed_local x ls) s.locals;
+      mail = rw (quiet) (append_nil r.system.mail ∙ s.mail);
+      knows = f.knows;
+      fit = go.fit;
+    }
+  where
+    changed_local : Work → List Local → List Local
+    changed_local x ls = changed (λ l. x.local) ls 0
+
+only_local : (l other : Local) (cpu : ℕ) → slice_get (l ∷ []) cpu ≡ Some other → (cpu ≡ 0) × (l ≡ other)
+only_local l other zero h = (refl, some_is l other h)
+only_local l other (suc cpu) h = cc
+
+step_leads : (m : Machine) (r : Run) (e : Happening) (h : Happened) → IsSingle m → Leads m r → happens m r.system e ≡ Some h → Leads m (then_event r h)
+step_leads m r (Handles cpu from) h single s is =
+    bind_then (slice_get r.system.locals cpu) _ h is λ l at rest.
+    bind_then (slice_get (letters r.system.mail from cpu) 0) _ h rest λ letter first rest.
+    let none : slice_get (letters r.system.mail from cpu) 0 ≡ None = ap (λ mail. slice_get (letters mail from cpu) 0) s.mail in
+    cc
+step_leads m r (Turns cpu) h single s is =
+    bind_then (slice_get r.system.locals cpu) _ h is λ l at rest.
+    let only = only_local s.l l cpu (sym (ap (λ ls. slice_get ls cpu) s.locals) ∙ at) in
+    by (turn m 0 s.l) refl (subst (λ c. option_map (done c r.system) (turn m c s.l) ≡ Some h) only.0 (subst (λ l. option_map (done cpu r.system) (turn m cpu l) ≡ Some h) (sym only.1) rest))
+  where
+    by : (o : Option Work) → turn m 0 s.l ≡ o → option_map (done 0 r.system) o ≡ Some h → Leads m (then_event r h)
+    by None e is = cc
+    by (Some x) e is = subst (λ h. Leads m (then_event r h)) (some_is (done 0 r.system x) h is) (event_leads m r x s (turn_goes m s.w s.l x single s.knows s.fit e))
+step_leads m r (Ticks cpu clock) h single s is =
+    bind_then (slice_get r.system.locals cpu) _ h is λ l at rest.
+    let only = only_local s.l l cpu (sym (ap (λ ls. slice_get ls cpu) s.locals) ∙ at) in
+    by (advance m 0 clock s.l) refl (subst (λ c. option_map (done c r.system) (advance m c clock s.l) ≡ Some h) only.0 (subst (λ l. option_map (done cpu r.system) (advance m cpu clock l) ≡ Some h) (sym only.1) rest))
+  where
+    by : (o : Option Work) → advance m 0 clock s.l ≡ o → option_map (done 0 r.system) o ≡ Some h → Leads m (then_event r h)
+    by None e is = cc
+    by (Some x) e is = subst (λ h. Leads m (then_event r h)) (some_is (done 0 r.system x) h is) (event_leads m r x s (advance_goes m s.w s.l clock x single s.knows s.fit e))
+
+run_leads : (m : Machine) (es : List Happening) (r last : Run) → IsSingle m → Leads m r → core_run m r es ≡ Some last → Leads m last
+run_leads m [] r last single s h = subst (Leads m) (some_is r last h) s
+run_leads m (e ∷ es) r last single s h =
+    bind_then (happens m r.system e) _ last h λ happened is rest.
+    run_leads m es (then_event r happened) last single (step_leads m r e happened single s is) rest
+
+-- The opening
+
+get-same : {A B : Type 0} (b : B) (xs : List A) (i : ℕ) → slice_index_or (map (λ x. b) xs) i b ≡ b
+get-same b [] i = refl
+get-same b (x ∷ xs) zero = refl
+get-same b (x ∷ xs) (suc i) = get-same b xs i
+
+empty_blocks : (ds : List Declaration) → map (λ d. let none : List ℕ = [] in none) ds ≡ map blocks (map (λ d. []) ds)
+empty_blocks [] = refl
+empty_blocks (d ∷ ds) = ap (λ xs. [] ∷ xs) (empty_blocks ds)
+
+above_range : (a n : ℕ) (i : ℕ) → i < a → NotIn i (range_with_len a n)
+above_range a zero i lt = tt
+above_range a (suc n) i lt = ((λ e. omega arith), above_range (a + 1) n i (omega arith))
+
+range_distinct : (a n : ℕ) → AreDistinct (range_with_len a n)
+range_distinct a zero = tt
+range_distinct a (suc n) = (above_range (a + 1) n a (omega arith), range_distinct (a + 1) n)
+
+opening_knows : (m : Machine) → IsSingle m → Knows m (opening m) (opening_local m 0)
+opening_knows m single = record {
+  threads = refl;
+  waiting = empty_blocks m.threads;
+  clocks = ap (λ n. replicate n 0) single.one;
+  size = length-map m.threads (λ d. opening_thread);
+}
+
+opening_fit : (m : Machine) → IsSingle m → IsFit m (opening_local m 0)
+opening_fit m single =
+    let ts : List Thread = map (λ d. opening_thread) m.threads in
+    record {
+      threads = length-map m.threads (λ d. opening_thread);
+      lists = length-map m.threads (λ d. []);
+      good = λ i lt. subst (IsGood 0) (sym (get-same opening_thread m.threads i)) (record { suits = (refl, refl); sends = tt; receives = tt });
+      seats = λ r. subst (AreSeats m ts r) (sym (get-same [] m.threads r)) tt;
+      ready = all-map (λ i. i < length m.threads) (IsReadyAt m ts) (λ i lt. record { within = lt; ready = ap (λ (t : Thread). is_ready t.phase) (get-same opening_thread m.threads i) }) (own_places m 0) (own_below m);
+      once = distinct-filter (is_own m 0) (range_with_len 0 (length m.threads)) (range_distinct 0 (length m.threads));
+      armed = tt;
+    }
+
+opening_leads : (m : Machine) → IsSingle m → Leads m (opening_run m)
+opening_leads m single = record {
+  w = opening m;
+  reaches = refl;
+  l = opening_local m 0;
+  locals = ap (λ n. map (opening_local m) (range_with_len 0 n)) single.one;
+  mail = refl;
+  knows = opening_knows m single;
+  fit = opening_fit m single;
+}
+
+single_is : (m : Machine) → IsMachine m → m.cpus ≡ 1 → IsSingle m
+single_is m is one = record { placed = is.placed; homed = λ i lt. let h = is.homed i lt in omega arith; one = one }
+
+-- The law
+pub single_processor : (m : Machine) → IsMachine m → m.cpus ≡ 1 → TellsHistories m
+single_processor m is one es r h =
+    let single = single_is m is one in
+    let s = run_leads m es (opening_run m) r single (opening_leads m single) h in
+    (s.w, s.reaches)
+
+-- A replay is a core run.
+
+core_run-last : (m : Machine) (es : List Happening) (r last : Run) (e : Happening) (h : Happened) → core_run m r es ≡ Some last → happens m last.system e ≡ Some h → core_run m r (es ++ e ∷ []) ≡ Some (then_event last h)
+core_run-last m [] r last e h is possible =
+    let same = some_is r last is in
+    subst (λ r. (happens m r.system e >>= λ h. Some (then_event r h)) ≡ Some (then_event last h)) (sym same) (rw possible)
+core_run-last m (x ∷ es) r last e h is possible = by (happens m r.system x) is (λ g. core_run-last m es (then_event r g) last e h)
+  where
+    by : (o : Option Happened) → (o >>= λ g. core_run m (then_event r g) es) ≡ Some last →
+        ((g : Happened) → core_run m (then_event r g) es ≡ Some last → happens m last.system e ≡ Some h → core_run m (then_event r g) (es ++ e ∷ []) ≡ Some (then_event last h)) →
+        (o >>= λ g. core_run m (then_event r g) (es ++ e ∷ [])) ≡ Some (then_event last h)
+    by None is rest = cc
+    by (Some g) is rest = rest g is possible
+
+record IsRun (m : Machine) (r : Run) : Type 0 where
+  happenings : List Happening
+  is : core_run m (opening_run m) happenings ≡ Some r
+
+entry_is_run : (m : Machine) (r : Run) (o : Option Happening) → IsRun m r → IsRun m (or_stays r (o >>= happens m r.system))
+entry_is_run m r None s = s
+entry_is_run m r (Some e) s = by (happens m r.system e) refl
+  where
+    by : (o : Option Happened) → happens m r.system e ≡ o → IsRun m (or_stays r o)
+    by None is = s
+    by (Some h) is = record { happenings = s.happenings ++ e ∷ []; is = core_run-last m s.happenings (opening_run m) r e h s.is is }
+
+replays_is_run : (m : Machine) (schedule : List ℕ) (r : Run) → IsRun m r → IsRun m (replays m r schedule)
+replays_is_run m [] r s = s
+replays_is_run m (entry ∷ entries) r s =
+    let o : Option Happening = entry_event m r.system entry in
+    replays_is_run m entries (or_stays r (o >>= happens m r.system)) (entry_is_run m r o s)
+
+pub replay_is_run : (m : Machine) (schedule : List ℕ) → (es : List Happening) × (core_run m (opening_run m) es ≡ Some (replay m schedule))
+replay_is_run m schedule = let s = replays_is_run m schedule (opening_run m) (record { happenings = []; is = refl }) in (s.happenings, s.is)
+
+pub single_replay : (m : Machine) (schedule : List ℕ) → IsMachine m → m.cpus ≡ 1 → IsHistory m (told (replay m schedule).events)
+single_replay m schedule is one = let s = replay_is_run m schedule in single_processor m is one s.0 (replay m schedule) s.1

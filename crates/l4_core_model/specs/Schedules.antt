@@ -1,0 +1,101 @@
+-- Runs by a given schedule, and runs in rounds.
+use Rattle.std.specs.Prelude.{ℕ, zero, suc, ◌-◌, nat_lt, nat_le, min, length, Bool, if◌then◌else◌, Option, Some, None, List, [], ◌∷◌, map, slice_get}
+use Rattle.std.specs.Option.{option_map}
+use Rattle.l4_model.specs.Machine.{Machine}
+use Rattle.l4_model.specs.Conditions.{◌>>=◌}
+use Rattle.l4_core_model.specs.Runs.{System, processors, letters, Happening, Handles, Turns, Ticks, Happened, happens, Run, then_event, opening_run, is_empty}
+
+-- The turn of a processor: mail first, and of it that of the lowest poster; else the core's turn.
+abbrev pub first_poster : System → (cpu : ℕ) → List ℕ → Option ℕ
+first_poster g cpu [] = None
+first_poster g cpu (q ∷ qs) = if is_empty (letters g.mail q cpu) then first_poster g cpu qs else Some q
+
+abbrev pub turn_of : (cpu : ℕ) → Option ℕ → Happening
+turn_of cpu None = Turns cpu
+turn_of cpu (Some q) = Handles cpu q
+
+abbrev pub next_turn : Machine → System → (cpu : ℕ) → Happening
+next_turn m g cpu = turn_of cpu (first_poster g cpu (processors m))
+
+-- An event that is not possible leaves a run as it is.
+abbrev pub or_stays : Run → Option Happened → Run
+or_stays r None = r
+or_stays r (Some h) = then_event r h
+
+abbrev pub attempts : Machine → Run → Happening → Run
+attempts m r e = or_stays r (happens m r.system e)
+
+abbrev pub attempts_all : Machine → Run → List Happening → Run
+attempts_all m r [] = r
+attempts_all m r (e ∷ es) = attempts_all m (attempts m r e) es
+
+abbrev pub least_deadline : System → (cpu : ℕ) → Option ℕ
+least_deadline g cpu = slice_get g.locals cpu >>= λ l. option_map (λ e. e.0) (slice_get l.lists.armed 0)
+
+-- Replay: an entry below 16 is a turn of that processor, an entry above it a tick of that processor less 16 to its least
+-- deadline. Where there is nothing to do, it leaves the run as it is.
+
+abbrev pub entry_event : Machine → System → (entry : ℕ) → Option Happening
+entry_event m g entry =
+    if nat_lt entry 16 then Some (next_turn m g entry)
+    else option_map (Ticks (entry - 16)) (least_deadline g (entry - 16))
+
+abbrev pub replays : Machine → Run → List ℕ → Run
+replays m r [] = r
+replays m r (entry ∷ entries) = replays m (or_stays r (entry_event m r.system entry >>= happens m r.system)) entries
+
+abbrev pub replay : Machine → (schedule : List ℕ) → Run
+replay m schedule = replays m (opening_run m) schedule
+
+-- Rounds: one turn of each processor, rising. Where a round has no event, the clocks go on to the least deadline of all.
+
+abbrev pub turns_in_order : Machine → Run → List ℕ → Run
+turns_in_order m r [] = r
+turns_in_order m r (cpu ∷ cpus) = turns_in_order m (attempts m r (next_turn m r.system cpu)) cpus
+
+abbrev pub round : Machine → Run → Run
+round m r = turns_in_order m r (processors m)
+
+abbrev pub earliest : Option ℕ → Option ℕ → Option ℕ
+earliest None b = b
+earliest (Some a) None = Some a
+earliest (Some a) (Some b) = Some (min a b)
+
+abbrev pub earliest_of : List (Option ℕ) → Option ℕ
+earliest_of [] = None
+earliest_of (d ∷ ds) = earliest d (earliest_of ds)
+
+abbrev pub earliest_deadline : Machine → System → Option ℕ
+earliest_deadline m g = earliest_of (map (least_deadline g) (processors m))
+
+-- All clocks below the earliest deadline are advanced to it.
+abbrev pub ticks_to : Machine → Run → Option ℕ → Run
+ticks_to m r None = r
+ticks_to m r (Some deadline) = attempts_all m r (map (λ cpu. Ticks cpu deadline) (processors m))
+
+abbrev pub ticks : Machine → Run → Run
+ticks m r = ticks_to m r (earliest_deadline m r.system)
+
+abbrev pub turns_of : Run → ℕ
+turns_of r = length r.events
+
+abbrev pub has_gone_on : (before after : Run) → Bool
+has_gone_on before after = nat_lt (turns_of before) (turns_of after)
+
+-- A round, or where it has no event the ticks.
+abbrev pub round_or_ticks : Machine → (before after : Run) → Run
+round_or_ticks m before after = if has_gone_on before after then after else ticks m after
+
+-- What becomes of a run after a round: it has ended where nothing went on or the turns are used up.
+abbrev pub unless_ended : (turns : ℕ) → (before after : Run) → (Run → Run) → Run
+unless_ended turns before after more =
+    if has_gone_on before after then (if nat_le turns (turns_of after) then after else more after) else after
+
+-- Rounds until so many turns are used up, or nothing goes on. Each round but the last has a turn at least, so that no more
+-- rounds than turns are wanted.
+abbrev pub rounds : Machine → (turns : ℕ) → (left : ℕ) → Run → Run
+rounds m turns zero r = r
+rounds m turns (suc left) r = unless_ended turns r (round_or_ticks m r (round m r)) (λ after. rounds m turns left after)
+
+abbrev pub run : Machine → (turns : ℕ) → Run
+run m turns = rounds m turns turns (opening_run m)

@@ -1,0 +1,163 @@
+-- The core's turn: the first duty, else the first due timeout, else one instruction of the first ready thread.
+use Rattle.std.specs.Prelude.{ℕ, ◌+◌, ◌==◌, max, nat_lt, Bool, if◌then◌else◌, ◌^◌, Option, Some, None, is_some, List, [], ◌∷◌, find, slice_index_or, slice_get}
+use Rattle.std.specs.Option.{option_map}
+use Rattle.l4_model.specs.Machine.{Machine}
+use Rattle.l4_model.specs.World.{is_deleted, receive_now, changed}
+use Rattle.l4_model.specs.Steps.{ReceiveTimeout, ReceiveNobody, ReceiveCancel, Tick}
+use Rattle.l4_model.specs.Conditions.{Found, is_nobody, act_of, ◌>>=◌, ◌>>◌}
+use Rattle.l4_core_model.specs.Plain as plain
+use Rattle.l4_core_model.specs.Letters.{TimedOut, Nobody, Cancelled, Dropped, GoneLetter, ByTimeout}
+use Rattle.l4_core_model.specs.Local.{Local, declared, own_places, thread, held, held_by, relists}
+use Rattle.l4_core_model.specs.Acts.{Work, ◌▷◌, does, tells, posts, refuses, delivers, fails_receive, first_acceptable, zero_refusable, withdraws, split_place, acts}
+
+-- Stamps
+
+abbrev pub next_stamp : (letter_stamp : ℕ) → Local → ℕ
+next_stamp letter_stamp l = max l.stamp letter_stamp + 1
+
+abbrev pub can_stamp : Local → (letter_stamp : ℕ) → Bool
+can_stamp l letter_stamp = nat_lt (next_stamp letter_stamp l) (2 ^ 62)
+
+abbrev pub opened : (letter_stamp : ℕ) → Local → Work
+opened letter_stamp l = record { local = record l { stamp = next_stamp letter_stamp l }; steps = []; letters = [] }
+
+-- Duties
+
+pub data Duty : Type 0 where
+  DropsOwn : Duty
+  RefusesFirst : (sender : ℕ) → Duty
+  TellsGone : (cpu : ℕ) → Duty
+  CancelsOwn : Duty
+  CancelsReceive : Duty
+  DeliversFirst : (sender : ℕ) → Duty
+  ClosesReceive : Duty
+  RefusesZero : (sender : ℕ) → Duty
+
+-- a: deleted, its send waits in a list of this processor.
+abbrev pub duty_a : Local → Found → Option Duty
+duty_a l t = do
+  is_deleted t.now.phase
+  plain.is_queued l.lists t.at
+  Some DropsOwn
+
+-- b: deleted, its list is not empty.
+abbrev pub duty_b : Local → Found → Option Duty
+duty_b l t = do
+  is_deleted t.now.phase
+  first ← slice_get (plain.list_of l.lists t.at) 0
+  Some (RefusesFirst first.block)
+
+-- The next processor but this one that is to be told.
+abbrev pub next_untold : Machine → (cpu told : ℕ) → Option ℕ
+next_untold m cpu told = within (if told == cpu then told + 1 else told)
+  where
+    within : ℕ → Option ℕ
+    within n = if nat_lt n m.cpus then Some n else None
+
+-- c: deleted, some other processor is not yet told.
+abbrev pub duty_c : Machine → (cpu : ℕ) → Local → Found → Option Duty
+duty_c m cpu l t = do
+  is_deleted t.now.phase
+  to ← next_untold m cpu (slice_index_or l.told t.at 0)
+  Some (TellsGone to)
+
+-- d: its send waits in a list of this processor, and is to be cancelled.
+abbrev pub duty_d : Local → Found → Option Duty
+duty_d l t = do
+  plain.is_queued l.lists t.at
+  t.now.cancel_send
+  Some CancelsOwn
+
+-- e: receiving, and its receive phase is to be cancelled.
+abbrev pub duty_e : Found → Option Duty
+duty_e t = do
+  is_some (receive_now t.now.phase)
+  t.now.cancel_receive
+  Some CancelsReceive
+
+-- f: receiving, its list has an acceptable name.
+abbrev pub duty_f : Local → Found → Option Duty
+duty_f l t = do
+  first ← first_acceptable l t.at
+  Some (DeliversFirst first)
+
+-- g: receiving closed for nobody, as far as is known here.
+abbrev pub duty_g : Machine → Local → Found → Option Duty
+duty_g m l t = do
+  receive ← receive_now t.now.phase
+  is_nobody receive.from (held_by m l receive.from)
+  Some ClosesReceive
+
+-- h: its list has a name of timeout zero that may be refused, as far as is known here.
+abbrev pub duty_h : Machine → Local → Found → Option Duty
+duty_h m l t = do
+  w ← find (λ w. zero_refusable m t (thread l w.block).send) (plain.list_of l.lists t.at)
+  Some (RefusesZero w.block)
+
+abbrev pub first_some : {A : Type 0} → List (Option A) → Option A
+first_some [] = None
+first_some (None ∷ os) = first_some os
+first_some (Some x ∷ os) = Some x
+
+abbrev pub duty_of : Machine → (cpu : ℕ) → Local → Found → Option Duty
+duty_of m cpu l t =
+    first_some (duty_a l t ∷ duty_b l t ∷ duty_c m cpu l t ∷ duty_d l t ∷ duty_e t ∷ duty_f l t ∷ duty_g m l t ∷ duty_h m l t ∷ [])
+
+-- What the core's turn does: a duty of a thread, a due timeout, or an instruction.
+pub data Choice : Type 0 where
+  ByDuty : (place : ℕ) → Duty → Choice
+  ByDue : (place : ℕ) → Choice
+  ByReady : (place : ℕ) → Choice
+
+-- The first duty of these threads.
+abbrev pub first_duty : Machine → (cpu : ℕ) → Local → List ℕ → Option Choice
+first_duty m cpu l [] = None
+first_duty m cpu l (i ∷ is) = first_some (option_map (ByDuty i) (duty_of m cpu l (held m l i)) ∷ first_duty m cpu l is ∷ [])
+
+abbrev pub choice : Machine → (cpu : ℕ) → Local → Option Choice
+choice m cpu l =
+    first_some (first_duty m cpu l (own_places m cpu)
+    ∷ option_map ByDue (plain.due_block l.clock l.lists.armed)
+    ∷ option_map ByReady (slice_get l.lists.ready 0) ∷ [])
+
+abbrev pub has_told : (cpu place : ℕ) → Local → Local
+has_told cpu i l = record l { told = changed (λ n. cpu + 1) l.told i }
+
+abbrev pub does_duty : Machine → (cpu i : ℕ) → Duty → Work → Work
+does_duty m cpu i DropsOwn x = refuses m cpu Dropped i x
+does_duty m cpu i (RefusesFirst sender) x = refuses m cpu Nobody sender x
+does_duty m cpu i (TellsGone to) x = x ▷ does (has_told to i) ▷ posts to (GoneLetter (declared m i).id)
+does_duty m cpu i CancelsOwn x = refuses m cpu Cancelled i x
+does_duty m cpu i CancelsReceive x = fails_receive m ReceiveCancel 7 i x
+does_duty m cpu i (DeliversFirst sender) x = delivers m cpu i sender x
+does_duty m cpu i ClosesReceive x = fails_receive m ReceiveNobody 5 i x
+does_duty m cpu i (RefusesZero sender) x = refuses m cpu TimedOut sender x
+
+-- A deadline is past: of a receive phase, of a send that waits here, or of a split send.
+abbrev pub times_out : Machine → (cpu i : ℕ) → Work → Work
+times_out m cpu i x =
+    if is_some (receive_now (thread x.local i).phase) then fails_receive m ReceiveTimeout 3 i x
+    else if plain.is_queued x.local.lists i then refuses m cpu TimedOut i x
+    else withdraws m ByTimeout i (split_place m cpu x.local i) x
+
+abbrev pub does_choice : Machine → (cpu : ℕ) → Choice → Work → Work
+does_choice m cpu (ByDuty i duty) x = does_duty m cpu i duty x
+does_choice m cpu (ByDue i) x = x ▷ does (relists plain.popped_due) ▷ times_out m cpu i
+does_choice m cpu (ByReady i) x = x ▷ does (relists plain.popped) ▷ acts m cpu i (act_of m (held m x.local i))
+
+-- The core's turn. None where it is idle.
+abbrev pub turn : Machine → (cpu : ℕ) → Local → Option Work
+turn m cpu l = option_map (λ c. does_choice m cpu c (opened 0 l)) (choice m cpu l)
+
+abbrev pub is_busy : Machine → (cpu : ℕ) → Local → Bool
+is_busy m cpu l = is_some (choice m cpu l)
+
+-- The clock goes on. None where it may not.
+abbrev pub clock_is : ℕ → Local → Local
+clock_is to l = record l { clock = to }
+
+abbrev pub advance : Machine → (cpu : ℕ) → (to : ℕ) → Local → Option Work
+advance m cpu to l = do
+  nat_lt l.clock to
+  nat_lt to (2 ^ 62)
+  Some (opened 0 l ▷ tells (Tick cpu to) ▷ does (clock_is to))

@@ -1,0 +1,222 @@
+-- A deleted thread stays deleted, and receives nothing.
+use Rattle.std.proofs.Common.{subst, ◌≡◌, ℕ, Bool, true, false, Option, Some, None, List, [], ◌∷◌, ◌++◌, refl, ap, sym, ◌∙◌, arith, get_or}
+use Rattle.std.proofs.lemmas.Bool.{eqb-true}
+use Rattle.std.proofs.lemmas.Bool.Decides.{nat_tests}
+use Rattle.std.proofs.lemmas.Option.{slice_get-get_or}
+use Rattle.std.specs.Prelude.{slice_get, ◌==◌}
+use Rattle.std.specs.List.{AllByRecursion}
+use Rattle.std.specs.Option.{option_map}
+use Rattle.l4_model.specs.Words.{GlobalId, Id, NilThread, AnyThread, AnyLocalThread, LocalThread, GlobalThread, same_id}
+use Rattle.l4_model.specs.Machine.{Machine, Declaration, What, CancelSend, CancelReceive, CancelBoth, Delete, place_of}
+use Rattle.l4_model.specs.World.{World, Thread, Asked, Receive, Phase, Ready, Sending, Receiving, Ordering, Ended, Deleted, changed, change, is_ready, is_deleted, receive_now, unqueued}
+use Rattle.l4_model.specs.Conditions.{Found, Pending, found, found_by}
+use Rattle.l4_model.specs.Steps.{Step, Local, Begin, Queue, Deliver, Wait, SendTimeout, ReceiveTimeout, SendNobody, ReceiveNobody, SendCancel, ReceiveCancel, Drop, Order, Obey, Tick, next}
+use Rattle.l4_model.specs.Effects.{fails, decided, refused, receives as gets, delivered, asked, obeyed}
+use Rattle.l4_model.specs.History.{run}
+use Rattle.l4_model.specs.Laws.{undone, is_delivered_to}
+use Rattle.l4_model.proofs.Chains.{bind_then, some_is, get-changed_same, get-changed_other}
+use Rattle.l4_model.proofs.Sends.{known}
+use Rattle.l4_model.proofs.Once.{same_id_is}
+use Rattle.l4_model.proofs.Accounted.{place_id}
+use Rattle.l4_model.proofs.Inversions.{local_taken, begin_taken, queue_taken, DeliverTaken, deliver_taken, wait_taken, send_timeout_taken, send_nobody_taken, send_cancel_taken, drop_taken, receive_timeout_taken, receive_nobody_taken, receive_cancel_taken, order_taken, obey_taken, tick_taken}
+
+-- no thread stands at this place, or a deleted one
+abbrev is_gone_thread : Option Thread → Bool
+is_gone_thread None = true
+is_gone_thread (Some t) = is_deleted t.phase
+
+abbrev gone_at : World → ℕ → Bool
+gone_at w j = is_gone_thread (slice_get w.threads j)
+
+-- a change that no deleted thread notices
+stays : (w : World) (i : ℕ) (f : Thread → Thread) (j : ℕ) → ((x : Thread) → slice_get w.threads i ≡ Some x → is_deleted x.phase ≡ true → is_deleted (f x).phase ≡ true) →
+    gone_at w j ≡ true → gone_at (change w i f) j ≡ true
+stays w i f j keep gone = by (i == j) refl
+  where
+    different : (i j : ℕ) → i ≡ j → (i == j) ≡ false → ⊥
+    different i j same apart = grind (arith, nat_tests)
+
+    of : (o : Option Thread) → slice_get w.threads i ≡ o → is_gone_thread o ≡ true → is_gone_thread (option_map f o) ≡ true
+    of None at g = refl
+    of (Some x) at g = keep x at g
+
+    by : (b : Bool) → (i == j) ≡ b → gone_at (change w i f) j ≡ true
+    by true same =
+        let i_is : i ≡ j = eqb-true i j same in
+        let gone_i : gone_at w i ≡ true = ap (gone_at w) i_is ∙ gone in
+        ap (λ k. is_gone_thread (slice_get (changed f w.threads i) k)) (sym i_is)
+        ∙ ap is_gone_thread (get-changed_same f w.threads i) ∙ of (slice_get w.threads i) refl gone_i
+    by false apart = ap is_gone_thread (get-changed_other f w.threads i j (λ same. different i j same apart)) ∙ gone
+
+ready_not_deleted : (p q : Phase) → is_ready p ≡ true → is_deleted p ≡ true → is_deleted q ≡ true
+ready_not_deleted Ready q r d = cc
+ready_not_deleted Sending q r d = cc
+ready_not_deleted (Receiving receive since) q r d = cc
+ready_not_deleted Ordering q r d = cc
+ready_not_deleted Ended q r d = cc
+ready_not_deleted Deleted q r d = cc
+
+receiving_not_deleted : {P : Type 0} (p : Phase) (receive : Receive) → receive_now p ≡ Some receive → is_deleted p ≡ true → P
+receiving_not_deleted Ready receive r d = cc
+receiving_not_deleted Sending receive r d = cc
+receiving_not_deleted (Receiving x since) receive r d = cc
+receiving_not_deleted Ordering receive r d = cc
+receiving_not_deleted Ended receive r d = cc
+receiving_not_deleted Deleted receive r d = cc
+
+fails_stays : (code : ℕ) (x : Thread) → is_deleted x.phase ≡ true → is_deleted (fails code x).phase ≡ true
+fails_stays code x d = rw d d
+
+delivered_stays : (p : Pending) (now : ℕ) (x : Thread) → is_deleted x.phase ≡ true → is_deleted (delivered p.send now x).phase ≡ true
+delivered_stays p now x d = rw d d
+
+obeyed_stays : (x : Thread) → is_deleted x.phase ≡ true → is_deleted (obeyed x).phase ≡ true
+obeyed_stays x d = rw d d
+
+asked_stays : (what : What) (x : Thread) → is_deleted x.phase ≡ true → is_deleted (asked what x).phase ≡ true
+asked_stays CancelSend x d = d
+asked_stays CancelReceive x d = d
+asked_stays CancelBoth x d = d
+asked_stays Delete x d = refl
+
+-- the thread that was found is the one that stands there
+at_now : (m : Machine) (w : World) (id : GlobalId) (t : Found) → found m w id ≡ Some t → (x : Thread) → slice_get w.threads t.at ≡ Some x → t.now ≡ x
+at_now m w id t is x at = some_is t.now x (sym (known m w id t is).now ∙ at)
+
+receiver_now : (m : Machine) (w : World) (to : Id) (r : Found) → found_by m w to ≡ Some r → (x : Thread) → slice_get w.threads r.at ≡ Some x → r.now ≡ x
+receiver_now m w NilThread r is x at = cc
+receiver_now m w AnyThread r is x at = cc
+receiver_now m w AnyLocalThread r is x at = cc
+receiver_now m w (LocalThread word) r is x at = cc
+receiver_now m w (GlobalThread t) r is x at = at_now m w t r is x at
+
+-- a ready thread was none that is deleted
+ready_stays : (m : Machine) (w : World) (id : GlobalId) (t : Found) (f : Thread → Thread) (j : ℕ) → found m w id ≡ Some t → is_ready t.now.phase ≡ true → gone_at w j ≡ true → gone_at (change w t.at f) j ≡ true
+ready_stays m w id t f j is ready = stays w t.at f j (λ x at d.
+    let same = at_now m w id t is x at in
+    ready_not_deleted x.phase (f x).phase (ap (λ (y : Thread). is_ready y.phase) (sym same) ∙ ready) d)
+
+refusal_stays : (m : Machine) (w : World) (p : Pending) (f : Thread → Thread) (j : ℕ) → ((x : Thread) → is_deleted x.phase ≡ true → is_deleted (f x).phase ≡ true) →
+    gone_at w j ≡ true → gone_at (change (unqueued w p.sender.at) p.sender.at f) j ≡ true
+refusal_stays m w p f j keep gone = stays (unqueued w p.sender.at) p.sender.at f j (λ x at. keep x) gone
+
+step_stays : (m : Machine) (w v : World) (step : Step) (j : ℕ) → next m w step ≡ Some v → gone_at w j ≡ true → gone_at v j ≡ true
+step_stays m w v (Local id) j h gone = let k = local_taken m w v id h in subst (λ u. gone_at u j ≡ true) k.leads_to (ready_stays m w id k.t _ j k.found k.ready gone)
+step_stays m w v (Begin s) j h gone = let k = begin_taken m w v s h in subst (λ u. gone_at u j ≡ true) k.leads_to (ready_stays m w s.thread k.t _ j k.found k.ready gone)
+step_stays m w v (Queue s) j h gone = let k = queue_taken m w v s h in subst (λ u. gone_at u j ≡ true) k.leads_to gone
+step_stays m w v (Deliver s receiver shown actual tag words) j h gone =
+    let k = deliver_taken m w v s receiver shown actual tag words h in
+    let g : Thread → Thread = gets k.p.send.message tag in
+    subst (λ u. gone_at u j ≡ true) k.leads_to
+    (stays (change (unqueued w k.p.sender.at) k.r.at g) k.p.sender.at (delivered k.p.send k.p.sender.clock) j (λ x at. delivered_stays k.p k.p.sender.clock x)
+    (stays (unqueued w k.p.sender.at) k.r.at g j (λ x at d.
+    let same = receiver_now m w k.p.send.to k.r k.to x at in
+    receiving_not_deleted x.phase k.receive (ap (λ (y : Thread). receive_now y.phase) (sym same) ∙ k.receiving) d) gone))
+step_stays m w v (Wait id) j h gone = let k = wait_taken m w v id h in subst (λ u. gone_at u j ≡ true) k.leads_to (ready_stays m w id k.t _ j k.found k.ready gone)
+step_stays m w v (SendTimeout s) j h gone = let k = send_timeout_taken m w v s h in subst (λ u. gone_at u j ≡ true) k.leads_to (refusal_stays m w k.p (refused 2) j (λ x. fails_stays 2 (decided x)) gone)
+step_stays m w v (SendNobody s) j h gone = let k = send_nobody_taken m w v s h in subst (λ u. gone_at u j ≡ true) k.leads_to (refusal_stays m w k.p (refused 4) j (λ x. fails_stays 4 (decided x)) gone)
+step_stays m w v (SendCancel s) j h gone = let k = send_cancel_taken m w v s h in subst (λ u. gone_at u j ≡ true) k.leads_to (refusal_stays m w k.p (refused 6) j (λ x. fails_stays 6 (decided x)) gone)
+step_stays m w v (Drop s) j h gone = let k = drop_taken m w v s h in subst (λ u. gone_at u j ≡ true) k.leads_to (refusal_stays m w k.p decided j (λ x d. d) gone)
+step_stays m w v (ReceiveTimeout id) j h gone = let k = receive_timeout_taken m w v id h in subst (λ u. gone_at u j ≡ true) k.leads_to (stays w k.t.at (fails 3) j (λ x at. fails_stays 3 x) gone)
+step_stays m w v (ReceiveNobody id) j h gone = let k = receive_nobody_taken m w v id h in subst (λ u. gone_at u j ≡ true) k.leads_to (stays w k.t.at (fails 5) j (λ x at. fails_stays 5 x) gone)
+step_stays m w v (ReceiveCancel id) j h gone = let k = receive_cancel_taken m w v id h in subst (λ u. gone_at u j ≡ true) k.leads_to (stays w k.t.at (fails 7) j (λ x at. fails_stays 7 x) gone)
+step_stays m w v (Order caller target what) j h gone = let k = order_taken m w v caller target what h in subst (λ u. gone_at u j ≡ true) k.leads_to (ready_stays m w caller k.t _ j k.found k.ready gone)
+step_stays m w v (Obey caller) j h gone =
+    let k = obey_taken m w v caller h in
+    subst (λ u. gone_at u j ≡ true) k.leads_to
+    (stays (change w k.target (asked k.order.what)) k.t.at obeyed j (λ x at. obeyed_stays x) (stays w k.target (asked k.order.what) j (λ x at. asked_stays k.order.what x) gone))
+step_stays m w v (Tick cpu clock) j h gone = let k = tick_taken m w v cpu clock h in subst (λ u. gone_at u j ≡ true) k.leads_to gone
+
+-- who receives is not gone
+id_of : (m : Machine) (w : World) (id : GlobalId) (t : Found) → found m w id ≡ Some t → (t.declared.id ≡ id) × (place_of m id ≡ Some t.at)
+id_of m w id t is =
+    let k = known m w id t is in
+    let there = place_id m id t.at k.place t.declared in
+    let same : get_or m.threads t.at t.declared ≡ t.declared = some_is _ _ (sym (slice_get-get_or m.threads t.at t.declared there.0) ∙ k.declared) in
+    (ap (λ (d : Declaration). d.id) (sym same) ∙ there.1, k.place)
+
+receiver_place : (m : Machine) (w : World) (to : Id) (r : Found) → found_by m w to ≡ Some r → place_of m r.declared.id ≡ Some r.at
+receiver_place m w NilThread r is = cc
+receiver_place m w AnyThread r is = cc
+receiver_place m w AnyLocalThread r is = cc
+receiver_place m w (LocalThread word) r is = cc
+receiver_place m w (GlobalThread t) r is = let k = id_of m w t r is in ap (place_of m) k.0 ∙ k.1
+
+receiver_there : (m : Machine) (w : World) (to : Id) (r : Found) → found_by m w to ≡ Some r → slice_get w.threads r.at ≡ Some r.now
+receiver_there m w NilThread r is = cc
+receiver_there m w AnyThread r is = cc
+receiver_there m w AnyLocalThread r is = cc
+receiver_there m w (LocalThread word) r is = cc
+receiver_there m w (GlobalThread t) r is = (known m w t r is).now
+
+no_delivery : (m : Machine) (w v : World) (step : Step) (target : GlobalId) (j : ℕ) → next m w step ≡ Some v → place_of m target ≡ Some j → gone_at w j ≡ true → is_delivered_to target step ≡ false
+no_delivery m w v (Deliver s receiver shown actual tag words) target j h place gone = by (same_id target receiver) refl
+  where
+    k : DeliverTaken m w v s receiver shown actual tag words
+    k = deliver_taken m w v s receiver shown actual tag words h
+
+    by : (b : Bool) → same_id target receiver ≡ b → b ≡ false
+    by false differs = refl
+    by true match =
+        let same : target ≡ k.r.declared.id = same_id_is target receiver match ∙ same_id_is receiver k.r.declared.id k.same_receiver in
+        let at : j ≡ k.r.at = some_is j k.r.at (sym place ∙ ap (place_of m) same ∙ receiver_place m w k.p.send.to k.r k.to) in
+        let gone_r : is_deleted k.r.now.phase ≡ true =
+        sym (ap is_gone_thread (receiver_there m w k.p.send.to k.r k.to)) ∙ ap (gone_at w) (sym at) ∙ gone in
+        receiving_not_deleted k.r.now.phase k.receive k.receiving gone_r
+no_delivery m w v _ target j h place gone = refl
+
+run_no_delivery : (m : Machine) (target : GlobalId) (j : ℕ) (h : List Step) (w v : World) → run m w h ≡ Some v → place_of m target ≡ Some j → gone_at w j ≡ true →
+    AllByRecursion (λ step. is_delivered_to target step ≡ false) h
+run_no_delivery m target j [] w v r place gone = tt
+run_no_delivery m target j (step ∷ h) w v r place gone =
+    bind_then (next m w step) (λ u. run m u h) v r λ u is rest.
+    (no_delivery m w u step target j is place gone, run_no_delivery m target j h u v rest place (step_stays m w u step j is gone))
+
+-- a history is run in two parts
+record Parted (m : Machine) (w v : World) (xs ys : List Step) : Type 0 where
+  between : World
+  first : run m w xs ≡ Some between
+  second : run m between ys ≡ Some v
+
+parted : (m : Machine) (xs ys : List Step) (w v : World) → run m w (xs ++ ys) ≡ Some v → Parted m w v xs ys
+parted m [] ys w v r = record { between = w; first = refl; second = r }
+parted m (step ∷ xs) ys w v r =
+    bind_then (next m w step) (λ u. run m u (xs ++ ys)) v r λ u is rest.
+    let p = parted m xs ys u v rest in
+    record { between = p.between; first = rw is p.first; second = p.second }
+
+-- the deletion itself
+deletes : (m : Machine) (w v : World) (caller target : GlobalId) (j : ℕ) → next m w (Obey caller) ≡ Some v →
+    undone m w caller ≡ Some (record { target = target; what = Delete }) → place_of m target ≡ Some j → gone_at v j ≡ true
+deletes m w v caller target j h asks place =
+    let k = obey_taken m w v caller h in
+    let order : Asked = record { target = target; what = Delete } in
+    let is : k.order ≡ order = some_is k.order order (sym k.ordered ∙ ask_of k.t k.found) in
+    let at : k.target ≡ j = some_is k.target j (sym k.target_is ∙ ap (λ (x : Asked). place_of m x.target) is ∙ place) in
+    subst (λ u. gone_at u j ≡ true) k.leads_to
+    (stays (change w k.target (asked k.order.what)) k.t.at obeyed j (λ x at. obeyed_stays x) (now_gone k.target k.order.what at (ap (λ (x : Asked). x.what) is)))
+  where
+    ask_of : (t : Found) → found m w caller ≡ Some t → t.now.order ≡ Some (record { target = target; what = Delete })
+    ask_of t is = rw is at asks
+
+    now_gone : (i : ℕ) (what : What) → i ≡ j → what ≡ Delete → gone_at (change w i (asked what)) j ≡ true
+    now_gone i what same delete =
+        rw (same, delete) (ap is_gone_thread (get-changed_same (asked Delete) w.threads j) ∙ of (slice_get w.threads j))
+      where
+        of : (o : Option Thread) → is_gone_thread (option_map (asked Delete) o) ≡ true
+        of None = refl
+        of (Some x) = refl
+
+pub none_after_delete : (m : Machine) (before after : List Step) (caller target : GlobalId) (w v : World) → run m w (before ++ Obey caller ∷ after) ≡ Some v →
+    (u : World) → run m w before ≡ Some u → undone m u caller ≡ Some (record { target = target; what = Delete }) →
+    AllByRecursion (λ step. is_delivered_to target step ≡ false) after
+none_after_delete m before after caller target w v r u first asks =
+    let p = parted m before (Obey caller ∷ after) w v r in
+    let same : p.between ≡ u = some_is p.between u (sym p.first ∙ first) in
+    bind_then (next m p.between (Obey caller)) (λ x. run m x after) v p.second λ x is rest.
+    let k = obey_taken m p.between x caller is in
+    let asks' : undone m p.between caller ≡ Some (record { target = target; what = Delete }) = ap (λ y. undone m y caller) same ∙ asks in
+    let ordered : k.t.now.order ≡ Some (record { target = target; what = Delete }) = rw k.found at asks' in
+    let order_is : k.order ≡ record { target = target; what = Delete } = some_is _ _ (sym k.ordered ∙ ordered) in
+    let place : place_of m target ≡ Some k.target = ap (λ (y : Asked). place_of m y.target) (sym order_is) ∙ k.target_is in
+    run_no_delivery m target k.target after x v rest place (deletes m p.between x caller target k.target is asks' place)

@@ -1,0 +1,252 @@
+-- What is known where a step was possible: each line of its rule, under a name.
+use Rattle.std.proofs.Common.{◌≡◌, ℕ, ◌+◌, ◌^◌, true, Some, List}
+use Rattle.std.specs.Prelude.{slice_get, slice_set, nat_lt, ◌==◌, not, ◌&&◌, is_none}
+use Rattle.std.specs.Str.{bytes_eq}
+use Rattle.l4_model.specs.Words.{GlobalId, same_id}
+use Rattle.l4_model.specs.Machine.{Machine, What, place_of}
+use Rattle.l4_model.specs.World.{Receive, Send, Asked, World, change, is_alive, is_ready, is_deleted, receive_now, queued, unqueued, Name}
+use Rattle.l4_model.specs.Conditions.{Found, found, Pending, undecided, receiver_of, instruction, act_of, is_waiting, first_accepted, is_nobody, found_by, is_no_destination, is_timed_out}
+use Rattle.l4_model.specs.Rules.{received_tag, is_cross}
+use Rattle.l4_model.specs.Steps.{what_code, runs_alone, send_of, receive_of, order_of, after_local, after_begin, after_queue, after_deliver, after_wait, without_send, after_send_timeout, after_send_nobody, after_send_cancel, after_drop, receive_passed, after_receive_timeout, after_receive_nobody, after_receive_cancel, after_order, after_obey, after_tick}
+use Rattle.l4_model.specs.Effects.{runs, begins, waits, fails, decided, refused, receives, delivered, asked, orders, obeyed}
+use Rattle.l4_model.proofs.Chains.{bind_then, guard_then, some_is}
+
+pub record LocalTaken (m : Machine) (w v : World) (id : GlobalId) : Type 0 where
+  pub t : Found
+  pub found : found m w id ≡ Some t
+  pub ready : (is_ready t.now.phase) ≡ true
+  pub alone : (runs_alone (act_of m t)) ≡ true
+  pub leads_to : change w t.at (runs (instruction t)) ≡ v
+
+pub local_taken : (m : Machine) (w v : World) (id : GlobalId) → after_local m w id ≡ Some v → LocalTaken m w v id
+local_taken m w v id h =
+    bind_then (found m w id) _ v h λ t found rest.
+    guard_then (is_ready t.now.phase) _ v rest λ ready rest.
+    guard_then (runs_alone (act_of m t)) _ v rest λ alone rest.
+    record { t = t; found = found; ready = ready; alone = alone; leads_to = some_is _ v rest }
+
+pub record BeginTaken (m : Machine) (w v : World) (s : Name) : Type 0 where
+  pub t : Found
+  pub found : found m w s.thread ≡ Some t
+  pub ready : (is_ready t.now.phase) ≡ true
+  pub next_k : (s.k == t.now.context.begun + 1) ≡ true
+  pub send : Send
+  pub sends : send_of (act_of m t) ≡ Some send
+  pub leads_to : change w t.at (begins send) ≡ v
+
+pub begin_taken : (m : Machine) (w v : World) (s : Name) → after_begin m w s ≡ Some v → BeginTaken m w v s
+begin_taken m w v s h =
+    bind_then (found m w s.thread) _ v h λ t found rest.
+    guard_then (is_ready t.now.phase) _ v rest λ ready rest.
+    guard_then (s.k == t.now.context.begun + 1) _ v rest λ next_k rest.
+    bind_then (send_of (act_of m t)) _ v rest λ send sends rest.
+    record { t = t; found = found; ready = ready; next_k = next_k; send = send; sends = sends; leads_to = some_is _ v rest }
+
+pub record QueueTaken (m : Machine) (w v : World) (s : Name) : Type 0 where
+  pub p : Pending
+  pub is_undecided : undecided m w s ≡ Some p
+  pub r : Found
+  pub to : receiver_of m w p ≡ Some r
+  pub alive : (is_alive r.now.phase) ≡ true
+  pub in_no_list : (not (is_waiting w p)) ≡ true
+  pub leads_to : queued w r.at p.sender.at ≡ v
+
+pub queue_taken : (m : Machine) (w v : World) (s : Name) → after_queue m w s ≡ Some v → QueueTaken m w v s
+queue_taken m w v s h =
+    bind_then (undecided m w s) _ v h λ p is_undecided rest.
+    bind_then (receiver_of m w p) _ v rest λ r to rest.
+    guard_then (is_alive r.now.phase) _ v rest λ alive rest.
+    guard_then (not (is_waiting w p)) _ v rest λ in_no_list rest.
+    record { p = p; is_undecided = is_undecided; r = r; to = to; alive = alive; in_no_list = in_no_list; leads_to = some_is _ v rest }
+
+pub record DeliverTaken (m : Machine) (w v : World) (s : Name) (receiver shown actual : GlobalId) (tag : ℕ) (words : List ℕ) : Type 0 where
+  pub p : Pending
+  pub is_undecided : undecided m w s ≡ Some p
+  pub r : Found
+  pub to : receiver_of m w p ≡ Some r
+  pub receive : Receive
+  pub receiving : receive_now r.now.phase ≡ Some receive
+  pub first : ℕ
+  pub first_is : first_accepted m w r receive.from ≡ Some first
+  pub is_first : (first == p.sender.at) ≡ true
+  pub same_receiver : (same_id receiver r.declared.id) ≡ true
+  pub same_shown : (same_id shown p.send.message.shown) ≡ true
+  pub same_actual : (same_id actual p.send.message.actual) ≡ true
+  pub same_tag : (tag == received_tag (is_cross m receiver p.send.message) p.send.message) ≡ true
+  pub same_words : (bytes_eq words p.send.message.words) ≡ true
+  pub leads_to : change (change (unqueued w p.sender.at) r.at (receives p.send.message tag)) p.sender.at (delivered p.send p.sender.clock) ≡ v
+
+pub deliver_taken : (m : Machine) (w v : World) (s : Name) (receiver shown actual : GlobalId) (tag : ℕ) (words : List ℕ) → after_deliver m w s receiver shown actual tag words ≡ Some v → DeliverTaken m w v s receiver shown actual tag words
+deliver_taken m w v s receiver shown actual tag words h =
+    bind_then (undecided m w s) _ v h λ p is_undecided rest.
+    bind_then (receiver_of m w p) _ v rest λ r to rest.
+    bind_then (receive_now r.now.phase) _ v rest λ receive receiving rest.
+    bind_then (first_accepted m w r receive.from) _ v rest λ first first_is rest.
+    guard_then (first == p.sender.at) _ v rest λ is_first rest.
+    guard_then (same_id receiver r.declared.id) _ v rest λ same_receiver rest.
+    guard_then (same_id shown p.send.message.shown) _ v rest λ same_shown rest.
+    guard_then (same_id actual p.send.message.actual) _ v rest λ same_actual rest.
+    guard_then (tag == received_tag (is_cross m receiver p.send.message) p.send.message) _ v rest λ same_tag rest.
+    guard_then (bytes_eq words p.send.message.words) _ v rest λ same_words rest.
+    record { p = p; is_undecided = is_undecided; r = r; to = to; receive = receive; receiving = receiving; first = first; first_is = first_is; is_first = is_first; same_receiver = same_receiver; same_shown = same_shown; same_actual = same_actual; same_tag = same_tag; same_words = same_words; leads_to = some_is _ v rest }
+
+pub record WaitTaken (m : Machine) (w v : World) (id : GlobalId) : Type 0 where
+  pub t : Found
+  pub found : found m w id ≡ Some t
+  pub ready : (is_ready t.now.phase) ≡ true
+  pub receive : Receive
+  pub receiving : receive_of (act_of m t) ≡ Some receive
+  pub leads_to : change w t.at (waits receive t.clock) ≡ v
+
+pub wait_taken : (m : Machine) (w v : World) (id : GlobalId) → after_wait m w id ≡ Some v → WaitTaken m w v id
+wait_taken m w v id h =
+    bind_then (found m w id) _ v h λ t found rest.
+    guard_then (is_ready t.now.phase) _ v rest λ ready rest.
+    bind_then (receive_of (act_of m t)) _ v rest λ receive receiving rest.
+    record { t = t; found = found; ready = ready; receive = receive; receiving = receiving; leads_to = some_is _ v rest }
+
+pub record SendTimeoutTaken (m : Machine) (w v : World) (s : Name) : Type 0 where
+  pub p : Pending
+  pub is_undecided : undecided m w s ≡ Some p
+  pub due : (is_timed_out m w p) ≡ true
+  pub leads_to : without_send w p (refused 2) ≡ v
+
+pub send_timeout_taken : (m : Machine) (w v : World) (s : Name) → after_send_timeout m w s ≡ Some v → SendTimeoutTaken m w v s
+send_timeout_taken m w v s h =
+    bind_then (undecided m w s) _ v h λ p is_undecided rest.
+    guard_then (is_timed_out m w p) _ v rest λ due rest.
+    record { p = p; is_undecided = is_undecided; due = due; leads_to = some_is _ v rest }
+
+pub record SendNobodyTaken (m : Machine) (w v : World) (s : Name) : Type 0 where
+  pub p : Pending
+  pub is_undecided : undecided m w s ≡ Some p
+  pub nobody : (is_no_destination p.send.to (receiver_of m w p)) ≡ true
+  pub leads_to : without_send w p (refused 4) ≡ v
+
+pub send_nobody_taken : (m : Machine) (w v : World) (s : Name) → after_send_nobody m w s ≡ Some v → SendNobodyTaken m w v s
+send_nobody_taken m w v s h =
+    bind_then (undecided m w s) _ v h λ p is_undecided rest.
+    guard_then (is_no_destination p.send.to (receiver_of m w p)) _ v rest λ nobody rest.
+    record { p = p; is_undecided = is_undecided; nobody = nobody; leads_to = some_is _ v rest }
+
+pub record SendCancelTaken (m : Machine) (w v : World) (s : Name) : Type 0 where
+  pub p : Pending
+  pub is_undecided : undecided m w s ≡ Some p
+  pub in_list : (is_waiting w p) ≡ true
+  pub wish : (p.sender.now.cancel_send) ≡ true
+  pub leads_to : without_send w p (refused 6) ≡ v
+
+pub send_cancel_taken : (m : Machine) (w v : World) (s : Name) → after_send_cancel m w s ≡ Some v → SendCancelTaken m w v s
+send_cancel_taken m w v s h =
+    bind_then (undecided m w s) _ v h λ p is_undecided rest.
+    guard_then (is_waiting w p) _ v rest λ in_list rest.
+    guard_then (p.sender.now.cancel_send) _ v rest λ wish rest.
+    record { p = p; is_undecided = is_undecided; in_list = in_list; wish = wish; leads_to = some_is _ v rest }
+
+pub record DropTaken (m : Machine) (w v : World) (s : Name) : Type 0 where
+  pub p : Pending
+  pub is_undecided : undecided m w s ≡ Some p
+  pub in_list : (is_waiting w p) ≡ true
+  pub gone : (is_deleted p.sender.now.phase) ≡ true
+  pub leads_to : without_send w p decided ≡ v
+
+pub drop_taken : (m : Machine) (w v : World) (s : Name) → after_drop m w s ≡ Some v → DropTaken m w v s
+drop_taken m w v s h =
+    bind_then (undecided m w s) _ v h λ p is_undecided rest.
+    guard_then (is_waiting w p) _ v rest λ in_list rest.
+    guard_then (is_deleted p.sender.now.phase) _ v rest λ gone rest.
+    record { p = p; is_undecided = is_undecided; in_list = in_list; gone = gone; leads_to = some_is _ v rest }
+
+pub record ReceiveTimeoutTaken (m : Machine) (w v : World) (id : GlobalId) : Type 0 where
+  pub t : Found
+  pub found : found m w id ≡ Some t
+  pub receive : Receive
+  pub receiving : receive_now t.now.phase ≡ Some receive
+  pub due : (receive_passed t t.now.phase) ≡ true
+  pub none_accepted : (is_none (first_accepted m w t receive.from)) ≡ true
+  pub leads_to : change w t.at (fails 3) ≡ v
+
+pub receive_timeout_taken : (m : Machine) (w v : World) (id : GlobalId) → after_receive_timeout m w id ≡ Some v → ReceiveTimeoutTaken m w v id
+receive_timeout_taken m w v id h =
+    bind_then (found m w id) _ v h λ t found rest.
+    bind_then (receive_now t.now.phase) _ v rest λ receive receiving rest.
+    guard_then (receive_passed t t.now.phase) _ v rest λ due rest.
+    guard_then (is_none (first_accepted m w t receive.from)) _ v rest λ none_accepted rest.
+    record { t = t; found = found; receive = receive; receiving = receiving; due = due; none_accepted = none_accepted; leads_to = some_is _ v rest }
+
+pub record ReceiveNobodyTaken (m : Machine) (w v : World) (id : GlobalId) : Type 0 where
+  pub t : Found
+  pub found : found m w id ≡ Some t
+  pub receive : Receive
+  pub receiving : receive_now t.now.phase ≡ Some receive
+  pub nobody : (is_nobody receive.from (found_by m w receive.from)) ≡ true
+  pub none_accepted : (is_none (first_accepted m w t receive.from)) ≡ true
+  pub leads_to : change w t.at (fails 5) ≡ v
+
+pub receive_nobody_taken : (m : Machine) (w v : World) (id : GlobalId) → after_receive_nobody m w id ≡ Some v → ReceiveNobodyTaken m w v id
+receive_nobody_taken m w v id h =
+    bind_then (found m w id) _ v h λ t found rest.
+    bind_then (receive_now t.now.phase) _ v rest λ receive receiving rest.
+    guard_then (is_nobody receive.from (found_by m w receive.from)) _ v rest λ nobody rest.
+    guard_then (is_none (first_accepted m w t receive.from)) _ v rest λ none_accepted rest.
+    record { t = t; found = found; receive = receive; receiving = receiving; nobody = nobody; none_accepted = none_accepted; leads_to = some_is _ v rest }
+
+pub record ReceiveCancelTaken (m : Machine) (w v : World) (id : GlobalId) : Type 0 where
+  pub t : Found
+  pub found : found m w id ≡ Some t
+  pub receive : Receive
+  pub receiving : receive_now t.now.phase ≡ Some receive
+  pub wish : (t.now.cancel_receive) ≡ true
+  pub leads_to : change w t.at (fails 7) ≡ v
+
+pub receive_cancel_taken : (m : Machine) (w v : World) (id : GlobalId) → after_receive_cancel m w id ≡ Some v → ReceiveCancelTaken m w v id
+receive_cancel_taken m w v id h =
+    bind_then (found m w id) _ v h λ t found rest.
+    bind_then (receive_now t.now.phase) _ v rest λ receive receiving rest.
+    guard_then (t.now.cancel_receive) _ v rest λ wish rest.
+    record { t = t; found = found; receive = receive; receiving = receiving; wish = wish; leads_to = some_is _ v rest }
+
+pub record OrderTaken (m : Machine) (w v : World) (caller target : GlobalId) (what : What) : Type 0 where
+  pub t : Found
+  pub found : found m w caller ≡ Some t
+  pub ready : (is_ready t.now.phase) ≡ true
+  pub order : Asked
+  pub ordered : order_of (act_of m t) ≡ Some order
+  pub same_order : (same_id target order.target && what_code what == what_code order.what) ≡ true
+  pub leads_to : change w t.at (orders order) ≡ v
+
+pub order_taken : (m : Machine) (w v : World) (caller target : GlobalId) (what : What) → after_order m w caller target what ≡ Some v → OrderTaken m w v caller target what
+order_taken m w v caller target what h =
+    bind_then (found m w caller) _ v h λ t found rest.
+    guard_then (is_ready t.now.phase) _ v rest λ ready rest.
+    bind_then (order_of (act_of m t)) _ v rest λ order ordered rest.
+    guard_then (same_id target order.target && what_code what == what_code order.what) _ v rest λ same_order rest.
+    record { t = t; found = found; ready = ready; order = order; ordered = ordered; same_order = same_order; leads_to = some_is _ v rest }
+
+pub record ObeyTaken (m : Machine) (w v : World) (caller : GlobalId) : Type 0 where
+  pub t : Found
+  pub found : found m w caller ≡ Some t
+  pub order : Asked
+  pub ordered : t.now.order ≡ Some order
+  pub target : ℕ
+  pub target_is : place_of m order.target ≡ Some target
+  pub leads_to : change (change w target (asked order.what)) t.at obeyed ≡ v
+
+pub obey_taken : (m : Machine) (w v : World) (caller : GlobalId) → after_obey m w caller ≡ Some v → ObeyTaken m w v caller
+obey_taken m w v caller h =
+    bind_then (found m w caller) _ v h λ t found rest.
+    bind_then (t.now.order) _ v rest λ order ordered rest.
+    bind_then (place_of m order.target) _ v rest λ target target_is rest.
+    record { t = t; found = found; order = order; ordered = ordered; target = target; target_is = target_is; leads_to = some_is _ v rest }
+
+pub record TickTaken (m : Machine) (w v : World) (cpu clock : ℕ) : Type 0 where
+  pub now : ℕ
+  pub clock_is : slice_get w.clocks cpu ≡ Some now
+  pub later : (nat_lt now clock && nat_lt clock (2 ^ 62)) ≡ true
+  pub leads_to : (record w { clocks = slice_set w.clocks cpu clock }) ≡ v
+
+pub tick_taken : (m : Machine) (w v : World) (cpu clock : ℕ) → after_tick m w cpu clock ≡ Some v → TickTaken m w v cpu clock
+tick_taken m w v cpu clock h =
+    bind_then (slice_get w.clocks cpu) _ v h λ now clock_is rest.
+    guard_then (nat_lt now clock && nat_lt clock (2 ^ 62)) _ v rest λ later rest.
+    record { now = now; clock_is = clock_is; later = later; leads_to = some_is _ v rest }

@@ -1,0 +1,74 @@
+-- What each step does to one thread.
+use Rattle.std.specs.Prelude.{ℕ, ◌+◌, Bool, if◌then◌else◌, false, Option, Some, None, is_some, true, ◌||◌}
+use Rattle.l4_model.specs.Machine.{What, CancelSend, CancelReceive, CancelBoth, Delete, Instr, End}
+use Rattle.l4_model.specs.World.{Receive, Message, Send, Asked, Phase, Ready, Sending, Receiving, Ordering, Ended, Deleted, Thread, is_sending, is_alive}
+use Rattle.l4_model.specs.Rules.{advanced, failed, sent, received, ordered, ran}
+
+-- It runs an instruction that concerns nobody else. At an `end` it has ended.
+abbrev pub phase_after : Instr → Phase
+phase_after End = Ended
+phase_after _ = Ready
+
+abbrev pub runs : Instr → Thread → Thread
+runs i t = record t { context = ran i t.context; phase = phase_after i }
+
+-- It begins a send.
+abbrev pub begins : Send → Thread → Thread
+begins send t = record t { context = record (advanced t.context) { begun = t.context.begun + 1 }; phase = Sending; send = Some send }
+
+-- It begins a receive phase without a send.
+abbrev pub waits : Receive → (now : ℕ) → Thread → Thread
+waits receive now t = record t { context = advanced t.context; phase = Receiving receive now }
+
+-- Its ipc has failed. A deleted thread stays as it is.
+abbrev pub fails : ℕ → Thread → Thread
+fails code t = if is_alive t.phase then record t { context = failed code t.context; phase = Ready; cancel_receive = false } else t
+
+-- Its send is decided, and no receive phase follows: no wish is left.
+abbrev pub decided : Thread → Thread
+decided t = record t { send = None; cancel_send = false; cancel_receive = false }
+
+abbrev pub refused : ℕ → Thread → Thread
+refused code t = fails code (decided t)
+
+-- It receives a message.
+abbrev pub receives : Message → (tag : ℕ) → Thread → Thread
+receives message tag t = record t { context = received message tag t.context; phase = Ready; cancel_receive = false }
+
+-- Its send was delivered: the receive phase of the same call begins, or the ipc has ended.
+abbrev pub goes_on : Option Receive → (now : ℕ) → Thread → Thread
+goes_on (Some receive) now t = record t { phase = Receiving receive now; send = None; cancel_send = false }
+goes_on None now t = record (decided t) { context = sent t.context; phase = Ready }
+
+abbrev pub delivered : Send → (now : ℕ) → Thread → Thread
+delivered send now t = if is_alive t.phase then goes_on send.receive now t else decided t
+
+abbrev pub calls_to_receive : Option Send → Bool
+calls_to_receive None = false
+calls_to_receive (Some send) = is_some send.receive
+
+abbrev pub has_receive_phase : Phase → Option Send → Bool
+has_receive_phase (Receiving receive since) send = true
+has_receive_phase Sending send = calls_to_receive send
+has_receive_phase _ send = false
+
+-- It is asked for a cancellation, which is without effect where it has no such phase, or it is deleted.
+abbrev pub asked_send : Thread → Thread
+asked_send t = record t { cancel_send = t.cancel_send || is_sending t.phase }
+
+abbrev pub asked_receive : Thread → Thread
+asked_receive t = record t { cancel_receive = t.cancel_receive || has_receive_phase t.phase t.send }
+
+abbrev pub asked : What → Thread → Thread
+asked CancelSend t = asked_send t
+asked CancelReceive t = asked_receive t
+asked CancelBoth t = asked_receive (asked_send t)
+asked Delete t = record t { phase = Deleted; cancel_receive = false }
+
+-- It has asked for something, and waits until it is done.
+abbrev pub orders : Asked → Thread → Thread
+orders order t = record t { phase = Ordering; order = Some order }
+
+-- What it asked for is done.
+abbrev pub obeyed : Thread → Thread
+obeyed t = if is_alive t.phase then record t { context = ordered 0 t.context; phase = Ready; order = None } else record t { order = None }

@@ -1,0 +1,132 @@
+-- What is true of every history.
+use Rattle.std.specs.Prelude.{ℕ, ◌+◌, ◌/◌, ◌^◌, ◌<◌, ◌≤◌, ◌≡◌, Bool, true, false, if◌then◌else◌, ◌&&◌, ◌==◌, Option, Some, None, is_some, IfSome, List, [], ◌∷◌, ◌++◌, filter_map, count_by}
+use Rattle.std.specs.List.{AllByRecursion}
+use Rattle.l4_model.specs.Words.{GlobalId, same_id}
+use Rattle.l4_model.specs.Machine.{Machine, Delete}
+use Rattle.l4_model.specs.World.{World, Asked, receive_now, Name}
+use Rattle.l4_model.specs.Rules.{accepts}
+use Rattle.l4_model.specs.Steps.{Step, Begin, Queue, Deliver, SendTimeout, SendNobody, SendCancel, Drop, Obey}
+use Rattle.l4_model.specs.Conditions.{Pending, found, undecided, receiver_of, ◌>>=◌, ◌>>◌}
+use Rattle.l4_model.specs.History.{reached, waiting, begun_name}
+
+abbrev pub same_name : Name → Name → Bool
+same_name a b = same_id a.thread b.thread && (a.k == b.k)
+
+abbrev pub names : Name → Option Name → Bool
+names s None = false
+names s (Some t) = same_name s t
+
+-- The send that a step delivers, refuses, drops or queues.
+abbrev pub delivered_name : Step → Option Name
+delivered_name (Deliver s receiver shown actual tag words) = Some s
+delivered_name _ = None
+
+abbrev pub refused_name : Step → Option Name
+refused_name (SendTimeout s) = Some s
+refused_name (SendNobody s) = Some s
+refused_name (SendCancel s) = Some s
+refused_name _ = None
+
+abbrev pub dropped_name : Step → Option Name
+dropped_name (Drop s) = Some s
+dropped_name _ = None
+
+abbrev pub queued_name : Step → Option Name
+queued_name (Queue s) = Some s
+queued_name _ = None
+
+-- In how many steps a send is begun, delivered, refused or dropped.
+abbrev pub begins_of : Name → List Step → ℕ
+begins_of s h = count_by (λ step. names s (begun_name step)) h
+
+abbrev pub deliveries_of : Name → List Step → ℕ
+deliveries_of s h = count_by (λ step. names s (delivered_name step)) h
+
+abbrev pub refusals_of : Name → List Step → ℕ
+refusals_of s h = count_by (λ step. names s (refused_name step)) h
+
+abbrev pub drops_of : Name → List Step → ℕ
+drops_of s h = count_by (λ step. names s (dropped_name step)) h
+
+-- No send is delivered twice.
+abbrev pub AtMostOnce : List Step → Type 0
+AtMostOnce h = (s : Name) → deliveries_of s h ≤ 1
+
+-- The numbers of the sends of one thread that one receiver gets, in order of delivery.
+abbrev pub number_between : GlobalId → GlobalId → Step → Option ℕ
+number_between from to (Deliver s receiver shown actual tag words) = if same_id from s.thread && same_id to receiver then Some s.k else None
+number_between from to _ = None
+
+abbrev pub IsRising : List ℕ → Type 0
+IsRising [] = Unit {0}
+IsRising (x ∷ xs) = AllByRecursion (λ y. x < y) xs × IsRising xs
+
+-- What one thread sends to one receiver arrives in the order in which it was sent.
+abbrev pub InOrder : List Step → Type 0
+InOrder h = (from to : GlobalId) → IsRising (filter_map (number_between from to) h)
+
+-- A step, if it delivers this send, delivers its request.
+abbrev pub IsAsRequested : Name → Pending → Step → Type 0
+IsAsRequested s p (Deliver t receiver shown actual tag words) =
+    same_name s t ≡ true → (words ≡ p.send.message.words) × (shown ≡ p.send.message.shown) × (actual ≡ s.thread) × (label_of tag ≡ p.send.message.label)
+  where
+    label_of : ℕ → ℕ
+    label_of tag = tag / 2 ^ 16
+IsAsRequested s p _ = Unit {0}
+
+-- What is delivered is what was asked for when the send began.
+abbrev pub IsUnaltered : Machine → List Step → Type 0
+IsUnaltered m h =
+    (before after : List Step) (s : Name) (w : World) →
+    h ≡ before ++ Begin s ∷ after → reached m (before ++ Begin s ∷ []) ≡ Some w →
+    IfSome (undecided m w s) (λ p. AllByRecursion (IsAsRequested s p) after)
+
+-- The sends that were queued before this one.
+abbrev pub queued_before : Name → List Step → List Name
+queued_before s [] = []
+queued_before s (step ∷ h) = until (queued_name step) (queued_before s h)
+  where
+    until : Option Name → List Name → List Name
+    until None rest = rest
+    until (Some t) rest = if same_name s t then [] else t ∷ rest
+
+-- A send is undecided, was sent to this thread, and is one that it waits for.
+abbrev pub is_awaited : Machine → World → GlobalId → Name → Bool
+is_awaited m w receiver s = is_some (do
+  p ← undecided m w s
+  r ← receiver_of m w p
+  same_id receiver r.declared.id
+  receive ← receive_now r.now.phase
+  accepts m receive.from p.send.message.shown receiver
+  Some p)
+
+-- A receiver takes the first that it accepts, in order of arrival.
+abbrev pub TakesTurns : Machine → List Step → Type 0
+TakesTurns m h =
+    (before after : List Step) (s : Name) (receiver shown actual : GlobalId) (tag : ℕ) (words : List ℕ) (w : World) →
+    h ≡ before ++ Deliver s receiver shown actual tag words ∷ after → reached m before ≡ Some w →
+    AllByRecursion (λ t. is_awaited m w receiver t ≡ false) (queued_before s before)
+
+abbrev pub is_delivered_to : GlobalId → Step → Bool
+is_delivered_to t (Deliver s receiver shown actual tag words) = same_id t receiver
+is_delivered_to t _ = false
+
+-- The order that a thread waits for.
+abbrev pub undone : Machine → World → GlobalId → Option Asked
+undone m w caller = found m w caller >>= λ t. t.now.order
+
+-- A deleted thread receives nothing more.
+abbrev pub NoneAfterDelete : Machine → List Step → Type 0
+NoneAfterDelete m h =
+    (before after : List Step) (caller target : GlobalId) (w : World) →
+    h ≡ before ++ Obey caller ∷ after → reached m before ≡ Some w → undone m w caller ≡ Some (record { target = target; what = Delete }) →
+    AllByRecursion (λ step. is_delivered_to target step ≡ false) after
+
+-- A send begins once, and then it is delivered, refused, dropped, or waits: one of these, and once. Nothing
+-- of this happens to a send that never began.
+pub record IsAccounted (m : Machine) (h : List Step) (w : World) (s : Name) : Type 0 where
+  pub once : begins_of s h ≤ 1
+  pub parts : deliveries_of s h + refusals_of s h + drops_of s h + count_by (λ p. same_name s p.0) (waiting m w h) ≡ begins_of s h
+
+abbrev pub AreAccounted : Machine → List Step → Type 0
+AreAccounted m h = (w : World) → reached m h ≡ Some w → (s : Name) → IsAccounted m h w s

@@ -1,0 +1,10 @@
+pub mod Words
+pub mod Machine
+pub mod World
+pub mod Rules
+pub mod Effects
+pub mod Conditions
+pub mod Steps
+pub mod History
+pub mod Laws
+pub mod Still

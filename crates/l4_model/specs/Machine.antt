@@ -1,0 +1,65 @@
+-- The instructions of a script, and the machine that a text declares.
+use Rattle.std.specs.Prelude.{ℕ, Bool, ◌==◌, false, Option, Some, None, is_some, List, find, position, slice_get, unwrap_or}
+use Rattle.l4_model.specs.Words.{GlobalId, Id, same_id, Period}
+
+-- Where an ipc sends to: an id, or what the register `from` has at that moment.
+pub data To : Type 0 where
+  ToId : Id → To
+  ToLast : To
+
+-- What one thread may ask of another: a cancellation, by the bits S and R of ExchangeRegisters, or a deletion.
+pub data What : Type 0 where
+  CancelSend : What
+  CancelReceive : What
+  CancelBoth : What
+  Delete : What
+
+pub data Instr : Type 0 where
+  Set : (a word : ℕ) → Instr
+  Copy : (a b : ℕ) → Instr
+  Add : (a word : ℕ) → Instr
+  Tag : (word : ℕ) → Instr
+  Vs : Id → Instr
+  Ipc : (to : To) (from : Id) (send_period receive_period : Period) → Instr
+  Ask : (target : Id) (what : What) → Instr
+  Jump : (place : ℕ) → Instr
+  OnErr : (place : ℕ) → Instr
+  End : Instr
+
+-- A declared thread.
+pub record Declaration : Type 0 where
+  pub id : GlobalId
+  pub cpu : ℕ
+  pub space : ℕ
+  pub script : List Instr
+
+-- A machine: the number of its processors, and its threads in order of declaration.
+pub record Machine : Type 0 where
+  pub cpus : ℕ
+  pub threads : List Declaration
+
+-- The place of a thread in the order of declaration.
+abbrev pub place_of : Machine → GlobalId → Option ℕ
+place_of m id = position (λ d. same_id d.id id) m.threads
+
+abbrev pub declaration_of : Machine → GlobalId → Option Declaration
+declaration_of m id = find (λ d. same_id d.id id) m.threads
+
+abbrev pub is_declared : Machine → GlobalId → Bool
+is_declared m id = is_some (place_of m id)
+
+-- Two threads are declared, and agree in a number.
+abbrev pub agree : (Declaration → ℕ) → Option Declaration → Option Declaration → Bool
+agree f (Some a) (Some b) = f a == f b
+agree f (Some a) None = false
+agree f None b = false
+
+abbrev pub same_space : Machine → GlobalId → GlobalId → Bool
+same_space m a b = agree (λ d. d.space) (declaration_of m a) (declaration_of m b)
+
+abbrev pub same_cpu : Machine → GlobalId → GlobalId → Bool
+same_cpu m a b = agree (λ d. d.cpu) (declaration_of m a) (declaration_of m b)
+
+-- A place after the last instruction is an `end`.
+abbrev pub instruction_at : List Instr → ℕ → Instr
+instruction_at script place = unwrap_or (slice_get script place) End

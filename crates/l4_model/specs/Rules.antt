@@ -1,0 +1,135 @@
+-- What an instruction, a message and a failure do to the registers of a thread, and what an instruction asks for.
+use Rattle.std.specs.Prelude.{ℕ, ◌+◌, ◌*◌, ◌/◌, ◌%◌, ◌^◌, Bool, if◌then◌else◌, ◌==◌, not, false, Option, Some, None, is_some, unwrap_or, true, ◌∷◌, ◌++◌, take, drop, length, slice_index, slice_set}
+use Rattle.l4_model.specs.Words.{GlobalId, Id, NilThread, AnyThread, AnyLocalThread, LocalThread, GlobalThread, same_id, Period}
+use Rattle.l4_model.specs.Machine.{Tag, To, ToId, ToLast, What, Delete, Instr, Set, Copy, Add, Vs, Ipc, Ask, Jump, OnErr, End, Machine, is_declared, same_space, same_cpu}
+use Rattle.l4_model.specs.World.{Context, Receive, Message, Send, Asked}
+
+-- A receive phase with this specifier takes a sender that is shown so, of the receiver's space or not.
+abbrev pub takes : Id → (shown : GlobalId) → (local : Bool) → Bool
+takes AnyThread shown local = true
+takes AnyLocalThread shown local = local
+takes (GlobalThread t) shown local = same_id t shown
+takes NilThread shown local = false
+takes (LocalThread word) shown local = false
+
+abbrev pub accepts : Machine → Id → (shown receiver : GlobalId) → Bool
+accepts m from shown receiver = takes from shown (same_space m shown receiver)
+
+-- What happens to a context
+
+abbrev pub register : Context → ℕ → ℕ
+register c a = slice_index c.words a
+
+abbrev pub with_register : ℕ → ℕ → Context → Context
+with_register a word c = record c { words = slice_set c.words a word }
+
+-- The next instruction is at hand.
+abbrev pub advanced : Context → Context
+advanced c = record c { place = c.place + 1 }
+
+-- An ipc failed with this ErrorCode.
+abbrev pub failed : ℕ → Context → Context
+failed code c = record c { words = slice_set c.words 0 0x8000; error = code; from = NilThread }
+
+-- An ipc ended well and received nothing.
+abbrev pub sent : Context → Context
+sent c = record c { words = slice_set c.words 0 0; error = 0; from = NilThread }
+
+-- An ipc received a message. Registers past its words keep their contents.
+abbrev pub received : Message → (mr0 : ℕ) → Context → Context
+received message mr0 c =
+    record c { words = mr0 ∷ message.words ++ drop (1 + length message.words) c.words; error = 0; from = GlobalThread message.shown; actual = GlobalThread message.actual }
+
+-- An order was done, code 0, or refused, code 2.
+abbrev pub ordered : ℕ → Context → Context
+ordered code c = advanced (record c { error = code })
+
+-- An instruction was run that concerns nobody else. An ipc is then one without phases, and an order is refused.
+abbrev pub ran : Instr → Context → Context
+ran (Set a word) c = advanced (with_register a word c)
+ran (Copy a b) c = advanced (with_register a (register c b) c)
+ran (Add a word) c = advanced (with_register a ((register c a + word) % 2 ^ 64) c)
+ran (Tag word) c = advanced (with_register 0 word c)
+ran (Vs id) c = advanced (record c { actual = id })
+ran (Ipc to from send_period receive_period) c = advanced (sent c)
+ran (Ask target what) c = ordered 2 c
+ran (Jump place) c = record c { place = place }
+ran (OnErr place) c = if c.error == 0 then advanced c else record c { place = place }
+ran End c = c
+
+-- What the instruction at hand asks for
+
+pub data Act : Type 0 where
+  RunsAlone : Act
+  Sends : Send → Act
+  Receives : Receive → Act
+  Orders : Asked → Act
+
+-- The destination that an ipc names.
+abbrev pub destination : Context → To → Id
+destination c (ToId id) = id
+destination c ToLast = c.from
+
+-- The receive phase of an ipc, unless its specifier is nilthread.
+abbrev pub receive_phase : Id → Period → Option Receive
+receive_phase NilThread period = None
+receive_phase from period = Some (record { from = from; period = period })
+
+-- An originator is permitted where it is a declared thread of the sender's space.
+abbrev pub permitted : Machine → GlobalId → Id → Option GlobalId
+permitted m sender (GlobalThread t) = if same_space m t sender then Some t else None
+permitted m sender _ = None
+
+-- Bit 12 of MR0 asks for propagation.
+abbrev pub originator : Machine → GlobalId → Context → Option GlobalId
+originator m sender c = if (register c 0 / 2 ^ 12) % 2 == 1 then permitted m sender c.actual else None
+
+-- The message of a send that begins now.
+abbrev pub message_of : Machine → GlobalId → Context → Message
+message_of m sender c =
+    record {
+      label = register c 0 / 2 ^ 16;
+      words = take (register c 0 % 64) (drop 1 c.words);
+      propagated = is_some (originator m sender c);
+      shown = unwrap_or (originator m sender c) sender;
+      actual = sender;
+    }
+
+-- The request of a send that begins now.
+abbrev pub request : Machine → GlobalId → (now : ℕ) → Context → Id → Period → Option Receive → Send
+request m sender now c to period receive =
+    record { to = to; message = message_of m sender c; period = period; since = now; receive = receive }
+
+-- Without a destination an ipc has no send phase.
+abbrev pub ipc_act : Machine → GlobalId → (now : ℕ) → Context → Id → Period → Option Receive → Act
+ipc_act m sender now c NilThread period None = RunsAlone
+ipc_act m sender now c NilThread period (Some receive) = Receives receive
+ipc_act m sender now c to period receive = Sends (request m sender now c to period receive)
+
+-- An order is admitted where its target is declared, and for a cancellation of the caller's space.
+abbrev pub is_admitted : Machine → GlobalId → GlobalId → What → Bool
+is_admitted m caller target Delete = is_declared m target
+is_admitted m caller target _ = same_space m caller target
+
+abbrev pub ask_act : Machine → GlobalId → Id → What → Act
+ask_act m caller (GlobalThread t) what = if is_admitted m caller t what then Orders (record { target = t; what = what }) else RunsAlone
+ask_act m caller _ what = RunsAlone
+
+abbrev pub act : Machine → GlobalId → (now : ℕ) → Context → Instr → Act
+act m t now c (Ipc to from send_period receive_period) = ipc_act m t now c (destination c to) send_period (receive_phase from receive_period)
+act m t now c (Ask target what) = ask_act m t target what
+act m t now c _ = RunsAlone
+
+-- What a receiver gets
+
+abbrev pub bit : Bool → ℕ
+bit b = if b then 1 else 0
+
+-- The tag that a receiver gets: label, `p`, `X` and `u`. `r` and `E` are clear.
+abbrev pub received_tag : (cross : Bool) → Message → ℕ
+received_tag cross message =
+    message.label * 2 ^ 16 + bit cross * 2 ^ 14 + bit message.propagated * 2 ^ 12 + length message.words
+
+-- A message comes from another processor.
+abbrev pub is_cross : Machine → GlobalId → Message → Bool
+is_cross m receiver message = not (same_cpu m message.actual receiver)

@@ -1,0 +1,121 @@
+-- What a machine is at one moment.
+use Rattle.std.specs.Prelude.{ℕ, Bool, ◌==◌, not, false, Option, Some, None, List, zero, suc, true, [], ◌∷◌, ◌++◌, map, filter, replicate}
+use Rattle.std.specs.List.{list_any}
+use Rattle.l4_model.specs.Words.{GlobalId, Id, NilThread, Period}
+use Rattle.l4_model.specs.Machine.{What, Machine}
+
+-- The k-th send that a thread began, from k = 1.
+pub record Name : Type 0 where
+  pub thread : GlobalId
+  pub k : ℕ
+
+-- The part of a thread that its own instructions read and write: MR0 to MR63, ErrorCode, the register
+-- `from`, the register that is VirtualSender and ActualSender, its place in its script, and how many sends it began.
+pub record Context : Type 0 where
+  pub words : List ℕ
+  pub error : ℕ
+  pub from : Id
+  pub actual : Id
+  pub place : ℕ
+  pub begun : ℕ
+
+-- Whom a receive phase accepts, and how long it lasts.
+pub record Receive : Type 0 where
+  pub from : Id
+  pub period : Period
+
+-- What a message carries: its label and words, whether it is propagated, and the senders that it shows and has.
+pub record Message : Type 0 where
+  pub label : ℕ
+  pub words : List ℕ
+  pub propagated : Bool
+  pub shown : GlobalId
+  pub actual : GlobalId
+
+-- What a send asks for, fixed when it begins: its destination, its message, its period, the clock at its
+-- beginning, and the receive phase that follows it, or none.
+pub record Send : Type 0 where
+  pub to : Id
+  pub message : Message
+  pub period : Period
+  pub since : ℕ
+  pub receive : Option Receive
+
+pub record Asked : Type 0 where
+  pub target : GlobalId
+  pub what : What
+
+pub data Phase : Type 0 where
+  Ready : Phase
+  Sending : Phase
+  Receiving : Receive → (since : ℕ) → Phase
+  Ordering : Phase
+  Ended : Phase
+  Deleted : Phase
+
+-- A thread. It has at most one undecided send, the last one that it began, and at most one undone order.
+pub record Thread : Type 0 where
+  pub context : Context
+  pub phase : Phase
+  pub send : Option Send
+  pub order : Option Asked
+  pub cancel_send : Bool
+  pub cancel_receive : Bool
+
+-- All threads in order of declaration; for each the threads whose sends wait at it, by their places; and the
+-- clocks of the processors.
+pub record World : Type 0 where
+  pub threads : List Thread
+  pub waiting : List (List ℕ)
+  pub clocks : List ℕ
+
+abbrev pub opening_context : Context
+opening_context = record { words = replicate 64 0; error = 0; from = NilThread; actual = NilThread; place = 0; begun = 0 }
+
+abbrev pub opening_thread : Thread
+opening_thread =
+    record { context = opening_context; phase = Ready; send = None; order = None; cancel_send = false; cancel_receive = false }
+
+abbrev pub opening : Machine → World
+opening m = record { threads = map (λ d. opening_thread) m.threads; waiting = map (λ d. []) m.threads; clocks = replicate m.cpus 0 }
+
+-- A list with one element changed.
+abbrev pub changed : {A : Type 0} → (A → A) → List A → ℕ → List A
+changed f [] i = []
+changed f (x ∷ xs) zero = f x ∷ xs
+changed f (x ∷ xs) (suc i) = x ∷ changed f xs i
+
+-- A world with one thread changed.
+abbrev pub change : World → ℕ → (Thread → Thread) → World
+change w i f = record w { threads = changed f w.threads i }
+
+-- Lists of waiting senders: whether a sender stands in one of them, the lists after it was appended to one, and
+-- after it was taken out.
+abbrev pub is_queued : List (List ℕ) → ℕ → Bool
+is_queued lists i = list_any (list_any (λ x. i == x)) lists
+
+abbrev pub queued : World → (receiver sender : ℕ) → World
+queued w r i = record w { waiting = changed (λ xs. xs ++ i ∷ []) w.waiting r }
+
+abbrev pub unqueued : World → ℕ → World
+unqueued w i = record w { waiting = map (filter (λ x. not (i == x))) w.waiting }
+
+abbrev pub is_ready : Phase → Bool
+is_ready Ready = true
+is_ready _ = false
+
+abbrev pub is_sending : Phase → Bool
+is_sending Sending = true
+is_sending _ = false
+
+abbrev pub is_deleted : Phase → Bool
+is_deleted Deleted = true
+is_deleted _ = false
+
+abbrev pub is_alive : Phase → Bool
+is_alive phase = not (is_deleted phase)
+
+-- The receive phase that a thread is in.
+abbrev pub receive_now : Phase → Option Receive
+receive_now (Receiving receive since) = Some receive
+receive_now _ = None

@@ -1,8 +1,8 @@
--- One processor: what the events of any core run tell is a history.
+-- One processor: what the events of any core run tell reaches the world that it knows, and at rest that world is still.
 use Rattle.std.proofs.Common.{◌≡◌, ℕ, zero, suc, ◌+◌, ◌<◌, ◌≤◌, ◌^◌, Bool, true, false, Option, Some, None, List, [], ◌∷◌, ◌++◌, map, replicate, length, refl, ap, sym, ◌∙◌, subst, arith, append_assoc}
-use Rattle.std.specs.Prelude.{slice_get, slice_index_or, slice_set, nat_lt, ◌==◌, ◌||◌, is_some}
+use Rattle.std.specs.Prelude.{slice_get, slice_index_or, slice_set, nat_lt, ◌==◌, ◌||◌, ◌&&◌, not, is_some}
 use Rattle.std.specs.Option.{option_map}
-use Rattle.std.specs.List.{range_with_len, list_any}
+use Rattle.std.specs.List.{range_with_len, list_any, list_all}
 use Rattle.std.proofs.lemmas.List.{length-map}
 use Rattle.std.proofs.lemmas.Bool.{eqb-true, ltb-true}
 use Rattle.l4_model.specs.Machine.{Declaration, Machine}
@@ -10,18 +10,21 @@ use Rattle.l4_model.specs.World.{Thread, World, Send, Phase, Ready, Sending, Rec
 use Rattle.l4_model.specs.Steps.{Step, Tick, next}
 use Rattle.l4_model.specs.Conditions.{◌>>=◌}
 use Rattle.l4_model.specs.History.{run}
+use Rattle.l4_model.specs.Still.{IsStill}
 use Rattle.l4_model.proofs.Chains.{bind_then, guard_then, some_is}
 use Rattle.l4_core_model.specs.Local.{Local, is_own, own_places, opening_local, thread, armed_period}
 use Rattle.l4_core_model.specs.Acts.{Work, ◌▷◌, tells, does}
-use Rattle.l4_core_model.specs.Turns.{turn, opened, advance, clock_is}
-use Rattle.l4_core_model.specs.Runs.{Happening, Handles, Turns, Ticks, Event, Happened, happens, done, Run, then_event, core_run, opening_run, told, letters, IsMachine, TellsHistories}
+use Rattle.l4_core_model.specs.Turns.{turn, is_busy, opened, advance, clock_is}
+use Rattle.l4_core_model.specs.Runs.{System, processors, is_empty, local_at_rest, at_rest, Happening, Handles, Turns, Ticks, Event, Happened, happens, done, Run, then_event, core_run, opening_run, told, letters, IsMachine, TellsHistories}
 use Rattle.l4_core_model.specs.Known.{known_world}
-use Rattle.l4_core_model.specs.Laws.{IsCoreRun, TellsWhatIsKnown}
+use Rattle.l4_core_model.specs.Laws.{IsCoreRun, TellsWhatIsKnown, RestsStill}
 use Rattle.l4_core_model.proofs.Knows.{IsSingle, Knows, own, AreSeats, blocks, told as tell}
 use Rattle.l4_core_model.proofs.Fit.{IsFit, IsGood, IsReadyAt, AreDistinct, NotIn, SendIsSince, PhaseIsSince, all-map, distinct-filter}
 use Rattle.l4_core_model.proofs.Remembers.{RemembersAll, any_filter, apart}
-use Rattle.l4_core_model.proofs.Pieces.{Ends}
+use Rattle.l4_core_model.proofs.Pieces.{Ends, both}
 use Rattle.l4_core_model.proofs.Single.{own_below, opened_ends, turn_ends}
+use Rattle.l4_core_model.proofs.Resting.{resting_is}
+use Rattle.l4_core_model.proofs.Still.{resting_still}
 
 -- A tick
 
@@ -254,3 +257,17 @@ pub single_known : (m : Machine) (r : Run) → IsMachine m → m.cpus ≡ 1 → 
 single_known m r is one run =
     let s = single_leads m r is one run in
     (s.l, ap (λ ls. slice_get ls 0) s.locals, s.reaches ∙ ap Some (known_is m s.w s.l s.knows))
+
+rests_here : (m : Machine) (g : System) (l : Local) → m.cpus ≡ 1 → g.locals ≡ l ∷ [] → at_rest m g ≡ true → (not (is_busy m 0 l) && is_empty l.lists.armed) ≡ true
+rests_here m g l one locals h =
+    let all = (both (list_all (local_at_rest m g) (processors m)) (is_empty g.mail) h).0 in
+    let first : (local_at_rest m g 0 && true) ≡ true = sym (ap (λ n. list_all (local_at_rest m g) (range_with_len 0 n)) one) ∙ all in
+    let here = (both (local_at_rest m g 0) true first).0 in
+    rw locals at here
+
+pub single_rests : (m : Machine) (r : Run) → IsMachine m → m.cpus ≡ 1 → IsCoreRun m r → RestsStill m r
+single_rests m r is one run l at rest =
+    let s = single_leads m r is one run in
+    let single = single_is m is one in
+    let same = some_is s.l l (sym (ap (λ ls. slice_get ls 0) s.locals) ∙ at) in
+    subst (λ l. IsStill m (known_world l)) same (resting_still m s.l single (resting_is m s.l single s.fit s.all (rests_here m r.system s.l one s.locals rest)))

@@ -8,7 +8,7 @@ use Rattle.l4_model.specs.Words.{Period}
 use Rattle.l4_model.specs.World.{Thread, Phase, Ready, Sending, Receiving, Ordering, Ended, Deleted, changed, is_ready, opening_thread}
 use Rattle.l4_model.specs.Effects.{asked}
 use Rattle.l4_core_model.specs.Plain as plain
-use Rattle.l4_core_model.specs.Local.{Local, thread, comes_to, changes, relists, entered, readied, armed_for, armed_period}
+use Rattle.l4_core_model.specs.Local.{Local, thread, comes_to, changes, relists, readied, armed_for, armed_period}
 use Rattle.l4_core_model.specs.Acts.{asks}
 use Rattle.l4_core_model.proofs.Knows.{same_nat}
 use Rattle.l4_core_model.proofs.Fit.{IsMild, get_cases, get_other, part_at}

@@ -1,23 +1,25 @@
 -- One processor: what is known where there is nothing to be done.
-use Rattle.std.proofs.Common.{◌≡◌, ℕ, ◌<◌, Bool, true, false, cond, Option, Some, None, List, [], ◌∷◌, length, refl, ap, sym, ◌∙◌, subst}
-use Rattle.std.specs.Prelude.{slice_get, ◌==◌, is_some, find}
+use Rattle.std.proofs.Common.{◌≡◌, ℕ, ◌<◌, Bool, true, false, cond, Option, Some, None, List, [], ◌∷◌, length, refl, ap, sym, ◌∙◌}
+use Rattle.std.specs.Prelude.{slice_get, ◌==◌, ◌&&◌, not, is_some, find}
 use Rattle.std.specs.List.{AllByRecursion, list_any}
 use Rattle.std.specs.Option.{option_map}
 use Rattle.std.proofs.lemmas.Bool.{eqb-true}
-use Rattle.l4_model.specs.Words.{Id, NilThread, AnyThread, AnyLocalThread, LocalThread, GlobalThread}
-use Rattle.l4_model.specs.Machine.{Machine, place_of}
+use Rattle.l4_model.specs.Machine.{Machine}
 use Rattle.l4_model.specs.World.{Receive, Send, is_ready, is_deleted, receive_now}
-use Rattle.l4_model.specs.Conditions.{Found, is_nobody, ◌>>=◌, ◌>>◌}
+use Rattle.l4_model.specs.Conditions.{is_nobody, ◌>>=◌, ◌>>◌}
 use Rattle.l4_model.proofs.Chains.{some_is}
 use Rattle.l4_core_model.specs.Plain as plain
-use Rattle.l4_core_model.specs.Local.{Local, thread, held, held_by, destination_place, armed_period}
+use Rattle.l4_core_model.specs.Local.{Local, own_places, thread, held, held_by, destination_place, armed_period}
 use Rattle.l4_core_model.specs.Acts.{first_acceptable, zero_refusable}
-use Rattle.l4_core_model.specs.Turns.{Duty, DropsOwn, RefusesFirst, CancelsOwn, ClosesReceive, RefusesZero, duty_a, duty_b, duty_c, duty_d, duty_e, duty_f, duty_g, duty_h, duty_of, first_some, CancelsReceive}
-use Rattle.l4_core_model.proofs.Knows.{IsSeat}
+use Rattle.l4_core_model.specs.Turns.{DropsOwn, RefusesFirst, CancelsOwn, ClosesReceive, RefusesZero, duty_a, duty_b, duty_c, duty_d, duty_e, duty_f, duty_g, duty_h, duty_of, first_some, CancelsReceive, first_duty, Choice, ByDue, ByReady, choice, is_busy}
+use Rattle.l4_core_model.specs.Runs.{is_empty}
+use Rattle.l4_core_model.proofs.Knows.{IsSingle, IsSeat}
 use Rattle.l4_core_model.proofs.Fit.{IsFit}
 use Rattle.l4_core_model.proofs.Remembers.{RemembersAll}
+use Rattle.l4_core_model.proofs.Pieces.{both}
 use Rattle.l4_core_model.proofs.Beginning.{any_at, any_in, destination_within}
 use Rattle.l4_core_model.proofs.Duties.{accepts_none}
+use Rattle.l4_core_model.proofs.Single.{no_duties, own_at}
 
 pub record IsResting (m : Machine) (l : Local) : Type 0 where
   pub fit : IsFit m l
@@ -25,6 +27,37 @@ pub record IsResting (m : Machine) (l : Local) : Type 0 where
   pub no_duty : (i : ℕ) → i < length m.threads → duty_of m 0 l (held m l i) ≡ None
   pub none_ready : l.lists.ready ≡ []
   pub none_armed : l.lists.armed ≡ []
+
+-- It is so where the core is idle and nothing is armed.
+
+none_of : {A : Type 0} (os : List (Option A)) → first_some os ≡ None → AllByRecursion (λ o. o ≡ None) os
+none_of [] h = tt
+none_of (None ∷ os) h = (refl, none_of os h)
+none_of (Some x ∷ os) h = cc
+
+pub resting_is : (m : Machine) (l : Local) → IsSingle m → IsFit m l → RemembersAll m l → (not (is_busy m 0 l) && is_empty l.lists.armed) ≡ true → IsResting m l
+resting_is m l single fit all h =
+    let t = both (not (is_busy m 0 l)) (is_empty l.lists.armed) h in
+    let none = none_of (first_duty m 0 l (own_places m 0) ∷ option_map ByDue (plain.due_block l.clock l.lists.armed) ∷ option_map ByReady (slice_get l.lists.ready 0) ∷ []) (idle (choice m 0 l) t.0) in
+    record {
+      fit = fit;
+      all = all;
+      no_duty = λ i lt. own_at m (λ i. duty_of m 0 l (held m l i) ≡ None) i single lt (no_duties m l (own_places m 0) none.0);
+      none_ready = no_first l.lists.ready none.1.1.0;
+      none_armed = nothing l.lists.armed t.1;
+    }
+  where
+    idle : (o : Option Choice) → not (is_some o) ≡ true → o ≡ None
+    idle None h = refl
+    idle (Some c) h = cc
+
+    no_first : (is : List ℕ) → option_map ByReady (slice_get is 0) ≡ None → is ≡ []
+    no_first [] h = refl
+    no_first (i ∷ is) h = cc
+
+    nothing : (es : List (ℕ × ℕ)) → is_empty es ≡ true → es ≡ []
+    nothing [] h = refl
+    nothing (e ∷ es) h = cc
 
 -- No thread is ready or armed.
 
@@ -44,11 +77,6 @@ pub is_waiting_here : (m : Machine) (l : Local) (i : ℕ) (send : Send) → IsRe
 is_waiting_here m l i send rest lt has = (rest.all i lt).waits (ap (λ o. is_some o) has)
 
 -- No thread has a duty.
-
-none_of : {A : Type 0} (os : List (Option A)) → first_some os ≡ None → AllByRecursion (λ o. o ≡ None) os
-none_of [] h = tt
-none_of (None ∷ os) h = (refl, none_of os h)
-none_of (Some x ∷ os) h = cc
 
 no_duties_of : (m : Machine) (l : Local) (i : ℕ) → IsResting m l → i < length m.threads →
     AllByRecursion (λ o. o ≡ None) (duty_a l (held m l i) ∷ duty_b l (held m l i) ∷ duty_c m 0 l (held m l i) ∷ duty_d l (held m l i) ∷ duty_e (held m l i) ∷ duty_f l (held m l i) ∷ duty_g m l (held m l i) ∷ duty_h m l (held m l i) ∷ [])

@@ -11,11 +11,11 @@ use Rattle.l4_model.specs.World.{World, Send, Phase, Ready, Sending, Receiving, 
 use Rattle.l4_model.specs.Rules.{Act, RunsAlone, Sends, Receives, Orders}
 use Rattle.l4_model.specs.Steps.{ReceiveTimeout, runs_alone, receive_of}
 use Rattle.l4_model.specs.Conditions.{Found, act_of, has_passed}
-use Rattle.l4_model.proofs.Chains.{some_is, cond_keeps}
+use Rattle.l4_model.proofs.Chains.{some_is}
 use Rattle.l4_core_model.specs.Plain as plain
-use Rattle.l4_core_model.specs.Letters.{TimedOut, ByTimeout}
+use Rattle.l4_core_model.specs.Letters.{TimedOut}
 use Rattle.l4_core_model.specs.Local.{Local, is_own, own_places, thread, held, relists}
-use Rattle.l4_core_model.specs.Acts.{Work, ◌▷◌, does, refuses, fails_receive, first_acceptable, withdraws, split_place, acts}
+use Rattle.l4_core_model.specs.Acts.{Work, ◌▷◌, does, refuses, fails_receive, first_acceptable, acts}
 use Rattle.l4_core_model.specs.Turns.{Duty, Choice, ByDuty, ByDue, ByReady, duty_a, duty_b, duty_c, duty_d, duty_e, duty_f, duty_g, duty_h, duty_of, first_some, first_duty, choice, does_choice, times_out, turn, opened}
 use Rattle.l4_core_model.proofs.Knows.{IsSingle, Knows, blocks, own, held_found, pending_is, refuses_follows}
 use Rattle.l4_core_model.proofs.Fit.{IsFit, IsArmedAt, IsReadyAt, Justifies, NotIn, AreDistinct, all-filter, all-map, fit-popped, fit-popped_due}
@@ -54,7 +54,7 @@ filtered_at P q a (suc n) i all le lt is = by (a == i) refl (λ le. filtered_at 
     by true e rest = let same = eqb-true a i e in subst P same (head_of P (q a) a (filter q (range_with_len (a + 1) n)) (ap q same ∙ is) all)
     by false e rest = rest (differs a i e le)
 
-own_at : (m : Machine) (P : ℕ → Type 0) (i : ℕ) → IsSingle m → i < length m.threads → AllByRecursion P (own_places m 0) → P i
+pub own_at : (m : Machine) (P : ℕ → Type 0) (i : ℕ) → IsSingle m → i < length m.threads → AllByRecursion P (own_places m 0) → P i
 own_at m P i single lt all = filtered_at P (is_own m 0) 0 (length m.threads) i all (omega arith) (omega arith) (own m i single lt)
 
 -- Where no thread has a duty, none accepts what waits for it.
@@ -71,7 +71,7 @@ no_duty_f m l t h = by (duty_a l t) (duty_b l t) (duty_c m 0 l t) (duty_d l t) (
     by None (Some y) c d e f rest h = cc
     by (Some y) b c d e f rest h = cc
 
-no_duties : (m : Machine) (l : Local) (is : List ℕ) → first_duty m 0 l is ≡ None → AllByRecursion (λ i. duty_of m 0 l (held m l i) ≡ None) is
+pub no_duties : (m : Machine) (l : Local) (is : List ℕ) → first_duty m 0 l is ≡ None → AllByRecursion (λ i. duty_of m 0 l (held m l i) ≡ None) is
 no_duties m l [] h = tt
 no_duties m l (i ∷ is) h = by (duty_of m 0 l (held m l i)) refl h (no_duties m l is)
   where

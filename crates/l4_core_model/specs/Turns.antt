@@ -152,10 +152,10 @@ turn m cpu l = option_map (λ c. does_choice m cpu c (opened 0 l)) (choice m cpu
 abbrev pub is_busy : Machine → (cpu : ℕ) → Local → Bool
 is_busy m cpu l = is_some (choice m cpu l)
 
--- The clock goes on. None where it may not.
 abbrev pub clock_is : ℕ → Local → Local
 clock_is to l = record l { clock = to }
 
+-- The clock goes on. None where it may not.
 abbrev pub advance : Machine → (cpu : ℕ) → (to : ℕ) → Local → Option Work
 advance m cpu to l = do
   nat_lt l.clock to

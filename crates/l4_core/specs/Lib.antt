@@ -1,0 +1,3 @@
+pub mod Judged
+pub mod Numbers
+pub mod Lines

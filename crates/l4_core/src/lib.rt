@@ -1,0 +1,6 @@
+//! One processor of the emulator: the machine that a text declares, and the turns of its threads.
+#![tactic(auto)]
+
+mod text;
+
+pub use text::{TextFault, TextFaultKind};

@@ -1,3 +1,2 @@
-pub mod Judged
-pub mod Numbers
-pub mod Lines
+pub mod Scripts
+pub mod Machines

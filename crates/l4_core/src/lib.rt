@@ -1,6 +1,4 @@
 //! One processor of the emulator: the machine that a text declares, and the turns of its threads.
 #![tactic(auto)]
 
-mod text;
-
-pub use text::{TextFault, TextFaultKind};
+pub mod machine;

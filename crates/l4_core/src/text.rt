@@ -1,7 +1,0 @@
-//! Machine texts: the grammar's reader.
-
-mod fault;
-mod numbers;
-mod words;
-
-pub use fault::{TextFault, TextFaultKind};

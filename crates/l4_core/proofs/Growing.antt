@@ -1,15 +1,13 @@
 -- A machine stays lawful as it grows.
-use Rattle.std.proofs.Common.{◌≡◌, ℕ, ◌+◌, ◌-◌, ◌<◌, ◌≤◌, Bool, true, false, not, cond, ltb, eqb, List, [], ◌∷◌, ◌++◌, length, get_or, set, Option, Some, None, refl, sym, ap, ◌∙◌, arith, inl, inr}
+use Rattle.std.proofs.Common.{◌≡◌, ℕ, ◌<◌, Bool, true, false, cond, ltb, eqb, List, [], ◌∷◌, ◌++◌, length, get_or, set, Some, None, refl, ap, ◌∙◌, arith, inl, inr}
 use Rattle.std.specs.List.{list_any, position, position_or_len}
-use Rattle.std.proofs.lemmas.Bool.{cases_lt, ltb-true, ltb-false, lt-ltb, le-ltb, eqb-true, eqb-false, eq-eqb, ne_eqb, cases_eq, and_parts, and_from, or_parts, false≢true, cases_Bool}
+use Rattle.std.proofs.lemmas.Bool.{cases_lt, ltb-true, lt-ltb, eq-eqb, ne_eqb, cases_eq, or_parts}
 use Rattle.std.specs.Prelude.{Result, Ok, Err, OnOk, OnErr}
 use Rattle.std.proofs.lemmas.List.{get_or_read, length_push, length-set, get_or_push, get_or_append_left, get_or-set_same, get_or-set_other}
 use Rattle.std.proofs.lemmas.List.Folds.{position_or_len-set, position_or_len_push}
-use Rattle.std.proofs.lemmas.List.Sums.{position_or_len_is}
 use Rattle.l4_model.specs.Words.{GlobalId, same_id}
 use Rattle.l4_model.specs.Machine.{Instr, Declaration, Machine, place_of}
 use Rattle.l4_core_model.specs.Local.{declared, undeclared}
-use Rattle.l4_core_model.specs.Runs.{IsMachine}
 use Rattle.l4_core.specs.Machines.{IsLawful, has_number, is_taken, with_instruction, with_thread, last_place, last_thread, extended}
 
 -- Where a first passing place is known, and from one.

@@ -1,7 +1,6 @@
 -- How a machine grows as its text is read.
-use Rattle.std.specs.Prelude.{ℕ, ◌+◌, ◌-◌, ◌≤◌, Bool, ◌==◌, List, [], ◌∷◌, ◌++◌, length, slice_set}
+use Rattle.std.specs.Prelude.{ℕ, ◌-◌, ◌≤◌, Bool, ◌==◌, [], ◌∷◌, ◌++◌, length, slice_set}
 use Rattle.std.specs.List.{list_any}
-use Rattle.l4_model.specs.Words.{GlobalId}
 use Rattle.l4_model.specs.Machine.{Instr, Declaration, Machine}
 use Rattle.l4_core_model.specs.Local.{declared}
 use Rattle.l4_core_model.specs.Runs.{IsMachine}

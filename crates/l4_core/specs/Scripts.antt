@@ -1,5 +1,5 @@
 -- The instructions of a script as the model has them.
-use Rattle.std.specs.Prelude.{None, Some}
+use Rattle.std.specs.Prelude.{None}
 use Rattle.l4_model.specs.Words.{NilThread, AnyThread, GlobalThread, word_of_tag}
 use Rattle.l4_model.specs.Machine as model
 use Rattle.l4_core.specs.declared.machine.Ipc.{Ipc}

@@ -2,3 +2,4 @@
 #![tactic(auto)]
 
 pub mod machine;
+pub mod text;

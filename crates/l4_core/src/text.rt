@@ -1,0 +1,7 @@
+//! Machine texts: the grammar's reader.
+
+mod fault;
+mod numbers;
+mod words;
+
+pub use fault::{TextFault, TextFaultKind};

@@ -1,3 +1,4 @@
 pub mod Growing
 pub mod Digits
 pub mod Splits
+pub mod GlobalIds

@@ -1,5 +1,8 @@
 pub mod Judged
 pub mod Numbers
+pub mod Ids
 pub mod Lines
 pub mod Scripts
 pub mod Machines
+pub mod Statements
+pub mod Texts

@@ -1,4 +1,8 @@
 //! What is wrong with a machine text.
+ghost use Rattle.std.specs.Prelude.{◌≡◌};
+ghost use Rattle.l4_core.specs.declared.text.fault.TextFaultKind.TheVariants.{NoMemory as OutOfMemory};
+
+use l4_types::errors::NoMemory;
 
 /// The first fault of a machine text.
 #[derive(Clone, Copy, Debug, PartialEq, Eq)]
@@ -33,4 +37,12 @@ pub enum TextFaultKind {
     TooManyThreads,
     /// One instruction more than a script may have.
     TooManyInstructions,
+}
+
+impl From<NoMemory> for TextFaultKind {
+    ghost from_gives = { λ _ kind. kind ≡ OutOfMemory };
+
+    fn from(_error: NoMemory) -> TextFaultKind {
+        TextFaultKind::NoMemory
+    }
 }

@@ -1,5 +1,5 @@
 //! Numbers as machine texts spell them.
-ghost use Rattle.std.specs.Prelude.{◌≡◌, ◌≤◌};
+ghost use Rattle.std.specs.Prelude.{◌≡◌, ◌≤◌, IfOk};
 ghost use Rattle.l4_core.specs.Numbers.{are_digits, has_leading_zero, is_hexadecimal, decimal_of, hexadecimal_of, number_of, number_from, value_of};
 
 use super::fault::TextFaultKind;
@@ -72,7 +72,8 @@ pub(super) fn number(word: &[u8]) -> Option<u64>
 /// A number in a range.
 #[tactic(auto, unfolding(crate::specs::Numbers::number_from))]
 pub(super) fn number_from(low: u64, high: u64, word: &[u8]) -> Result<u64, TextFaultKind>
-    ensures { result ≡ number_from low high word.now }
+    ensures value { result ≡ number_from low high word.now }
+    ensures range { IfOk result (λ value. (low ≤ value) × (value ≤ high)) }
 {
     let value = number(word).ok_or(TextFaultKind::BadNumber)?;
     if low <= value && value <= high {

@@ -25,6 +25,8 @@ impl<'a> Model for Words<'a> {
 
 type FourWords<'a> = (&'a [u8], &'a [u8], &'a [u8], &'a [u8]);
 
+type FiveWords<'a> = (&'a [u8], &'a [u8], &'a [u8], &'a [u8], &'a [u8]);
+
 /// What a line says: its words, or nothing where it is empty or a comment.
 #[tactic(auto, unfolding(crate::specs::Lines::line_of))]
 pub(super) fn words_of(line: &[u8]) -> Result<Option<Words<'_>>, TextFaultKind>
@@ -121,6 +123,16 @@ impl<'a> Words<'a> {
     {
         match (self.next(), self.next(), self.next(), self.next(), self.next()) {
             (Some(first), Some(second), Some(third), Some(fourth), None) => Ok((first, second, third, fourth)),
+            _ => Err(TextFaultKind::BadLine),
+        }
+    }
+
+    /// The five words that are left.
+    pub(super) fn five(mut self) -> Result<FiveWords<'a>, TextFaultKind>
+        ensures { Returns (λ words. (words.0.now, words.1.now, words.2.now, words.3.now, words.4.now)) result (five self.entry) }
+    {
+        match (self.next(), self.next(), self.next(), self.next(), self.next(), self.next()) {
+            (Some(first), Some(second), Some(third), Some(fourth), Some(fifth), None) => Ok((first, second, third, fourth, fifth)),
             _ => Err(TextFaultKind::BadLine),
         }
     }

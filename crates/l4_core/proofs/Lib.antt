@@ -2,3 +2,4 @@ pub mod Growing
 pub mod Digits
 pub mod Splits
 pub mod GlobalIds
+pub mod ReadingLines

@@ -3,9 +3,10 @@ use Rattle.std.specs.Prelude.{ℕ, ◌≡◌, ◌⊎◌, ◌+◌, Bool, ◌==◌
 use Rattle.l4_model.specs.Machine.{Machine}
 use Rattle.l4_core.specs.declared.text.fault.TextFault.{TextFault}
 use Rattle.l4_core.specs.declared.text.fault.TextFaultKind.{TextFaultKind}
-use Rattle.l4_core.specs.declared.text.fault.TextFaultKind.TheVariants.{BadLine, NoMemory, TooLong}
+use Rattle.l4_core.specs.declared.text.fault.TextFaultKind.TheVariants.{BadLine, TooLong}
 use Rattle.l4_core.specs.declared.text.reading.Stage.{Stage}
 use Rattle.l4_core.specs.declared.text.reading.Stage.TheVariants.{Format, Processors, Threads}
+use Rattle.l4_core.specs.Faults.{fault_at, no_memory}
 use Rattle.l4_core.specs.Judged.{Judged, ◌>>=◌}
 use Rattle.l4_core.specs.Lines.{parts_of, line_of}
 use Rattle.l4_core.specs.Statements.{format_line, processors_line, thread_line}
@@ -23,17 +24,13 @@ after_said stage (Some words) = after_words stage words
 unfoldable pub after_line : Stage → List ℕ → Judged Stage
 after_line stage line = line_of line >>= after_said stage
 
--- A text
-abbrev pub fault_at : (line : ℕ) → TextFaultKind → TextFault
-fault_at line kind = record { line = line; kind = kind }
-
 -- The text ends. `line` is the number of its lines, plus 1.
 abbrev pub ended : Stage → (line : ℕ) → Result Machine TextFault
 ended (Threads m) line = Ok m
 ended stage line = Err (fault_at line BadLine)
 
 -- A line without a fault leads on, and the first fault is the text's.
-abbrev pub judged_at : (line : ℕ) → Judged Stage → (Stage → Result Machine TextFault) → Result Machine TextFault
+abbrev pub judged_at : {X : Type 0} → (line : ℕ) → Judged Stage → (Stage → Result X TextFault) → Result X TextFault
 judged_at line (Ok stage) rest = rest stage
 judged_at line (Err kind) rest = Err (fault_at line kind)
 
@@ -47,11 +44,7 @@ read (part ∷ next ∷ parts) stage line = judged_at line (after_line stage par
 abbrev pub machine_of_text : List ℕ → Result Machine TextFault
 machine_of_text text = if nat_lt 0x100000 (length text) then Err (fault_at 0 TooLong) else read (parts_of text) Format 1
 
--- The only fault that is not the text's.
-abbrev pub no_memory : TextFault
-no_memory = fault_at 0 NoMemory
-
 -- What was read of a text is what the definition gives, unless memory ran out.
-abbrev pub Reads : Result Machine TextFault → Result Machine TextFault → Type 0
-Reads (Ok m) text = text ≡ Ok m
+abbrev pub Reads : {X : Type 0} → Result X TextFault → Result X TextFault → Type 0
+Reads (Ok x) text = text ≡ Ok x
 Reads (Err fault) text = (fault ≡ no_memory) ⊎ (text ≡ Err fault)

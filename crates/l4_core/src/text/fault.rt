@@ -1,5 +1,6 @@
 //! What is wrong with a machine text.
 ghost use Rattle.std.specs.Prelude.{◌≡◌};
+ghost use Rattle.l4_core.specs.Faults.{fault_of};
 ghost use Rattle.l4_core.specs.declared.text.fault.TextFaultKind.TheVariants.{NoMemory as OutOfMemory};
 
 use l4_types::errors::NoMemory;
@@ -10,6 +11,18 @@ pub struct TextFault {
     /// The line, counted from 1 with the skipped ones; 0 where the fault is no line's.
     pub line: usize,
     pub kind: TextFaultKind,
+}
+
+impl TextFault {
+    /// A fault of this line, or of none where memory ran out.
+    pub(super) fn at(line: usize, kind: TextFaultKind) -> TextFault
+        ensures { result ≡ fault_of line kind }
+    {
+        match kind {
+            TextFaultKind::NoMemory => TextFault { line: 0, kind },
+            _ => TextFault { line, kind },
+        }
+    }
 }
 
 /// The kinds of faults. Within a line they are judged in the order: what stands there at all (`BadLine`), the operands from left to

@@ -56,7 +56,9 @@ fn hexadecimal(digits: &[u8]) -> Option<u64>
 fn is_hexadecimal(digits: &[u8]) -> bool
     ensures { result ≡ is_hexadecimal digits.now }
 {
-    digits.iter().all(|byte| matches!(byte, b'0'..=b'9' | b'a'..=b'f'))
+    digits
+        .iter()
+        .all(|byte| matches!(byte, b'0'..=b'9' | b'a'..=b'f'))
 }
 
 /// A number in either spelling.

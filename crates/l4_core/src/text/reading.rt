@@ -3,9 +3,9 @@ ghost use Rattle.std.specs.Prelude.{◌≡◌, ◌<◌, length};
 ghost use Rattle.l4_core.specs.Judged.{Gives};
 ghost use Rattle.l4_core.specs.Scripts.{instr_of};
 ghost use Rattle.l4_core.specs.Statements.{declare, extend, thread_line};
-ghost use Rattle.l4_core.specs.Texts.{after_words, after_line};
+ghost use Rattle.l4_core.specs.Texts.{Reads, after_words, after_line, judged_at, ended};
 
-use super::fault::TextFaultKind;
+use super::fault::{TextFault, TextFaultKind};
 use super::statements::{declaration, format_line, instruction, processors_line};
 use super::words::{Words, words_of};
 use crate::machine::{Declaration, Instr, MOST_INSTRUCTIONS, MOST_THREADS, Machine};
@@ -55,7 +55,11 @@ fn extend(instr: Instr, mut machine: Machine) -> Result<Machine, TextFaultKind>
 
 /// The machine with what a line says of threads.
 #[tactic(auto, unfolding(crate::specs::Statements::thread_line))]
-fn thread_line(alloc: Global, machine: Machine, mut words: Words<'_>) -> Result<Machine, TextFaultKind>
+fn thread_line(
+    alloc: Global,
+    machine: Machine,
+    mut words: Words<'_>,
+) -> Result<Machine, TextFaultKind>
     ensures { Gives (λ m. m) result (thread_line machine words.entry) }
 {
     let name = words.next().ok_or(TextFaultKind::BadLine)?;
@@ -93,12 +97,37 @@ impl Stage {
 
     /// What comes next behind a line.
     #[tactic(auto, unfolding(crate::specs::Texts::after_line))]
-    pub(super) fn after_line(self, alloc: Global, line: &[u8]) -> Result<Stage, TextFaultKind>
+    fn after_line(self, alloc: Global, line: &[u8]) -> Result<Stage, TextFaultKind>
         ensures { Gives (λ stage. stage) result (after_line self line.now) }
     {
         match words_of(line)? {
             None => Ok(self),
             Some(words) => self.after_words(alloc, words),
+        }
+    }
+
+    /// What comes next behind the line of this number, or its fault.
+    pub(super) fn after_line_at(
+        self,
+        number: usize,
+        alloc: Global,
+        line: &[u8],
+    ) -> Result<Stage, TextFault>
+        ensures { Reads result (judged_at number (after_line self line.now) (λ stage. Ok stage)) }
+    {
+        match self.after_line(alloc, line) {
+            Ok(stage) => Ok(stage),
+            Err(kind) => Err(TextFault::at(number, kind)),
+        }
+    }
+
+    /// The machine of a text that ends here, before the line of this number.
+    pub(super) fn ended(self, number: usize) -> Result<Machine, TextFault>
+        ensures { result ≡ ended self number }
+    {
+        match self {
+            Stage::Threads(machine) => Ok(machine),
+            Stage::Format | Stage::Processors => Err(TextFault::at(number, TextFaultKind::BadLine)),
         }
     }
 }

@@ -15,9 +15,13 @@ use l4_types::tags::MsgTag;
 use std::alloc::Global;
 
 const CPU: &[u8] = b"cpu";
+
 const SPACE: &[u8] = b"space";
+
 const NIL: &[u8] = b"nil";
+
 const ANY: &[u8] = b"any";
+
 const NEVER: &[u8] = b"never";
 
 /// The line `l4 1 64`.
@@ -56,7 +60,11 @@ fn processor(cpus: u8, word: &[u8]) -> Result<u64, TextFaultKind>
 
 /// What stands behind `thread`.
 #[tactic(auto, unfolding(crate::specs::Statements::declaration_of))]
-pub(super) fn declaration(alloc: Global, cpus: u8, operands: Words<'_>) -> Result<Declaration, TextFaultKind>
+pub(super) fn declaration(
+    alloc: Global,
+    cpus: u8,
+    operands: Words<'_>,
+) -> Result<Declaration, TextFaultKind>
     requires { cpus ≡ 1 }
     ensures value { result ≡ declaration_of cpus operands.entry }
     ensures home { IfOk result (λ thread. thread.cpu ≡ 0) }

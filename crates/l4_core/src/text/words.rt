@@ -121,8 +121,16 @@ impl<'a> Words<'a> {
     pub(super) fn four(mut self) -> Result<FourWords<'a>, TextFaultKind>
         ensures { Returns (λ words. (words.0.now, words.1.now, words.2.now, words.3.now)) result (four self.entry) }
     {
-        match (self.next(), self.next(), self.next(), self.next(), self.next()) {
-            (Some(first), Some(second), Some(third), Some(fourth), None) => Ok((first, second, third, fourth)),
+        match (
+            self.next(),
+            self.next(),
+            self.next(),
+            self.next(),
+            self.next(),
+        ) {
+            (Some(first), Some(second), Some(third), Some(fourth), None) => Ok((
+                first, second, third, fourth,
+            )),
             _ => Err(TextFaultKind::BadLine),
         }
     }
@@ -131,8 +139,17 @@ impl<'a> Words<'a> {
     pub(super) fn five(mut self) -> Result<FiveWords<'a>, TextFaultKind>
         ensures { Returns (λ words. (words.0.now, words.1.now, words.2.now, words.3.now, words.4.now)) result (five self.entry) }
     {
-        match (self.next(), self.next(), self.next(), self.next(), self.next(), self.next()) {
-            (Some(first), Some(second), Some(third), Some(fourth), Some(fifth), None) => Ok((first, second, third, fourth, fifth)),
+        match (
+            self.next(),
+            self.next(),
+            self.next(),
+            self.next(),
+            self.next(),
+            self.next(),
+        ) {
+            (Some(first), Some(second), Some(third), Some(fourth), Some(fifth), None) => Ok((
+                first, second, third, fourth, fifth,
+            )),
             _ => Err(TextFaultKind::BadLine),
         }
     }

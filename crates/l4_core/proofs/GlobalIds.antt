@@ -1,9 +1,9 @@
 -- Where the `.` of a global id stands.
-use Rattle.std.proofs.Common.{◌≡◌, ℕ, ◌+◌, ◌≤◌, List, [], length, take, drop, Option, Some, None, refl, ap, ◌∙◌, arith}
+use Rattle.std.proofs.Common.{◌≡◌, ℕ, ◌+◌, List, [], take, drop, Option, Some, None, refl, arith}
 use Rattle.std.specs.List.{position, position_or_len}
 use Rattle.std.proofs.lemmas.List.{drop_all}
-use Rattle.l4_model.specs.Words.{GlobalId, is_global, global_id}
-use Rattle.l4_model.specs.Conditions.{◌>>=◌, ◌>>◌}
+use Rattle.l4_model.specs.Words.{GlobalId}
+use Rattle.l4_model.specs.Conditions.{◌>>=◌}
 use Rattle.l4_core.specs.Numbers.{decimal_of}
 use Rattle.l4_core.specs.Ids.{global_id_between, is_dot, global_id_of}
 use Rattle.l4_core.proofs.Splits.{place_at, no_place}

@@ -3,3 +3,4 @@ pub mod Digits
 pub mod Splits
 pub mod GlobalIds
 pub mod ReadingLines
+pub mod TextRows

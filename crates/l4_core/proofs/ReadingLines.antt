@@ -1,6 +1,6 @@
 -- Reading a text line by line.
 use Rattle.std.proofs.Common.{◌≡◌, ℕ, ◌+◌, ◌==◌, Bool, true, false, cond, List, [], ◌∷◌, length, take, drop, Option, Some, None, Result, Ok, Err, refl, sym, ap, ◌∙◌, inl, inr}
-use Rattle.std.specs.List.{slice_split, onto_first, position}
+use Rattle.std.specs.List.{onto_first, position}
 use Rattle.l4_model.specs.Machine.{Machine}
 use Rattle.l4_core.specs.declared.text.fault.TextFault.{TextFault}
 use Rattle.l4_core.specs.declared.text.fault.TextFaultKind.TheVariants.{BadLine}

@@ -1,5 +1,5 @@
 -- Thread ids as machine texts spell them.
-use Rattle.std.specs.Prelude.{ℕ, Bool, ◌==◌, Option, Some, None, List}
+use Rattle.std.specs.Prelude.{ℕ, Bool, ◌==◌, Option, Some, List}
 use Rattle.std.specs.List.{before_first, after_first}
 use Rattle.l4_model.specs.Words.{GlobalId, is_global, global_id}
 use Rattle.l4_model.specs.Conditions.{◌>>=◌, ◌>>◌}

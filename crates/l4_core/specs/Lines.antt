@@ -3,7 +3,7 @@ use Rattle.std.specs.Prelude.{ℕ, Bool, ◌||◌, ◌&&◌, ◌==◌, nat_le, i
 use Rattle.std.specs.List.{list_all, list_any, slice_split}
 use Rattle.std.specs.Str.{bytes_eq}
 use Rattle.l4_core.specs.declared.text.fault.TextFaultKind.TheVariants.{BadLine}
-use Rattle.l4_core.specs.Judged.{Judged, ◌>>=◌, ◌>>◌, must}
+use Rattle.l4_core.specs.Judged.{Judged, ◌>>◌, must}
 
 -- What stands between the line ends of a text, byte 10: its lines, and behind the last line end what has none.
 abbrev pub parts_of : List ℕ → List (List ℕ)

@@ -1,5 +1,5 @@
 -- What the lines of a machine text say: their operands are judged from left to right, behind the keywords and the number of words.
-use Rattle.std.specs.Prelude.{ℕ, ◌+◌, ◌/◌, ◌%◌, ◌^◌, ◌-◌, Bool, ◌&&◌, ◌==◌, not, nat_lt, if◌then◌else◌, Option, Some, None, Ok, Err, List, [], ◌∷◌, length, codes}
+use Rattle.std.specs.Prelude.{ℕ, ◌/◌, ◌%◌, ◌^◌, ◌-◌, ◌&&◌, ◌==◌, not, nat_lt, if◌then◌else◌, Option, Some, None, Ok, Err, List, [], ◌∷◌, length, codes}
 use Rattle.std.specs.Option.{option_map}
 use Rattle.std.specs.Str.{bytes_eq}
 use Rattle.l4_model.specs.Words.{GlobalId, NilThread, AnyThread, GlobalThread}

@@ -1,8 +1,7 @@
 -- The machine that a text declares, or its first fault.
-use Rattle.std.specs.Prelude.{ℕ, ◌≡◌, ◌⊎◌, ◌+◌, Bool, ◌==◌, nat_lt, if◌then◌else◌, Option, Some, None, Result, Ok, Err, List, [], ◌∷◌, length}
+use Rattle.std.specs.Prelude.{ℕ, ◌≡◌, ◌⊎◌, ◌+◌, ◌==◌, nat_lt, if◌then◌else◌, Option, Some, None, Result, Ok, Err, List, [], ◌∷◌, length}
 use Rattle.l4_model.specs.Machine.{Machine}
 use Rattle.l4_core.specs.declared.text.fault.TextFault.{TextFault}
-use Rattle.l4_core.specs.declared.text.fault.TextFaultKind.{TextFaultKind}
 use Rattle.l4_core.specs.declared.text.fault.TextFaultKind.TheVariants.{BadLine, TooLong}
 use Rattle.l4_core.specs.declared.text.reading.Stage.{Stage}
 use Rattle.l4_core.specs.declared.text.reading.Stage.TheVariants.{Format, Processors, Threads}

@@ -1,4 +1,4 @@
-//! Machine texts (docs/FORMATS.md): the grammar's reader.
+//! Machine texts, and their reader.
 ghost use Rattle.std.specs.Prelude.{◌≡◌, ◌≤◌, length};
 ghost use Rattle.l4_core.specs.Lines.{parts_of};
 ghost use Rattle.l4_core.specs.Texts.{Reads, read, machine_of_text};
@@ -54,3 +54,6 @@ fn read(alloc: Global, text: &[u8]) -> Result<Machine, TextFault>
     }
     stage.ended(line)
 }
+
+#[cfg(test)]
+mod tests;

@@ -1,6 +1,5 @@
-use Rattle.std.proofs.Common.{◌≡◌, ◌+◌, ◌∙◌, sym, take, drop}
+use Rattle.std.proofs.Common.{◌+◌, ◌∙◌, sym}
 use Rattle.std.proofs.lemmas.List.{take_rest}
-use Rattle.l4_core.specs.Ids.{global_id_of}
 use Rattle.l4_core.proofs.GlobalIds.{id_without_dot, id_at_dot}
 use Rattle.l4_core.proofs.text.ids.global_id.Goals as goal
 

@@ -1,4 +1,4 @@
-use Rattle.std.proofs.Common.{rules, refl}
+use Rattle.std.proofs.Common.{refl}
 use Rattle.l4_core.specs.Numbers.{number_of}
 use Rattle.l4_core.proofs.text.numbers.number.Goals as goal
 

@@ -1,4 +1,4 @@
-use Rattle.std.proofs.Common.{◌≡◌, arith, rules}
+use Rattle.std.proofs.Common.{◌≡◌, arith}
 use Rattle.std.proofs.lemmas.Grind.{common_steps}
 use Rattle.l4_core.specs.Statements.{declaration_of}
 use Rattle.l4_core.proofs.text.statements.declaration.Goals as goal

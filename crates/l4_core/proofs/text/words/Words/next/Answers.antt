@@ -1,7 +1,6 @@
-use Rattle.std.proofs.Common.{◌≡◌, ◌==◌, ◌+◌, ◌∷◌, [], ℕ, List, take, drop, sym, ◌∙◌, ap}
-use Rattle.std.specs.Option.{option_copied}
+use Rattle.std.proofs.Common.{◌≡◌, ◌==◌, ◌+◌, ◌∷◌, ℕ, List, take, drop, sym, ◌∙◌, ap}
 use Rattle.std.proofs.lemmas.List.{take_rest}
-use Rattle.l4_core.specs.Lines.{words_of, words_left}
+use Rattle.l4_core.specs.Lines.{words_of}
 use Rattle.l4_core.proofs.Splits.{split_some, split_none}
 use Rattle.l4_core.proofs.text.words.Words.next.Goals as goal
 

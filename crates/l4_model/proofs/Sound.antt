@@ -1,18 +1,17 @@
 -- In each phase a thread has the undecided send and the undone order that belong to it.
-use Rattle.std.proofs.Common.{subst, ◌≡◌, ℕ, zero, suc, ◌+◌, true, false, Option, Some, None, List, [], ◌∷◌, map, refl, ap, sym, ◌∙◌}
-use Rattle.std.specs.Prelude.{slice_get, slice_set, nat_lt, ◌^◌, ◌==◌, not, ◌&&◌, is_some, is_none}
-use Rattle.std.specs.Str.{bytes_eq}
+use Rattle.std.proofs.Common.{subst, ◌≡◌, ℕ, zero, suc, true, false, Option, Some, None, List, [], ◌∷◌, map, refl, ap, sym, ◌∙◌}
+use Rattle.std.specs.Prelude.{slice_get, ◌==◌, is_some}
 use Rattle.std.specs.List.{AllByRecursion}
-use Rattle.l4_model.specs.Words.{GlobalId, Id, NilThread, AnyThread, AnyLocalThread, LocalThread, GlobalThread, same_id}
-use Rattle.l4_model.specs.Machine.{Machine, Declaration, Instr, End, What, CancelSend, CancelReceive, CancelBoth, Delete, place_of}
-use Rattle.l4_model.specs.World.{Thread, World, Send, Receive, Asked, Phase, Ready, Sending, Receiving, Ordering, Ended, Deleted, changed, change, opening, opening_thread, is_alive, is_ready, is_deleted, receive_now, queued, unqueued, Name}
-use Rattle.l4_model.specs.Steps.{Step, Local, Begin, Queue, Deliver, Wait, SendTimeout, ReceiveTimeout, SendNobody, ReceiveNobody, SendCancel, ReceiveCancel, Drop, Order, Obey, Tick, receive_passed, what_code, runs_alone, send_of, receive_of, order_of, without_send, after_local, after_begin, after_queue, after_deliver, after_wait, after_send_timeout, after_receive_timeout, after_send_nobody, after_receive_nobody, after_send_cancel, after_receive_cancel, after_drop, after_order, after_obey, after_tick, next}
-use Rattle.l4_model.specs.Conditions.{Found, Pending, found, found_by, undecided, receiver_of, is_waiting, first_accepted, is_nobody, is_no_destination, is_timed_out, act_of, instruction}
-use Rattle.l4_model.specs.Rules.{received_tag, is_cross}
+use Rattle.l4_model.specs.Words.{GlobalId, Id, NilThread, AnyThread, AnyLocalThread, LocalThread, GlobalThread}
+use Rattle.l4_model.specs.Machine.{Machine, Declaration, Instr, End, What, CancelSend, CancelReceive, CancelBoth, Delete}
+use Rattle.l4_model.specs.World.{Thread, World, Send, Receive, Asked, Phase, Ready, Sending, Receiving, Ordering, Ended, Deleted, changed, change, opening, opening_thread, is_alive, is_ready, is_deleted, receive_now, unqueued, Name}
+use Rattle.l4_model.specs.Steps.{Step, Local, Begin, Queue, Deliver, Wait, SendTimeout, ReceiveTimeout, SendNobody, ReceiveNobody, SendCancel, ReceiveCancel, Drop, Order, Obey, Tick, without_send, next}
+use Rattle.l4_model.specs.Conditions.{Found, Pending, found, found_by, undecided, instruction}
 use Rattle.l4_model.specs.Effects.{phase_after, runs, begins, waits, fails, decided, refused, receives, goes_on, delivered, asked, orders, obeyed}
 use Rattle.l4_model.specs.History.{run}
 use Rattle.l4_model.proofs.Chains.{bind_then, guard_then, some_is, cond_keeps, part-changed}
 use Rattle.l4_model.proofs.Sends.{known, known_send}
+use Rattle.l4_model.proofs.Inversions.{local_taken, begin_taken, queue_taken, DeliverTaken, deliver_taken, wait_taken, send_timeout_taken, send_nobody_taken, send_cancel_taken, drop_taken, receive_timeout_taken, receive_nobody_taken, receive_cancel_taken, order_taken, ObeyTaken, obey_taken, tick_taken}
 
 -- which send and order a phase goes with
 abbrev pub Suits : Phase → Option Send → Option Asked → Type 0
@@ -200,171 +199,73 @@ without_send_sound : (m : Machine) (w : World) (s : Name) (p : Pending) (f : Thr
     ((t : Thread) → t.send ≡ Some p.send → t.phase ≡ p.sender.now.phase → IsSound t → IsSound (f t)) → AreSound (without_send w p f)
 without_send_sound m w s p f is h keep = found_sound m w s.thread p.sender f (sender_found m w s p is) h (keep p.sender.now (known_send m w s p is).send refl)
 
--- each kind of step keeps it
-
-local_sound : (m : Machine) (w v : World) (id : GlobalId) → after_local m w id ≡ Some v → AreSound w → AreSound v
-local_sound m w v id h sound =
-    bind_then (found m w id) _ v h λ t is rest.
-    guard_then (is_ready t.now.phase) _ v rest λ ready rest.
-    guard_then (runs_alone (act_of m t)) _ v rest λ alone rest.
-    subst AreSound (some_is (change w t.at (runs (instruction t))) v rest) (found_sound m w id t (runs (instruction t)) is sound (runs_sound (instruction t) t.now ready))
-
-begin_sound : (m : Machine) (w v : World) (s : Name) → after_begin m w s ≡ Some v → AreSound w → AreSound v
-begin_sound m w v s h sound =
-    bind_then (found m w s.thread) _ v h λ t is rest.
-    guard_then (is_ready t.now.phase) _ v rest λ ready rest.
-    guard_then (s.k == t.now.context.begun + 1) _ v rest λ next_k rest.
-    bind_then (send_of (act_of m t)) _ v rest λ send has rest.
-    subst AreSound (some_is (change w t.at (begins send)) v rest)
-    (found_sound m w s.thread t (begins send) is sound (λ old. record { suits = (refl, (ready_has_none t.now.phase t.now.send t.now.order ready old.suits).1) }))
-
-queue_sound : (m : Machine) (w v : World) (s : Name) → after_queue m w s ≡ Some v → AreSound w → AreSound v
-queue_sound m w v s h sound =
-    bind_then (undecided m w s) _ v h λ p is rest.
-    bind_then (receiver_of m w p) _ v rest λ r to rest.
-    guard_then (is_alive r.now.phase) _ v rest λ alive rest.
-    guard_then (not (is_waiting w p)) _ v rest λ free rest.
-    subst AreSound (some_is (queued w r.at p.sender.at) v rest) sound
-
-deliver_sound : (m : Machine) (w v : World) (s : Name) (receiver shown actual : GlobalId) (tag : ℕ) (words : List ℕ) →
-    after_deliver m w s receiver shown actual tag words ≡ Some v → AreSound w → AreSound v
-deliver_sound m w v s receiver shown actual tag words h sound =
-    bind_then (undecided m w s) _ v h λ p is rest.
-    bind_then (receiver_of m w p) _ v rest λ r to rest.
-    bind_then (receive_now r.now.phase) _ v rest λ receive now rest.
-    bind_then (first_accepted m w r receive.from) _ v rest λ first found rest.
-    guard_then (first == p.sender.at) _ v rest λ is_first rest.
-    guard_then (same_id receiver r.declared.id) _ v rest λ same_receiver rest.
-    guard_then (same_id shown p.send.message.shown) _ v rest λ same_shown rest.
-    guard_then (same_id actual p.send.message.actual) _ v rest λ same_actual rest.
-    guard_then (tag == received_tag (is_cross m receiver p.send.message) p.send.message) _ v rest λ same_tag rest.
-    guard_then (bytes_eq words p.send.message.words) _ v rest λ same_words rest.
-    let g : Thread → Thread = receives p.send.message tag in
-    let received : AreSound (change (unqueued w p.sender.at) r.at g) = receiver_sound m w r p.send.to g to sound
-    (λ old. record { suits = receiving_has_none r.now.phase r.now.send r.now.order receive now old.suits }) in
-    subst AreSound (some_is (change (change (unqueued w p.sender.at) r.at g) p.sender.at (delivered p.send p.sender.clock)) v rest)
-    (sender_sound m w s p r.at g (delivered p.send p.sender.clock) is (λ t. refl) received (delivered_sound p.send p.sender.clock))
-
-wait_sound : (m : Machine) (w v : World) (id : GlobalId) → after_wait m w id ≡ Some v → AreSound w → AreSound v
-wait_sound m w v id h sound =
-    bind_then (found m w id) _ v h λ t is rest.
-    guard_then (is_ready t.now.phase) _ v rest λ ready rest.
-    bind_then (receive_of (act_of m t)) _ v rest λ receive has rest.
-    subst AreSound (some_is (change w t.at (waits receive t.clock)) v rest)
-    (found_sound m w id t (waits receive t.clock) is sound (λ old. record { suits = ready_has_none t.now.phase t.now.send t.now.order ready old.suits }))
-
--- a send that is refused or dropped
-decided_sound : (m : Machine) (w v : World) (s : Name) (p : Pending) (f : Thread → Thread) → undecided m w s ≡ Some p →
-    ((t : Thread) → t.send ≡ Some p.send → t.phase ≡ p.sender.now.phase → IsSound t → IsSound (f t)) →
-    AreSound w → Some (without_send w p f) ≡ Some v → AreSound v
-decided_sound m w v s p f is keep sound rest = subst AreSound (some_is (without_send w p f) v rest) (without_send_sound m w s p f is sound keep)
-
-send_timeout_sound : (m : Machine) (w v : World) (s : Name) → after_send_timeout m w s ≡ Some v → AreSound w → AreSound v
-send_timeout_sound m w v s h sound =
-    bind_then (undecided m w s) _ v h λ p is rest.
-    guard_then (is_timed_out m w p) _ v rest λ due rest.
-    decided_sound m w v s p (refused 2) is (λ t has same. refused_sound 2 t p.send has) sound rest
-
-send_nobody_sound : (m : Machine) (w v : World) (s : Name) → after_send_nobody m w s ≡ Some v → AreSound w → AreSound v
-send_nobody_sound m w v s h sound =
-    bind_then (undecided m w s) _ v h λ p is rest.
-    guard_then (is_no_destination p.send.to (receiver_of m w p)) _ v rest λ nobody rest.
-    decided_sound m w v s p (refused 4) is (λ t has same. refused_sound 4 t p.send has) sound rest
-
-send_cancel_sound : (m : Machine) (w v : World) (s : Name) → after_send_cancel m w s ≡ Some v → AreSound w → AreSound v
-send_cancel_sound m w v s h sound =
-    bind_then (undecided m w s) _ v h λ p is rest.
-    guard_then (is_waiting w p) _ v rest λ in_list rest.
-    guard_then p.sender.now.cancel_send _ v rest λ wish rest.
-    decided_sound m w v s p (refused 6) is (λ t has same. refused_sound 6 t p.send has) sound rest
-
 -- where a thread receives, its receive phase may fail
-fails_receiving : (m : Machine) (w v : World) (id : GlobalId) (t : Found) (code : ℕ) (receive : Receive) → found m w id ≡ Some t →
-    receive_now t.now.phase ≡ Some receive → AreSound w → Some (change w t.at (fails code)) ≡ Some v → AreSound v
-fails_receiving m w v id t code receive is now sound rest =
-    subst AreSound (some_is (change w t.at (fails code)) v rest)
-    (found_sound m w id t (fails code) is sound (λ old. fails_sound code t.now (receiving_has_none t.now.phase t.now.send t.now.order receive now old.suits) old))
+fails_receiving : (m : Machine) (w : World) (id : GlobalId) (t : Found) (code : ℕ) (receive : Receive) → found m w id ≡ Some t →
+    receive_now t.now.phase ≡ Some receive → AreSound w → AreSound (change w t.at (fails code))
+fails_receiving m w id t code receive is now sound =
+    found_sound m w id t (fails code) is sound (λ old. fails_sound code t.now (receiving_has_none t.now.phase t.now.send t.now.order receive now old.suits) old)
 
-receive_timeout_sound : (m : Machine) (w v : World) (id : GlobalId) → after_receive_timeout m w id ≡ Some v → AreSound w → AreSound v
-receive_timeout_sound m w v id h sound =
-    bind_then (found m w id) _ v h λ t is rest.
-    bind_then (receive_now t.now.phase) _ v rest λ receive now rest.
-    guard_then (receive_passed t t.now.phase) _ v rest λ due rest.
-    guard_then (is_none (first_accepted m w t receive.from)) _ v rest λ none rest.
-    fails_receiving m w v id t 3 receive is now sound rest
+dropped : (q : Phase) (order : Option Asked) → is_deleted q ≡ true → Suits q None order
+dropped Ready order h = cc
+dropped Sending order h = cc
+dropped (Receiving receive since) order h = cc
+dropped Ordering order h = cc
+dropped Ended order h = cc
+dropped Deleted order h = tt
 
-receive_nobody_sound : (m : Machine) (w v : World) (id : GlobalId) → after_receive_nobody m w id ≡ Some v → AreSound w → AreSound v
-receive_nobody_sound m w v id h sound =
-    bind_then (found m w id) _ v h λ t is rest.
-    bind_then (receive_now t.now.phase) _ v rest λ receive now rest.
-    guard_then (is_nobody receive.from (found_by m w receive.from)) _ v rest λ nobody rest.
-    guard_then (is_none (first_accepted m w t receive.from)) _ v rest λ none rest.
-    fails_receiving m w v id t 5 receive is now sound rest
+deliver_sound : (m : Machine) (w v : World) (s : Name) (receiver shown actual : GlobalId) (tag : ℕ) (words : List ℕ) → DeliverTaken m w v s receiver shown actual tag words → AreSound w → AreSound v
+deliver_sound m w v s receiver shown actual tag words k sound =
+    let g : Thread → Thread = receives k.p.send.message tag in
+    let received : AreSound (change (unqueued w k.p.sender.at) k.r.at g) = receiver_sound m w k.r k.p.send.to g k.to sound
+    (λ old. record { suits = receiving_has_none k.r.now.phase k.r.now.send k.r.now.order k.receive k.receiving old.suits }) in
+    subst AreSound k.leads_to
+    (sender_sound m w s k.p k.r.at g (delivered k.p.send k.p.sender.clock) k.is_undecided (λ t. refl) received (delivered_sound k.p.send k.p.sender.clock))
 
-receive_cancel_sound : (m : Machine) (w v : World) (id : GlobalId) → after_receive_cancel m w id ≡ Some v → AreSound w → AreSound v
-receive_cancel_sound m w v id h sound =
-    bind_then (found m w id) _ v h λ t is rest.
-    bind_then (receive_now t.now.phase) _ v rest λ receive now rest.
-    guard_then t.now.cancel_receive _ v rest λ wish rest.
-    fails_receiving m w v id t 7 receive is now sound rest
+obey_sound : (m : Machine) (w v : World) (caller : GlobalId) → ObeyTaken m w v caller → AreSound w → AreSound v
+obey_sound m w v caller k sound =
+    let g : Thread → Thread = asked k.order.what in
+    let now = (known m w caller k.t k.found).now in
+    subst AreSound k.leads_to
+    (change_sound (change w k.target g) k.t.at obeyed (any_sound w k.target g sound (asked_sound k.order.what)) (λ x at old.
+    obeyed_sound x k.order (part-changed (λ (y : Thread). y.order) g (order-asked k.order.what) w.threads k.target k.t.at k.t.now x now at ∙ k.ordered) old))
 
-order_sound : (m : Machine) (w v : World) (caller target : GlobalId) (what : What) → after_order m w caller target what ≡ Some v → AreSound w → AreSound v
-order_sound m w v caller target what h sound =
-    bind_then (found m w caller) _ v h λ t is rest.
-    guard_then (is_ready t.now.phase) _ v rest λ ready rest.
-    bind_then (order_of (act_of m t)) _ v rest λ order has rest.
-    guard_then (same_id target order.target && what_code what == what_code order.what) _ v rest λ same rest.
-    subst AreSound (some_is (change w t.at (orders order)) v rest)
-    (found_sound m w caller t (orders order) is sound (λ old. record { suits = ((ready_has_none t.now.phase t.now.send t.now.order ready old.suits).0, refl) }))
-
-obey_sound : (m : Machine) (w v : World) (caller : GlobalId) → after_obey m w caller ≡ Some v → AreSound w → AreSound v
-obey_sound m w v caller h sound =
-    bind_then (found m w caller) _ v h λ t is rest.
-    bind_then t.now.order _ v rest λ order has rest.
-    bind_then (place_of m order.target) _ v rest λ target named rest.
-    let g : Thread → Thread = asked order.what in
-    let now = (known m w caller t is).now in
-    subst AreSound (some_is (change (change w target g) t.at obeyed) v rest)
-    (change_sound (change w target g) t.at obeyed (any_sound w target g sound (asked_sound order.what)) (λ x at old.
-    obeyed_sound x order (part-changed (λ (y : Thread). y.order) g (order-asked order.what) w.threads target t.at t.now x now at ∙ has) old))
-
-drop_sound : (m : Machine) (w v : World) (s : Name) → after_drop m w s ≡ Some v → AreSound w → AreSound v
-drop_sound m w v s h sound =
-    bind_then (undecided m w s) _ v h λ p is rest.
-    guard_then (is_waiting w p) _ v rest λ in_list rest.
-    guard_then (is_deleted p.sender.now.phase) _ v rest λ gone rest.
-    decided_sound m w v s p decided is (λ t has same old. record { suits = dropped t.phase t.order (rw same gone) }) sound rest
-  where
-    dropped : (q : Phase) (order : Option Asked) → is_deleted q ≡ true → Suits q None order
-    dropped Ready order h = cc
-    dropped Sending order h = cc
-    dropped (Receiving receive since) order h = cc
-    dropped Ordering order h = cc
-    dropped Ended order h = cc
-    dropped Deleted order h = tt
-
-tick_sound : (m : Machine) (w v : World) (cpu clock : ℕ) → after_tick m w cpu clock ≡ Some v → AreSound w → AreSound v
-tick_sound m w v cpu clock h sound =
-    bind_then (slice_get w.clocks cpu) _ v h λ now is rest.
-    guard_then (nat_lt now clock && nat_lt clock (2 ^ 62)) _ v rest λ later rest.
-    subst AreSound (some_is (record w { clocks = slice_set w.clocks cpu clock }) v rest) sound
-
+-- each kind of step keeps it
 pub step_sound : (m : Machine) (w v : World) (step : Step) → next m w step ≡ Some v → AreSound w → AreSound v
-step_sound m w v (Local t) h = local_sound m w v t h
-step_sound m w v (Begin s) h = begin_sound m w v s h
-step_sound m w v (Queue s) h = queue_sound m w v s h
-step_sound m w v (Deliver s receiver shown actual tag words) h = deliver_sound m w v s receiver shown actual tag words h
-step_sound m w v (Wait t) h = wait_sound m w v t h
-step_sound m w v (SendTimeout s) h = send_timeout_sound m w v s h
-step_sound m w v (ReceiveTimeout t) h = receive_timeout_sound m w v t h
-step_sound m w v (SendNobody s) h = send_nobody_sound m w v s h
-step_sound m w v (ReceiveNobody t) h = receive_nobody_sound m w v t h
-step_sound m w v (SendCancel s) h = send_cancel_sound m w v s h
-step_sound m w v (ReceiveCancel t) h = receive_cancel_sound m w v t h
-step_sound m w v (Drop s) h = drop_sound m w v s h
-step_sound m w v (Order caller target what) h = order_sound m w v caller target what h
-step_sound m w v (Obey caller) h = obey_sound m w v caller h
-step_sound m w v (Tick cpu clock) h = tick_sound m w v cpu clock h
+step_sound m w v (Local id) h sound =
+    let k = local_taken m w v id h in
+    subst AreSound k.leads_to (found_sound m w id k.t (runs (instruction k.t)) k.found sound (runs_sound (instruction k.t) k.t.now k.ready))
+step_sound m w v (Begin s) h sound =
+    let k = begin_taken m w v s h in
+    subst AreSound k.leads_to
+    (found_sound m w s.thread k.t (begins k.send) k.found sound (λ old. record { suits = (refl, (ready_has_none k.t.now.phase k.t.now.send k.t.now.order k.ready old.suits).1) }))
+step_sound m w v (Queue s) h sound = let k = queue_taken m w v s h in subst AreSound k.leads_to sound
+step_sound m w v (Deliver s receiver shown actual tag words) h sound =
+    deliver_sound m w v s receiver shown actual tag words (deliver_taken m w v s receiver shown actual tag words h) sound
+step_sound m w v (Wait id) h sound =
+    let k = wait_taken m w v id h in
+    subst AreSound k.leads_to
+    (found_sound m w id k.t (waits k.receive k.t.clock) k.found sound (λ old. record { suits = ready_has_none k.t.now.phase k.t.now.send k.t.now.order k.ready old.suits }))
+step_sound m w v (SendTimeout s) h sound =
+    let k = send_timeout_taken m w v s h in
+    subst AreSound k.leads_to (without_send_sound m w s k.p (refused 2) k.is_undecided sound (λ t has same. refused_sound 2 t k.p.send has))
+step_sound m w v (SendNobody s) h sound =
+    let k = send_nobody_taken m w v s h in
+    subst AreSound k.leads_to (without_send_sound m w s k.p (refused 4) k.is_undecided sound (λ t has same. refused_sound 4 t k.p.send has))
+step_sound m w v (SendCancel s) h sound =
+    let k = send_cancel_taken m w v s h in
+    subst AreSound k.leads_to (without_send_sound m w s k.p (refused 6) k.is_undecided sound (λ t has same. refused_sound 6 t k.p.send has))
+step_sound m w v (Drop s) h sound =
+    let k = drop_taken m w v s h in
+    subst AreSound k.leads_to (without_send_sound m w s k.p decided k.is_undecided sound (λ t has same old. record { suits = dropped t.phase t.order (rw same k.gone) }))
+step_sound m w v (ReceiveTimeout id) h sound = let k = receive_timeout_taken m w v id h in subst AreSound k.leads_to (fails_receiving m w id k.t 3 k.receive k.found k.receiving sound)
+step_sound m w v (ReceiveNobody id) h sound = let k = receive_nobody_taken m w v id h in subst AreSound k.leads_to (fails_receiving m w id k.t 5 k.receive k.found k.receiving sound)
+step_sound m w v (ReceiveCancel id) h sound = let k = receive_cancel_taken m w v id h in subst AreSound k.leads_to (fails_receiving m w id k.t 7 k.receive k.found k.receiving sound)
+step_sound m w v (Order caller target what) h sound =
+    let k = order_taken m w v caller target what h in
+    subst AreSound k.leads_to
+    (found_sound m w caller k.t (orders k.order) k.found sound (λ old. record { suits = ((ready_has_none k.t.now.phase k.t.now.send k.t.now.order k.ready old.suits).0, refl) }))
+step_sound m w v (Obey caller) h sound = obey_sound m w v caller (obey_taken m w v caller h) sound
+step_sound m w v (Tick cpu clock) h sound = let k = tick_taken m w v cpu clock h in subst AreSound k.leads_to sound
 
 pub run_sound : (m : Machine) (h : List Step) (w v : World) → run m w h ≡ Some v → AreSound w → AreSound v
 run_sound m [] w v r sound = subst AreSound (some_is w v r) sound

@@ -128,7 +128,7 @@ step_stays m w v (Obey caller) j h gone =
 step_stays m w v (Tick cpu clock) j h gone = let k = tick_taken m w v cpu clock h in subst (λ u. gone_at u j ≡ true) k.leads_to gone
 
 -- who receives is not gone
-id_of : (m : Machine) (w : World) (id : GlobalId) (t : Found) → found m w id ≡ Some t → (t.declared.id ≡ id) × (place_of m id ≡ Some t.at)
+pub id_of : (m : Machine) (w : World) (id : GlobalId) (t : Found) → found m w id ≡ Some t → (t.declared.id ≡ id) × (place_of m id ≡ Some t.at)
 id_of m w id t is =
     let k = known m w id t is in
     let there = place_id m id t.at k.place t.declared in
@@ -173,12 +173,12 @@ run_no_delivery m target j (step ∷ h) w v r place gone =
     (no_delivery m w u step target j is place gone, run_no_delivery m target j h u v rest place (step_stays m w u step j is gone))
 
 -- a history is run in two parts
-record Parted (m : Machine) (w v : World) (xs ys : List Step) : Type 0 where
-  between : World
-  first : run m w xs ≡ Some between
-  second : run m between ys ≡ Some v
+pub record Parted (m : Machine) (w v : World) (xs ys : List Step) : Type 0 where
+  pub between : World
+  pub first : run m w xs ≡ Some between
+  pub second : run m between ys ≡ Some v
 
-parted : (m : Machine) (xs ys : List Step) (w v : World) → run m w (xs ++ ys) ≡ Some v → Parted m w v xs ys
+pub parted : (m : Machine) (xs ys : List Step) (w v : World) → run m w (xs ++ ys) ≡ Some v → Parted m w v xs ys
 parted m [] ys w v r = record { between = w; first = refl; second = r }
 parted m (step ∷ xs) ys w v r =
     bind_then (next m w step) (λ u. run m u (xs ++ ys)) v r λ u is rest.

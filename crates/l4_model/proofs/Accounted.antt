@@ -12,7 +12,7 @@ use Rattle.std.specs.Option.{option_map}
 use Rattle.l4_model.specs.Words.{GlobalId, Id, same_id}
 use Rattle.l4_model.specs.Machine.{Machine, Declaration, place_of}
 use Rattle.l4_model.specs.World.{World, Send, Thread, changed, opening, opening_thread, Name}
-use Rattle.l4_model.specs.Steps.{Step, Local, Begin, Queue, Deliver, Wait, SendTimeout, ReceiveTimeout, SendNobody, ReceiveNobody, SendCancel, ReceiveCancel, Drop, Order, Obey, Tick, next}
+use Rattle.l4_model.specs.Steps.{Step, Begin, Deliver, SendTimeout, SendNobody, SendCancel, Drop, next}
 use Rattle.l4_model.specs.Conditions.{Pending, undecided, found_at, ◌>>=◌, ◌>>◌}
 use Rattle.l4_model.specs.History.{run, reached, waiting, begun_name}
 use Rattle.l4_model.specs.Laws.{same_name, names, delivered_name, refused_name, dropped_name, begins_of, deliveries_of, refusals_of, drops_of}
@@ -35,7 +35,7 @@ one_place m a b i ha hb =
 eqb_same : (n : ℕ) → (n == n) ≡ true
 eqb_same n = grind (arith, nat_tests)
 
-same_name_refl : (s : Name) → same_name s s ≡ true
+pub same_name_refl : (s : Name) → same_name s s ≡ true
 same_name_refl s = rw (eqb_same s.thread.number, eqb_same s.thread.version, eqb_same s.k)
 
 -- 1 where the k-th send is undecided
@@ -60,7 +60,7 @@ kept_pending m w v s e = sym (ap (λ xs. pending s.k (place_of m s.thread >>= sl
 elsewhere : (k : ℕ) (f : Status → Status) (xs ys : List Status) (i j : ℕ) → ys ≡ changed f xs i → (i ≡ j → ⊥) → pending k (slice_get xs j) ≡ pending k (slice_get ys j)
 elsewhere k f xs ys i j e ne = rw (e, get-changed_other f xs i j ne)
 
-idle : (m : Machine) (w v : World) (s : Name) (b : Begins m w v s) → AreSound w → b.old.send ≡ None
+pub idle : (m : Machine) (w v : World) (s : Name) (b : Begins m w v s) → AreSound w → b.old.send ≡ None
 idle m w v s b sound =
     let now = b.sender.now in
     ap (λ (x : Status). x.send) b.old_is
@@ -157,21 +157,13 @@ decided_pending m w v s t d = by (same_name s t) refl
 -- the account of one step
 step_balance : (m : Machine) (w v : World) (s : Name) (step : Step) → Effect m w v step → AreSound w →
     beginnings s step + pending_of m w s ≡ decisions s step + pending_of m v s
-step_balance m w v s (Local t) e sound = omega (arith, kept_pending m w v s e)
 step_balance m w v s (Begin t) e sound = omega (arith, begun_pending m w v s t e sound)
-step_balance m w v s (Queue t) e sound = omega (arith, kept_pending m w v s e)
 step_balance m w v s (Deliver t receiver shown actual tag words) e sound = omega (arith, decided_pending m w v s t e)
-step_balance m w v s (Wait t) e sound = omega (arith, kept_pending m w v s e)
 step_balance m w v s (SendTimeout t) e sound = omega (arith, decided_pending m w v s t e)
-step_balance m w v s (ReceiveTimeout t) e sound = omega (arith, kept_pending m w v s e)
 step_balance m w v s (SendNobody t) e sound = omega (arith, decided_pending m w v s t e)
-step_balance m w v s (ReceiveNobody t) e sound = omega (arith, kept_pending m w v s e)
 step_balance m w v s (SendCancel t) e sound = omega (arith, decided_pending m w v s t e)
-step_balance m w v s (ReceiveCancel t) e sound = omega (arith, kept_pending m w v s e)
 step_balance m w v s (Drop t) e sound = omega (arith, decided_pending m w v s t e)
-step_balance m w v s (Order caller target what) e sound = omega (arith, kept_pending m w v s e)
-step_balance m w v s (Obey t) e sound = omega (arith, kept_pending m w v s e)
-step_balance m w v s (Tick cpu clock) e sound = omega (arith, kept_pending m w v s e)
+step_balance m w v s _ e sound = omega (arith, kept_pending m w v s e)
 
 -- the account of a run
 run_balance : (m : Machine) (s : Name) (h : List Step) (w v : World) → run m w h ≡ Some v → AreSound w →
@@ -312,21 +304,13 @@ begun_unbegun m w v s t b = by (same_name s t) refl
     by false actual = let h = falls (unbegun s.k) (with_begun b.send) (unbegun-begun s.k b.send) m w v s.thread b.place b.now in omega arith
 
 step_unbegun : (m : Machine) (w v : World) (s : Name) (step : Step) → Effect m w v step → beginnings s step + unbegun_of m v s ≤ unbegun_of m w s
-step_unbegun m w v s (Local t) e = omega (arith, kept_unbegun m w v s e)
 step_unbegun m w v s (Begin t) e = begun_unbegun m w v s t e
-step_unbegun m w v s (Queue t) e = omega (arith, kept_unbegun m w v s e)
 step_unbegun m w v s (Deliver t receiver shown actual tag words) e = omega (arith, decided_unbegun m w v s t e)
-step_unbegun m w v s (Wait t) e = omega (arith, kept_unbegun m w v s e)
 step_unbegun m w v s (SendTimeout t) e = omega (arith, decided_unbegun m w v s t e)
-step_unbegun m w v s (ReceiveTimeout t) e = omega (arith, kept_unbegun m w v s e)
 step_unbegun m w v s (SendNobody t) e = omega (arith, decided_unbegun m w v s t e)
-step_unbegun m w v s (ReceiveNobody t) e = omega (arith, kept_unbegun m w v s e)
 step_unbegun m w v s (SendCancel t) e = omega (arith, decided_unbegun m w v s t e)
-step_unbegun m w v s (ReceiveCancel t) e = omega (arith, kept_unbegun m w v s e)
 step_unbegun m w v s (Drop t) e = omega (arith, decided_unbegun m w v s t e)
-step_unbegun m w v s (Order caller target what) e = omega (arith, kept_unbegun m w v s e)
-step_unbegun m w v s (Obey t) e = omega (arith, kept_unbegun m w v s e)
-step_unbegun m w v s (Tick cpu clock) e = omega (arith, kept_unbegun m w v s e)
+step_unbegun m w v s _ e = omega (arith, kept_unbegun m w v s e)
 
 run_unbegun : (m : Machine) (s : Name) (h : List Step) (w v : World) → run m w h ≡ Some v → begins_of s h + unbegun_of m v s ≤ unbegun_of m w s
 run_unbegun m s [] w v r = let e = kept_unbegun m w v s (ap statuses (sym (some_is w v r))) in omega arith

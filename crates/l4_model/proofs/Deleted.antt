@@ -135,7 +135,7 @@ id_of m w id t is =
     let same : get_or m.threads t.at t.declared ≡ t.declared = some_is _ _ (sym (slice_get-get_or m.threads t.at t.declared there.0) ∙ k.declared) in
     (ap (λ (d : Declaration). d.id) (sym same) ∙ there.1, k.place)
 
-receiver_place : (m : Machine) (w : World) (to : Id) (r : Found) → found_by m w to ≡ Some r → place_of m r.declared.id ≡ Some r.at
+pub receiver_place : (m : Machine) (w : World) (to : Id) (r : Found) → found_by m w to ≡ Some r → place_of m r.declared.id ≡ Some r.at
 receiver_place m w NilThread r is = cc
 receiver_place m w AnyThread r is = cc
 receiver_place m w AnyLocalThread r is = cc

@@ -8,7 +8,7 @@ use Rattle.std.specs.Option.{option_map}
 use Rattle.l4_model.specs.Words.{GlobalId, same_id}
 use Rattle.l4_model.specs.Machine.{Machine, place_of}
 use Rattle.l4_model.specs.World.{World, Send, changed, opening, Name}
-use Rattle.l4_model.specs.Steps.{Step, Local, Begin, Queue, Deliver, Wait, SendTimeout, ReceiveTimeout, SendNobody, ReceiveNobody, SendCancel, ReceiveCancel, Drop, Order, Obey, Tick, next}
+use Rattle.l4_model.specs.Steps.{Step, Begin, Deliver, SendTimeout, SendNobody, SendCancel, Drop, next}
 use Rattle.l4_model.specs.Conditions.{◌>>=◌}
 use Rattle.l4_model.specs.History.{run, reached}
 use Rattle.l4_model.specs.Laws.{same_name, names, delivered_name, deliveries_of}
@@ -115,21 +115,13 @@ delivered_left m w v s t d = by (same_name s t) refl
     by false actual = let h = decided_left m w v s t d in omega arith
 
 step_left : (m : Machine) (w v : World) (s : Name) (step : Step) → Effect m w v step → cond (names s (delivered_name step)) 1 0 + left_of m v s ≤ left_of m w s
-step_left m w v s (Local t) e = let h = kept_left m w v s e in omega arith
 step_left m w v s (Begin t) e = let h = begun_left m w v s t e in omega arith
-step_left m w v s (Queue t) e = let h = kept_left m w v s e in omega arith
 step_left m w v s (Deliver t receiver shown actual tag words) e = delivered_left m w v s t e
-step_left m w v s (Wait t) e = let h = kept_left m w v s e in omega arith
 step_left m w v s (SendTimeout t) e = let h = decided_left m w v s t e in omega arith
-step_left m w v s (ReceiveTimeout t) e = let h = kept_left m w v s e in omega arith
 step_left m w v s (SendNobody t) e = let h = decided_left m w v s t e in omega arith
-step_left m w v s (ReceiveNobody t) e = let h = kept_left m w v s e in omega arith
 step_left m w v s (SendCancel t) e = let h = decided_left m w v s t e in omega arith
-step_left m w v s (ReceiveCancel t) e = let h = kept_left m w v s e in omega arith
 step_left m w v s (Drop t) e = let h = decided_left m w v s t e in omega arith
-step_left m w v s (Order caller target what) e = let h = kept_left m w v s e in omega arith
-step_left m w v s (Obey t) e = let h = kept_left m w v s e in omega arith
-step_left m w v s (Tick cpu clock) e = let h = kept_left m w v s e in omega arith
+step_left m w v s _ e = let h = kept_left m w v s e in omega arith
 
 -- over a whole run
 run_left : (m : Machine) (s : Name) (h : List Step) (w v : World) → run m w h ≡ Some v → deliveries_of s h + left_of m v s ≤ left_of m w s

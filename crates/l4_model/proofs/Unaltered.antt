@@ -13,7 +13,7 @@ use Rattle.l4_model.specs.World.{World, Context, Message, Receive, Send, changed
 use Rattle.l4_model.specs.Rules.{act, ipc_act, ask_act, is_admitted, message_of, destination, receive_phase, received_tag, is_cross, bit, register}
 use Rattle.l4_model.specs.Conditions.{instruction}
 use Rattle.l4_model.specs.Effects.{begins}
-use Rattle.l4_model.specs.Steps.{Step, Local, Begin, Queue, Deliver, Wait, SendTimeout, ReceiveTimeout, SendNobody, ReceiveNobody, SendCancel, ReceiveCancel, Drop, Order, Obey, Tick, send_of, next}
+use Rattle.l4_model.specs.Steps.{Step, Begin, Deliver, SendTimeout, SendNobody, SendCancel, Drop, send_of, next}
 use Rattle.l4_model.specs.History.{run, reached}
 use Rattle.l4_model.specs.Laws.{message_at, Carries, DeliversAs, IsUnaltered}
 use Rattle.l4_model.proofs.Chains.{bind_then, some_is, get-map, get-changed_same}
@@ -108,15 +108,7 @@ step_holds m w v (SendTimeout t) j k send e = decides_hold m w v t j k send e
 step_holds m w v (SendNobody t) j k send e = decides_hold m w v t j k send e
 step_holds m w v (SendCancel t) j k send e = decides_hold m w v t j k send e
 step_holds m w v (Drop t) j k send e = decides_hold m w v t j k send e
-step_holds m w v (Local t) j k send e = keeps_hold w v j k send e
-step_holds m w v (Queue t) j k send e = keeps_hold w v j k send e
-step_holds m w v (Wait t) j k send e = keeps_hold w v j k send e
-step_holds m w v (ReceiveTimeout t) j k send e = keeps_hold w v j k send e
-step_holds m w v (ReceiveNobody t) j k send e = keeps_hold w v j k send e
-step_holds m w v (ReceiveCancel t) j k send e = keeps_hold w v j k send e
-step_holds m w v (Order caller target what) j k send e = keeps_hold w v j k send e
-step_holds m w v (Obey t) j k send e = keeps_hold w v j k send e
-step_holds m w v (Tick cpu clock) j k send e = keeps_hold w v j k send e
+step_holds m w v _ j k send e = keeps_hold w v j k send e
 
 -- what a delivery shows, of a send that holds
 delivery_carries : (m : Machine) (id : GlobalId) (c : Context) (send : Send) (receiver shown actual : GlobalId) (tag : ℕ) (words : List ℕ) → message_of m id c ≡ send.message →

@@ -1,6 +1,6 @@
 -- What is true of every history.
 use Rattle.std.specs.Prelude.{ℕ, ◌+◌, ◌<◌, ◌≤◌, ◌≡◌, Bool, true, false, if◌then◌else◌, ◌&&◌, ◌==◌, Option, Some, None, is_some, IsSomeAnd, List, [], ◌∷◌, ◌++◌, filter_map, count_by}
-use Rattle.std.specs.List.{AllByRecursion}
+use Rattle.std.specs.List.{AllByRecursion, before_first}
 use Rattle.l4_model.specs.Words.{GlobalId, same_id, tag_of_word}
 use Rattle.l4_model.specs.Machine.{Machine, Delete}
 use Rattle.l4_model.specs.World.{World, Asked, Message, receive_now, Name}
@@ -90,12 +90,7 @@ IsUnaltered m h =
 
 -- The sends that were queued before this one.
 abbrev pub queued_before : Name → List Step → List Name
-queued_before s [] = []
-queued_before s (step ∷ h) = until (queued_name step) (queued_before s h)
-  where
-    until : Option Name → List Name → List Name
-    until None rest = rest
-    until (Some t) rest = if same_name s t then [] else t ∷ rest
+queued_before s h = before_first (same_name s) (filter_map queued_name h)
 
 -- A send is undecided, was sent to this thread, and is one that it waits for.
 abbrev pub is_awaited : Machine → World → GlobalId → Name → Bool
@@ -137,3 +132,14 @@ pub record IsAccounted (m : Machine) (h : List Step) (w : World) (s : Name) : Ty
 
 abbrev pub AreAccounted : Machine → List Step → Type 0
 AreAccounted m h = (w : World) → reached m h ≡ Some w → (s : Name) → IsAccounted m h w s
+
+-- The laws of a history. Each send is delivered at most once and unaltered, one sender's messages reach one receiver in
+-- sending order, a receive takes its first acceptable waiting sender, a deleted thread receives nothing, and every other
+-- begun send is refused, dropped with its deleted sender, or listed waiting.
+pub record IsLawful (m : Machine) (h : List Step) : Type 0 where
+  pub delivered_at_most_once : AtMostOnce h
+  pub delivered_unaltered : IsUnaltered m h
+  pub in_sending_order : InOrder h
+  pub first_acceptable_taken : TakesTurns m h
+  pub nothing_after_deletion : NoneAfterDelete m h
+  pub every_send_accounted : AreAccounted m h

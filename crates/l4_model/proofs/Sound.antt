@@ -167,7 +167,7 @@ found_sound m w id t f is h keep =
     subst (λ y. IsSound (f y)) same (keep (subst IsSound (sym same) sound)))
 
 -- the sender of an undecided send was found
-sender_found : (m : Machine) (w : World) (s : Name) (p : Pending) → undecided m w s ≡ Some p → found m w s.thread ≡ Some p.sender
+pub sender_found : (m : Machine) (w : World) (s : Name) (p : Pending) → undecided m w s ≡ Some p → found m w s.thread ≡ Some p.sender
 sender_found m w s p h =
     bind_then (found m w s.thread) _ p h λ t sender rest.
     guard_then (t.now.context.begun == s.k) _ p rest λ last rest.

@@ -8,6 +8,7 @@ use Rattle.l4_model.specs.Rules.{Act, RunsAlone, Sends, Receives, Orders, receiv
 use Rattle.l4_model.specs.Effects.{runs, begins, waits, fails, decided, refused, receives, delivered, asked, orders, obeyed}
 use Rattle.l4_model.specs.Conditions.{◌>>=◌, ◌>>◌, Found, found, found_by, Pending, undecided, receiver_of, instruction, act_of, is_waiting, first_accepted, is_nobody, is_no_destination, has_passed, is_timed_out}
 
+-- What a history tells: one step for each change that concerns more than the thread's own registers, and `Local` for the rest.
 pub data Step : Type 0 where
   Local : GlobalId → Step
   Begin : Name → Step
@@ -25,6 +26,7 @@ pub data Step : Type 0 where
   Obey : GlobalId → Step
   Tick : (cpu clock : ℕ) → Step
 
+-- A number for each demand, to compare them by.
 abbrev pub what_code : What → ℕ
 what_code CancelSend = 0
 what_code CancelReceive = 1
@@ -100,18 +102,21 @@ after_wait m w id = do
 abbrev pub without_send : World → Pending → (Thread → Thread) → World
 without_send w p f = change (unqueued w p.sender.at) p.sender.at f
 
+-- A send is refused since its time is over: ErrorCode 2.
 abbrev pub after_send_timeout : Machine → World → Name → Option World
 after_send_timeout m w s = do
   p ← undecided m w s
   is_timed_out m w p
   Some (without_send w p (refused 2))
 
+-- A send is refused since nobody is there: ErrorCode 4.
 abbrev pub after_send_nobody : Machine → World → Name → Option World
 after_send_nobody m w s = do
   p ← undecided m w s
   is_no_destination p.send.to (receiver_of m w p)
   Some (without_send w p (refused 4))
 
+-- A waiting send is cancelled: ErrorCode 6.
 abbrev pub after_send_cancel : Machine → World → Name → Option World
 after_send_cancel m w s = do
   p ← undecided m w s
@@ -119,6 +124,7 @@ after_send_cancel m w s = do
   p.sender.now.cancel_send
   Some (without_send w p (refused 6))
 
+-- The waiting send of a deleted thread is dropped.
 abbrev pub after_drop : Machine → World → Name → Option World
 after_drop m w s = do
   p ← undecided m w s
@@ -126,10 +132,12 @@ after_drop m w s = do
   is_deleted p.sender.now.phase
   Some (without_send w p decided)
 
+-- The period of the receive phase that a thread is in has passed.
 abbrev pub receive_passed : Found → Phase → Bool
 receive_passed t (Receiving receive since) = has_passed receive.period since t.clock
 receive_passed t _ = false
 
+-- A receive phase is over since its time is: ErrorCode 3.
 abbrev pub after_receive_timeout : Machine → World → GlobalId → Option World
 after_receive_timeout m w id = do
   t ← found m w id
@@ -138,7 +146,7 @@ after_receive_timeout m w id = do
   is_none (first_accepted m w t receive.from)
   Some (change w t.at (fails 3))
 
--- A receive phase is closed for an id that nobody has.
+-- A receive phase is closed for an id that nobody has: ErrorCode 5.
 abbrev pub after_receive_nobody : Machine → World → GlobalId → Option World
 after_receive_nobody m w id = do
   t ← found m w id
@@ -147,6 +155,7 @@ after_receive_nobody m w id = do
   is_none (first_accepted m w t receive.from)
   Some (change w t.at (fails 5))
 
+-- A receive phase is cancelled: ErrorCode 7.
 abbrev pub after_receive_cancel : Machine → World → GlobalId → Option World
 after_receive_cancel m w id = do
   t ← found m w id

@@ -1,5 +1,5 @@
 -- What clocks have to do with steps: where a step is possible, it is possible when clocks are later.
-use Rattle.std.proofs.Common.{◌≡◌, ℕ, ◌+◌, ◌≤◌, Bool, true, false, cond, Option, Some, None, List, refl, ap, sym, ◌∙◌, arith}
+use Rattle.std.proofs.Common.{◌≡◌, ℕ, ◌+◌, ◌≤◌, Bool, true, false, cond, Option, Some, None, List, refl, ap, ◌∙◌, arith}
 use Rattle.std.proofs.lemmas.Bool.{leb-true, le-leb}
 use Rattle.std.specs.Prelude.{slice_get, slice_index, ◌==◌, is_some}
 use Rattle.std.specs.Option.{option_map}
@@ -10,9 +10,8 @@ use Rattle.l4_model.specs.Rules.{Act, RunsAlone, Sends, Receives, Orders, act, i
 use Rattle.l4_model.specs.Conditions.{Found, found, found_at, found_by, Pending, undecided, receiver_of, instruction, act_of, is_nobody, is_no_destination, has_passed, is_refusable, is_timed_out, ◌>>=◌, ◌>>◌}
 use Rattle.l4_model.specs.Steps.{Step, Local, Begin, Queue, Deliver, Wait, SendTimeout, ReceiveTimeout, SendNobody, ReceiveNobody, SendCancel, ReceiveCancel, Drop, Order, Obey, Tick, runs_alone, send_of, receive_of, order_of, receive_passed, next}
 use Rattle.l4_model.specs.Still.{is_tick}
-use Rattle.l4_model.proofs.Chains.{some_is}
-use Rattle.l4_model.proofs.Once.{and_true}
 use Rattle.l4_model.proofs.Inversions.{local_taken, begin_taken, queue_taken, deliver_taken, wait_taken, send_timeout_taken, send_nobody_taken, send_cancel_taken, drop_taken, receive_timeout_taken, receive_nobody_taken, receive_cancel_taken, order_taken, obey_taken}
+use Rattle.l4_model.proofs.Places.{and_true, known, known_send}
 
 -- A world with other clocks.
 abbrev pub with_clocks : World → List ℕ → World
@@ -174,12 +173,6 @@ passed_later (Some n) since now later le h = le-leb (since + n) later (omega (ar
 abbrev pub AreLater : List ℕ → List ℕ → Type 0
 AreLater clocks later = (i : ℕ) → slice_index clocks i ≤ slice_index later i
 
-found_clock : (m : Machine) (w : World) (id : GlobalId) (t : Found) → found m w id ≡ Some t → t.clock ≡ slice_index w.clocks t.declared.cpu
-found_clock m w id t h = ap (λ (x : Found). x.clock) (some_is t (at_clocks w.clocks t) (sym h ∙ found_is m w w.clocks id t h))
-
-sender_clock : (m : Machine) (w : World) (s : Name) (p : Pending) → undecided m w s ≡ Some p → p.sender.clock ≡ slice_index w.clocks p.sender.declared.cpu
-sender_clock m w s p h = ap (λ (x : Pending). x.sender.clock) (some_is p (pending_at w.clocks p) (sym h ∙ undecided_is m w w.clocks s p h))
-
 goes_on_from : {A B : Type 0} (o : Option A) (f : A → B) → is_some o ≡ true → is_some (o >>= λ x. Some (f x)) ≡ true
 goes_on_from None f h = cc
 goes_on_from (Some x) f h = refl
@@ -188,7 +181,7 @@ timed_out_later : (m : Machine) (w : World) (s : Name) (later : List ℕ) (p : P
     is_timed_out m w p ≡ true → is_timed_out m (with_clocks w later) (pending_at later p) ≡ true
 timed_out_later m w s later p is le h =
     let both = and_true (has_passed p.send.period p.send.since p.sender.clock) _ h in
-    let clock : p.sender.clock ≡ slice_index w.clocks p.sender.declared.cpu = sender_clock m w s p is in
+    let clock : p.sender.clock ≡ slice_index w.clocks p.sender.declared.cpu = (known_send m w s p is).sender.clock in
     let passed : has_passed p.send.period p.send.since (slice_index later p.sender.declared.cpu) ≡ true =
     passed_later p.send.period p.send.since p.sender.clock (slice_index later p.sender.declared.cpu) (omega (arith, clock, le p.sender.declared.cpu)) both.0 in
     rw (passed, found_by_later m w later p.send.to, refusable_later m p.send later (receiver_of m w p)) both.1
@@ -235,7 +228,7 @@ possible_later m w v later (Drop s) not_tick le h =
     rw (undecided_is m w later s k.p k.is_undecided, k.in_list, k.gone)
 possible_later m w v later (ReceiveTimeout id) not_tick le h =
     let k = receive_timeout_taken m w v id h in
-    let clock : k.t.clock ≤ slice_index later k.t.declared.cpu = omega (arith, found_clock m w id k.t k.found, le k.t.declared.cpu) in
+    let clock : k.t.clock ≤ slice_index later k.t.declared.cpu = omega (arith, (known m w id k.t k.found).clock, le k.t.declared.cpu) in
     rw (found_is m w later id k.t k.found, k.receiving, receive_passed_later k.t later k.t.now.phase clock k.due, k.none_accepted)
 possible_later m w v later (ReceiveNobody id) not_tick le h =
     let k = receive_nobody_taken m w v id h in

@@ -14,7 +14,7 @@ use Rattle.l4_model.specs.History.{run, reached}
 use Rattle.l4_model.specs.Laws.{number_between, IsRising}
 use Rattle.l4_model.proofs.Chains.{bind_then, get-changed_same, get-changed_other}
 use Rattle.l4_model.proofs.Sends.{Status, statuses, with_begun, with_decided, Begins, Decides, Keeps, Effect, effect}
-use Rattle.l4_model.proofs.Once.{and_true, same_id_is}
+use Rattle.l4_model.proofs.Places.{and_true, same_id_is}
 
 -- the least number of a send of this thread that may yet be delivered
 abbrev least : Option Status → ℕ

@@ -4,17 +4,18 @@ use Rattle.std.proofs.lemmas.Bool.{eqb-true, not-true, or_cases}
 use Rattle.std.proofs.Math.ListN.{get_or-map}
 use Rattle.std.proofs.lemmas.Bool.Decides.{nat_tests}
 use Rattle.std.specs.Prelude.{slice_get, ◌==◌, not, ◌||◌, ◌⊎◌, IsSomeAnd}
-use Rattle.std.specs.List.{filter, list_any}
-use Rattle.l4_model.specs.Words.{Id, NilThread, AnyThread, AnyLocalThread, LocalThread, GlobalThread}
+use Rattle.std.specs.List.{filter}
 use Rattle.l4_model.specs.Machine.{Machine, Declaration, place_of}
 use Rattle.l4_model.specs.World.{World, Send, changed, opening, unqueued, is_queued, Name}
 use Rattle.l4_model.specs.Steps.{Step, Local, Begin, Queue, Deliver, Wait, SendTimeout, ReceiveTimeout, SendNobody, ReceiveNobody, SendCancel, ReceiveCancel, Drop, Order, Obey, Tick, next}
-use Rattle.l4_model.specs.Conditions.{Found, Pending, found_by, undecided}
+use Rattle.l4_model.specs.Conditions.{Pending, undecided}
 use Rattle.l4_model.proofs.Chains.{some_is, get-map, get-changed_other}
-use Rattle.l4_model.proofs.Sends.{Status, status, statuses, with_begun, with_decided, Begins, Decides, Effect, effect, known, known_send}
+use Rattle.l4_model.proofs.Sends.{Status, status, statuses, with_begun, with_decided, Begins, Decides, Effect, effect}
 use Rattle.l4_model.proofs.Sound.{AreSound}
 use Rattle.l4_model.proofs.Accounted.{idle}
 use Rattle.l4_model.proofs.Inversions.{local_taken, begin_taken, QueueTaken, queue_taken, deliver_taken, wait_taken, send_timeout_taken, send_nobody_taken, send_cancel_taken, drop_taken, receive_timeout_taken, receive_nobody_taken, receive_cancel_taken, order_taken, obey_taken, tick_taken}
+use Rattle.l4_model.proofs.Places.{known_send, found_place}
+use Rattle.l4_model.specs.Reached.{place_to, is_in, list_at, IsOnce}
 
 or_false : (a b : Bool) → (a || b) ≡ false → (a ≡ false) × (b ≡ false)
 or_false true b h = cc
@@ -68,22 +69,6 @@ list_effect m w v (ReceiveCancel id) h = let k = receive_cancel_taken m w v id h
 list_effect m w v (Order caller target what) h = let k = order_taken m w v caller target what h in ap lists_of (sym k.leads_to)
 list_effect m w v (Obey caller) h = let k = obey_taken m w v caller h in ap lists_of (sym k.leads_to)
 list_effect m w v (Tick cpu clock) h = let k = tick_taken m w v cpu clock h in ap lists_of (sym k.leads_to)
-
--- The place of the thread that an id names.
-abbrev pub place_to : Machine → Id → Option ℕ
-place_to m (GlobalThread t) = place_of m t
-place_to m _ = None
-
--- A sender stands in a list.
-abbrev pub is_in : ℕ → List ℕ → Bool
-is_in i xs = list_any (λ x. i == x) xs
-
-abbrev pub list_at : List (List ℕ) → ℕ → List ℕ
-list_at lists j = get_or lists j []
-
-abbrev pub IsOnce : List ℕ → Type 0
-IsOnce [] = Unit {0}
-IsOnce (x ∷ xs) = (is_in x xs ≡ false) × IsOnce xs
 
 -- A sender has an undecided send to the thread at a place.
 abbrev pub GoesTo : Machine → ℕ → Option Status → Type 0
@@ -214,13 +199,6 @@ decided_listed m lists all place h = record { goes_to = to; once = once }
 abbrev pub Listed : Machine → World → Type 0
 Listed m w = AreListed m w.waiting (statuses w)
 
-pub found_place : (m : Machine) (w : World) (to : Id) (r : Found) → found_by m w to ≡ Some r → place_to m to ≡ Some r.at
-found_place m w NilThread r is = cc
-found_place m w AnyThread r is = cc
-found_place m w AnyLocalThread r is = cc
-found_place m w (LocalThread word) r is = cc
-found_place m w (GlobalThread t) r is = (known m w t r is).place
-
 queue_listed : (m : Machine) (w v : World) (s : Name) → QueueTaken m w v s → Listed m w → Listed m v
 queue_listed m w v s k h =
     let known = known_send m w s k.p k.is_undecided in
@@ -231,7 +209,7 @@ queue_listed m w v s k h =
 keeps_listed : (m : Machine) (w v : World) → v.waiting ≡ w.waiting → statuses v ≡ statuses w → Listed m w → Listed m v
 keeps_listed m w v lists all h = subst (λ xs. AreListed m xs (statuses v)) (sym lists) (subst (AreListed m w.waiting) (sym all) h)
 
-begins_listed : (m : Machine) (w v : World) (s : Name) → v.waiting ≡ w.waiting → Begins m w v s → AreSound w → Listed m w → Listed m v
+begins_listed : (m : Machine) (w v : World) (s : Name) → v.waiting ≡ w.waiting → Begins m w v s → AreSound m w → Listed m w → Listed m v
 begins_listed m w v s lists b sound h =
     subst (λ xs. AreListed m xs (statuses v)) (sym lists) (subst (AreListed m w.waiting) (sym b.now) (begun_listed m w.waiting (statuses w) b.place b.old b.send b.was (idle m w v s b sound) h))
 
@@ -241,7 +219,7 @@ decides_listed m w v s u d h =
     let at_place : AreListed m (map (without u.place) w.waiting) (changed with_decided (statuses w) u.place) = decided_listed m w.waiting (statuses w) u.place h in
     subst (λ xs. AreListed m xs (statuses v)) (sym u.now) (subst (AreListed m (map (without u.place) w.waiting)) (ap (changed with_decided (statuses w)) same ∙ sym d.now) at_place)
 
-pub step_listed : (m : Machine) (w v : World) (step : Step) → next m w step ≡ Some v → AreSound w → Listed m w → Listed m v
+pub step_listed : (m : Machine) (w v : World) (step : Step) → next m w step ≡ Some v → AreSound m w → Listed m w → Listed m v
 step_listed m w v step h sound = by step (effect m w v step h) (list_effect m w v step h)
   where
     by : (step : Step) → Effect m w v step → ListEffect m w v step → Listed m w → Listed m v
@@ -254,7 +232,7 @@ step_listed m w v step h sound = by step (effect m w v step h) (list_effect m w 
     by (Drop s) e l = decides_listed m w v s l e
     by _ e l = keeps_listed m w v l e
 
-opening_listed : (m : Machine) → Listed m (opening m)
+pub opening_listed : (m : Machine) → Listed m (opening m)
 opening_listed m = record { goes_to = λ j i stands. absurd (nobody m.threads j i stands); once = λ j. all_once m.threads j }
   where
     nobody : (ds : List Declaration) (j i : ℕ) → is_in i (list_at (map (λ d. []) ds) j) ≡ true → ⊥

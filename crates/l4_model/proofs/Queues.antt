@@ -15,13 +15,14 @@ use Rattle.l4_model.specs.Conditions.{Pending, undecided, ◌>>=◌, ◌>>◌}
 use Rattle.l4_model.specs.History.{run}
 use Rattle.l4_model.specs.Laws.{queued_name}
 use Rattle.l4_model.proofs.Chains.{bind_then, some_is, get-map, get-changed_same, get-changed_other}
-use Rattle.l4_model.proofs.Sends.{Status, status, statuses, with_begun, with_decided, Begins, Decides, Effect, effect, known_send}
+use Rattle.l4_model.proofs.Sends.{Status, status, statuses, with_begun, with_decided, Begins, Decides, Effect, effect}
 use Rattle.l4_model.proofs.Sound.{AreSound, step_sound}
-use Rattle.l4_model.proofs.Accounted.{idle, place_id}
-use Rattle.l4_model.proofs.Deleted.{receiver_place}
+use Rattle.l4_model.proofs.Accounted.{idle}
 use Rattle.l4_model.proofs.Inversions.{QueueTaken}
-use Rattle.l4_model.proofs.Lists.{ListEffect, Unlists, list_effect, without, place_to, list_at, found_place}
+use Rattle.l4_model.proofs.Lists.{ListEffect, Unlists, list_effect, without}
 use Rattle.l4_model.proofs.Sizes.{Sized, step_sized}
+use Rattle.l4_model.proofs.Places.{known_send, place_id, receiver_place, found_place}
+use Rattle.l4_model.specs.Reached.{place_to, list_at}
 
 -- What a name says of a list: its sender's place, where it is undecided and sent to the list's thread.
 abbrev pub goes : Machine → ℕ → Option Send → Bool
@@ -221,7 +222,7 @@ queue_makes m w v s names k sized h = subst (λ u. MakeLists m (statuses u) u.wa
 keeps_makes : (m : Machine) (w v : World) (names : List Name) → v.waiting ≡ w.waiting → statuses v ≡ statuses w → MakeLists m (statuses w) w.waiting names → MakeLists m (statuses v) v.waiting names
 keeps_makes m w v names lists all h = subst (λ xs. MakeLists m (statuses v) xs names) (sym lists) (subst (λ xs. MakeLists m xs w.waiting names) (sym all) h)
 
-begins_makes : (m : Machine) (w v : World) (s : Name) (names : List Name) → v.waiting ≡ w.waiting → Begins m w v s → AreSound w → MakeLists m (statuses w) w.waiting names → MakeLists m (statuses v) v.waiting names
+begins_makes : (m : Machine) (w v : World) (s : Name) (names : List Name) → v.waiting ≡ w.waiting → Begins m w v s → AreSound m w → MakeLists m (statuses w) w.waiting names → MakeLists m (statuses v) v.waiting names
 begins_makes m w v s names lists b sound h =
     let idle : b.old.send ≡ None = idle m w v s b sound in
     subst (λ xs. MakeLists m (statuses v) xs names) (sym lists) (subst (λ xs. MakeLists m xs w.waiting names) (sym b.now) (record {
@@ -244,7 +245,7 @@ abbrev names_after : List Name → Option Name → List Name
 names_after names None = names
 names_after names (Some s) = names ++ s ∷ []
 
-step_makes : (m : Machine) (w v : World) (step : Step) (names : List Name) → Effect m w v step → ListEffect m w v step → Sized m w → AreSound w →
+step_makes : (m : Machine) (w v : World) (step : Step) (names : List Name) → Effect m w v step → ListEffect m w v step → Sized m w → AreSound m w →
     MakeLists m (statuses w) w.waiting names → MakeLists m (statuses v) v.waiting (names_after names (queued_name step))
 step_makes m w v (Begin s) names e l sized sound h = begins_makes m w v s names l e sound h
 step_makes m w v (Queue s) names e l sized sound h = queue_makes m w v s names l sized h
@@ -259,7 +260,7 @@ names_on : (names : List Name) (o : Option Name) (rest : List Name) → names_af
 names_on names None rest = refl
 names_on names (Some s) rest = append_assoc names (s ∷ []) rest
 
-pub run_makes : (m : Machine) (h : List Step) (w v : World) (names : List Name) → run m w h ≡ Some v → Sized m w → AreSound w → MakeLists m (statuses w) w.waiting names →
+pub run_makes : (m : Machine) (h : List Step) (w v : World) (names : List Name) → run m w h ≡ Some v → Sized m w → AreSound m w → MakeLists m (statuses w) w.waiting names →
     MakeLists m (statuses v) v.waiting (names ++ filter_map queued_name h)
 run_makes m [] w v names r sized sound h = subst (λ u. MakeLists m (statuses u) u.waiting (names ++ [])) (some_is w v r) (subst (MakeLists m (statuses w) w.waiting) (sym (append-nil names)) h)
 run_makes m (step ∷ h) w v names r sized sound makes =

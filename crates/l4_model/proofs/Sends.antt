@@ -7,36 +7,11 @@ use Rattle.l4_model.specs.Machine.{Machine, Instr, Set, Copy, Add, Tag, Vs, Ipc,
 use Rattle.l4_model.specs.World.{Context, Thread, World, Send, Receive, changed, change, is_alive, is_ready, unqueued, Name}
 use Rattle.l4_model.specs.Rules.{ran}
 use Rattle.l4_model.specs.Steps.{Step, Local, Begin, Queue, Deliver, Wait, SendTimeout, ReceiveTimeout, SendNobody, ReceiveNobody, SendCancel, ReceiveCancel, Drop, Order, Obey, Tick, without_send, next}
-use Rattle.l4_model.specs.Conditions.{Found, Pending, found, undecided, instruction}
+use Rattle.l4_model.specs.Conditions.{Found, Pending, undecided, instruction}
 use Rattle.l4_model.specs.Effects.{runs, begins, waits, fails, decided, refused, receives, goes_on, delivered, asked, orders, obeyed}
-use Rattle.l4_model.proofs.Chains.{bind_then, guard_then, some_is, map-changed_same, map-changed, get-map, cond_both}
+use Rattle.l4_model.proofs.Chains.{map-changed_same, map-changed, get-map, cond_both}
 use Rattle.l4_model.proofs.Inversions.{local_taken, BeginTaken, begin_taken, queue_taken, DeliverTaken, deliver_taken, wait_taken, send_timeout_taken, send_nobody_taken, send_cancel_taken, drop_taken, receive_timeout_taken, receive_nobody_taken, receive_cancel_taken, order_taken, ObeyTaken, obey_taken, tick_taken}
-
--- What is known of a thread that was found.
-pub record Known (m : Machine) (w : World) (id : GlobalId) (t : Found) : Type 0 where
-  pub place : place_of m id ≡ Some t.at
-  pub declared : slice_get m.threads t.at ≡ Some t.declared
-  pub now : slice_get w.threads t.at ≡ Some t.now
-
-pub known : (m : Machine) (w : World) (id : GlobalId) (t : Found) → found m w id ≡ Some t → Known m w id t
-known m w id t h =
-    bind_then (place_of m id) _ t h λ i place rest.
-    bind_then (slice_get m.threads i) _ t rest λ d declared rest.
-    bind_then (slice_get w.threads i) _ t rest λ x now rest.
-    subst (Known m w id) (some_is _ t rest) (record { place = place; declared = declared; now = now })
-
--- What is known of an undecided send.
-pub record KnownSend (m : Machine) (w : World) (s : Name) (p : Pending) : Type 0 where
-  pub sender : Known m w s.thread p.sender
-  pub last : p.sender.now.context.begun ≡ s.k
-  pub send : p.sender.now.send ≡ Some p.send
-
-pub known_send : (m : Machine) (w : World) (s : Name) (p : Pending) → undecided m w s ≡ Some p → KnownSend m w s p
-known_send m w s p h =
-    bind_then (found m w s.thread) _ p h λ t sender rest.
-    guard_then (t.now.context.begun == s.k) _ p rest λ last rest.
-    bind_then t.now.send _ p rest λ send has rest.
-    subst (KnownSend m w s) (some_is _ p rest) (record { sender = known m w s.thread t sender; last = eqb-true _ _ last; send = has })
+use Rattle.l4_model.proofs.Places.{Known, known, known_send}
 
 -- How many sends a thread began, and the undecided one.
 pub record Status : Type 0 where

@@ -9,9 +9,9 @@ use Rattle.l4_model.specs.World.{World, changed, opening, Name}
 use Rattle.l4_model.specs.Steps.{Step, Local, Begin, Queue, Deliver, Wait, SendTimeout, ReceiveTimeout, SendNobody, ReceiveNobody, SendCancel, ReceiveCancel, Drop, Order, Obey, Tick, next}
 use Rattle.l4_model.proofs.Chains.{length-changed}
 use Rattle.l4_model.proofs.Sends.{Status, status, statuses, with_begun, with_decided, Effect, effect}
-use Rattle.l4_model.proofs.Once.{and_true}
 use Rattle.l4_model.proofs.Lists.{ListEffect, Unlists, list_effect}
 use Rattle.l4_model.proofs.Inversions.{local_taken, begin_taken, queue_taken, deliver_taken, wait_taken, send_timeout_taken, send_nobody_taken, send_cancel_taken, drop_taken, receive_timeout_taken, receive_nobody_taken, receive_cancel_taken, order_taken, obey_taken, TickTaken, tick_taken}
+use Rattle.l4_model.proofs.Places.{and_true}
 
 -- how many threads a step leaves
 threads_kept : (w v : World) → statuses v ≡ statuses w → length v.threads ≡ length w.threads

@@ -1,61 +1,19 @@
--- In each phase a thread has the undecided send and the undone order that belong to it.
-use Rattle.std.proofs.Common.{subst, ◌≡◌, ℕ, zero, suc, true, false, Option, Some, None, List, [], ◌∷◌, map, refl, ap, sym, ◌∙◌}
-use Rattle.std.specs.Prelude.{slice_get, ◌==◌, is_some}
-use Rattle.std.specs.List.{AllByRecursion}
-use Rattle.l4_model.specs.Words.{GlobalId, Id, NilThread, AnyThread, AnyLocalThread, LocalThread, GlobalThread}
-use Rattle.l4_model.specs.Machine.{Machine, Declaration, Instr, End, What, CancelSend, CancelReceive, CancelBoth, Delete}
-use Rattle.l4_model.specs.World.{Thread, World, Send, Receive, Asked, Phase, Ready, Sending, Receiving, Ordering, Ended, Deleted, changed, change, opening, opening_thread, is_alive, is_ready, is_deleted, receive_now, unqueued, Name}
-use Rattle.l4_model.specs.Steps.{Step, Local, Begin, Queue, Deliver, Wait, SendTimeout, ReceiveTimeout, SendNobody, ReceiveNobody, SendCancel, ReceiveCancel, Drop, Order, Obey, Tick, without_send, next}
-use Rattle.l4_model.specs.Conditions.{Found, Pending, found, found_by, undecided, instruction}
-use Rattle.l4_model.specs.Effects.{phase_after, runs, begins, waits, fails, decided, refused, receives, goes_on, delivered, asked, orders, obeyed}
-use Rattle.l4_model.specs.History.{run}
-use Rattle.l4_model.proofs.Chains.{bind_then, guard_then, some_is, cond_keeps, part-changed}
-use Rattle.l4_model.proofs.Sends.{known, known_send}
-use Rattle.l4_model.proofs.Inversions.{local_taken, begin_taken, queue_taken, DeliverTaken, deliver_taken, wait_taken, send_timeout_taken, send_nobody_taken, send_cancel_taken, drop_taken, receive_timeout_taken, receive_nobody_taken, receive_cancel_taken, order_taken, ObeyTaken, obey_taken, tick_taken}
+-- What is true of each thread: its phase goes with its undecided send and its undone order, and the rest of `ThreadFacts`.
+use Rattle.std.proofs.Common.{subst, ◌≡◌, ℕ, ◌+◌, ◌<◌, ◌≤◌, true, false, Option, Some, None, List, ◌∷◌, ◌++◌, length, drop, refl, ap, sym, ◌∙◌, arith, ⊎_elim}
+use Rattle.std.proofs.lemmas.Bool.{or_cases}
+use Rattle.std.proofs.lemmas.List.{length-set, length-append, length-drop}
+use Rattle.std.specs.Prelude.{◌==◌, is_some, IfSome}
+use Rattle.l4_model.specs.Machine.{Machine, Declaration, Instr, Set, Copy, Add, Tag, Vs, Ipc, Ask, Jump, OnErr, End, What, CancelSend, CancelReceive, CancelBoth, Delete, is_declared, instruction_at}
+use Rattle.l4_model.specs.World.{Context, Thread, World, Message, Send, Receive, Asked, Phase, Ready, Sending, Receiving, Ordering, Ended, Deleted, opening, is_alive, is_ready, is_sending, is_deleted, receive_now}
+use Rattle.l4_model.specs.Rules.{act, ran}
+use Rattle.l4_model.specs.Steps.{Step, send_of, next}
+use Rattle.l4_model.specs.Effects.{phase_after, runs, begins, waits, fails, decided, refused, receives, goes_on, delivered, has_receive_phase, asked, asked_send, asked_receive, orders, obeyed}
+use Rattle.l4_model.specs.Reached.{Suits, BeganBy, IsSendOf, ThreadFacts}
+use Rattle.l4_model.proofs.Chains.{cond_keeps, cond_both}
+use Rattle.l4_model.proofs.Requests.{act_request, message_short, shown_declared}
+use Rattle.l4_model.proofs.Keeping.{Each, Maintained, step_each, opening_each}
 
--- which send and order a phase goes with
-abbrev pub Suits : Phase → Option Send → Option Asked → Type 0
-Suits Ready send order = (send ≡ None) × (order ≡ None)
-Suits Sending send order = (is_some send ≡ true) × (order ≡ None)
-Suits (Receiving receive since) send order = (send ≡ None) × (order ≡ None)
-Suits Ordering send order = (send ≡ None) × (is_some order ≡ true)
-Suits Ended send order = (send ≡ None) × (order ≡ None)
-Suits Deleted send order = Unit {0}
-
-pub record IsSound (t : Thread) : Type 0 where
-  pub suits : Suits t.phase t.send t.order
-
-abbrev pub AreSound : World → Type 0
-AreSound w = AllByRecursion IsSound w.threads
-
--- one element changed, where the change keeps a fact of the element that stands there
-pub all-changed : {A : Type 0} (P : A → Type 0) (f : A → A) (xs : List A) (i : ℕ) → AllByRecursion P xs → ((x : A) → slice_get xs i ≡ Some x → P x → P (f x)) → AllByRecursion P (changed f xs i)
-all-changed P f [] i h keep = tt
-all-changed P f (x ∷ xs) zero h keep = (keep x refl h.0, h.1)
-all-changed P f (x ∷ xs) (suc i) h keep = (h.0, all-changed P f xs i h.1 keep)
-
-pub all-get : {A : Type 0} (P : A → Type 0) (xs : List A) (i : ℕ) (x : A) → AllByRecursion P xs → slice_get xs i ≡ Some x → P x
-all-get P [] i x h e = cc
-all-get P (y ∷ xs) zero x h e = subst P (some_is y x e) h.0
-all-get P (y ∷ xs) (suc i) x h e = all-get P xs i x h.1 e
-
-pub all-replicated : (m : Machine) → AreSound (opening m)
-all-replicated m = over m.threads
-  where
-    over : (ds : List Declaration) → AllByRecursion IsSound (map (λ d. opening_thread) ds)
-    over [] = tt
-    over (d ∷ ds) = (record { suits = (refl, refl) }, over ds)
-
--- what the phase is, by its tests
-ready_is : (p : Phase) → is_ready p ≡ true → p ≡ Ready
-ready_is Ready h = refl
-ready_is Sending h = cc
-ready_is (Receiving receive since) h = cc
-ready_is Ordering h = cc
-ready_is Ended h = cc
-ready_is Deleted h = cc
-
--- a ready or a receiving thread has neither
+-- a ready or a receiving thread has no send and no order, and a ready one no wish
 pub ready_has_none : (p : Phase) (send : Option Send) (order : Option Asked) → is_ready p ≡ true → Suits p send order → (send ≡ None) × (order ≡ None)
 ready_has_none Ready send order h s = s
 ready_has_none Sending send order h s = cc
@@ -72,7 +30,15 @@ receiving_has_none Ordering send order receive h s = cc
 receiving_has_none Ended send order receive h s = cc
 receiving_has_none Deleted send order receive h s = cc
 
--- a thread that is alive and has an undecided send has no order
+no_receive_phase : {P : Type 0} (p : Phase) (send : Option Send) → is_ready p ≡ true → has_receive_phase p send ≡ true → P
+no_receive_phase Ready send h r = cc
+no_receive_phase Sending send h r = cc
+no_receive_phase (Receiving receive since) send h r = cc
+no_receive_phase Ordering send h r = cc
+no_receive_phase Ended send h r = cc
+no_receive_phase Deleted send h r = cc
+
+-- a thread that is alive and has an undecided send has no order, and one with an order no send and no receive phase
 sender_has_no_order : (p : Phase) (send : Send) (order : Option Asked) → is_alive p ≡ true → Suits p (Some send) order → order ≡ None
 sender_has_no_order Ready send order h s = cc
 sender_has_no_order Sending send order h s = s.1
@@ -81,43 +47,15 @@ sender_has_no_order Ordering send order h s = cc
 sender_has_no_order Ended send order h s = cc
 sender_has_no_order Deleted send order h s = cc
 
-caller_has_no_send : (p : Phase) (send : Option Send) (order : Asked) → is_alive p ≡ true → Suits p send (Some order) → send ≡ None
-caller_has_no_send Ready send order h s = cc
-caller_has_no_send Sending send order h s = cc
-caller_has_no_send (Receiving receive since) send order h s = cc
-caller_has_no_send Ordering send order h s = s.0
-caller_has_no_send Ended send order h s = cc
-caller_has_no_send Deleted send order h s = cc
+caller_has_none : (p : Phase) (send : Option Send) (order : Asked) → is_alive p ≡ true → Suits p send (Some order) → (send ≡ None) × (has_receive_phase p send ≡ false)
+caller_has_none Ready send order h s = cc
+caller_has_none Sending send order h s = cc
+caller_has_none (Receiving receive since) send order h s = cc
+caller_has_none Ordering send order h s = (s.0, refl)
+caller_has_none Ended send order h s = cc
+caller_has_none Deleted send order h s = cc
 
-order-asked : (what : What) (t : Thread) → (asked what t).order ≡ t.order
-order-asked CancelSend t = refl
-order-asked CancelReceive t = refl
-order-asked CancelBoth t = refl
-order-asked Delete t = refl
-
--- the change of each kind keeps it
-runs_sound : (i : Instr) (t : Thread) → is_ready t.phase ≡ true → IsSound t → IsSound (runs i t)
-runs_sound i t ready h = record { suits = by i (ready_has_none t.phase t.send t.order ready h.suits) }
-  where
-    by : (i : Instr) → (t.send ≡ None) × (t.order ≡ None) → Suits (phase_after i) t.send t.order
-    by End none = none
-    by _ none = none
-
-fails_sound : (code : ℕ) (t : Thread) → (t.send ≡ None) × (t.order ≡ None) → IsSound t → IsSound (fails code t)
-fails_sound code t none h = cond_keeps IsSound (is_alive t.phase) _ t (λ alive. record { suits = none }) (λ gone. h)
-
--- a decided sender that is alive has no order either
-sender_none : (t : Thread) (send : Send) → t.send ≡ Some send → is_alive t.phase ≡ true → IsSound t → t.order ≡ None
-sender_none t send has alive h = sender_has_no_order t.phase send t.order alive (rw has at h.suits)
-
-deleted_is : (p : Phase) → is_alive p ≡ false → p ≡ Deleted
-deleted_is Ready h = cc
-deleted_is Sending h = cc
-deleted_is (Receiving receive since) h = cc
-deleted_is Ordering h = cc
-deleted_is Ended h = cc
-deleted_is Deleted h = refl
-
+-- a deleted thread may have both
 suits_deleted : (p : Phase) (send : Option Send) (order : Option Asked) → is_alive p ≡ false → Suits p send order
 suits_deleted Ready send order h = cc
 suits_deleted Sending send order h = cc
@@ -126,149 +64,223 @@ suits_deleted Ordering send order h = cc
 suits_deleted Ended send order h = cc
 suits_deleted Deleted send order h = tt
 
-refused_sound : (code : ℕ) (t : Thread) (send : Send) → t.send ≡ Some send → IsSound t → IsSound (refused code t)
-refused_sound code t send has h =
-    cond_keeps IsSound (is_alive t.phase) _ (decided t)
-    (λ alive. record { suits = (refl, sender_none t send has alive h) })
-    (λ gone. record { suits = suits_deleted t.phase None t.order gone })
+suits_gone : (p : Phase) (send : Option Send) (order : Option Asked) → is_deleted p ≡ true → Suits p send order
+suits_gone Ready send order h = cc
+suits_gone Sending send order h = cc
+suits_gone (Receiving receive since) send order h = cc
+suits_gone Ordering send order h = cc
+suits_gone Ended send order h = cc
+suits_gone Deleted send order h = tt
 
-goes_on_sound : (receive : Option Receive) (now : ℕ) (t : Thread) → t.order ≡ None → IsSound (goes_on receive now t)
-goes_on_sound None now t none = record { suits = (refl, none) }
-goes_on_sound (Some receive) now t none = record { suits = (refl, none) }
+-- An instruction leaves as many registers as there were.
+registers_ran : (i : Instr) (c : Context) → length (ran i c).words ≡ length c.words
+registers_ran (Set a word) c = length-set c.words a word
+registers_ran (Copy a b) c = length-set c.words a _
+registers_ran (Add a word) c = length-set c.words a _
+registers_ran (Tag word) c = length-set c.words 0 word
+registers_ran (Vs id) c = refl
+registers_ran (Ipc to from send_period receive_period) c = length-set c.words 0 0
+registers_ran (Ask target what) c = refl
+registers_ran (Jump place) c = refl
+registers_ran (OnErr place) c = cond_both (λ (x : Context). length x.words) (length c.words) (c.error == 0) _ _ refl refl
+registers_ran End c = refl
 
-delivered_sound : (send : Send) (now : ℕ) (t : Thread) → t.send ≡ Some send → IsSound t → IsSound (delivered send now t)
-delivered_sound send now t has h =
-    cond_keeps IsSound (is_alive t.phase) _ (decided t)
-    (λ alive. goes_on_sound send.receive now t (sender_none t send has alive h))
-    (λ gone. record { suits = suits_deleted t.phase None t.order gone })
+registers_received : (message : Message) (mr0 : ℕ) (words : List ℕ) → length message.words < 64 → length words ≡ 64 → length (mr0 ∷ message.words ++ drop (1 + length message.words) words) ≡ 64
+registers_received message mr0 words short all =
+    omega (arith, length-append (mr0 ∷ message.words) (drop (1 + length message.words) words), length-drop (1 + length message.words) words)
 
-asked_sound : (what : What) (t : Thread) → IsSound t → IsSound (asked what t)
-asked_sound CancelSend t h = record { suits = h.suits }
-asked_sound CancelReceive t h = record { suits = h.suits }
-asked_sound CancelBoth t h = record { suits = h.suits }
-asked_sound Delete t h = record { suits = tt }
+-- no wish is left
+no_wish : {P : Type 0} → false ≡ true → P
+no_wish h = cc
 
-obeyed_sound : (t : Thread) (order : Asked) → t.order ≡ Some order → IsSound t → IsSound (obeyed t)
-obeyed_sound t order has h =
-    cond_keeps IsSound (is_alive t.phase) _ _
-    (λ alive. record { suits = (caller_has_no_send t.phase t.send order alive (rw has at h.suits), refl) })
-    (λ gone. record { suits = suits_deleted t.phase t.send None gone })
+-- each change of a thread keeps it
+run_keeps : (m : Machine) (d : Declaration) (now : ℕ) (i : Instr) (t : Thread) → is_ready t.phase ≡ true → ThreadFacts m d now t → ThreadFacts m d now (runs i t)
+run_keeps m d now i t ready h =
+    record {
+      suits = suits i (ready_has_none t.phase t.send t.order ready h.suits);
+      send = h.send;
+      began = began i;
+      send_wish = h.send_wish;
+      receive_wish = λ wish. no_receive_phase t.phase t.send ready (h.receive_wish wish);
+      registers = registers_ran i t.context ∙ h.registers;
+    }
+  where
+    suits : (i : Instr) → (t.send ≡ None) × (t.order ≡ None) → Suits (phase_after i) t.send t.order
+    suits End none = none
+    suits _ none = none
 
--- a change of the thread that stands at a place
-change_sound : (w : World) (i : ℕ) (f : Thread → Thread) → AreSound w → ((t : Thread) → slice_get w.threads i ≡ Some t → IsSound t → IsSound (f t)) → AreSound (change w i f)
-change_sound w i f h keep = all-changed IsSound f w.threads i h keep
+    began : (i : Instr) → BeganBy now (phase_after i)
+    began End = tt
+    began _ = tt
 
--- a change of the thread that was found
-found_sound : (m : Machine) (w : World) (id : GlobalId) (t : Found) (f : Thread → Thread) → found m w id ≡ Some t → AreSound w → (IsSound t.now → IsSound (f t.now)) → AreSound (change w t.at f)
-found_sound m w id t f is h keep =
-    let now = (known m w id t is).now in
-    change_sound w t.at f h (λ x at sound.
-    let same : t.now ≡ x = some_is t.now x (sym now ∙ at) in
-    subst (λ y. IsSound (f y)) same (keep (subst IsSound (sym same) sound)))
+begin_keeps : (m : Machine) (d : Declaration) (now : ℕ) (t : Thread) (send : Send) → is_declared m d.id ≡ true → is_ready t.phase ≡ true →
+    send_of (act m d.id now t.context (instruction_at d.script t.context.place)) ≡ Some send → ThreadFacts m d now t → ThreadFacts m d now (begins send t)
+begin_keeps m d now t send declared ready sends h =
+    let asks = act_request m d.id now t.context (instruction_at d.script t.context.place) send sends in
+    record {
+      suits = (refl, (ready_has_none t.phase t.send t.order ready h.suits).1);
+      send = record {
+        since = omega (arith, asks.since);
+        actual = ap (λ (x : Message). x.actual) (sym asks.message);
+        shown = ap (λ (x : Message). is_declared m x.shown) (sym asks.message) ∙ shown_declared m d.id t.context declared;
+        short = subst (λ (x : Message). length x.words < 64) asks.message (message_short m d.id t.context);
+      };
+      began = tt;
+      send_wish = λ wish. refl;
+      receive_wish = λ wish. no_receive_phase t.phase t.send ready (h.receive_wish wish);
+      registers = h.registers;
+    }
 
--- the sender of an undecided send was found
-pub sender_found : (m : Machine) (w : World) (s : Name) (p : Pending) → undecided m w s ≡ Some p → found m w s.thread ≡ Some p.sender
-sender_found m w s p h =
-    bind_then (found m w s.thread) _ p h λ t sender rest.
-    guard_then (t.now.context.begun == s.k) _ p rest λ last rest.
-    bind_then t.now.send _ p rest λ send has rest.
-    sender ∙ ap (λ (q : Pending). Some q.sender) (some_is _ p rest)
+wait_keeps : (m : Machine) (d : Declaration) (now : ℕ) (t : Thread) (receive : Receive) → is_ready t.phase ≡ true → ThreadFacts m d now t → ThreadFacts m d now (waits receive now t)
+wait_keeps m d now t receive ready h =
+    record { suits = ready_has_none t.phase t.send t.order ready h.suits; send = h.send; began = omega arith; send_wish = h.send_wish; receive_wish = λ wish. refl; registers = h.registers }
 
--- what a destination names was found
-receiver_sound : (m : Machine) (w : World) (r : Found) (to : Id) (f : Thread → Thread) → found_by m w to ≡ Some r → AreSound w → (IsSound r.now → IsSound (f r.now)) → AreSound (change w r.at f)
-receiver_sound m w r NilThread f is h keep = cc
-receiver_sound m w r AnyThread f is h keep = cc
-receiver_sound m w r AnyLocalThread f is h keep = cc
-receiver_sound m w r (LocalThread word) f is h keep = cc
-receiver_sound m w r (GlobalThread t) f is h keep = found_sound m w t r f is h keep
+order_keeps : (m : Machine) (d : Declaration) (now : ℕ) (t : Thread) (order : Asked) → is_ready t.phase ≡ true → ThreadFacts m d now t → ThreadFacts m d now (orders order t)
+order_keeps m d now t order ready h =
+    record {
+      suits = ((ready_has_none t.phase t.send t.order ready h.suits).0, refl);
+      send = h.send;
+      began = tt;
+      send_wish = h.send_wish;
+      receive_wish = λ wish. no_receive_phase t.phase t.send ready (h.receive_wish wish);
+      registers = h.registers;
+    }
 
--- a change of any thread
-any_sound : (w : World) (i : ℕ) (f : Thread → Thread) → AreSound w → ((t : Thread) → IsSound t → IsSound (f t)) → AreSound (change w i f)
-any_sound w i f h keep = change_sound w i f h (λ t at sound. keep t sound)
+failure_keeps : (m : Machine) (d : Declaration) (now : ℕ) (t : Thread) (code : ℕ) (receive : Receive) → receive_now t.phase ≡ Some receive → ThreadFacts m d now t → ThreadFacts m d now (fails code t)
+failure_keeps m d now t code receive receiving h =
+    cond_keeps (ThreadFacts m d now) (is_alive t.phase) _ t
+    (λ alive. record {
+      suits = receiving_has_none t.phase t.send t.order receive receiving h.suits;
+      send = h.send;
+      began = tt;
+      send_wish = h.send_wish;
+      receive_wish = λ wish. no_wish wish;
+      registers = length-set t.context.words 0 0x8000 ∙ h.registers;
+    })
+    (λ gone. h)
 
--- the sender's send is still there after another thread changed
-sender_sound : (m : Machine) (w : World) (s : Name) (p : Pending) (i : ℕ) (g f : Thread → Thread) → undecided m w s ≡ Some p →
-    ((t : Thread) → (g t).send ≡ t.send) → AreSound (change w i g) → ((t : Thread) → t.send ≡ Some p.send → IsSound t → IsSound (f t)) →
-    AreSound (change (change w i g) p.sender.at f)
-sender_sound m w s p i g f is same h keep =
-    let k = known_send m w s p is in
-    change_sound (change w i g) p.sender.at f h (λ t at sound.
-    keep t (part-changed (λ (x : Thread). x.send) g same w.threads i p.sender.at p.sender.now t k.sender.now at ∙ k.send) sound)
+decided_gone : (m : Machine) (d : Declaration) (now : ℕ) (t : Thread) → Suits t.phase None t.order → ThreadFacts m d now t → ThreadFacts m d now (decided t)
+decided_gone m d now t suits h = record { suits = suits; send = tt; began = h.began; send_wish = λ wish. no_wish wish; receive_wish = λ wish. no_wish wish; registers = h.registers }
 
-without_send_sound : (m : Machine) (w : World) (s : Name) (p : Pending) (f : Thread → Thread) → undecided m w s ≡ Some p → AreSound w →
-    ((t : Thread) → t.send ≡ Some p.send → t.phase ≡ p.sender.now.phase → IsSound t → IsSound (f t)) → AreSound (without_send w p f)
-without_send_sound m w s p f is h keep = found_sound m w s.thread p.sender f (sender_found m w s p is) h (keep p.sender.now (known_send m w s p is).send refl)
+sender_none : (t : Thread) (send : Send) → t.send ≡ Some send → is_alive t.phase ≡ true → Suits t.phase t.send t.order → t.order ≡ None
+sender_none t send has alive h = sender_has_no_order t.phase send t.order alive (rw has at h)
 
--- where a thread receives, its receive phase may fail
-fails_receiving : (m : Machine) (w : World) (id : GlobalId) (t : Found) (code : ℕ) (receive : Receive) → found m w id ≡ Some t →
-    receive_now t.now.phase ≡ Some receive → AreSound w → AreSound (change w t.at (fails code))
-fails_receiving m w id t code receive is now sound =
-    found_sound m w id t (fails code) is sound (λ old. fails_sound code t.now (receiving_has_none t.now.phase t.now.send t.now.order receive now old.suits) old)
+refusal_keeps : (m : Machine) (d : Declaration) (now : ℕ) (t : Thread) (code : ℕ) (send : Send) → t.send ≡ Some send → ThreadFacts m d now t → ThreadFacts m d now (refused code t)
+refusal_keeps m d now t code send has h =
+    cond_keeps (ThreadFacts m d now) (is_alive t.phase) _ (decided t)
+    (λ alive. record {
+      suits = (refl, sender_none t send has alive h.suits);
+      send = tt;
+      began = tt;
+      send_wish = λ wish. no_wish wish;
+      receive_wish = λ wish. no_wish wish;
+      registers = length-set t.context.words 0 0x8000 ∙ h.registers;
+    })
+    (λ gone. decided_gone m d now t (suits_deleted t.phase None t.order gone) h)
 
-dropped : (q : Phase) (order : Option Asked) → is_deleted q ≡ true → Suits q None order
-dropped Ready order h = cc
-dropped Sending order h = cc
-dropped (Receiving receive since) order h = cc
-dropped Ordering order h = cc
-dropped Ended order h = cc
-dropped Deleted order h = tt
+receipt_keeps : (m : Machine) (d sd : Declaration) (now sender_now : ℕ) (t sender : Thread) (receive : Receive) (send : Send) (tag : ℕ) → receive_now t.phase ≡ Some receive →
+    sender.send ≡ Some send → ThreadFacts m sd sender_now sender → ThreadFacts m d now t → ThreadFacts m d now (receives send.message tag t)
+receipt_keeps m d sd now sender_now t sender receive send tag receiving has sent h =
+    let its : IsSendOf m sd.id sender_now send = rw has at sent.send in
+    record {
+      suits = receiving_has_none t.phase t.send t.order receive receiving h.suits;
+      send = h.send;
+      began = tt;
+      send_wish = h.send_wish;
+      receive_wish = λ wish. no_wish wish;
+      registers = registers_received send.message tag t.context.words its.short h.registers;
+    }
 
-deliver_sound : (m : Machine) (w v : World) (s : Name) (receiver shown actual : GlobalId) (tag : ℕ) (words : List ℕ) → DeliverTaken m w v s receiver shown actual tag words → AreSound w → AreSound v
-deliver_sound m w v s receiver shown actual tag words k sound =
-    let g : Thread → Thread = receives k.p.send.message tag in
-    let received : AreSound (change (unqueued w k.p.sender.at) k.r.at g) = receiver_sound m w k.r k.p.send.to g k.to sound
-    (λ old. record { suits = receiving_has_none k.r.now.phase k.r.now.send k.r.now.order k.receive k.receiving old.suits }) in
-    subst AreSound k.leads_to
-    (sender_sound m w s k.p k.r.at g (delivered k.p.send k.p.sender.clock) k.is_undecided (λ t. refl) received (delivered_sound k.p.send k.p.sender.clock))
+goes_on_keeps : (m : Machine) (d : Declaration) (now : ℕ) (t : Thread) (receive : Option Receive) → t.order ≡ None → ThreadFacts m d now t → ThreadFacts m d now (goes_on receive now t)
+goes_on_keeps m d now t None none h =
+    record { suits = (refl, none); send = tt; began = tt; send_wish = λ wish. no_wish wish; receive_wish = λ wish. no_wish wish; registers = length-set t.context.words 0 0 ∙ h.registers }
+goes_on_keeps m d now t (Some receive) none h =
+    record { suits = (refl, none); send = tt; began = omega arith; send_wish = λ wish. no_wish wish; receive_wish = λ wish. refl; registers = h.registers }
 
-obey_sound : (m : Machine) (w v : World) (caller : GlobalId) → ObeyTaken m w v caller → AreSound w → AreSound v
-obey_sound m w v caller k sound =
-    let g : Thread → Thread = asked k.order.what in
-    let now = (known m w caller k.t k.found).now in
-    subst AreSound k.leads_to
-    (change_sound (change w k.target g) k.t.at obeyed (any_sound w k.target g sound (asked_sound k.order.what)) (λ x at old.
-    obeyed_sound x k.order (part-changed (λ (y : Thread). y.order) g (order-asked k.order.what) w.threads k.target k.t.at k.t.now x now at ∙ k.ordered) old))
+delivery_keeps : (m : Machine) (d : Declaration) (now : ℕ) (t : Thread) (send : Send) → t.send ≡ Some send → ThreadFacts m d now t → ThreadFacts m d now (delivered send now t)
+delivery_keeps m d now t send has h =
+    cond_keeps (ThreadFacts m d now) (is_alive t.phase) _ (decided t)
+    (λ alive. goes_on_keeps m d now t send.receive (sender_none t send has alive h.suits) h)
+    (λ gone. decided_gone m d now t (suits_deleted t.phase None t.order gone) h)
 
--- each kind of step keeps it
-pub step_sound : (m : Machine) (w v : World) (step : Step) → next m w step ≡ Some v → AreSound w → AreSound v
-step_sound m w v (Local id) h sound =
-    let k = local_taken m w v id h in
-    subst AreSound k.leads_to (found_sound m w id k.t (runs (instruction k.t)) k.found sound (runs_sound (instruction k.t) k.t.now k.ready))
-step_sound m w v (Begin s) h sound =
-    let k = begin_taken m w v s h in
-    subst AreSound k.leads_to
-    (found_sound m w s.thread k.t (begins k.send) k.found sound (λ old. record { suits = (refl, (ready_has_none k.t.now.phase k.t.now.send k.t.now.order k.ready old.suits).1) }))
-step_sound m w v (Queue s) h sound = let k = queue_taken m w v s h in subst AreSound k.leads_to sound
-step_sound m w v (Deliver s receiver shown actual tag words) h sound =
-    deliver_sound m w v s receiver shown actual tag words (deliver_taken m w v s receiver shown actual tag words h) sound
-step_sound m w v (Wait id) h sound =
-    let k = wait_taken m w v id h in
-    subst AreSound k.leads_to
-    (found_sound m w id k.t (waits k.receive k.t.clock) k.found sound (λ old. record { suits = ready_has_none k.t.now.phase k.t.now.send k.t.now.order k.ready old.suits }))
-step_sound m w v (SendTimeout s) h sound =
-    let k = send_timeout_taken m w v s h in
-    subst AreSound k.leads_to (without_send_sound m w s k.p (refused 2) k.is_undecided sound (λ t has same. refused_sound 2 t k.p.send has))
-step_sound m w v (SendNobody s) h sound =
-    let k = send_nobody_taken m w v s h in
-    subst AreSound k.leads_to (without_send_sound m w s k.p (refused 4) k.is_undecided sound (λ t has same. refused_sound 4 t k.p.send has))
-step_sound m w v (SendCancel s) h sound =
-    let k = send_cancel_taken m w v s h in
-    subst AreSound k.leads_to (without_send_sound m w s k.p (refused 6) k.is_undecided sound (λ t has same. refused_sound 6 t k.p.send has))
-step_sound m w v (Drop s) h sound =
-    let k = drop_taken m w v s h in
-    subst AreSound k.leads_to (without_send_sound m w s k.p decided k.is_undecided sound (λ t has same old. record { suits = dropped t.phase t.order (rw same k.gone) }))
-step_sound m w v (ReceiveTimeout id) h sound = let k = receive_timeout_taken m w v id h in subst AreSound k.leads_to (fails_receiving m w id k.t 3 k.receive k.found k.receiving sound)
-step_sound m w v (ReceiveNobody id) h sound = let k = receive_nobody_taken m w v id h in subst AreSound k.leads_to (fails_receiving m w id k.t 5 k.receive k.found k.receiving sound)
-step_sound m w v (ReceiveCancel id) h sound = let k = receive_cancel_taken m w v id h in subst AreSound k.leads_to (fails_receiving m w id k.t 7 k.receive k.found k.receiving sound)
-step_sound m w v (Order caller target what) h sound =
-    let k = order_taken m w v caller target what h in
-    subst AreSound k.leads_to
-    (found_sound m w caller k.t (orders k.order) k.found sound (λ old. record { suits = ((ready_has_none k.t.now.phase k.t.now.send k.t.now.order k.ready old.suits).0, refl) }))
-step_sound m w v (Obey caller) h sound = obey_sound m w v caller (obey_taken m w v caller h) sound
-step_sound m w v (Tick cpu clock) h sound = let k = tick_taken m w v cpu clock h in subst AreSound k.leads_to sound
+sending_has_one : (p : Phase) (send : Option Send) (order : Option Asked) → is_sending p ≡ true → Suits p send order → is_some send ≡ true
+sending_has_one Ready send order h s = cc
+sending_has_one Sending send order h s = s.0
+sending_has_one (Receiving receive since) send order h s = cc
+sending_has_one Ordering send order h s = cc
+sending_has_one Ended send order h s = cc
+sending_has_one Deleted send order h s = cc
 
-pub run_sound : (m : Machine) (h : List Step) (w v : World) → run m w h ≡ Some v → AreSound w → AreSound v
-run_sound m [] w v r sound = subst AreSound (some_is w v r) sound
-run_sound m (step ∷ h) w v r sound =
-    bind_then (next m w step) (λ u. run m u h) v r λ u is rest.
-    run_sound m h u v rest (step_sound m w u step is sound)
+asked_send_keeps : (m : Machine) (d : Declaration) (now : ℕ) (t : Thread) → ThreadFacts m d now t → ThreadFacts m d now (asked_send t)
+asked_send_keeps m d now t h =
+    record {
+      suits = h.suits;
+      send = h.send;
+      began = h.began;
+      send_wish = λ wish. ⊎_elim h.send_wish (λ sending. sending_has_one t.phase t.send t.order sending h.suits) (or_cases t.cancel_send (is_sending t.phase) wish);
+      receive_wish = h.receive_wish;
+      registers = h.registers;
+    }
+
+asked_receive_keeps : (m : Machine) (d : Declaration) (now : ℕ) (t : Thread) → ThreadFacts m d now t → ThreadFacts m d now (asked_receive t)
+asked_receive_keeps m d now t h =
+    record {
+      suits = h.suits;
+      send = h.send;
+      began = h.began;
+      send_wish = h.send_wish;
+      receive_wish = λ wish. ⊎_elim h.receive_wish (λ has. has) (or_cases t.cancel_receive (has_receive_phase t.phase t.send) wish);
+      registers = h.registers;
+    }
+
+asked_keeps : (m : Machine) (d : Declaration) (now : ℕ) (t : Thread) (what : What) → ThreadFacts m d now t → ThreadFacts m d now (asked what t)
+asked_keeps m d now t CancelSend h = asked_send_keeps m d now t h
+asked_keeps m d now t CancelReceive h = asked_receive_keeps m d now t h
+asked_keeps m d now t CancelBoth h = asked_receive_keeps m d now (asked_send t) (asked_send_keeps m d now t h)
+asked_keeps m d now t Delete h = record { suits = tt; send = h.send; began = tt; send_wish = h.send_wish; receive_wish = λ wish. no_wish wish; registers = h.registers }
+
+obedience_keeps : (m : Machine) (d : Declaration) (now : ℕ) (t : Thread) (order : Asked) → t.order ≡ Some order → ThreadFacts m d now t → ThreadFacts m d now (obeyed t)
+obedience_keeps m d now t order has h =
+    cond_keeps (ThreadFacts m d now) (is_alive t.phase) _ _
+    (λ alive.
+    let none = caller_has_none t.phase t.send order alive (rw has at h.suits) in
+    record { suits = (none.0, refl); send = h.send; began = tt; send_wish = h.send_wish; receive_wish = λ wish. no_wish (sym none.1 ∙ h.receive_wish wish); registers = h.registers })
+    (λ gone. record { suits = suits_deleted t.phase t.send None gone; send = h.send; began = h.began; send_wish = h.send_wish; receive_wish = h.receive_wish; registers = h.registers })
+
+tick_keeps : (m : Machine) (d : Declaration) (now later : ℕ) (t : Thread) → now ≤ later → ThreadFacts m d now t → ThreadFacts m d later t
+tick_keeps m d now later t le h =
+    record { suits = h.suits; send = sent t.send h.send; began = began t.phase h.began; send_wish = h.send_wish; receive_wish = h.receive_wish; registers = h.registers }
+  where
+    sent : (o : Option Send) → IfSome o (IsSendOf m d.id now) → IfSome o (IsSendOf m d.id later)
+    sent None s = tt
+    sent (Some send) s = record { since = omega (arith, s.since); actual = s.actual; shown = s.shown; short = s.short }
+
+    began : (p : Phase) → BeganBy now p → BeganBy later p
+    began (Receiving receive since) b = omega arith
+    began _ b = tt
+
+facts_kept : (m : Machine) → Maintained m (ThreadFacts m)
+facts_kept m =
+    record {
+      at_run = λ d now t. run_keeps m d now (instruction_at d.script t.context.place) t;
+      at_begin = begin_keeps m;
+      at_wait = wait_keeps m;
+      at_order = order_keeps m;
+      at_failure = failure_keeps m;
+      at_refusal = refusal_keeps m;
+      at_drop = λ d now t gone h. decided_gone m d now t (suits_gone t.phase None t.order gone) h;
+      at_receipt = receipt_keeps m;
+      at_delivery = delivery_keeps m;
+      at_asked = asked_keeps m;
+      at_obedience = obedience_keeps m;
+      at_tick = tick_keeps m;
+    }
+
+abbrev pub AreSound : Machine → World → Type 0
+AreSound m w = Each m (ThreadFacts m) w
+
+pub opening_sound : (m : Machine) → AreSound m (opening m)
+opening_sound m = opening_each m (ThreadFacts m) (λ d now. record { suits = (refl, refl); send = tt; began = tt; send_wish = λ wish. no_wish wish; receive_wish = λ wish. no_wish wish; registers = refl })
+
+pub step_sound : (m : Machine) (w v : World) (step : Step) → next m w step ≡ Some v → AreSound m w → AreSound m v
+step_sound m w v step h sound = step_each m (ThreadFacts m) w v step (facts_kept m) h sound

@@ -8,20 +8,18 @@ use Rattle.std.specs.Prelude.{slice_get, slice_set, ◌==◌, ◌&&◌, nat_lt, 
 use Rattle.std.specs.List.{AllByRecursion, list_all}
 use Rattle.l4_model.specs.Words.{GlobalId, same_id}
 use Rattle.l4_model.specs.Machine.{Machine, Declaration, What, CancelSend, CancelReceive, CancelBoth, Delete}
-use Rattle.l4_model.specs.World.{World, Asked, Name, opening}
+use Rattle.l4_model.specs.World.{World, Asked, Name}
 use Rattle.l4_model.specs.Rules.{received_tag, is_cross}
 use Rattle.l4_model.specs.Conditions.{Found, found, Pending, undecided, receiver_of, act_of}
 use Rattle.l4_model.specs.Steps.{Step, Local, Begin, Queue, Deliver, Wait, SendTimeout, ReceiveTimeout, SendNobody, ReceiveNobody, SendCancel, ReceiveCancel, Drop, Order, Obey, Tick, what_code, order_of, next}
 use Rattle.l4_model.specs.History.{run, reached}
 use Rattle.l4_model.specs.Still.{is_tick, IsStill, deliveries, orders, candidates, late, is_still_thread, is_still}
 use Rattle.l4_model.proofs.Chains.{bind_then, some_is}
-use Rattle.l4_model.proofs.Once.{and_true, same_id_is}
-use Rattle.l4_model.proofs.Sends.{known, known_send}
-use Rattle.l4_model.proofs.Sound.{sender_found}
-use Rattle.l4_model.proofs.Deleted.{id_of}
-use Rattle.l4_model.proofs.Sizes.{Sized, step_sized, opening_sized}
+use Rattle.l4_model.proofs.Sizes.{Sized, step_sized}
+use Rattle.l4_model.proofs.Worlds.{standing}
 use Rattle.l4_model.proofs.Clocks.{with_clocks, AreLater, possible_later}
 use Rattle.l4_model.proofs.Inversions.{local_taken, begin_taken, queue_taken, DeliverTaken, deliver_taken, wait_taken, send_timeout_taken, send_nobody_taken, send_cancel_taken, drop_taken, receive_timeout_taken, receive_nobody_taken, receive_cancel_taken, OrderTaken, order_taken, obey_taken, tick_taken}
+use Rattle.l4_model.proofs.Places.{and_true, same_id_is, known, known_send, sender_found, id_of}
 
 -- Ticks
 
@@ -332,13 +330,7 @@ still_to m w sized still = over m.threads
         let here : is_still_thread m (late w) d.id ≡ true = all_from is_no_tick (λ step. is_none (next m (late w) step)) (candidates m (late w) (found m (late w) d.id)) none (candidates_no_tick m (late w) (found m (late w) d.id)) in
         and_from (is_still_thread m (late w) d.id) (list_all (λ x. is_still_thread m (late w) x.id) ds) here (over ds)
 
-run_sized : (m : Machine) (h : List Step) (w v : World) → run m w h ≡ Some v → Sized m w → Sized m v
-run_sized m [] w v r sized = subst (Sized m) (some_is w v r) sized
-run_sized m (step ∷ h) w v r sized =
-    bind_then (next m w step) (λ u. run m u h) v r λ u is rest.
-    run_sized m h u v rest (step_sized m w u step is sized)
-
 pub still_exactly : (m : Machine) (h : List Step) (w : World) → reached m h ≡ Some w → (is_still m w ≡ true) ↔ IsStill m w
 still_exactly m h w r =
-    let sized = run_sized m h (opening m) w r (opening_sized m) in
+    let sized = (standing m h w r).sized in
     (still_from m w sized, still_to m w sized)

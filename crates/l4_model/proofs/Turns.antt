@@ -13,15 +13,14 @@ use Rattle.l4_model.specs.Conditions.{Found, Pending, found, found_by, undecided
 use Rattle.l4_model.specs.History.{run, reached}
 use Rattle.l4_model.specs.Laws.{same_name, queued_name, queued_before, is_awaited, TakesTurns}
 use Rattle.l4_model.proofs.Chains.{bind_then, guard_then, some_is, get-map}
-use Rattle.l4_model.proofs.Sends.{Status, status, statuses, known_send}
-use Rattle.l4_model.proofs.Once.{and_true, same_id_is}
-use Rattle.l4_model.proofs.Sound.{all-replicated}
-use Rattle.l4_model.proofs.Accounted.{one_place, same_name_refl}
-use Rattle.l4_model.proofs.Deleted.{id_of, parted}
+use Rattle.l4_model.proofs.Sends.{Status, status, statuses}
+use Rattle.l4_model.proofs.Sound.{opening_sound}
+use Rattle.l4_model.proofs.Deleted.{parted}
 use Rattle.l4_model.proofs.Inversions.{DeliverTaken, deliver_taken}
-use Rattle.l4_model.proofs.Lists.{place_to, found_place}
 use Rattle.l4_model.proofs.Sizes.{opening_sized}
 use Rattle.l4_model.proofs.Queues.{goes, listed_at, listed, begun_at, MakeLists, listed_is, run_makes, opening_makes}
+use Rattle.l4_model.proofs.Places.{and_true, same_id_is, same_name_refl, known_send, one_place, id_of, found_place}
+use Rattle.l4_model.specs.Reached.{place_to}
 
 -- What is known of a send that the receiver awaits.
 record Awaited (m : Machine) (w : World) (receiver : GlobalId) (s : Name) : Type 0 where
@@ -162,4 +161,4 @@ takes_turns m h v r before after s receiver shown actual tag words w split first
     bind_then (next m p.between step) (λ x. run m x after) v p.second λ x is rest.
     subst (λ u. AllByRecursion (λ t. is_awaited m u receiver t ≡ false) (queued_before s before)) same
     (delivery_takes_turn m p.between x s receiver shown actual tag words before (deliver_taken m p.between x s receiver shown actual tag words is)
-    (run_makes m before (opening m) p.between [] p.first (opening_sized m) (all-replicated m) (opening_makes m)))
+    (run_makes m before (opening m) p.between [] p.first (opening_sized m) (opening_sound m) (opening_makes m)))

@@ -1,63 +1,26 @@
 -- What is delivered is the message that the send had when it began: until a send is decided, nothing changes it.
-use Rattle.std.proofs.Common.{subst, ◌≡◌, ℕ, zero, suc, ◌+◌, ◌*◌, ◌/◌, ◌%◌, ◌^◌, ◌<◌, ◌≤◌, Bool, true, false, Option, Some, None, List, [], ◌∷◌, length, drop, refl, ap, sym, ◌∙◌, arith}
+use Rattle.std.proofs.Common.{subst, ◌≡◌, ℕ, zero, suc, ◌+◌, ◌*◌, ◌/◌, ◌^◌, ◌<◌, ◌≤◌, Bool, true, false, Some, List, [], ◌∷◌, length, refl, ap, sym, ◌∙◌, arith}
 use Rattle.std.proofs.lemmas.Bool.{eqb-true}
-use Rattle.std.proofs.lemmas.List.{length-take}
 use Rattle.std.proofs.lemmas.Slice.Eq.{bytes_eq-Decides}
 use Rattle.std.specs.Prelude.{slice_get, ◌==◌, IsSomeAnd}
 use Rattle.std.specs.List.{AllByRecursion}
 use Rattle.std.specs.Str.{bytes_eq}
-use Rattle.l4_model.specs.Words.{GlobalId, same_id, Id, NilThread, AnyThread, AnyLocalThread, LocalThread, GlobalThread, Period, tag_of_word}
-use Rattle.l4_model.specs.Machine.{Machine, What, Instr, Set, Copy, Add, Tag, Vs, Ipc, Ask, Jump, OnErr, End, place_of}
+use Rattle.l4_model.specs.Words.{GlobalId, same_id, tag_of_word}
+use Rattle.l4_model.specs.Machine.{Machine, place_of}
 use Rattle.std.specs.Option.{option_map}
-use Rattle.l4_model.specs.World.{World, Context, Message, Receive, Send, changed, opening, Name}
-use Rattle.l4_model.specs.Rules.{act, ipc_act, ask_act, is_admitted, message_of, destination, receive_phase, received_tag, is_cross, bit, register}
+use Rattle.l4_model.specs.World.{World, Context, Message, Send, changed, opening, Name}
+use Rattle.l4_model.specs.Rules.{message_of, received_tag, is_cross, bit}
 use Rattle.l4_model.specs.Conditions.{instruction}
 use Rattle.l4_model.specs.Effects.{begins}
-use Rattle.l4_model.specs.Steps.{Step, Begin, Deliver, SendTimeout, SendNobody, SendCancel, Drop, send_of, next}
+use Rattle.l4_model.specs.Steps.{Step, Begin, Deliver, SendTimeout, SendNobody, SendCancel, Drop, next}
 use Rattle.l4_model.specs.History.{run, reached}
 use Rattle.l4_model.specs.Laws.{message_at, Carries, DeliversAs, IsUnaltered}
 use Rattle.l4_model.proofs.Chains.{bind_then, some_is, get-map, get-changed_same}
+use Rattle.l4_model.proofs.Requests.{act_request, message_short}
 use Rattle.l4_model.proofs.Inversions.{BeginTaken, begin_taken, deliver_taken}
-use Rattle.l4_model.proofs.Sends.{Status, status, statuses, with_begun, with_decided, Begins, Decides, Effect, effect, known, known_send}
-use Rattle.l4_model.proofs.Once.{same_id_is, same_name_is}
-use Rattle.l4_model.proofs.Deleted.{id_of, parted}
-
--- The send that a ready thread's instruction asks for has the message of its registers.
-ipc_message : (m : Machine) (id : GlobalId) (now : ℕ) (c : Context) (to : Id) (period : Period) (receive : Option Receive) (send : Send) →
-    send_of (ipc_act m id now c to period receive) ≡ Some send → message_of m id c ≡ send.message
-ipc_message m id now c NilThread period None send h = cc
-ipc_message m id now c NilThread period (Some receive) send h = cc
-ipc_message m id now c AnyThread period receive send h = ap (λ (s : Send). s.message) (some_is _ send h)
-ipc_message m id now c AnyLocalThread period receive send h = ap (λ (s : Send). s.message) (some_is _ send h)
-ipc_message m id now c (LocalThread word) period receive send h = ap (λ (s : Send). s.message) (some_is _ send h)
-ipc_message m id now c (GlobalThread t) period receive send h = ap (λ (s : Send). s.message) (some_is _ send h)
-
-ask_sends_nothing : (m : Machine) (id : GlobalId) (target : Id) (what : What) → send_of (ask_act m id target what) ≡ None
-ask_sends_nothing m id NilThread what = refl
-ask_sends_nothing m id AnyThread what = refl
-ask_sends_nothing m id AnyLocalThread what = refl
-ask_sends_nothing m id (LocalThread word) what = refl
-ask_sends_nothing m id (GlobalThread t) what = by (is_admitted m id t what) refl
-  where
-    by : (b : Bool) → is_admitted m id t what ≡ b → send_of (ask_act m id (GlobalThread t) what) ≡ None
-    by true e = rw e
-    by false e = rw e
-
-act_message : (m : Machine) (id : GlobalId) (now : ℕ) (c : Context) (i : Instr) (send : Send) → send_of (act m id now c i) ≡ Some send → message_of m id c ≡ send.message
-act_message m id now c (Set a word) send h = cc
-act_message m id now c (Copy a b) send h = cc
-act_message m id now c (Add a word) send h = cc
-act_message m id now c (Tag word) send h = cc
-act_message m id now c (Vs other) send h = cc
-act_message m id now c (Ipc to from send_period receive_period) send h = ipc_message m id now c (destination c to) send_period (receive_phase from receive_period) send h
-act_message m id now c (Ask target what) send h = let none = ask_sends_nothing m id target what in cc
-act_message m id now c (Jump place) send h = cc
-act_message m id now c (OnErr place) send h = cc
-act_message m id now c End send h = cc
-
--- A message has at most 63 words, so that its label can be read from its tag.
-message_short : (m : Machine) (id : GlobalId) (c : Context) → length (message_of m id c).words < 64
-message_short m id c = omega (arith, length-take (register c 0 % 64) (drop 1 c.words))
+use Rattle.l4_model.proofs.Sends.{Status, status, statuses, with_begun, with_decided, Begins, Decides, Effect, effect}
+use Rattle.l4_model.proofs.Deleted.{parted}
+use Rattle.l4_model.proofs.Places.{same_id_is, same_name_is, known, known_send, id_of}
 
 label_read : (label cross propagated count : ℕ) → cross ≤ 1 → propagated ≤ 1 → count < 64 → (label * 2 ^ 16 + cross * 2 ^ 14 + propagated * 2 ^ 12 + count) / 2 ^ 16 ≡ label
 label_read label cross propagated count c p n = omega arith
@@ -155,7 +118,7 @@ begin_delivers m w u v s after k r =
     let known = known m w s.thread k.t k.found in
     let id : k.t.declared.id ≡ s.thread = (id_of m w s.thread k.t k.found).0 in
     let e : message_of m s.thread k.t.now.context ≡ k.send.message =
-    ap (λ x. message_of m x k.t.now.context) (sym id) ∙ act_message m k.t.declared.id k.t.clock k.t.now.context (instruction k.t) k.send k.sends in
+    ap (λ x. message_of m x k.t.now.context) (sym id) ∙ (act_request m k.t.declared.id k.t.clock k.t.now.context (instruction k.t) k.send k.sends).message in
     let holds : HoldsAt k.t.at s.k k.send u = subst (HoldsAt k.t.at s.k k.send) k.leads_to (λ x at.
     subst (Holds s.k k.send) (some_is _ x (sym (get-map status (changed (begins k.send) w.threads k.t.at) k.t.at _ (get-changed_same (begins k.send) w.threads k.t.at ∙ ap (option_map (begins k.send)) known.now)) ∙ at))
     (record { begun = omega (arith, eqb-true _ _ k.next_k); same = λ y last has. some_is k.send y has })) in

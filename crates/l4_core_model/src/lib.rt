@@ -8,8 +8,6 @@ ghost use Rattle.l4_core_model.specs.Runs.{Run, IsMachine, TellsHistories, told}
 ghost use Rattle.l4_core_model.specs.Schedules.{replay, run};
 ghost use Rattle.l4_core_model.specs.Laws.{IsCoreRun, TellsWhatIsKnown, RestsStill};
 
-pub mod held;
-
 /// A run by a schedule is a core run.
 pub fn law_replay_is_core_run()
     ensures { (m : Machine) (schedule : List ℕ) → IsCoreRun m (replay m schedule) }

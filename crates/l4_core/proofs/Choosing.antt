@@ -1,0 +1,116 @@
+-- What the next turn does, where nothing is cancelled, deleted or timed: a waiting thread gets what waits for it, or a ready one runs.
+use Rattle.std.proofs.Common.{◌≡◌, ℕ, zero, suc, ◌+◌, ◌-◌, ◌<◌, Bool, true, false, cond, Option, Some, None, List, [], ◌∷◌, length, filter, refl, sym, ap, ◌∙◌, arith}
+use Rattle.std.specs.Prelude.{find, ◌==◌, is_some, slice_get, slice_index_or}
+use Rattle.std.specs.Option.{option_map}
+use Rattle.std.specs.List.{range_with_len}
+use Rattle.std.proofs.lemmas.Bool.Decides.{nat_tests}
+use Rattle.l4_model.specs.Words.{AnyThread}
+use Rattle.l4_model.specs.Machine.{Machine}
+use Rattle.l4_model.specs.World.{Send, Phase, Ready, Sending, Receiving, Ordering, Ended, Deleted, Thread, is_deleted, receive_now}
+use Rattle.l4_model.specs.Conditions.{Found, is_zero, is_nobody, is_refusable, ◌>>=◌, ◌>>◌}
+use Rattle.l4_core_model.specs.Plain as plain
+use Rattle.l4_core_model.specs.Local.{Local, declared, is_own, own_places, thread, held, held_by}
+use Rattle.l4_core_model.specs.Acts.{first_acceptable, zero_refusable}
+use Rattle.l4_core_model.specs.Turns.{Duty, DeliversFirst, Choice, ByDuty, ByReady, duty_a, duty_b, duty_c, duty_d, duty_e, duty_f, duty_g, duty_h, duty_of, first_some, first_duty, choice}
+use Rattle.l4_core.specs.Simple.{open_wait, IsEndless, Suits, IsSimple, IsSettled}
+
+pub never_deleted : (p : Phase) (send : Option Send) → Suits p send → is_deleted p ≡ false
+never_deleted Ready send s = refl
+never_deleted Sending send s = refl
+never_deleted (Receiving receive since) send s = refl
+never_deleted Ordering send s = refl
+never_deleted Ended send s = refl
+never_deleted Deleted send s = absurd s
+
+and_false : {A : Type 0} (b c : Bool) (o : Option A) → c ≡ false → (b >> (c >> o)) ≡ None
+and_false false c o e = refl
+and_false true c o e = rw e
+
+nobody : (m : Machine) (l : Local) (p : Phase) (send : Option Send) → Suits p send → {A : Type 0} (o : Option A) →
+    (receive_now p >>= λ receive. is_nobody receive.from (held_by m l receive.from) >> o) ≡ None
+nobody m l Ready send s o = refl
+nobody m l Sending send s o = refl
+nobody m l (Receiving receive since) send s o = let e = s.0 in rw e
+nobody m l Ordering send s o = refl
+nobody m l Ended send s o = refl
+nobody m l Deleted send s o = refl
+
+find_none : {A : Type 0} (p : A → Bool) → ((x : A) → p x ≡ false) → (xs : List A) → find p xs ≡ None
+find_none p f [] = refl
+find_none p f (x ∷ xs) = let e = f x in rw e (find_none p f xs)
+
+endless : (m : Machine) (r : Found) (p : Phase) (send : Option Send) → Suits p send → zero_refusable m r send ≡ false
+endless m r p None s = refl
+endless m r Ready (Some send) s = cc
+endless m r Sending (Some send) s = let e = s.period in rw e
+endless m r (Receiving receive since) (Some send) s = let e = s.1 in cc
+endless m r Ordering (Some send) s = absurd s
+endless m r Ended (Some send) s = cc
+endless m r Deleted (Some send) s = absurd s
+
+pub duty-simple : (m : Machine) (cpu : ℕ) (l : Local) (i : ℕ) → ((j : ℕ) → IsSimple (thread l j)) → duty_of m cpu l (held m l i) ≡ option_map DeliversFirst (first_acceptable l i)
+duty-simple m cpu l i simple =
+    let t = simple i in
+    let living = never_deleted (thread l i).phase (thread l i).send t.suits in
+    let send_stays = t.no_cancel_send in
+    let receive_stays = t.no_cancel_receive in
+    let a : duty_a l (held m l i) ≡ None = rw living in
+    let b : duty_b l (held m l i) ≡ None = rw living in
+    let c : duty_c m cpu l (held m l i) ≡ None = rw living in
+    let d : duty_d l (held m l i) ≡ None = and_false _ _ _ send_stays in
+    let e : duty_e (held m l i) ≡ None = and_false _ _ _ receive_stays in
+    let f : duty_f l (held m l i) ≡ option_map DeliversFirst (first_acceptable l i) = of_first (first_acceptable l i) in
+    let g : duty_g m l (held m l i) ≡ None = nobody m l (thread l i).phase (thread l i).send t.suits _ in
+    let h : duty_h m l (held m l i) ≡ None = by_find _ _ (find_none _ (λ w. endless m (held m l i) _ _ (simple w.block).suits) (plain.list_of l.lists i)) in
+    rw (a, b, c, d, e, f, g, h) (last (option_map DeliversFirst (first_acceptable l i)))
+  where
+    of_first : (o : Option ℕ) → (o >>= λ first. Some (DeliversFirst first)) ≡ option_map DeliversFirst o
+    of_first None = refl
+    of_first (Some x) = refl
+
+    by_find : (o : Option plain.Waiting) (f : plain.Waiting → Option Duty) → o ≡ None → (o >>= f) ≡ None
+    by_find o f e = rw e
+
+    last : (o : Option Duty) → first_some (None ∷ None ∷ None ∷ None ∷ None ∷ o ∷ None ∷ None ∷ []) ≡ o
+    last None = refl
+    last (Some x) = refl
+
+filter-range : (p : ℕ → Bool) (a n : ℕ) → ((i : ℕ) → i < a + n → p i ≡ true) → filter p (range_with_len a n) ≡ range_with_len a n
+filter-range p a zero f = refl
+filter-range p a (suc n) f =
+    let e : p a ≡ true = f a (omega arith) in
+    rw e (ap (λ xs. a ∷ xs) (filter-range p (a + 1) n (λ i lt. f i (omega arith))))
+
+pub places-all : (m : Machine) → ((i : ℕ) → i < length m.threads → (declared m i).cpu ≡ 0) → own_places m 0 ≡ range_with_len 0 (length m.threads)
+places-all m home = filter-range (is_own m 0) 0 (length m.threads) (λ i lt. at i (home i (omega arith)))
+  where
+    at : (i : ℕ) → (declared m i).cpu ≡ 0 → is_own m 0 i ≡ true
+    at i e = rw e
+
+-- The first thread of these that gets what waits for it.
+abbrev pub first_delivery : Local → List ℕ → Option Choice
+first_delivery l [] = None
+first_delivery l (i ∷ is) = first_some (option_map (λ j. ByDuty i (DeliversFirst j)) (first_acceptable l i) ∷ first_delivery l is ∷ [])
+
+pub duties-simple : (m : Machine) (l : Local) → ((j : ℕ) → IsSimple (thread l j)) → (is : List ℕ) → first_duty m 0 l is ≡ first_delivery l is
+duties-simple m l simple [] = refl
+duties-simple m l simple (i ∷ is) =
+    let e = duty-simple m 0 l i simple in
+    rw (e, duties-simple m l simple is) (ap (λ o. first_some (o ∷ first_delivery l is ∷ [])) (twice (first_acceptable l i)))
+  where
+    twice : (o : Option ℕ) → option_map (ByDuty i) (option_map DeliversFirst o) ≡ option_map (λ j. ByDuty i (DeliversFirst j)) o
+    twice None = refl
+    twice (Some x) = refl
+
+-- The turn's choice.
+pub choice-simple : (m : Machine) (l : Local) → ((i : ℕ) → i < length m.threads → (declared m i).cpu ≡ 0) → IsSettled m l →
+    choice m 0 l ≡ first_some (first_delivery l (range_with_len 0 (length m.threads)) ∷ option_map ByReady (slice_get l.lists.ready 0) ∷ [])
+choice-simple m l home s =
+    let places = places-all m home in
+    let duties = duties-simple m l s.simple (range_with_len 0 (length m.threads)) in
+    let armed = s.armed in
+    rw (places, duties, armed) (skips (first_delivery l (range_with_len 0 (length m.threads))) _)
+  where
+    skips : (o : Option Choice) (p : Option Choice) → first_some (o ∷ None ∷ p ∷ []) ≡ first_some (o ∷ p ∷ [])
+    skips None p = refl
+    skips (Some x) p = refl

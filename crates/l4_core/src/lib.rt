@@ -1,0 +1,4 @@
+//! One processor: its threads, the lists of those that wait and of those that are ready, and its turns.
+#![tactic(auto)]
+
+pub mod held;

@@ -1,2 +1,5 @@
+pub mod InstrView
+pub mod ListsView
+pub mod PhaseView
 pub mod Processor
 pub mod Simple

@@ -1,4 +1,6 @@
 //! One processor: its threads, the lists of those that wait and of those that are ready, and its turns.
 #![tactic(auto)]
 
-pub mod held;
+pub mod lists;
+pub mod machine;
+pub mod thread;

@@ -1,111 +1,154 @@
-//! One thread: its registers, its place in its script, and what it is about.
-ghost use Rattle.std.specs.Prelude.{◌≡◌, ◌<◌, ◌^◌, ◌+◌, ℕ, Some, None, is_some, IsSome, true};
+//! One thread: its context, and what it is about.
+ghost use Rattle.std.specs.Prelude.{◌≡◌, ◌<◌, ◌^◌, ◌+◌, ℕ, Some, is_some, true};
 ghost use Rattle.std.specs.Option.{option_map};
-ghost use Rattle.l4_model.specs.Words.{GlobalThread};
 ghost use Rattle.l4_model.specs.Machine.{Set, Tag, End};
-ghost use Rattle.l4_model.specs.World.{opening_context, opening_thread, receive_now, Ready as IsReady, Sending as IsSending};
-ghost use Rattle.l4_model.specs.Rules.{failed, sent, received, advanced, ran};
+ghost use Rattle.l4_model.specs.World.{opening_thread, receive_now, Ready as IsReady, Sending as IsSending};
 ghost use Rattle.l4_model.specs.Effects.{runs, begins, waits, refused, receives};
 ghost use Rattle.l4_core_model.specs.Local.{was_delivered};
 ghost use Rattle.l4_core.specs.Simple.{open_wait, IsSimple};
-ghost use Rattle.l4_core.specs.PhaseView.{endless_send};
+ghost use Rattle.l4_core.specs.PhaseView.{endless_send, phase_of, send_of};
+ghost use Rattle.l4_types.specs.Codes.{code_of};
 
+use crate::context::Context;
 use crate::machine::Register;
 use l4_types::errors::IpcError;
-use l4_types::ids::{GlobalId, ThreadId};
+use l4_types::ids::GlobalId;
 use l4_types::messages::Message;
-use l4_types::registers::Regs;
 use std::marker::Model;
+use std::mem;
 
-/// The part of a thread that its own instructions read and write.
+/// What a thread is about (manual: Ipc).
 #[derive(Drop)]
-pub struct Context {
-    regs: Regs,
-    place: usize,
-    begun: u64,
+pub enum Phase {
+    /// It can run its next instruction.
+    Ready,
+    /// It is in the send phase of an Ipc, with this message, to this thread.
+    Sending(GlobalId, Message),
+    /// It waits for any sender.
+    Receiving,
+    /// Its script has ended.
+    Ended,
 }
 
-impl Model for Context {
-    ghost use Rattle.l4_model.specs.World.{Context as ModelContext};
-
-    ghost Value = { ModelContext };
-
-    ghost view = { λ c. record { words = c.regs.words; error = c.regs.error; from = c.regs.from; actual = c.regs.actual; place = c.place; begun = c.begun } };
+/// A thread.
+#[derive(Drop)]
+pub struct Thread {
+    context: Context,
+    phase: Phase,
 }
 
-impl Context {
-    fn new() -> Context
-        ensures { result ≡ opening_context }
+impl Model for Thread {
+    ghost use Rattle.std.specs.Prelude.{None, false};
+    ghost use Rattle.l4_model.specs.World.{Thread as ModelThread};
+
+    ghost Value = { ModelThread };
+
+    ghost use Rattle.l4_core.specs.PhaseView.{phase_of, send_of};
+
+    ghost view = { λ t. record { context = t.context; phase = phase_of t.phase; send = send_of t.phase; order = None; cancel_send = false; cancel_receive = false } };
+}
+
+impl Thread {
+    /// A thread that has run nothing.
+    pub fn new() -> Thread
+        ensures { result ≡ opening_thread }
     {
-        Context {
-            regs: Regs::new(),
-            place: 0,
-            begun: 0,
+        Thread {
+            context: Context::new(),
+            phase: Phase::Ready,
         }
     }
 
-    /// The registers.
-    pub fn regs(&self) -> &Regs
-        ensures { result.now ≡ record { words = self.now.words; error = self.now.error; from = self.now.from; actual = self.now.actual } }
+    /// Its context.
+    pub fn context(&self) -> &Context
+        ensures value { result.now ≡ self.now.context }
+        ensures simple { IsSimple self.now }
     {
-        &self.regs
+        &self.context
     }
 
-    /// The place in the script, counted from 0.
-    pub fn place(&self) -> usize
-        ensures { result ≡ self.now.place }
+    /// What it is about.
+    pub fn phase(&self) -> &Phase
+        ensures phase { phase_of result.now ≡ self.now.phase }
+        ensures send { send_of result.now ≡ self.now.send }
     {
-        self.place
+        &self.phase
     }
 
-    /// How many sends the thread began.
-    pub fn begun(&self) -> u64
-        ensures { result ≡ self.now.begun }
+    /// It runs an instruction that makes a message register from 1 on this word.
+    pub fn set(&mut self, register: Register, word: u64)
+        requires ready { self.old.phase ≡ IsReady }
+        requires room { self.old.context.place + 1 < 2 ^ 64 }
+        ensures { self.new ≡ runs (Set register word) self.old }
     {
-        self.begun
+        self.context.set(register, word);
     }
 
-    // The next instruction is at hand.
-    fn advance(&mut self)
-        requires { self.old.place + 1 < 2 ^ 64 }
-        ensures { self.new ≡ advanced self.old }
+    /// It runs an instruction that makes message register 0 this word.
+    pub fn tag(&mut self, word: u64)
+        requires ready { self.old.phase ≡ IsReady }
+        requires room { self.old.context.place + 1 < 2 ^ 64 }
+        ensures { self.new ≡ runs (Tag word) self.old }
     {
-        self.place += 1;
+        self.context.tag(word);
     }
 
-    // A message register from 1 on becomes a word.
-    fn set(&mut self, register: Register, word: u64)
-        requires { self.old.place + 1 < 2 ^ 64 }
-        ensures { self.new ≡ ran (Set register word) self.old }
+    /// Its script ends.
+    pub fn end(&mut self)
+        requires { self.old.phase ≡ IsReady }
+        ensures { self.new ≡ runs End self.old }
     {
-        self.regs.words[register.index()] = word;
-        self.place += 1;
+        self.phase = Phase::Ended;
     }
 
-    // Message register 0 becomes a word.
-    fn tag(&mut self, word: u64)
-        requires { self.old.place + 1 < 2 ^ 64 }
-        ensures { self.new ≡ ran (Tag word) self.old }
+    /// It begins a send.
+    pub fn begin(&mut self, to: GlobalId, message: Message)
+        requires room { self.old.context.place + 1 < 2 ^ 64 }
+        requires count { self.old.context.begun + 1 < 2 ^ 64 }
+        ensures { self.new ≡ begins (endless_send to message) self.old }
     {
-        self.regs.words[0] = word;
-        self.place += 1;
+        self.context.advance();
+        self.context.count();
+        self.phase = Phase::Sending(to, message);
     }
 
-    // Its Ipc failed.
-    fn fail(&mut self, code: u64)
-        ensures { self.new ≡ failed code self.old }
+    /// It begins to wait for any sender.
+    pub fn wait(&mut self)
+        requires ready { self.old.phase ≡ IsReady }
+        requires room { self.old.context.place + 1 < 2 ^ 64 }
+        ensures { self.new ≡ waits open_wait 0 self.old }
     {
-        self.regs.words[0] = 0x8000;
-        self.regs.error = code;
-        self.regs.from = ThreadId::from_raw(0);
+        self.context.advance();
+        self.phase = Phase::Receiving;
     }
 
-    // Its Ipc ended well and received nothing.
-    fn sent(&mut self)
-        ensures { self.new ≡ sent self.old }
+    /// Its send is refused.
+    pub fn refuse(&mut self, error: IpcError)
+        ensures { self.new ≡ refused (code_of error) self.old }
     {
-        self.regs.words[0] = 0;
-        self.regs.error = 0;
-        self.regs.from = ThreadId::from_raw(0);
+        self.context.fail(error.code());
+        self.phase = Phase::Ready;
+    }
+
+    /// It receives a message, with this tag.
+    pub fn receive(&mut self, message: &Message, tag: u64)
+        requires { is_some (receive_now self.old.phase) ≡ true }
+        ensures { self.new ≡ receives message.now tag self.old }
+    {
+        self.context.receive(message, tag);
+        self.phase = Phase::Ready;
+    }
+
+    /// Its send is delivered, and its message is handed out.
+    pub fn deliver(&mut self) -> Message
+        requires { self.old.phase ≡ IsSending }
+        ensures thread { (now : ℕ) → self.new ≡ was_delivered self.old.send now self.old }
+        ensures message { option_map (λ send. send.message) self.old.send ≡ Some result }
+    {
+        self.context.sent();
+        match mem::replace(&mut self.phase, Phase::Ready) {
+            Phase::Sending(_, message) => message,
+            _ => unreachable!(),
+        }
     }
 }

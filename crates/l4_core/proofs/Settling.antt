@@ -15,14 +15,14 @@ use Rattle.l4_core.specs.Simple.{open_wait, IsEndless, Suits, IsSimple, IsOwn, I
 
 -- Lists
 
-or_cases : (a b : Bool) → (a || b) ≡ true → (a ≡ true) ⊎ (b ≡ true)
+pub or_cases : (a b : Bool) → (a || b) ≡ true → (a ≡ true) ⊎ (b ≡ true)
 or_cases true b e = inl refl
 or_cases false b e = inr e
 
-sooner : (a b : Bool) → a ≡ true → (a || b) ≡ true
+pub sooner : (a b : Bool) → a ≡ true → (a || b) ≡ true
 sooner a b e = rw e
 
-later : (a b : Bool) → b ≡ true → (a || b) ≡ true
+pub later : (a b : Bool) → b ≡ true → (a || b) ≡ true
 later true b t = refl
 later false b t = t
 
@@ -39,7 +39,7 @@ any-push p (x ∷ xs) y e = by (or_cases (p x) (list_any p (xs ++ y ∷ [])) e) 
     by (inl h) f = inl (rw h)
     by (inr h) f = ⊎_elim (λ t. inl (later (p x) (list_any p xs) t)) (λ t. inr t) (f h)
 
-any-drop : {A : Type 0} (p : A → Bool) (xs : List A) → list_any p (drop 1 xs) ≡ true → list_any p xs ≡ true
+pub any-drop : {A : Type 0} (p : A → Bool) (xs : List A) → list_any p (drop 1 xs) ≡ true → list_any p xs ≡ true
 any-drop p [] e = e
 any-drop p (x ∷ xs) e = by (p x)
   where
@@ -48,7 +48,7 @@ any-drop p (x ∷ xs) e = by (p x)
     by false = e
 
 -- A filter takes no element in.
-any-filter : {A : Type 0} (p q : A → Bool) (xs : List A) → list_any p (filter q xs) ≡ true → list_any p xs ≡ true
+pub any-filter : {A : Type 0} (p q : A → Bool) (xs : List A) → list_any p (filter q xs) ≡ true → list_any p xs ≡ true
 any-filter p q [] e = e
 any-filter p q (x ∷ xs) e = by (q x) (any-filter p q xs) e
   where

@@ -1,0 +1,8 @@
+use Rattle.l4_core.proofs.Listing.{lists-popped}
+use Rattle.l4_core.proofs.lists.Lists.pop_ready.Goals as goal
+
+pub invariant_of-self : goal.invariant_of-self
+invariant_of-self c =
+    let rest = c.pop_front.ensures.rest in
+    let room = c.pop_front.ensures.capacity in
+    rw (rest, room) (lists-popped _ _ _ _ _ c.self.invariant)

@@ -1,3 +1,4 @@
 pub mod Choosing
-pub mod Settling
+pub mod Growing
 pub mod Listing
+pub mod Settling

@@ -1,5 +1,6 @@
-pub mod InstrView
 pub mod ListsView
+pub mod Machines
 pub mod PhaseView
 pub mod Processor
+pub mod Scripts
 pub mod Simple

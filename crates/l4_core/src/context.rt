@@ -73,7 +73,7 @@ impl Context {
         requires { self.old.place + 1 < 2 ^ 64 }
         ensures { self.new ≡ ran (Set register word) self.old }
     {
-        self.regs.words[register.index()] = word;
+        self.regs.words[usize::from(register.number())] = word;
         self.place += 1;
     }
 

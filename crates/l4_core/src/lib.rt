@@ -1,4 +1,4 @@
-//! One processor: its threads, the lists of those that wait and of those that are ready, and its turns.
+//! One processor of the emulator: the machine that a text declares, and the turns of its threads.
 #![tactic(auto)]
 
 pub mod context;

@@ -1,10 +1,11 @@
 //! Looking declared threads up.
-ghost use Rattle.std.specs.Prelude.{◌≡◌};
-ghost use Rattle.std.specs.Option.{option_copied};
+ghost use Rattle.std.specs.Prelude.{◌≡◌, ◌<◌, unwrap_or, IsSome};
+ghost use Rattle.std.specs.Option.{option_copied, option_map};
 ghost use Rattle.l4_model.specs.Words.{same_id};
-ghost use Rattle.l4_model.specs.Machine.{place_of, declaration_of, same_space};
+ghost use Rattle.l4_model.specs.Machine.{End, declaration_of, instruction_at, same_space};
+ghost use Rattle.l4_core.specs.Scripts.{instr_of};
 
-use crate::machine::{Declaration, Machine};
+use crate::machine::{Declaration, Instr, Machine};
 use l4_types::ids::GlobalId;
 
 // Whether two ids are one.
@@ -14,14 +15,17 @@ fn is_same(a: GlobalId, b: GlobalId) -> bool
     a.number() == b.number() && a.version() == b.version()
 }
 
-impl Machine {
-    /// The place of a thread in the order of declaration.
-    pub fn place_of(&self, id: GlobalId) -> Option<usize>
-        ensures { result ≡ place_of self.now id }
+impl Declaration {
+    /// The instruction at a place of the script, counted from 0. None past its end, which is an `end`.
+    pub fn instruction(&self, place: usize) -> Option<Instr>
+        ensures value { unwrap_or (option_map instr_of result) End ≡ instruction_at self.now.script place }
+        ensures within { IsSome result → place < 1024 }
     {
-        self.threads().iter().position(|thread| is_same(thread.id(), id))
+        self.script().get(place).copied()
     }
+}
 
+impl Machine {
     // What is declared of a thread.
     fn declaration_of(&self, id: GlobalId) -> Option<&Declaration>
         ensures { option_copied result ≡ declaration_of self.now id }

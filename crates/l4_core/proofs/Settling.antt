@@ -172,7 +172,7 @@ readied-cases Deleted i j ready e = inl e
 pub record Comes (m : Machine) (l : Local) (i : ℕ) (t : Thread) : Type 0 where
   pub within : i < length m.threads
   pub simple : IsSimple t
-  pub own : IsOwn (declared m i).id t.send
+  pub own : IsOwn (declared m i).id t.send t.context.begun
   pub begun : t.context.begun ≤ l.stamp
   pub queued : plain.is_queued l.lists i ≡ true → t.phase ≡ Sending
   pub free : is_ready_in l.lists i ≡ false
@@ -187,7 +187,7 @@ settled-comes_to m l i f s c =
       threads = length-changed f l.threads i ∙ s.threads;
       lists = s.lists;
       simple = λ j. at_changed IsSimple f l i j within c.simple (s.simple j);
-      own = λ j. get_cases (λ t. IsOwn (declared m j).id t.send) f l.threads i j within (λ e. let P : ℕ → Type 0 = λ k. IsOwn (declared m k).id (f (thread l i)).send in subst P e c.own) (λ ne. s.own j);
+      own = λ j. get_cases (λ t. IsOwn (declared m j).id t.send t.context.begun) f l.threads i j within (λ e. let P : ℕ → Type 0 = λ k. IsOwn (declared m k).id (f (thread l i)).send (f (thread l i)).context.begun in subst P e c.own) (λ ne. s.own j);
       begun = λ j. at_changed (λ t. t.context.begun ≤ l.stamp) f l i j within c.begun (s.begun j);
       queued = λ j e. record {
         within = (s.queued j e).within;

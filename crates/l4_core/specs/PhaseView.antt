@@ -4,6 +4,8 @@ use Rattle.l4_core.specs.declared.thread.Phase.{Phase}
 use Rattle.l4_core.specs.declared.thread.Phase.TheVariants.{Ready, Sending, Receiving, Ended}
 use Rattle.l4_model.specs.Words.{GlobalId, GlobalThread}
 use Rattle.l4_model.specs.World as world
+use Rattle.l4_core.specs.declared.machine.Instr.{Instr}
+use Rattle.l4_core.specs.declared.machine.Instr.TheVariants.{Ipc}
 use Rattle.l4_core.specs.Simple.{open_wait}
 
 -- A send without end and without a receive phase after it.
@@ -19,3 +21,8 @@ phase_of Ended = world.Ended
 abbrev pub send_of : Phase → Option world.Send
 send_of (Sending to message) = Some (endless_send to message)
 send_of _ = None
+
+-- An instruction that concerns nobody else, or none.
+abbrev pub IsAlone : Option Instr → Type 0
+IsAlone (Some (Ipc ipc)) = ⊥
+IsAlone _ = Unit {0}

@@ -11,7 +11,7 @@ use Rattle.l4_core_model.specs.Local.{Local, declared, thread}
 abbrev pub open_wait : Receive
 open_wait = record { from = AnyThread; period = None }
 
--- A send without end, from this thread.
+-- A send without end.
 pub record IsEndless (send : Send) : Type 0 where
   pub period : send.period ≡ None
   pub receive : send.receive ≡ None
@@ -39,10 +39,10 @@ is_ready_in s block = list_any (λ b. block == b) s.ready
 abbrev pub no_lists : (blocks : ℕ) → plain.Plain
 no_lists blocks = record { waiting = replicate blocks []; ready = []; armed = [] }
 
--- A send shows its own thread as its sender.
-abbrev pub IsOwn : GlobalId → Option Send → Type 0
-IsOwn id None = Unit {0}
-IsOwn id (Some send) = send.message.actual ≡ id
+-- A send has its own thread as its sender, and was counted.
+abbrev pub IsOwn : GlobalId → Option Send → (begun : ℕ) → Type 0
+IsOwn id None begun = Unit {0}
+IsOwn id (Some send) begun = (send.message.actual ≡ id) × (0 < begun)
 
 -- Of a place that stands in a list: it is a thread's, which is in that phase.
 pub record IsIn (m : Machine) (l : Local) (phase : Phase) (i : ℕ) : Type 0 where
@@ -53,7 +53,7 @@ pub record IsSettled (m : Machine) (l : Local) : Type 0 where
   pub threads : length l.threads ≡ length m.threads
   pub lists : length l.lists.waiting ≡ length m.threads
   pub simple : (i : ℕ) → IsSimple (thread l i)
-  pub own : (i : ℕ) → IsOwn (declared m i).id (thread l i).send
+  pub own : (i : ℕ) → IsOwn (declared m i).id (thread l i).send (thread l i).context.begun
   pub begun : (i : ℕ) → (thread l i).context.begun ≤ l.stamp
   pub queued : (i : ℕ) → plain.is_queued l.lists i ≡ true → IsIn m l Sending i
   pub ready : (i : ℕ) → is_ready_in l.lists i ≡ true → IsIn m l Ready i

@@ -1,10 +1,11 @@
 //! The part of a thread that its own instructions read and write.
-ghost use Rattle.std.specs.Prelude.{◌≡◌, ◌<◌, ◌^◌, ◌+◌, ◌/◌, ◌%◌, ◌==◌, length, take, drop, slice_index};
-ghost use Rattle.l4_model.specs.Machine.{Set, Tag};
+ghost use Rattle.std.specs.Prelude.{◌≡◌, ◌<◌, ◌^◌, ◌+◌, ◌/◌, ◌%◌, ◌==◌, length, take, drop, slice_index, Some};
 ghost use Rattle.l4_model.specs.World.{opening_context};
 ghost use Rattle.l4_model.specs.Rules.{failed, sent, received, advanced, ran, originator, message_of};
+ghost use Rattle.l4_core.specs.PhaseView.{IsAlone};
+ghost use Rattle.l4_core.specs.Scripts.{instr_of};
 
-use crate::machine::{Machine, Register};
+use crate::machine::{Instr, Machine};
 use arrayvec::ArrayVec;
 use l4_types::ids::{GlobalId, ThreadId};
 use l4_types::messages::Message;
@@ -68,21 +69,17 @@ impl Context {
         self.place += 1;
     }
 
-    /// A message register from 1 on becomes a word.
-    pub fn set(&mut self, register: Register, word: u64)
-        requires { self.old.place + 1 < 2 ^ 64 }
-        ensures { self.new ≡ ran (Set register word) self.old }
+    /// It runs an instruction that concerns nobody else.
+    pub fn run(&mut self, instr: &Instr)
+        requires alone { IsAlone (Some instr.now) }
+        requires room { self.old.place + 1 < 2 ^ 64 }
+        ensures { self.new ≡ ran (instr_of instr.now) self.old }
     {
-        self.regs.words[usize::from(register.number())] = word;
-        self.place += 1;
-    }
-
-    /// Message register 0 becomes a word.
-    pub fn tag(&mut self, word: u64)
-        requires { self.old.place + 1 < 2 ^ 64 }
-        ensures { self.new ≡ ran (Tag word) self.old }
-    {
-        self.regs.words[0] = word;
+        match instr {
+            Instr::Set(register, word) => self.regs.words[usize::from(register.number())] = *word,
+            Instr::Tag(tag) => self.regs.words[0] = tag.raw(),
+            Instr::Ipc(_) => unreachable!(),
+        }
         self.place += 1;
     }
 

@@ -1,21 +1,25 @@
 //! One thread: its context, and what it is about.
-ghost use Rattle.std.specs.Prelude.{◌≡◌, ◌<◌, ◌^◌, ◌+◌, ℕ, Some, is_some, true};
-ghost use Rattle.std.specs.Option.{option_map};
-ghost use Rattle.l4_model.specs.Machine.{Set, Tag, End};
+ghost use Rattle.std.specs.Prelude.{◌≡◌, ◌<◌, ◌^◌, ◌+◌, ℕ, None, is_some, IsSome, true, unwrap_or, if◌then◌else◌};
+ghost use Rattle.std.specs.Option.{option_map, option_copied};
+ghost use Rattle.l4_model.specs.Words.{AnyThread};
+ghost use Rattle.l4_model.specs.Machine.{End};
 ghost use Rattle.l4_model.specs.World.{opening_thread, receive_now, Ready as IsReady, Sending as IsSending};
-ghost use Rattle.l4_model.specs.Effects.{runs, begins, waits, refused, receives};
-ghost use Rattle.l4_core_model.specs.Local.{was_delivered};
+ghost use Rattle.l4_model.specs.Effects.{runs, begins, waits, receives};
+ghost use Rattle.l4_core_model.specs.Plain.{Plain, first_taken, list_of};
+ghost use Rattle.l4_core_model.specs.Local.{ended};
+ghost use Rattle.l4_core_model.specs.Acts.{first_of_list};
+ghost use Rattle.l4_types.specs.LetterView.{decision_of};
 ghost use Rattle.l4_core.specs.Simple.{open_wait, IsSimple};
-ghost use Rattle.l4_core.specs.PhaseView.{endless_send, phase_of, send_of};
-ghost use Rattle.l4_types.specs.Codes.{code_of};
+ghost use Rattle.l4_core.specs.PhaseView.{endless_send, phase_of, send_of, IsAlone};
+ghost use Rattle.l4_core.specs.Scripts.{instr_of};
 
 use crate::context::Context;
-use crate::machine::Register;
+use crate::machine::Instr;
 use l4_types::errors::IpcError;
 use l4_types::ids::GlobalId;
+use l4_types::letters::{Decision, Refusal};
 use l4_types::messages::Message;
 use std::marker::Model;
-use std::mem;
 
 /// What a thread is about (manual: Ipc).
 #[derive(Drop)]
@@ -75,30 +79,35 @@ impl Thread {
         &self.phase
     }
 
-    /// It runs an instruction that makes a message register from 1 on this word.
-    pub fn set(&mut self, register: Register, word: u64)
-        requires ready { self.old.phase ≡ IsReady }
-        requires room { self.old.context.place + 1 < 2 ^ 64 }
-        ensures { self.new ≡ runs (Set register word) self.old }
+    /// Whether it waits for any sender.
+    pub fn is_receiving(&self) -> bool
+        ensures { (s : Plain) (place : ℕ) →
+            first_of_list s place self.now.phase ≡ (if result then first_taken AnyThread (list_of s place) else None) }
     {
-        self.context.set(register, word);
+        matches!(self.phase, Phase::Receiving)
     }
 
-    /// It runs an instruction that makes message register 0 this word.
-    pub fn tag(&mut self, word: u64)
-        requires ready { self.old.phase ≡ IsReady }
-        requires room { self.old.context.place + 1 < 2 ^ 64 }
-        ensures { self.new ≡ runs (Tag word) self.old }
+    /// The message that it sends, where it is in a send phase.
+    pub fn message(&self) -> Option<&Message>
+        ensures { option_copied result ≡ option_map (λ send. send.message) self.now.send }
     {
-        self.context.tag(word);
+        match &self.phase {
+            Phase::Sending(_, message) => Some(message),
+            _ => None,
+        }
     }
 
-    /// Its script ends.
-    pub fn end(&mut self)
-        requires { self.old.phase ≡ IsReady }
-        ensures { self.new ≡ runs End self.old }
+    /// It runs an instruction that concerns nobody else, or its script ends.
+    pub fn run(&mut self, instr: Option<Instr>)
+        requires ready { self.old.phase ≡ IsReady }
+        requires alone { IsAlone instr }
+        requires room { IsSome instr → self.old.context.place + 1 < 2 ^ 64 }
+        ensures { self.new ≡ runs (unwrap_or (option_map instr_of instr) End) self.old }
     {
-        self.phase = Phase::Ended;
+        match &instr {
+            Some(instr) => self.context.run(instr),
+            None => self.phase = Phase::Ended,
+        }
     }
 
     /// It begins a send.
@@ -122,14 +131,6 @@ impl Thread {
         self.phase = Phase::Receiving;
     }
 
-    /// Its send is refused.
-    pub fn refuse(&mut self, error: IpcError)
-        ensures { self.new ≡ refused (code_of error) self.old }
-    {
-        self.context.fail(error.code());
-        self.phase = Phase::Ready;
-    }
-
     /// It receives a message, with this tag.
     pub fn receive(&mut self, message: &Message, tag: u64)
         requires { is_some (receive_now self.old.phase) ≡ true }
@@ -139,16 +140,20 @@ impl Thread {
         self.phase = Phase::Ready;
     }
 
-    /// Its send is delivered, and its message is handed out.
-    pub fn deliver(&mut self) -> Message
+    /// Its send is decided.
+    pub fn end_send(&mut self, decision: Decision)
         requires { self.old.phase ≡ IsSending }
-        ensures thread { (now : ℕ) → self.new ≡ was_delivered self.old.send now self.old }
-        ensures message { option_map (λ send. send.message) self.old.send ≡ Some result }
+        ensures { (now : ℕ) → self.new ≡ ended (decision_of decision) now self.old }
     {
-        self.context.sent();
-        match mem::replace(&mut self.phase, Phase::Ready) {
-            Phase::Sending(_, message) => message,
-            _ => unreachable!(),
+        match decision {
+            Decision::Delivered => self.context.sent(),
+            Decision::Refused(Refusal::TimedOut) => self.context.fail(IpcError::SendTimeout.code()),
+            Decision::Refused(Refusal::Nobody) => self.context.fail(IpcError::SendNobody.code()),
+            Decision::Refused(Refusal::Cancelled) => {
+                self.context.fail(IpcError::SendCancelled.code())
+            }
+            Decision::Refused(Refusal::Dropped) => {}
         }
+        self.phase = Phase::Ready;
     }
 }

@@ -4,3 +4,4 @@ pub mod PhaseView
 pub mod Processor
 pub mod Scripts
 pub mod Simple
+pub mod Turning

@@ -5,4 +5,5 @@ pub mod context;
 pub mod lists;
 mod lookups;
 pub mod machine;
+pub mod processor;
 pub mod thread;

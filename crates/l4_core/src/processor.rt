@@ -18,6 +18,7 @@ use std::marker::Model;
 
 mod effects;
 mod pieces;
+mod views;
 
 /// One processor of a machine.
 #[derive(Drop)]

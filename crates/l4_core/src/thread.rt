@@ -9,6 +9,8 @@ ghost use Rattle.l4_core_model.specs.Plain.{Plain, first_taken, list_of};
 ghost use Rattle.l4_core_model.specs.Local.{ended};
 ghost use Rattle.l4_core_model.specs.Acts.{first_of_list};
 ghost use Rattle.l4_types.specs.LetterView.{decision_of};
+ghost use Rattle.l4_types.specs.ReportView.{state_of_view};
+ghost use Rattle.l4_model.specs.History.{state_of};
 ghost use Rattle.l4_core.specs.Simple.{open_wait, IsSimple};
 ghost use Rattle.l4_core.specs.PhaseView.{endless_send, phase_of, send_of, IsAlone};
 ghost use Rattle.l4_core.specs.Scripts.{instr_of};
@@ -16,9 +18,10 @@ ghost use Rattle.l4_core.specs.Scripts.{instr_of};
 use crate::context::Context;
 use crate::machine::Instr;
 use l4_types::errors::IpcError;
-use l4_types::ids::GlobalId;
+use l4_types::ids::{GlobalId, ThreadId};
 use l4_types::letters::{Decision, Refusal};
 use l4_types::messages::Message;
+use l4_types::reports::State;
 use std::marker::Model;
 
 /// What a thread is about (manual: Ipc).
@@ -94,6 +97,28 @@ impl Thread {
         match &self.phase {
             Phase::Sending(_, message) => Some(message),
             _ => None,
+        }
+    }
+
+    /// Where it sends to, where it is in a send phase.
+    pub fn destination(&self) -> Option<ThreadId>
+        ensures { result ≡ option_map (λ send. send.to) self.now.send }
+    {
+        match &self.phase {
+            Phase::Sending(to, _) => Some(to.id()),
+            _ => None,
+        }
+    }
+
+    /// What a report says of it.
+    pub fn state(&self) -> State
+        ensures { state_of_view result ≡ state_of self.now.phase }
+    {
+        match &self.phase {
+            Phase::Ready => State::Ready,
+            Phase::Sending(_, _) => State::Sending,
+            Phase::Receiving => State::Receiving,
+            Phase::Ended => State::Ended,
         }
     }
 

@@ -58,7 +58,7 @@ impl Core {
     }
 
     // The id of a thread.
-    fn id(&self, place: usize) -> GlobalId
+    pub(super) fn id(&self, place: usize) -> GlobalId
         requires { place < length self.now.machine.threads }
         ensures { result ≡ (declared self.now.machine place).id }
     {

@@ -1,4 +1,6 @@
 pub mod Choosing
+pub mod Coming
+pub mod Effects
 pub mod Growing
 pub mod Listing
 pub mod Settling

@@ -151,7 +151,7 @@ settled-queued m l r w sends s = record {
 }
 
 -- A thread comes to a phase.
-unarmed : (p : Phase) (send : Option Send) → Suits p send → armed_period p send ≡ None
+pub unarmed : (p : Phase) (send : Option Send) → Suits p send → armed_period p send ≡ None
 unarmed Ready send s = refl
 unarmed Sending None s = absurd s
 unarmed Sending (Some send) s = let e = s.period in rw e

@@ -39,11 +39,11 @@ find_none : {A : Type 0} (p : A → Bool) → ((x : A) → p x ≡ false) → (x
 find_none p f [] = refl
 find_none p f (x ∷ xs) = let e = f x in rw e (find_none p f xs)
 
-endless : (m : Machine) (r : Found) (p : Phase) (send : Option Send) → Suits p send → zero_refusable m r send ≡ false
+pub endless : (m : Machine) (r : Found) (p : Phase) (send : Option Send) → Suits p send → zero_refusable m r send ≡ false
 endless m r p None s = refl
 endless m r Ready (Some send) s = cc
 endless m r Sending (Some send) s = let e = s.period in rw e
-endless m r (Receiving receive since) (Some send) s = let e = s.1 in cc
+endless m r (Receiving receive since) (Some send) s = let e = s.2 in cc
 endless m r Ordering (Some send) s = absurd s
 endless m r Ended (Some send) s = cc
 endless m r Deleted (Some send) s = absurd s

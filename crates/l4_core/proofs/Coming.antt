@@ -83,7 +83,7 @@ comes-waits m l i s lt ready free =
     let t = s.simple i in
     record {
       within = lt;
-      simple = record { suits = (refl, sends_none (thread l i) t ready); order = t.order; no_cancel_send = t.no_cancel_send; no_cancel_receive = t.no_cancel_receive };
+      simple = record { suits = (refl, refl, sends_none (thread l i) t ready); order = t.order; no_cancel_send = t.no_cancel_send; no_cancel_receive = t.no_cancel_receive };
       own = s.own i;
       begun = s.begun i;
       queued = λ q. let none = unqueued m l i Ready s ready (λ e. cc) in cc;
@@ -110,7 +110,7 @@ comes-receives m l i message tag s lt waits =
     let suits = subst P waits t.suits in
     record {
       within = lt;
-      simple = record { suits = suits.1; order = t.order; no_cancel_send = t.no_cancel_send; no_cancel_receive = refl };
+      simple = record { suits = suits.2; order = t.order; no_cancel_send = t.no_cancel_send; no_cancel_receive = refl };
       own = s.own i;
       begun = s.begun i;
       queued = λ q. let none = unqueued m l i (Receiving open_wait 0) s waits (λ e. cc) in cc;

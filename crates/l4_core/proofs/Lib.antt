@@ -3,4 +3,5 @@ pub mod Coming
 pub mod Effects
 pub mod Growing
 pub mod Listing
+pub mod Pieces
 pub mod Settling

@@ -1,7 +1,7 @@
 -- One row of sends in order of arrival shows the list of each receiver.
 use Rattle.std.proofs.Common.{◌≡◌, ℕ, zero, suc, ◌+◌, ◌-◌, ◌<◌, ◌≤◌, Bool, true, false, cond, eqb, Option, Some, None, List, [], ◌∷◌, ◌++◌, map, filter, drop, length, refl, ap, sym, ◌∙◌, subst, inl, inr, ⊎_elim, ◌⊎◌, arith}
 use Rattle.std.specs.Prelude.{slice_index_or, ◌==◌, not, ◌||◌, find, replicate}
-use Rattle.std.specs.Option.{option_map}
+use Rattle.std.specs.Option.{option_map, option_to_list, IfSome}
 use Rattle.std.specs.List.{list_any, range_with_len, IsDistinct, AllByRecursion}
 use Rattle.std.proofs.lemmas.Bool.{eqb-true, eq-eqb}
 use Rattle.std.proofs.lemmas.Bool.Decides.{nat_tests}
@@ -207,6 +207,19 @@ distinct-drop (x ∷ xs) d = d.1
 
 pub blocks-drop : (blocks : ℕ) (xs : List ℕ) → AreBlocks blocks xs → AreBlocks blocks (drop 1 xs)
 blocks-drop blocks xs are = record { below = λ q h. are.below q (any-drop (eqb q) xs h); once = distinct-drop xs are.once }
+
+head : (y : ℕ) (ys : List ℕ) → IsDistinct eqb (y ∷ ys) → AllByRecursion (λ z. eqb y z ≡ false) ys
+unfolding IsDistinct
+head y ys d = d.0
+
+all-none : (b : ℕ) (xs : List ℕ) → AllByRecursion (λ y. eqb b y ≡ false) xs → list_any (eqb b) xs ≡ false
+all-none b [] h = refl
+all-none b (x ∷ xs) h = let e = h.0 in rw e (all-none b xs h.1)
+
+-- The first block stands nowhere else.
+pub pop-gone : (blocks : ℕ) (ready new : List ℕ) (o : Option ℕ) → AreBlocks blocks ready → ready ≡ option_to_list o ++ new → IfSome o (λ b. list_any (eqb b) new ≡ false)
+pop-gone blocks ready new None are e = tt
+pop-gone blocks ready new (Some b) are e = all-none b new (head b new (subst (IsDistinct eqb) e are.once))
 
 all-senders : (P : ℕ → Type 0) (p : Arrival → Bool) (xs : List Arrival) → AllByRecursion P (senders xs) → AllByRecursion P (senders (filter p xs))
 all-senders P p [] h = tt

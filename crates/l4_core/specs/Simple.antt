@@ -21,7 +21,7 @@ abbrev pub Suits : Phase → Option Send → Type 0
 Suits Ready send = send ≡ None
 Suits Sending None = ⊥
 Suits Sending (Some send) = IsEndless send
-Suits (Receiving receive since) send = (receive ≡ open_wait) × (send ≡ None)
+Suits (Receiving receive since) send = (receive ≡ open_wait) × (since ≡ 0) × (send ≡ None)
 Suits Ordering send = ⊥
 Suits Ended send = send ≡ None
 Suits Deleted send = ⊥

@@ -1,5 +1,5 @@
 //! The lists of one processor: for each thread the sends that wait at it, and the threads that are ready.
-ghost use Rattle.std.specs.Prelude.{◌≡◌, ◌<◌, ◌==◌, not, false, length, slice_get, IfOk, find, filter, vec_capacity};
+ghost use Rattle.std.specs.Prelude.{◌≡◌, ◌<◌, ◌==◌, not, false, length, slice_get, IfOk, IfSome, find, filter, vec_capacity};
 ghost use Rattle.std.specs.Option.{option_map};
 ghost use Rattle.l4_model.specs.Words.{AnyThread};
 ghost use Rattle.l4_core_model.specs.Plain.{is_queued, list_of, queued, unqueued, first_taken, made_ready, popped};
@@ -117,6 +117,7 @@ impl Lists {
     pub fn pop_ready(&mut self) -> Option<usize>
         ensures first { result ≡ slice_get self.old.ready 0 }
         ensures rest { self.new ≡ popped self.old }
+        ensures gone { IfSome result (λ block. is_ready_in self.new block ≡ false) }
     {
         self.ready.pop_front()
     }

@@ -1,12 +1,12 @@
 //! What an event does to one thread and to the lists.
-ghost use Rattle.std.specs.Prelude.{◌≡◌, ◌<◌, ◌+◌, ◌^◌, Some, IsSome, false, unwrap_or, length};
+ghost use Rattle.std.specs.Prelude.{◌≡◌, ◌<◌, ◌+◌, ◌^◌, Some, IsSome, false, unwrap_or, length, slice_get, ℕ};
 ghost use Rattle.std.specs.Option.{option_map};
 ghost use Rattle.l4_model.specs.Machine.{End};
 ghost use Rattle.l4_model.specs.Effects.{runs, begins, waits, receives};
 ghost use Rattle.l4_core_model.specs.Plain.{is_queued, queued, unqueued, popped};
 ghost use Rattle.l4_core_model.specs.Local.{declared, thread, comes_to, relists, ended};
 ghost use Rattle.l4_types.specs.LetterView.{decision_of};
-ghost use Rattle.l4_core.specs.Simple.{open_wait};
+ghost use Rattle.l4_core.specs.Simple.{open_wait, is_ready_in};
 ghost use Rattle.l4_core.specs.Processor.{with_local};
 ghost use Rattle.l4_core.specs.PhaseView.{endless_send, IsAlone};
 ghost use Rattle.l4_core.specs.Scripts.{instr_of};
@@ -86,7 +86,8 @@ impl Core {
 
     // The first ready thread is taken out of the list.
     pub(super) fn pop_ready(&mut self)
-        ensures { self.new ≡ with_local self.old (relists popped self.old.local) }
+        ensures rest { self.new ≡ with_local self.old (relists popped self.old.local) }
+        ensures gone { (place : ℕ) → slice_get self.old.local.lists.ready 0 ≡ Some place → is_ready_in self.new.local.lists place ≡ false }
     {
         self.lists.pop_ready();
     }

@@ -1,17 +1,17 @@
 //! The pieces of an event: what is done, and the steps that it tells.
-ghost use Rattle.std.specs.Prelude.{◌≡◌, ◌<◌, ◌≤◌, ◌+◌, ◌^◌, Some, false, length, slice_get, unwrap_or, IsSome};
+ghost use Rattle.std.specs.Prelude.{◌≡◌, ◌<◌, ◌≤◌, ◌+◌, ◌^◌, Some, false, length, slice_get, unwrap_or, IsSome, IfSome};
 ghost use Rattle.std.specs.Option.{option_map};
-ghost use Rattle.l4_model.specs.Machine.{End, instruction_at};
+ghost use Rattle.l4_model.specs.Machine.{End, instruction_at, place_of};
 ghost use Rattle.l4_model.specs.Conditions.{act_of};
 ghost use Rattle.l4_core_model.specs.Plain.{is_queued};
 ghost use Rattle.l4_core_model.specs.Local.{declared, thread, held, last_name};
-ghost use Rattle.l4_core_model.specs.Acts.{acts, arrives, begins_send, delivers, entry, refuses, first_acceptable};
+ghost use Rattle.l4_core_model.specs.Acts.{acts, arrives, begins_send, delivers, entry, refuses, first_acceptable, is_place};
 ghost use Rattle.l4_model.specs.Rules.{message_of};
 ghost use Rattle.l4_model.specs.World.{Send};
 ghost use Rattle.l4_core.specs.PhaseView.{endless_send};
 ghost use Rattle.l4_core_model.specs.Letters.{Nobody as IsNobody};
 ghost use Rattle.l4_core_model.specs.Turns.{does_choice, ByReady};
-ghost use Rattle.l4_core.specs.Scripts.{instr_of};
+ghost use Rattle.l4_core.specs.Scripts.{instr_of, ipc_of};
 ghost use Rattle.l4_core.specs.Turning.{Does, IsAtHand, IsSender};
 ghost use Rattle.arrayvec.specs.ArrayVec.{array_vec_len};
 
@@ -32,6 +32,7 @@ impl Core {
         requires room { array_vec_len steps.old ≡ 0 }
         ensures { Does (does_choice self.old.machine 0 (ByReady place)) self.old self.new steps.old.items steps.new.items }
     {
+        let _ = &self.machine;
         self.pop_ready();
         self.act(place, steps);
     }
@@ -45,14 +46,29 @@ impl Core {
     {
         let instr = self.instruction(place);
         match &instr {
-            Some(Instr::Ipc(Ipc::Send(to))) => self.send(place, to, steps),
-            Some(Instr::Ipc(Ipc::Wait)) => {
-                steps.push(Step::Wait(self.id(place)));
-                self.wait(place);
-            }
+            Some(Instr::Ipc(ipc)) => self.ipc(place, ipc, steps),
             _ => {
                 steps.push(Step::Local(self.id(place)));
                 self.run_alone(place, instr);
+            }
+        }
+    }
+
+    // A thread begins its next Ipc.
+    fn ipc(&mut self, place: usize, ipc: &Ipc, steps: &mut ArrayVec<Step, 3>)
+        requires hand { IsAtHand self.old place }
+        requires count { (thread self.old.local place).context.begun < self.old.local.stamp }
+        requires room { array_vec_len steps.old ≡ 0 }
+        requires next { (thread self.old.local place).context.place < 1024 }
+        requires instr { ipc_of ipc.now ≡ instruction_at (declared self.old.machine place).script (thread self.old.local place).context.place }
+        ensures { Does (acts self.old.machine 0 place (act_of self.old.machine (held self.old.machine self.old.local place))) self.old self.new steps.old.items steps.new.items }
+    {
+        let _ = &self.machine;
+        match ipc {
+            Ipc::Send(to) => self.send(place, to, steps),
+            Ipc::Wait => {
+                steps.push(Step::Wait(self.id(place)));
+                self.wait(place);
             }
         }
     }
@@ -91,15 +107,32 @@ impl Core {
         requires steps { array_vec_len steps.old ≡ 0 }
         ensures { Does (begins_send self.old.machine 0 place (endless_send to.now (message_of self.old.machine (declared self.old.machine place).id (thread self.old.local place).context))) self.old self.new steps.old.items steps.new.items }
     {
-        let message = self.threads[place]
-            .context()
-            .message(&self.machine, self.id(place));
+        let _ = &self.machine;
+        let message = self.new_message(place);
         self.begin(place, *to, message);
         steps.push(Step::Begin(self.last_name(place)));
-        match self.machine.place_of(*to) {
+        match self.place_of(*to) {
             Some(receiver) => self.arrive(receiver, place, steps),
             None => self.refuse(place, steps),
         }
+    }
+
+    // The message of a send that a thread begins now.
+    fn new_message(&self, place: usize) -> Message
+        requires { place < length self.now.machine.threads }
+        ensures { result ≡ message_of self.now.machine (declared self.now.machine place).id (thread self.now.local place).context }
+    {
+        self.threads[place]
+            .context()
+            .message(&self.machine, self.id(place))
+    }
+
+    // The place of a thread.
+    pub(super) fn place_of(&self, id: GlobalId) -> Option<usize>
+        ensures value { result ≡ place_of self.now.machine id }
+        ensures within { IfSome result (λ place. place < length self.now.machine.threads) }
+    {
+        self.machine.place_of(id)
     }
 
     // The send of a thread is refused, since nobody has the id that it goes to.
@@ -108,6 +141,7 @@ impl Core {
         requires steps { array_vec_len steps.old < 3 }
         ensures { Does (refuses self.old.machine 0 IsNobody place) self.old self.new steps.old.items steps.new.items }
     {
+        let _ = &self.machine;
         steps.push(Step::SendNobody(self.last_name(place)));
         self.end_send(place, Decision::Refused(Refusal::Nobody));
     }
@@ -120,12 +154,21 @@ impl Core {
         requires steps { array_vec_len steps.old < 2 }
         ensures { Does (arrives self.old.machine 0 receiver sender) self.old self.new steps.old.items steps.new.items }
     {
+        let _ = &self.machine;
         steps.push(Step::Queue(self.last_name(sender)));
         let waiting = self.entry(receiver, sender);
         self.queue_send(receiver, waiting);
-        if self.first_acceptable(receiver) == Some(sender) {
+        if self.is_first(receiver, sender) {
             self.deliver(receiver, sender, steps);
         }
+    }
+
+    // Whether a receiver waits, and takes this sender first.
+    fn is_first(&self, receiver: usize, sender: usize) -> bool
+        requires { receiver < length self.now.machine.threads }
+        ensures { result ≡ is_place (first_acceptable self.now.local receiver) sender }
+    {
+        self.first_acceptable(receiver) == Some(sender)
     }
 
     // The entry of a thread's send in the list of its receiver.
@@ -156,6 +199,7 @@ impl Core {
         requires steps { array_vec_len steps.old < 3 }
         ensures { Does (delivers self.old.machine 0 receiver sender) self.old self.new steps.old.items steps.new.items }
     {
+        let _ = &self.machine;
         let delivery = Delivery {
             name: self.last_name(sender),
             receiver: self.id(receiver),

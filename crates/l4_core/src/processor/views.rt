@@ -58,7 +58,7 @@ impl Core {
     fn destination(&self, name: Name) -> Option<ThreadId>
         ensures { result ≡ option_map (λ p. p.send.to) (undecided self.now.machine (known_world self.now.local) name) }
     {
-        let place = self.machine.place_of(name.thread())?;
+        let place = self.place_of(name.thread())?;
         let thread = &self.threads[place];
         if thread.context().begun() != name.k() {
             return None;

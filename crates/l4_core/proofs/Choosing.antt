@@ -1,5 +1,5 @@
 -- What the next turn does, where nothing is cancelled, deleted or timed: a waiting thread gets what waits for it, or a ready one runs.
-use Rattle.std.proofs.Common.{◌≡◌, ℕ, zero, suc, ◌+◌, ◌-◌, ◌<◌, Bool, true, false, cond, Option, Some, None, List, [], ◌∷◌, length, filter, refl, sym, ap, ◌∙◌, arith}
+use Rattle.std.proofs.Common.{◌≡◌, ℕ, zero, suc, ◌+◌, ◌-◌, ◌<◌, ◌≤◌, subst, Bool, true, false, cond, Option, Some, None, List, [], ◌∷◌, length, filter, refl, sym, ap, ◌∙◌, arith}
 use Rattle.std.specs.Prelude.{find, ◌==◌, is_some, slice_get, slice_index_or}
 use Rattle.std.specs.Option.{option_map}
 use Rattle.std.specs.List.{range_with_len}
@@ -114,3 +114,92 @@ choice-simple m l home s =
     skips : (o : Option Choice) (p : Option Choice) → first_some (o ∷ None ∷ p ∷ []) ≡ first_some (o ∷ p ∷ [])
     skips None p = refl
     skips (Some x) p = refl
+
+-- The search over the receivers, one by one
+
+abbrev pub choice_from : Local → (receiver count : ℕ) → Option Choice
+choice_from l r n = first_some (first_delivery l (range_with_len r (n - r)) ∷ option_map ByReady (slice_get l.lists.ready 0) ∷ [])
+
+next_receiver : (l : Local) (r n : ℕ) → r < n →
+    first_delivery l (range_with_len r (n - r)) ≡ first_some (option_map (λ j. ByDuty r (DeliversFirst j)) (first_acceptable l r) ∷ first_delivery l (range_with_len (r + 1) (n - (r + 1))) ∷ [])
+next_receiver l r n lt = let e : n - r ≡ suc (n - (r + 1)) = omega arith in rw e
+
+pub choice-passes : (l : Local) (r n : ℕ) → r < n → first_acceptable l r ≡ None → choice_from l r n ≡ choice_from l (r + 1) n
+choice-passes l r n lt e =
+    let passed : first_delivery l (range_with_len r (n - r)) ≡ first_delivery l (range_with_len (r + 1) (n - (r + 1))) =
+        next_receiver l r n lt ∙ ap (λ o. first_some (option_map (λ j. ByDuty r (DeliversFirst j)) o ∷ first_delivery l (range_with_len (r + 1) (n - (r + 1))) ∷ [])) e ∙ only (first_delivery l (range_with_len (r + 1) (n - (r + 1)))) in
+    ap (λ o. first_some (o ∷ option_map ByReady (slice_get l.lists.ready 0) ∷ [])) passed
+  where
+    only : (o : Option Choice) → first_some (None ∷ o ∷ []) ≡ o
+    only None = refl
+    only (Some x) = refl
+
+pub choice-finds : (l : Local) (r n i : ℕ) → r < n → first_acceptable l r ≡ Some i → choice_from l r n ≡ Some (ByDuty r (DeliversFirst i))
+choice-finds l r n i lt e =
+    let found : first_delivery l (range_with_len r (n - r)) ≡ Some (ByDuty r (DeliversFirst i)) = next_receiver l r n lt ∙ ap (λ o. first_some (option_map (λ j. ByDuty r (DeliversFirst j)) o ∷ first_delivery l (range_with_len (r + 1) (n - (r + 1))) ∷ [])) e in
+    ap (λ o. first_some (o ∷ option_map ByReady (slice_get l.lists.ready 0) ∷ [])) found
+
+pub choice-last : (l : Local) (r n : ℕ) → n ≤ r → choice_from l r n ≡ option_map ByReady (slice_get l.lists.ready 0)
+choice-last l r n le = let e : n - r ≡ 0 = omega arith in rw e (only (option_map ByReady (slice_get l.lists.ready 0)))
+  where
+    only : (o : Option Choice) → first_some (None ∷ o ∷ []) ≡ o
+    only None = refl
+    only (Some x) = refl
+
+pub choice-first : (m : Machine) (l : Local) → ((i : ℕ) → i < length m.threads → (declared m i).cpu ≡ 0) → IsSettled m l → choice m 0 l ≡ choice_from l 0 (length m.threads)
+choice-first m l home s =
+    let whole : length m.threads - 0 ≡ length m.threads = omega arith in
+    choice-simple m l home s ∙ ap (λ n. first_some (first_delivery l (range_with_len 0 n) ∷ option_map ByReady (slice_get l.lists.ready 0) ∷ [])) (sym whole)
+
+-- What a choice tells
+
+only_second : (o : Option Choice) → first_some (None ∷ o ∷ []) ≡ o
+only_second None = refl
+only_second (Some x) = refl
+
+abbrev place_of_choice : Option Choice → ℕ
+place_of_choice (Some (ByDuty p d)) = p
+place_of_choice _ = 0
+
+abbrev sender_of_choice : Option Choice → ℕ
+sender_of_choice (Some (ByDuty p (DeliversFirst q))) = q
+sender_of_choice _ = 0
+
+delivery-found : (l : Local) (is : List ℕ) (r i : ℕ) → first_delivery l is ≡ Some (ByDuty r (DeliversFirst i)) → first_acceptable l r ≡ Some i
+delivery-found l [] r i e = cc
+delivery-found l (k ∷ ks) r i e = by (first_acceptable l k) refl e (delivery-found l ks r i)
+  where
+    by : (o : Option ℕ) → first_acceptable l k ≡ o → first_some (option_map (λ j. ByDuty k (DeliversFirst j)) o ∷ first_delivery l ks ∷ []) ≡ Some (ByDuty r (DeliversFirst i)) →
+        (first_delivery l ks ≡ Some (ByDuty r (DeliversFirst i)) → first_acceptable l r ≡ Some i) → first_acceptable l r ≡ Some i
+    by None h e f = f (sym (only_second (first_delivery l ks)) ∙ e)
+    by (Some j) h e f =
+        let place : k ≡ r = ap place_of_choice e in
+        let sender : j ≡ i = ap sender_of_choice e in
+        subst (λ q. first_acceptable l q ≡ Some i) place (h ∙ ap Some sender)
+
+pub duty-found : (m : Machine) (l : Local) (r i : ℕ) → ((k : ℕ) → k < length m.threads → (declared m k).cpu ≡ 0) → IsSettled m l → choice m 0 l ≡ Some (ByDuty r (DeliversFirst i)) → first_acceptable l r ≡ Some i
+duty-found m l r i home s e = by (first_delivery l (range_with_len 0 (length m.threads))) (slice_get l.lists.ready 0) (sym (choice-simple m l home s) ∙ e) (delivery-found l (range_with_len 0 (length m.threads)) r i)
+  where
+    by : (o : Option Choice) (p : Option ℕ) → first_some (o ∷ option_map ByReady p ∷ []) ≡ Some (ByDuty r (DeliversFirst i)) → (o ≡ Some (ByDuty r (DeliversFirst i)) → first_acceptable l r ≡ Some i) → first_acceptable l r ≡ Some i
+    by None None e f = cc
+    by None (Some x) e f = cc
+    by (Some c) p e f = f e
+
+pub ready-found : (m : Machine) (l : Local) (i : ℕ) → ((k : ℕ) → k < length m.threads → (declared m k).cpu ≡ 0) → IsSettled m l → choice m 0 l ≡ Some (ByReady i) → slice_get l.lists.ready 0 ≡ Some i
+ready-found m l i home s e = by (range_with_len 0 (length m.threads)) (slice_get l.lists.ready 0) (sym (choice-simple m l home s) ∙ e)
+  where
+    no_ready : (is : List ℕ) → first_delivery l is ≡ Some (ByReady i) → ⊥
+    no_ready [] e = cc
+    no_ready (k ∷ ks) e = at (first_acceptable l k) e (no_ready ks)
+      where
+        at : (o : Option ℕ) → first_some (option_map (λ j. ByDuty k (DeliversFirst j)) o ∷ first_delivery l ks ∷ []) ≡ Some (ByReady i) → (first_delivery l ks ≡ Some (ByReady i) → ⊥) → ⊥
+        at None e f = f (sym (only_second (first_delivery l ks)) ∙ e)
+        at (Some j) e f = cc
+
+    by : (is : List ℕ) (p : Option ℕ) → first_some (first_delivery l is ∷ option_map ByReady p ∷ []) ≡ Some (ByReady i) → p ≡ Some i
+    by is p e = split (first_delivery l is) p e (no_ready is)
+      where
+        split : (o : Option Choice) (q : Option ℕ) → first_some (o ∷ option_map ByReady q ∷ []) ≡ Some (ByReady i) → (o ≡ Some (ByReady i) → ⊥) → q ≡ Some i
+        split None None e f = cc
+        split None (Some x) e f = cc
+        split (Some c) q e f = absurd (f e)

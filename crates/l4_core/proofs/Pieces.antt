@@ -322,6 +322,3 @@ act_waits p q i ipc before after id c e is named adds then_is =
       cpu = ap (λ (x : Processor). x.cpu) then_is;
       work = done ∙ ap (λ (x : Act). acts p.machine 0 i x (work p.local before)) (sym a);
     }
-
-pub ipc_here : (o : Option Instr) (field : Instr) (ipc : Ipc) (instr : _) → o ≡ Some field → field ≡ instrs.Ipc ipc → unwrap_or (option_map instr_of o) End ≡ instr → ipc_of ipc ≡ instr
-ipc_here o field ipc instr e f g = ap (λ (x : Option Instr). unwrap_or (option_map instr_of x) End) (sym (e ∙ ap Some f)) ∙ g

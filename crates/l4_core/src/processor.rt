@@ -65,7 +65,8 @@ impl Core {
         requires { cpu < machine.now.cpus }
         ensures { IfOk result (λ core. core ≡ record { machine = machine.now; cpu = cpu; local = opening_local machine.now cpu }) }
     {
-        let _ = cpu;
+        let cpus = machine.cpus();
+        prove!(cpu < cpus);
         let machine = machine.try_clone(alloc)?;
         let count = machine.threads().len();
         let mut lists = Lists::new(alloc, count)?;

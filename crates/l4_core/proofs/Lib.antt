@@ -5,3 +5,4 @@ pub mod Growing
 pub mod Listing
 pub mod Pieces
 pub mod Settling
+pub mod Turns

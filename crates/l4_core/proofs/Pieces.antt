@@ -126,6 +126,7 @@ refuse_does p q i before after name c sender named adds is =
     record {
       machine = ap (λ (r : Processor). r.machine) is;
       cpu = ap (λ (r : Processor). r.cpu) is;
+      stamp = ap (λ (r : Processor). r.local.stamp) is;
       work = rw mine (told_one _ _ _ before after (told.SendNobody name) (ap (λ (r : Processor). r.local) is) adds (ap (λ n. map step_of before ++ steps.SendNobody n ∷ []) named));
     }
 
@@ -180,6 +181,7 @@ deliver_does p q u r i before after d message tag c first named to carries here 
     record {
       machine = ap (λ (x : Processor). x.machine) then_is ∙ ap (λ (x : Processor). x.machine) first_is;
       cpu = ap (λ (x : Processor). x.cpu) then_is ∙ ap (λ (x : Processor). x.cpu) first_is;
+      stamp = ap (λ (x : Processor). x.local.stamp) then_is ∙ ap (λ (x : Processor). x.local.stamp) first_is;
       work = done ∙ ap (λ t. delivered_work p.machine r i message t p.local before) tagged ∙ ap (λ n. delivered_work p.machine r i n (received_tag false n) p.local before) carried ∙ sym is;
     }
   where
@@ -238,6 +240,7 @@ arrive_delivers p q u r i before middle after name w c sender named adds listed 
     record {
       machine = does.machine ∙ same;
       cpu = does.cpu ∙ ap (λ (x : Processor). x.cpu) is;
+      stamp = does.stamp ∙ ap (λ (x : Processor). x.local.stamp) is;
       work = does.work ∙ ap (λ m. delivers m 0 r i (work q.local middle)) same ∙ sym (arrival_is p.machine p.local r i s.0 before c.settled s.1 ∙ if_first p.machine r i (work q.local middle) _ here first);
     }
 
@@ -250,6 +253,7 @@ arrive_waits p q r i before after name w c sender named adds listed is first =
     record {
       machine = ap (λ (x : Processor). x.machine) is;
       cpu = ap (λ (x : Processor). x.cpu) is;
+      stamp = ap (λ (x : Processor). x.local.stamp) is;
       work = sym (arrival_is p.machine p.local r i s.0 before c.settled s.1 ∙ if_not_first p.machine r i (work q.local after) _ here first);
     }
 
@@ -271,6 +275,7 @@ begin_does p q u i r to message before middle after name c lt at is named adds d
     record {
       machine = does.machine ∙ same;
       cpu = does.cpu ∙ ap (λ (x : Processor). x.cpu) is;
+      stamp = does.stamp ∙ ap (λ (x : Processor). x.local.stamp) is;
       work = does.work ∙ ap (λ m. arrives m 0 r i (work q.local middle)) same ∙ ap (arrives p.machine 0 r i) begun ∙ sym (rw (at, here));
     }
 
@@ -308,7 +313,7 @@ act_sends p q i ipc to before after c e is does =
     let message : Message = message_of p.machine (declared p.machine i).id (thread p.local i).context in
     let a : act_here p i ≡ Sends (endless_send to message) =
         acts_as p i ipc (ipcs.Send to) e is ∙ ap (λ n. Sends (record { to = GlobalThread to; message = message; period = None; since = n; receive = None })) c.settled.clock in
-    record { machine = does.machine; cpu = does.cpu; work = does.work ∙ ap (λ (x : Act). acts p.machine 0 i x (work p.local before)) (sym a) }
+    record { machine = does.machine; cpu = does.cpu; stamp = does.stamp; work = does.work ∙ ap (λ (x : Act). acts p.machine 0 i x (work p.local before)) (sym a) }
 
 pub act_waits : (p q : Processor) (i : ℕ) (ipc : Ipc) (before after : List Step) (id : GlobalId) → IsCore p.machine p.local → ipc ≡ ipcs.Wait →
     ipc_of ipc ≡ instruction_at (declared p.machine i).script (thread p.local i).context.place →
@@ -320,5 +325,6 @@ act_waits p q i ipc before after id c e is named adds then_is =
     record {
       machine = ap (λ (x : Processor). x.machine) then_is;
       cpu = ap (λ (x : Processor). x.cpu) then_is;
+      stamp = ap (λ (x : Processor). x.local.stamp) then_is;
       work = done ∙ ap (λ (x : Act). acts p.machine 0 i x (work p.local before)) (sym a);
     }

@@ -1,9 +1,9 @@
 -- What a turn of the program is in the core run.
-use Rattle.std.specs.Prelude.{◌≡◌, ℕ, ◌+◌, ◌<◌, false, Option, Some, None, List, [], length, map}
+use Rattle.std.specs.Prelude.{◌≡◌, ℕ, ◌+◌, ◌<◌, false, Option, Some, None, List, [], length, map, slice_get}
 use Rattle.l4_model.specs.World.{Phase, Ready, Sending, Receiving}
 use Rattle.l4_core_model.specs.Plain.{is_queued}
 use Rattle.l4_core_model.specs.Local.{Local, thread}
-use Rattle.l4_core_model.specs.Acts.{Work}
+use Rattle.l4_core_model.specs.Acts.{Work, first_acceptable}
 use Rattle.l4_core_model.specs.Turns as turns
 use Rattle.l4_types.specs.declared.steps.Step.{Step}
 use Rattle.l4_types.specs.declared.steps.Event.{Event}
@@ -27,6 +27,7 @@ work l steps = record { local = l; steps = map step_of steps; letters = [] }
 pub record Does (piece : Work → Work) (old new : Processor) (before after : List Step) : Type 0 where
   pub machine : new.machine ≡ old.machine
   pub cpu : new.cpu ≡ old.cpu
+  pub stamp : new.local.stamp ≡ old.local.stamp
   pub work : work new.local after ≡ piece (work old.local before)
 
 -- A thread that is ready, and no more in the list of the ready ones.
@@ -42,6 +43,11 @@ pub record IsSender (p : Processor) (i : ℕ) : Type 0 where
 pub record IsReceiver (p : Processor) (i : ℕ) : Type 0 where
   pub within : i < length p.machine.threads
   pub waits : (thread p.local i).phase ≡ Receiving open_wait 0
+
+-- What a choice says is so.
+abbrev pub IsPossible : Choice → Processor → Type 0
+IsPossible (ByDuty receiver sender) p = first_acceptable p.local receiver ≡ Some sender
+IsPossible (ByReady place) p = slice_get p.local.lists.ready 0 ≡ Some place
 
 -- An event was told. It is the core's turn.
 pub record IsTurn (old new : Processor) (event : Event) (posted : ℕ) : Type 0 where

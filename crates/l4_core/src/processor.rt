@@ -40,6 +40,7 @@ impl Model for Core {
 }
 
 /// What a turn is about.
+#[derive(Drop)]
 enum Choice {
     /// A waiting thread gets the first send that waits for it.
     ByDuty { receiver: usize, sender: usize },
@@ -96,10 +97,7 @@ impl Core {
         };
         self.stamp += 1;
         let mut steps = ArrayVec::new();
-        match choice {
-            Choice::ByDuty { receiver, sender } => self.deliver(receiver, sender, &mut steps),
-            Choice::ByReady(place) => self.run(place, &mut steps),
-        }
+        self.carry_out(&choice, &mut steps);
         Turn::Did {
             event: Event {
                 stamp: self.stamp,

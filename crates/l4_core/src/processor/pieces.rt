@@ -1,5 +1,5 @@
 //! The pieces of an event: what is done, and the steps that it tells.
-ghost use Rattle.std.specs.Prelude.{◌≡◌, ◌<◌, ◌≤◌, ◌+◌, ◌^◌, Some, false, length, slice_get, unwrap_or, IsSome, IfSome};
+ghost use Rattle.std.specs.Prelude.{◌≡◌, ◌<◌, ◌≤◌, ◌+◌, ◌^◌, Some, false, length, slice_get, unwrap_or, IsSome, IfSome, ℕ};
 ghost use Rattle.std.specs.Option.{option_map};
 ghost use Rattle.l4_model.specs.Machine.{End, instruction_at, place_of};
 ghost use Rattle.l4_model.specs.Conditions.{act_of};
@@ -12,12 +12,12 @@ ghost use Rattle.l4_core.specs.PhaseView.{endless_send};
 ghost use Rattle.l4_core_model.specs.Letters.{Nobody as IsNobody};
 ghost use Rattle.l4_core_model.specs.Turns.{does_choice, ByReady};
 ghost use Rattle.l4_core.specs.Scripts.{instr_of, ipc_of};
-ghost use Rattle.l4_core.specs.Turning.{Does, IsAtHand, IsSender};
+ghost use Rattle.l4_core.specs.Turning.{choice_of, Does, IsAtHand, IsPossible, IsSender};
 ghost use Rattle.arrayvec.specs.ArrayVec.{array_vec_len};
 
 use crate::lists::Waiting;
 use crate::machine::{Instr, Ipc};
-use crate::processor::Core;
+use crate::processor::{Choice, Core};
 use arrayvec::ArrayVec;
 use l4_types::ids::GlobalId;
 use l4_types::letters::{Decision, Refusal};
@@ -25,8 +25,21 @@ use l4_types::messages::Message;
 use l4_types::steps::{Delivery, Name, Step};
 
 impl Core {
+    // What was chosen is done.
+    pub(super) fn carry_out(&mut self, choice: &Choice, steps: &mut ArrayVec<Step, 3>)
+        requires possible { IsPossible choice.now self.old }
+        requires count { (place : ℕ) → (thread self.old.local place).context.begun < self.old.local.stamp }
+        requires room { array_vec_len steps.old ≡ 0 }
+        ensures { Does (does_choice self.old.machine 0 (choice_of choice.now)) self.old self.new steps.old.items steps.new.items }
+    {
+        match choice {
+            Choice::ByDuty { receiver, sender } => self.deliver(*receiver, *sender, steps),
+            Choice::ByReady(place) => self.run(*place, steps),
+        }
+    }
+
     // The first ready thread runs its next instruction.
-    pub(super) fn run(&mut self, place: usize, steps: &mut ArrayVec<Step, 3>)
+    fn run(&mut self, place: usize, steps: &mut ArrayVec<Step, 3>)
         requires first { slice_get self.old.local.lists.ready 0 ≡ Some place }
         requires count { (thread self.old.local place).context.begun < self.old.local.stamp }
         requires room { array_vec_len steps.old ≡ 0 }
@@ -194,7 +207,7 @@ impl Core {
     }
 
     // A message is delivered.
-    pub(super) fn deliver(&mut self, receiver: usize, sender: usize, steps: &mut ArrayVec<Step, 3>)
+    fn deliver(&mut self, receiver: usize, sender: usize, steps: &mut ArrayVec<Step, 3>)
         requires first { first_acceptable self.old.local receiver ≡ Some sender }
         requires steps { array_vec_len steps.old < 3 }
         ensures { Does (delivers self.old.machine 0 receiver sender) self.old self.new steps.old.items steps.new.items }

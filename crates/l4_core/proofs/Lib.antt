@@ -3,6 +3,7 @@ pub mod Coming
 pub mod Effects
 pub mod Growing
 pub mod Listing
+pub mod Opening
 pub mod Pieces
 pub mod Settling
 pub mod Turns

@@ -35,23 +35,3 @@ possible p o c m l core e is view = by c (chosen p o c e is)
     by (ByReady i) h =
         let found = ready-found p.machine p.local i (λ k lt. home p.machine p.local k core lt) core.settled h in
         subst (λ (x : Processor). IsPossible (ByReady i) x) (sym view) found
-
-pub turn_told : (p q : Processor) (m : Machine) (l : Local) (o : Option Choice) (c : Choice) (event : Event) (before : List Step) (posted : ℕ) → option_map choice_of o ≡ turns.choice p.machine 0 p.local → o ≡ Some c →
-    record { machine = m; cpu = 0; local = l } ≡ p → before ≡ [] → Does (turns.does_choice m 0 (choice_of c)) (record { machine = m; cpu = 0; local = stamped l }) q before event.steps.items → event.stamp ≡ q.local.stamp → posted ≡ 0 → IsTurn p q event posted
-turn_told p q m l o c event before posted e is view none does stamp letters =
-    let here : turns.choice m 0 l ≡ Some (choice_of c) = ap (λ (x : Processor). turns.choice x.machine 0 x.local) view ∙ chosen p o c e is in
-    let opens : turns.opened 0 l ≡ work (stamped l) [] = ap (λ n. record { local = record l { stamp = n + 1 }; steps = []; letters = [] }) (most l.stamp) in
-    let told : turns.turn m 0 l ≡ Some (work q.local event.steps.items) =
-        ap (option_map (λ (d : turns.Choice). turns.does_choice m 0 d (turns.opened 0 l))) here
-        ∙ ap (λ (x : Work). Some (turns.does_choice m 0 (choice_of c) x)) opens
-        ∙ ap (λ (ss : List Step). Some (turns.does_choice m 0 (choice_of c) (work (stamped l) ss))) (sym none)
-        ∙ ap Some (sym does.work) in
-    record {
-      turn = ap (λ (x : Processor). turns.turn x.machine x.cpu x.local) (sym view) ∙ told;
-      stamp = stamp;
-      next = does.stamp ∙ ap (λ (x : Processor). x.local.stamp + 1) view;
-      letters = letters;
-    }
-  where
-    most : (n : ℕ) → max n 0 ≡ n
-    most n = omega arith

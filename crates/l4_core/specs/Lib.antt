@@ -1,0 +1,14 @@
+pub mod Faults
+pub mod Judged
+pub mod Numbers
+pub mod Ids
+pub mod Lines
+pub mod Scripts
+pub mod Machines
+pub mod Statements
+pub mod Texts
+pub mod ListsView
+pub mod PhaseView
+pub mod Processor
+pub mod Simple
+pub mod Turning

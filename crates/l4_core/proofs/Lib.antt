@@ -5,5 +5,6 @@ pub mod Growing
 pub mod Listing
 pub mod Opening
 pub mod Pieces
+pub mod Reporting
 pub mod Settling
 pub mod Turns

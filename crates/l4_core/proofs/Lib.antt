@@ -10,5 +10,6 @@ pub mod Effects
 pub mod Listing
 pub mod Opening
 pub mod Pieces
+pub mod Reporting
 pub mod Settling
 pub mod Turns

@@ -1,7 +1,7 @@
 //! What a report says of the threads of a processor, and of the sends that wait.
 ghost use Rattle.std.specs.Prelude.{◌≡◌, ◌<◌, IfOk, length, map};
 ghost use Rattle.std.specs.Option.{option_map};
-ghost use Rattle.l4_model.specs.History.{report_of, view, waiting};
+ghost use Rattle.l4_model.specs.History.{report_of, view, waiting, waiting_name};
 ghost use Rattle.l4_model.specs.Conditions.{undecided};
 ghost use Rattle.l4_core_model.specs.Local.{declared, thread};
 ghost use Rattle.l4_core_model.specs.Known.{known_world};
@@ -45,13 +45,21 @@ impl Core {
     {
         let mut sends = Vec::new(*self.threads.allocator());
         for step in history {
-            if let Step::Begin(name) = step {
-                if let Some(to) = self.destination(*name) {
-                    sends.push((*name, to))?;
-                }
+            if let Some(send) = self.waiting_send(step) {
+                sends.push(send)?;
             }
         }
         Ok(sends)
+    }
+
+    // The send that a step begins, where it is undecided here, and its destination.
+    fn waiting_send(&self, step: &Step) -> Option<(Name, ThreadId)>
+        ensures { result ≡ waiting_name self.now.machine (known_world self.now.local) (step_of step.now) }
+    {
+        match step {
+            Step::Begin(name) => Some((*name, self.destination(*name)?)),
+            _ => None,
+        }
     }
 
     // Where an undecided send goes to. None where it is decided, or never began.

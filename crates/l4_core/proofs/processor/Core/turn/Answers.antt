@@ -1,6 +1,6 @@
 use Rattle.std.proofs.Common.{◌≡◌, subst, sym, ◌∙◌, ap, refl, arith}
 use Rattle.l4_core.specs.Processor.{Processor, IsCore, local_of}
-use Rattle.l4_core.proofs.Turns.{core_stamped, possible, turn_told}
+use Rattle.l4_core.proofs.Turns.{core_stamped, possible}
 use Rattle.l4_core.proofs.processor.Core.turn.Goals as goal
 
 pub invariant_of-self : goal.invariant_of-self

@@ -1,0 +1,38 @@
+//! What the program reports on standard error, one line each.
+use std::io::Write;
+use thiserror::Error;
+
+/// The kinds of faults of a machine text.
+#[derive(Clone, Copy, Debug)]
+pub enum TextFaultKind {
+    BadLine,
+    TooLong,
+}
+
+/// Why a job was not done.
+#[derive(Debug, Drop, Error)]
+pub enum Fault<'a> {
+    /// The machine text is faulty: the line, counted from 1, or 0 where the text as a whole is.
+    #[error("l4run: line {line}: {kind:?}")]
+    Text { line: u64, kind: TextFaultKind },
+    /// The number of turns is 0 or above 1,000,000.
+    #[error("l4run: turns out of range")]
+    Turns,
+    #[error("l4run: no memory")]
+    NoMemory,
+    /// This file can't be read.
+    #[error("l4run: cannot read {0}")]
+    Read(&'a str),
+    #[error("l4run: cannot write")]
+    Write,
+    /// A word of the command line is not UTF-8.
+    #[error("l4run: an argument is not UTF-8")]
+    NotText,
+}
+
+/// Writes the fault's line, and answers the exit status of a fault.
+pub fn report<E: Write>(faults: &mut E, fault: &Fault<'_>) -> u8 {
+    // Where this can't be written either, the status alone tells.
+    let _ = writeln!(faults, "{fault}");
+    1
+}

@@ -9,13 +9,14 @@ use Rattle.l4_model.specs.Machine.{Declaration, Machine}
 use Rattle.l4_model.specs.World.{Thread, World, Send, Phase, Ready, Sending, Receiving, Ordering, Ended, Deleted, opening, opening_thread, changed, is_ready}
 use Rattle.l4_model.specs.Steps.{Step, Tick, next}
 use Rattle.l4_model.specs.Conditions.{◌>>=◌}
-use Rattle.l4_model.specs.History.{run, IsHistory}
+use Rattle.l4_model.specs.History.{run}
 use Rattle.l4_model.proofs.Chains.{bind_then, guard_then, some_is}
 use Rattle.l4_core_model.specs.Local.{Local, is_own, own_places, opening_local, thread}
 use Rattle.l4_core_model.specs.Acts.{Work, ◌▷◌, tells, does}
 use Rattle.l4_core_model.specs.Turns.{turn, opened, advance, clock_is}
 use Rattle.l4_core_model.specs.Runs.{Happening, Handles, Turns, Ticks, Event, Happened, happens, done, Run, then_event, core_run, opening_run, told, letters, IsMachine, TellsHistories}
-use Rattle.l4_core_model.specs.Schedules.{or_stays, entry_event, replays, replay}
+use Rattle.l4_core_model.specs.Known.{known_world}
+use Rattle.l4_core_model.specs.Laws.{IsCoreRun, TellsWhatIsKnown}
 use Rattle.l4_core_model.proofs.Knows.{IsSingle, Knows, AreSeats, blocks, told as tell}
 use Rattle.l4_core_model.proofs.Fit.{IsFit, IsGood, IsReadyAt, AreDistinct, NotIn, SendIsSince, PhaseIsSince, all-map, distinct-filter}
 use Rattle.l4_core_model.proofs.Pieces.{Goes}
@@ -87,14 +88,14 @@ told-last : (es : List Event) (e : Event) → told (es ++ e ∷ []) ≡ told es 
 told-last [] e = append_nil e.steps
 told-last (x ∷ es) e = ap (λ ys. x.steps ++ ys) (told-last es e) ∙ sym (append_assoc x.steps (told es) e.steps)
 
-record Leads (m : Machine) (r : Run) : Type 0 where
-  w : World
-  reaches : run m (opening m) (told r.events) ≡ Some w
-  l : Local
-  locals : r.system.locals ≡ l ∷ []
-  mail : r.system.mail ≡ []
-  knows : Knows m w l
-  fit : IsFit m l
+pub record Leads (m : Machine) (r : Run) : Type 0 where
+  pub w : World
+  pub reaches : run m (opening m) (told r.events) ≡ Some w
+  pub l : Local
+  pub locals : r.system.locals ≡ l ∷ []
+  pub mail : r.system.mail ≡ []
+  pub knows : Knows m w l
+  pub fit : IsFit m l
 
 -- An event of the one processor.
 event_leads : (m : Machine) (r : Run) (x : Work) → (s : Leads m r) → Goes m s.w x → Leads m (then_event r (done 0 r.system x))
@@ -205,46 +206,20 @@ single_is : (m : Machine) → IsMachine m → m.cpus ≡ 1 → IsSingle m
 single_is m is one = record { placed = is.placed; homed = λ i lt. let h = is.homed i lt in omega arith; one = one }
 
 -- The law
+
+known_is : (m : Machine) (w : World) (l : Local) → Knows m w l → w ≡ known_world l
+known_is m w l k =
+    ap (λ ts. record w { threads = ts }) k.threads
+    ∙ ap (λ xss. record w { threads = l.threads; waiting = xss }) k.waiting
+    ∙ ap (λ cs. record (known_world l) { clocks = cs }) k.clocks
+
+pub single_leads : (m : Machine) (r : Run) → IsMachine m → m.cpus ≡ 1 → IsCoreRun m r → Leads m r
+single_leads m r is one run = let single = single_is m is one in run_leads m run.0 (opening_run m) r single (opening_leads m single) run.1
+
 pub single_processor : (m : Machine) → IsMachine m → m.cpus ≡ 1 → TellsHistories m
-single_processor m is one es r h =
-    let single = single_is m is one in
-    let s = run_leads m es (opening_run m) r single (opening_leads m single) h in
-    (s.w, s.reaches)
+single_processor m is one es r h = let s = single_leads m r is one (es, h) in (s.w, s.reaches)
 
--- A replay is a core run.
-
-core_run-last : (m : Machine) (es : List Happening) (r last : Run) (e : Happening) (h : Happened) → core_run m r es ≡ Some last → happens m last.system e ≡ Some h → core_run m r (es ++ e ∷ []) ≡ Some (then_event last h)
-core_run-last m [] r last e h is possible =
-    let same = some_is r last is in
-    subst (λ r. (happens m r.system e >>= λ h. Some (then_event r h)) ≡ Some (then_event last h)) (sym same) (rw possible)
-core_run-last m (x ∷ es) r last e h is possible = by (happens m r.system x) is (λ g. core_run-last m es (then_event r g) last e h)
-  where
-    by : (o : Option Happened) → (o >>= λ g. core_run m (then_event r g) es) ≡ Some last →
-        ((g : Happened) → core_run m (then_event r g) es ≡ Some last → happens m last.system e ≡ Some h → core_run m (then_event r g) (es ++ e ∷ []) ≡ Some (then_event last h)) →
-        (o >>= λ g. core_run m (then_event r g) (es ++ e ∷ [])) ≡ Some (then_event last h)
-    by None is rest = cc
-    by (Some g) is rest = rest g is possible
-
-record IsRun (m : Machine) (r : Run) : Type 0 where
-  happenings : List Happening
-  is : core_run m (opening_run m) happenings ≡ Some r
-
-entry_is_run : (m : Machine) (r : Run) (o : Option Happening) → IsRun m r → IsRun m (or_stays r (o >>= happens m r.system))
-entry_is_run m r None s = s
-entry_is_run m r (Some e) s = by (happens m r.system e) refl
-  where
-    by : (o : Option Happened) → happens m r.system e ≡ o → IsRun m (or_stays r o)
-    by None is = s
-    by (Some h) is = record { happenings = s.happenings ++ e ∷ []; is = core_run-last m s.happenings (opening_run m) r e h s.is is }
-
-replays_is_run : (m : Machine) (schedule : List ℕ) (r : Run) → IsRun m r → IsRun m (replays m r schedule)
-replays_is_run m [] r s = s
-replays_is_run m (entry ∷ entries) r s =
-    let o : Option Happening = entry_event m r.system entry in
-    replays_is_run m entries (or_stays r (o >>= happens m r.system)) (entry_is_run m r o s)
-
-pub replay_is_run : (m : Machine) (schedule : List ℕ) → (es : List Happening) × (core_run m (opening_run m) es ≡ Some (replay m schedule))
-replay_is_run m schedule = let s = replays_is_run m schedule (opening_run m) (record { happenings = []; is = refl }) in (s.happenings, s.is)
-
-pub single_replay : (m : Machine) (schedule : List ℕ) → IsMachine m → m.cpus ≡ 1 → IsHistory m (told (replay m schedule).events)
-single_replay m schedule is one = let s = replay_is_run m schedule in single_processor m is one s.0 (replay m schedule) s.1
+pub single_known : (m : Machine) (r : Run) → IsMachine m → m.cpus ≡ 1 → IsCoreRun m r → TellsWhatIsKnown m r
+single_known m r is one run =
+    let s = single_leads m r is one run in
+    (s.l, ap (λ ls. slice_get ls 0) s.locals, s.reaches ∙ ap Some (known_is m s.w s.l s.knows))

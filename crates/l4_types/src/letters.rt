@@ -37,7 +37,7 @@ pub enum Cause {
 }
 
 /// The content of a letter.
-#[derive(Drop)]
+#[derive(PartialEq, Eq, Debug, Drop)]
 pub enum Content {
     /// A send has begun, whose receiver is of the processor that gets this.
     Send {
@@ -70,7 +70,7 @@ pub enum Content {
 }
 
 /// A letter from one processor to another.
-#[derive(Drop)]
+#[derive(PartialEq, Eq, Debug, Drop)]
 pub struct Letter {
     /// The stamp of the event that posted it, below 2^62.
     pub stamp: u64,

@@ -8,7 +8,7 @@ use arrayvec::ArrayVec;
 use std::marker::Model;
 
 /// A message as it was fixed when its send began.
-#[derive(Drop)]
+#[derive(PartialEq, Eq, Debug, Drop)]
 pub struct Message {
     label: u64,
     propagated: bool,
@@ -26,6 +26,8 @@ impl Model for Message {
     ghost view = { λ m. record { label = m.label; words = m.words.items; propagated = m.propagated; shown = m.shown; actual = m.actual } };
 
     ghost invariant = { λ m. m.label < 2 ^ 48 };
+
+    ghost inverse = { λ m. record { label = m.label; propagated = m.propagated; words = record { items = m.words }; shown = m.shown; actual = m.actual } };
 }
 
 impl Message {
@@ -95,5 +97,14 @@ impl Message {
         ensures { result ≡ record { label = self.now.label; flags = bit self.now.propagated; untyped = length self.now.words } }
     {
         MsgTag::of(self.label, false, self.propagated, self.words.len() as u8)
+    }
+
+    /// The same message again.
+    pub fn copy(&self) -> Message
+        ensures { result ≡ self.now }
+    {
+        let mut words = ArrayVec::new();
+        words.try_extend_from_slice(&self.words).unwrap();
+        Message { words, ..*self }
     }
 }

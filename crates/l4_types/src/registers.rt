@@ -30,3 +30,9 @@ impl Regs {
         }
     }
 }
+
+impl Default for Regs {
+    fn default() -> Regs {
+        Regs::new()
+    }
+}

@@ -72,7 +72,7 @@ pub enum What {
 }
 
 /// The delivery of a message.
-#[derive(Drop)]
+#[derive(PartialEq, Eq, Debug, Drop)]
 pub struct Delivery {
     /// The send that is over with it.
     pub name: Name,
@@ -147,7 +147,7 @@ impl Tick {
 }
 
 /// One step of a machine. It holds only what a line of a trace can spell.
-#[derive(Drop)]
+#[derive(PartialEq, Eq, Debug, Drop)]
 pub enum Step {
     /// The thread ran an instruction that concerns nobody else, or ended.
     Local(GlobalId),
@@ -192,7 +192,7 @@ impl Default for Step {
 }
 
 /// What one processor did at once: one to three steps, or none where it only handled a letter.
-#[derive(Drop)]
+#[derive(PartialEq, Eq, Debug, Drop)]
 pub struct Event {
     /// The stamp of the event, below 2^62.
     pub stamp: u64,

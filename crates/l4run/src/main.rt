@@ -3,7 +3,9 @@
 
 mod fault;
 mod job;
+mod outcome;
 mod perform;
+mod run;
 #[cfg(test)]
 mod tests;
 

@@ -8,12 +8,9 @@ use Rattle.l4_model.specs.Machine.{Machine}
 use Rattle.l4_core_model.specs.Local.{Local}
 use Rattle.l4_core_model.specs.Acts.{Work}
 use Rattle.l4_core_model.specs.Turns.{Choice, choice, does_choice, opened, turn, is_busy}
+use Rattle.l4run.specs.Rests.{alone}
 use Rattle.l4_core_model.specs.Runs.{System, Turns, Event, Run, is_empty, local_at_rest, at_rest}
 use Rattle.l4_core_model.specs.Schedules.{first_poster, turn_of, next_turn, attempts, turns_in_order, round, least_deadline, earliest_of, earliest_deadline, ticks_to, ticks, turns_of, has_gone_on, round_or_ticks, unless_ended, rounds}
-
--- What the only processor has, where no letter is under way.
-abbrev pub alone : Local → System
-alone l = record { locals = l ∷ []; mail = [] }
 
 abbrev pub run_of : List Event → Local → Run
 run_of events l = record { events = events; system = alone l }
@@ -86,6 +83,10 @@ at_rest-alone m l one armed = ap (λ n. list_all (local_at_rest m (alone l)) (ra
     by : (b : Bool) → (not b && true && true && true) ≡ not b
     by true = refl
     by false = refl
+
+-- Where there is a turn, it is not at rest.
+pub at_rest-busy : (m : Machine) (l : Local) → m.cpus ≡ 1 → is_busy m 0 l ≡ true → at_rest m (alone l) ≡ false
+at_rest-busy m l one busy = ap (λ n. list_all (local_at_rest m (alone l)) (range_with_len 0 n) && true) one ∙ ap (λ b. not b && is_empty l.lists.armed && true && true) busy
 
 pub busy-turn : (m : Machine) (l : Local) (x : Work) → turn m 0 l ≡ Some x → is_busy m 0 l ≡ true
 busy-turn m l x h = by (choice m 0 l) h

@@ -1,13 +1,15 @@
 //! A run of a machine: its turns, until nothing is left to do or they are used up.
-ghost use Rattle.std.specs.Prelude.{◌≡◌, ◌<◌, ◌≤◌, ◌↔◌, ◌++◌, ◌⊎◌, IfOk, OnOk, IsErrOf};
+ghost use Rattle.std.specs.Prelude.{◌≡◌, ◌<◌, ◌≤◌, ◌↔◌, ◌++◌, ◌⊎◌, IfOk, OnOk, IsErrOf, true};
 ghost use Rattle.l4_core_model.specs.Local.{opening_local};
-ghost use Rattle.l4_core_model.specs.Runs.{IsMachine};
+ghost use Rattle.l4_core_model.specs.Runs.{IsMachine, at_rest};
+ghost use Rattle.l4_types.specs.declared.reports.Ending.TheVariants.{Quiet};
 ghost use Rattle.l4run.specs.Outcomes.{IsOutcome};
-ghost use Rattle.l4run.specs.Rests.{TakesTurns};
+ghost use Rattle.l4run.specs.Rests.{alone, TakesTurns};
 
 use crate::outcome::{Outcome, RunFault};
 use l4_core::core::{Core, Turn};
 use l4_core::machine::Machine;
+use l4_core_model::law_single_run;
 use l4_types::errors::NoMemory;
 use l4_types::reports::Ending;
 use l4_types::steps::{Event, Step};
@@ -45,8 +47,13 @@ fn take_turns(alloc: Global, core: &mut Core, turns: u64) -> Result<(Vec<Step>, 
     Ok((history, turns))
 }
 
-// Whether a turn is left to take.
-fn ending(mut core: Core) -> Ending {
+// Whether a turn is left to take, and with it something to do.
+fn ending(mut core: Core) -> Ending
+    requires single { core.machine.cpus ≡ 1 }
+    requires first { core.cpu ≡ 0 }
+    requires few { core.local.stamp ≤ 1000000 }
+    ensures { (result ≡ Quiet) ↔ (at_rest core.machine (alone core.local) ≡ true) }
+{
     match core.turn() {
         Turn::Did { .. } => Ending::Spent,
         Turn::Idle => Ending::Quiet,
@@ -57,7 +64,9 @@ fn outcome(alloc: Global, machine: &Machine, turns: u64) -> Result<Outcome, NoMe
     requires { turns ≤ 1000000 }
     ensures { IfOk result (IsOutcome machine.now turns) }
 {
-    let mut core = Core::new(alloc, machine, 0)?;
+    law_single_run();
+    let only = machine.cpus() - 1;
+    let mut core = Core::new(alloc, machine, only)?;
     let (history, turns) = take_turns(alloc, &mut core, turns)?;
     let waiting = core.waiting(history.as_slice())?;
     let threads = core.threads()?;

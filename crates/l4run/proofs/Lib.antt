@@ -1,0 +1,2 @@
+pub mod LineRows
+pub mod Spelling

@@ -1,0 +1,112 @@
+//! Message tags (manual: Messages and Message Registers, MsgTag).
+ghost use Rattle.std.specs.Prelude.{◌≡◌, ◌+◌, ◌*◌, ◌/◌, ◌%◌, ◌^◌, ◌<◌, ◌==◌, ◌↔◌, IsSome, IfSome, IsOk, IfOk};
+ghost use Rattle.l4_model.specs.Words.{tag_of_word, word_of_tag};
+ghost use Rattle.l4_model.specs.Rules.{bit};
+
+use std::marker::Model;
+
+/// The content of message register 0: a label of 48 bits, four flags, and the number of untyped words, at most 63.
+/// There are no typed words.
+#[derive(Clone, Copy, PartialEq, Eq, Debug)]
+pub struct MsgTag {
+    raw: u64,
+}
+
+impl Model for MsgTag {
+    ghost use Rattle.std.specs.Prelude.{◌≡◌, ◌/◌, ◌%◌, ◌^◌};
+    ghost use Rattle.l4_model.specs.Words.{MessageTag, tag_of_word, word_of_tag};
+    ghost use Rattle.std.proofs.Common.{ap};
+    ghost use Rattle.l4_types.specs.TagLemmas.{word_of_tag_of};
+
+    ghost Value = { MessageTag };
+
+    ghost view = { λ t. tag_of_word t.raw };
+
+    ghost invariant = { λ t. (t.raw / 2 ^ 6) % 64 ≡ 0 };
+
+    ghost inverse = { λ tag. record { raw = word_of_tag tag } };
+
+    ghost inverse_ok = { λ t h. ap (λ raw. record { raw = raw }) (word_of_tag_of t.raw h) };
+}
+
+/// Why a word is no message tag.
+#[derive(Clone, Copy, PartialEq, Eq, Debug)]
+pub enum TagFault {
+    /// The number of typed words is not 0.
+    TypedItems,
+}
+
+impl MsgTag {
+    /// The tag of a label, a number of untyped words and a wish to propagate (bit 12). None where the label is 2^48 or
+    /// above, or there are more than 63 words.
+    pub fn new(label: u64, untyped: u8, propagate: bool) -> Option<MsgTag>
+        ensures some { IfSome result (λ tag. tag ≡ record { label = label; flags = bit propagate; untyped = untyped }) }
+        ensures when { IsSome result ↔ ((label < 2 ^ 48) × (untyped < 64)) }
+    {
+        if label >= 0x1_0000_0000_0000 || untyped > 63 {
+            return None;
+        }
+        Some(MsgTag::of(label, false, propagate, untyped))
+    }
+
+    /// The tag that a word is. `TypedItems` where bits 6 to 11 are not all zero.
+    pub fn from_raw(raw: u64) -> Result<MsgTag, TagFault>
+        ensures ok { IfOk result (λ tag. tag ≡ tag_of_word raw) }
+        ensures when { IsOk result ↔ ((raw / 2 ^ 6) % 64 ≡ 0) }
+    {
+        if (raw / 64) % 64 != 0 {
+            return Err(TagFault::TypedItems);
+        }
+        Ok(MsgTag { raw })
+    }
+
+    /// The word of this tag.
+    pub fn raw(&self) -> u64
+        ensures { result ≡ word_of_tag self.now }
+    {
+        self.raw
+    }
+
+    /// The label, below 2^48.
+    pub fn label(&self) -> u64
+        ensures value { result ≡ self.now.label }
+        ensures fits { result < 2 ^ 48 }
+    {
+        self.raw / 0x1_0000
+    }
+
+    /// The number of untyped words, at most 63.
+    pub fn untyped(&self) -> u8
+        ensures value { result ≡ self.now.untyped }
+        ensures fits { result < 64 }
+    {
+        (self.raw % 64) as u8
+    }
+
+    /// Whether propagation is asked for or, in a received tag, took place (bit 12).
+    pub fn propagate(&self) -> bool
+        ensures { result ≡ (self.now.flags % 2 == 1) }
+    {
+        (self.raw / 0x1000) % 2 == 1
+    }
+
+    /// The tag that a receiver gets: the label and the number of words stay, the flags say whether the message came
+    /// from another processor and whether it was propagated, and no more.
+    pub fn received(&self, cross: bool, propagated: bool) -> MsgTag
+        ensures { result ≡ record { label = self.now.label; flags = bit cross * 4 + bit propagated; untyped = self.now.untyped } }
+    {
+        MsgTag::of(self.label(), cross, propagated, self.untyped())
+    }
+
+    // The tag of these parts, with all other flags clear.
+    pub(crate) fn of(label: u64, cross: bool, propagated: bool, untyped: u8) -> MsgTag
+        requires label { label < 2 ^ 48 }
+        requires untyped { untyped < 64 }
+        ensures { result ≡ record { label = label; flags = bit cross * 4 + bit propagated; untyped = untyped } }
+    {
+        let flags = u64::from(cross) * 4 + u64::from(propagated);
+        MsgTag {
+            raw: label * 0x1_0000 + flags * 0x1000 + u64::from(untyped),
+        }
+    }
+}

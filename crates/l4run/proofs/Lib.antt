@@ -1,2 +1,3 @@
 pub mod LineRows
 pub mod Spelling
+pub mod Joined

@@ -37,7 +37,7 @@ pub enum Cause {
 }
 
 /// The content of a letter.
-#[derive(Drop)]
+#[derive(PartialEq, Eq, Debug, Drop)]
 pub enum Content {
     /// A send has begun, whose receiver is of the processor that gets this.
     Send {
@@ -70,7 +70,7 @@ pub enum Content {
 }
 
 /// A letter from one processor to another.
-#[derive(Drop)]
+#[derive(PartialEq, Eq, Debug, Drop)]
 pub struct Letter {
     /// The stamp of the event that posted it, below 2^62.
     pub stamp: u64,
@@ -79,6 +79,13 @@ pub struct Letter {
 }
 
 impl Default for Letter {
+    ghost use Rattle.std.specs.Prelude.{◌≡◌};
+    ghost use Rattle.l4_model.specs.Words.{global_id};
+    ghost use Rattle.l4_types.specs.declared.letters.Content.TheVariants.{OrderDone};
+
+    ghost is_default = { λ letter. letter ≡ record { stamp = 0; content = OrderDone (global_id 0 1) } };
+
+    /// What stands in an unused place.
     fn default() -> Letter {
         Letter {
             stamp: 0,

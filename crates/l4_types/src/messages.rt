@@ -1,14 +1,14 @@
 //! Messages (manual: Messages and Message Registers).
-ghost use Rattle.std.specs.Prelude.{◌≡◌, ◌+◌, ◌*◌, ◌^◌, ◌<◌, ◌↔◌, IsSome, IfSome, length};
-ghost use Rattle.l4_model.specs.Rules.{bit};
+ghost use Rattle.std.specs.Prelude.{◌≡◌, ◌+◌, ◌*◌, ◌^◌, ◌<◌, ◌↔◌, IsSome, IfSome, length, false};
+ghost use Rattle.l4_types.specs.Flags.{flags_of};
 
 use crate::ids::GlobalId;
-use crate::tags::MsgTag;
+use crate::tags::{LABELS, MsgTag};
 use arrayvec::ArrayVec;
 use std::marker::Model;
 
 /// A message as it was fixed when its send began.
-#[derive(Drop)]
+#[derive(PartialEq, Eq, Debug, Drop)]
 pub struct Message {
     label: u64,
     propagated: bool,
@@ -26,6 +26,8 @@ impl Model for Message {
     ghost view = { λ m. record { label = m.label; words = m.words.items; propagated = m.propagated; shown = m.shown; actual = m.actual } };
 
     ghost invariant = { λ m. m.label < 2 ^ 48 };
+
+    ghost inverse = { λ m. record { label = m.label; propagated = m.propagated; words = record { items = m.words }; shown = m.shown; actual = m.actual } };
 }
 
 impl Message {
@@ -41,7 +43,7 @@ impl Message {
         ensures some { IfSome result (λ m. m ≡ record { label = label; words = words.items; propagated = propagated; shown = shown; actual = actual }) }
         ensures when { IsSome result ↔ (label < 2 ^ 48) }
     {
-        if label >= 0x1_0000_0000_0000 {
+        if label >= LABELS {
             return None;
         }
         Some(Message {
@@ -92,8 +94,17 @@ impl Message {
 
     /// The tag of the message: its label, its number of words, and whether it is propagated.
     pub fn tag(&self) -> MsgTag
-        ensures { result ≡ record { label = self.now.label; flags = bit self.now.propagated; untyped = length self.now.words } }
+        ensures { result ≡ record { label = self.now.label; flags = flags_of false self.now.propagated; untyped = length self.now.words } }
     {
         MsgTag::of(self.label, false, self.propagated, self.words.len() as u8)
+    }
+
+    /// The same message again.
+    pub fn copy(&self) -> Message
+        ensures { result ≡ self.now }
+    {
+        let mut words = ArrayVec::new();
+        words.try_extend_from_slice(&self.words).unwrap();
+        Message { words, ..*self }
     }
 }

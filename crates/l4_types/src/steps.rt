@@ -72,7 +72,7 @@ pub enum What {
 }
 
 /// The delivery of a message.
-#[derive(Drop)]
+#[derive(PartialEq, Eq, Debug, Drop)]
 pub struct Delivery {
     /// The send that is over with it.
     pub name: Name,
@@ -147,7 +147,7 @@ impl Tick {
 }
 
 /// One step of a machine. It holds only what a line of a trace can spell.
-#[derive(Drop)]
+#[derive(PartialEq, Eq, Debug, Drop)]
 pub enum Step {
     /// The thread ran an instruction that concerns nobody else, or ended.
     Local(GlobalId),
@@ -186,13 +186,20 @@ pub enum Step {
 }
 
 impl Default for Step {
+    ghost use Rattle.std.specs.Prelude.{◌≡◌};
+    ghost use Rattle.l4_model.specs.Words.{global_id};
+    ghost use Rattle.l4_types.specs.declared.steps.Step.TheVariants.{Local};
+
+    ghost is_default = { λ step. step ≡ Local (global_id 0 1) };
+
+    /// What stands in an unused place.
     fn default() -> Step {
         Step::Local(GlobalId::default())
     }
 }
 
 /// What one processor did at once: one to three steps, or none where it only handled a letter.
-#[derive(Drop)]
+#[derive(PartialEq, Eq, Debug, Drop)]
 pub struct Event {
     /// The stamp of the event, below 2^62.
     pub stamp: u64,

@@ -11,6 +11,6 @@ join_words first (word ∷ words) = ap (λ rest. first ++ (32 ∷ rest)) (join_w
 -- The line of a delivery, put together piece by piece.
 pub delivery_line : (s name receiver shown actual tag : List ℕ) (words : List ℕ) →
     s ++ codes "deliver" ++ codes " " ++ name ++ codes " " ++ receiver ++ codes " " ++ shown ++ codes " " ++ actual
-        ++ codes " " ++ tag ++ flat_map (λ word. codes " " ++ hexadecimal word) words ++ codes "\n"
+    ++ codes " " ++ tag ++ flat_map (λ word. codes " " ++ hexadecimal word) words ++ codes "\n"
     ≡ s ++ line_of_words (codes "deliver" ∷ name ∷ receiver ∷ shown ∷ actual ∷ tag ∷ map hexadecimal words)
 delivery_line s name receiver shown actual tag words = simp (join_words, append_assoc)

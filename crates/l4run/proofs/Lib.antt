@@ -1,3 +1,4 @@
 pub mod LineRows
 pub mod Spelling
 pub mod Joined
+pub mod Spelled

@@ -2,9 +2,10 @@
 ghost use Rattle.std.specs.Prelude.{◌≡◌, true, List, ◌∷◌, ◌++◌, codes, flat_map, OnOk, OnErr};
 ghost use Rattle.std.specs.List.{list_all};
 ghost use Rattle.std.specs.String.{string_bytes};
+ghost use Rattle.l4_model.specs.Words.{is_global};
 ghost use Rattle.l4_model.specs.Steps.{Step as ModelStep};
 ghost use Rattle.l4_types.specs.StepView.{step_of, what_of};
-ghost use Rattle.l4run.specs.Lines.{hexadecimal, thread_word, name_word, what_word, line_of, trace_of, has_line};
+ghost use Rattle.l4run.specs.Lines.{hexadecimal, thread_word, name_word, what_word, line_of, trace_of, is_word, is_name, has_line};
 
 use l4_types::errors::NoMemory;
 use l4_types::ids::GlobalId;
@@ -14,6 +15,7 @@ use std::alloc::AllocError;
 /// Appends the line of a step, with its line feed. Where memory is refused, nothing is appended.
 pub fn write_event(step: &Step, out: &mut Vec<u8>) -> Result<(), NoMemory>
     ensures ok { OnOk result (out.new.items ≡ out.old.items ++ line_of (step_of step.now)) }
+    ensures spelled { OnOk result (has_line (step_of step.now) ≡ true) }
     ensures err { OnErr result (out.new.items ≡ out.old.items) }
 {
     let mut line = String::new(*out.allocator());
@@ -23,7 +25,8 @@ pub fn write_event(step: &Step, out: &mut Vec<u8>) -> Result<(), NoMemory>
 }
 
 fn push_line(line: &mut String, step: &Step) -> Result<(), AllocError>
-    ensures { OnOk result (string_bytes line.new ≡ string_bytes line.old ++ line_of (step_of step.now)) }
+    ensures line { OnOk result (string_bytes line.new ≡ string_bytes line.old ++ line_of (step_of step.now)) }
+    ensures spelled { OnOk result (has_line (step_of step.now) ≡ true) }
 {
     match step {
         Step::Local(thread) => push_thread_line(line, "local", *thread),
@@ -38,33 +41,42 @@ fn push_line(line: &mut String, step: &Step) -> Result<(), AllocError>
         Step::SendCancel(name) => push_name_line(line, "scancel", *name),
         Step::ReceiveCancel(thread) => push_thread_line(line, "rcancel", *thread),
         Step::Drop(name) => push_name_line(line, "drop", *name),
-        Step::Order { caller, target, what } => push_order(line, *caller, *target, *what),
+        Step::Order {
+            caller,
+            target,
+            what,
+        } => push_order(line, *caller, *target, *what),
         Step::Obey(caller) => push_thread_line(line, "obey", *caller),
         Step::Tick(tick) => writeln!(line, "tick {} {}", tick.cpu(), tick.clock()),
     }
 }
 
 fn push_word(line: &mut String, word: u64) -> Result<(), AllocError>
-    ensures { OnOk result (string_bytes line.new ≡ string_bytes line.old ++ codes " " ++ hexadecimal word) }
+    ensures word { OnOk result (string_bytes line.new ≡ string_bytes line.old ++ codes " " ++ hexadecimal word) }
+    ensures spelled { is_word word ≡ true }
 {
     write!(line, " {word:x}")
 }
 
 fn push_thread(line: &mut String, thread: GlobalId) -> Result<(), AllocError>
-    ensures { OnOk result (string_bytes line.new ≡ string_bytes line.old ++ codes " " ++ thread_word thread) }
+    ensures word { OnOk result (string_bytes line.new ≡ string_bytes line.old ++ codes " " ++ thread_word thread) }
+    ensures spelled { is_global thread ≡ true }
 {
     write!(line, " {}.{}", thread.number(), thread.version())
 }
 
+#[tactic(auto, using(crate::proofs::Spelled::spelled_name))]
 fn push_name(line: &mut String, name: Name) -> Result<(), AllocError>
-    ensures { OnOk result (string_bytes line.new ≡ string_bytes line.old ++ codes " " ++ name_word name) }
+    ensures word { OnOk result (string_bytes line.new ≡ string_bytes line.old ++ codes " " ++ name_word name) }
+    ensures spelled { OnOk result (is_name name ≡ true) }
 {
     push_thread(line, name.thread())?;
     write!(line, "#{}", name.k())
 }
 
 fn push_thread_line(line: &mut String, word: &str, thread: GlobalId) -> Result<(), AllocError>
-    ensures { OnOk result (string_bytes line.new ≡ string_bytes line.old ++ word.now ++ codes " " ++ thread_word thread ++ codes "\n") }
+    ensures line { OnOk result (string_bytes line.new ≡ string_bytes line.old ++ word.now ++ codes " " ++ thread_word thread ++ codes "\n") }
+    ensures spelled { OnOk result (is_global thread ≡ true) }
 {
     line.push_str(word)?;
     push_thread(line, thread)?;
@@ -72,16 +84,18 @@ fn push_thread_line(line: &mut String, word: &str, thread: GlobalId) -> Result<(
 }
 
 fn push_name_line(line: &mut String, word: &str, name: Name) -> Result<(), AllocError>
-    ensures { OnOk result (string_bytes line.new ≡ string_bytes line.old ++ word.now ++ codes " " ++ name_word name ++ codes "\n") }
+    ensures line { OnOk result (string_bytes line.new ≡ string_bytes line.old ++ word.now ++ codes " " ++ name_word name ++ codes "\n") }
+    ensures spelled { OnOk result (is_name name ≡ true) }
 {
     line.push_str(word)?;
     push_name(line, name)?;
     line.push('\n')
 }
 
-#[tactic(auto, using(crate::proofs::Joined::delivery_line))]
+#[tactic(auto, using(crate::proofs::Joined::delivery_line, crate::proofs::Spelled::spelled_delivery))]
 fn push_delivery(line: &mut String, delivery: &Delivery) -> Result<(), AllocError>
-    ensures { OnOk result (string_bytes line.new ≡ string_bytes line.old ++ line_of (step_of (Step.Deliver delivery.now))) }
+    ensures line { OnOk result (string_bytes line.new ≡ string_bytes line.old ++ line_of (step_of (Step.Deliver delivery.now))) }
+    ensures spelled { OnOk result (has_line (step_of (Step.Deliver delivery.now)) ≡ true) }
 {
     line.push_str("deliver")?;
     push_name(line, delivery.name)?;
@@ -95,7 +109,8 @@ fn push_delivery(line: &mut String, delivery: &Delivery) -> Result<(), AllocErro
 }
 
 fn push_words(line: &mut String, words: &[u64]) -> Result<(), AllocError>
-    ensures { OnOk result (string_bytes line.new ≡ string_bytes line.old ++ flat_map (λ word. codes " " ++ hexadecimal word) words.now) }
+    ensures words { OnOk result (string_bytes line.new ≡ string_bytes line.old ++ flat_map (λ word. codes " " ++ hexadecimal word) words.now) }
+    ensures spelled { OnOk result (list_all is_word words.now ≡ true) }
 {
     for word in words {
         push_word(line, *word)?;
@@ -103,8 +118,14 @@ fn push_words(line: &mut String, words: &[u64]) -> Result<(), AllocError>
     Ok(())
 }
 
-fn push_order(line: &mut String, caller: GlobalId, target: GlobalId, what: What) -> Result<(), AllocError>
-    ensures { OnOk result (string_bytes line.new ≡ string_bytes line.old ++ line_of (step_of (Step.Order caller target what))) }
+fn push_order(
+    line: &mut String,
+    caller: GlobalId,
+    target: GlobalId,
+    what: What,
+) -> Result<(), AllocError>
+    ensures line { OnOk result (string_bytes line.new ≡ string_bytes line.old ++ line_of (step_of (Step.Order caller target what))) }
+    ensures spelled { OnOk result (has_line (step_of (Step.Order caller target what)) ≡ true) }
 {
     line.push_str("order")?;
     push_thread(line, caller)?;

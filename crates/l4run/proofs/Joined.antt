@@ -1,5 +1,5 @@
 -- Words with a space before each of them but the first.
-use Rattle.std.proofs.Common.{◌≡◌, ℕ, List, [], ◌∷◌, ◌++◌, map, refl, sym, ap, ◌∙◌, append-nil, append_assoc}
+use Rattle.std.proofs.Common.{◌≡◌, ℕ, List, [], ◌∷◌, ◌++◌, map, sym, ap, append-nil, append_assoc}
 use Rattle.std.specs.Prelude.{codes, flat_map}
 use Rattle.std.specs.List.{join_with_byte}
 use Rattle.l4run.specs.Lines.{hexadecimal, line_of_words}

@@ -1,5 +1,5 @@
 -- Lines of worked rows, computed.
-use Rattle.std.specs.Prelude.{◌≡◌, ◌-◌, ◌^◌, List, [], ◌∷◌, map, codes, refl}
+use Rattle.std.specs.Prelude.{◌≡◌, ◌-◌, ◌^◌, [], ◌∷◌, map, codes, refl}
 use Rattle.std.specs.Fmt.{digits}
 use Rattle.l4_model.specs.Words.{global_id}
 use Rattle.l4_model.specs.Machine.{CancelBoth}

@@ -148,3 +148,63 @@ fn spelled(what: What) -> &'static str
 pub fn law_one_spelling()
     ensures { (g h : List ModelStep) → list_all has_line g ≡ true → list_all has_line h ≡ true → trace_of g ≡ trace_of h → g ≡ h }
 {}
+
+#[cfg(test)]
+mod tests {
+    use super::*;
+    use arrayvec::ArrayVec;
+    use l4_types::messages::Message;
+    use l4_types::steps::Tick;
+    use std::test::Fail;
+
+    #[test]
+    fn first_path_is_written(rt: HostRuntime) -> Result<(), Fail> {
+        let one = GlobalId::new(1, 1).ok_or("1.1 is a global id")?;
+        let two = GlobalId::new(2, 1).ok_or("2.1 is a global id")?;
+        let send = Name::new(one, 1).ok_or("sends are counted from 1")?;
+        let mut words = ArrayVec::new();
+        words.push(10);
+        let message = Message::new(7, false, words, one, one).ok_or("label 7 is small")?;
+        let steps = [
+            Step::Local(one),
+            Step::Wait(two),
+            Step::Begin(send),
+            Step::Queue(send),
+            Step::Deliver(Delivery {
+                name: send,
+                receiver: two,
+                message,
+                cross: false,
+            }),
+        ];
+        let mut out = Vec::new(rt.alloc());
+        for step in &steps {
+            write_event(step, &mut out)?;
+        }
+        assert_eq!(rt;
+            out.as_slice(),
+            b"local 1.1\nwait 2.1\nbegin 1.1#1\nqueue 1.1#1\ndeliver 1.1#1 2.1 1.1 1.1 70001 a\n".as_slice()
+        );
+        Ok(())
+    }
+
+    // To be run with each allocation refused in turn.
+    #[test]
+    fn line_is_whole_or_missing(rt: HostRuntime) -> Result<(), Fail> {
+        let tick = Step::Tick(Tick::new(0, 24).ok_or("24 is a clock")?);
+        let mut out = Vec::new(rt.alloc());
+        for _ in 0..100 {
+            let before = out.len();
+            let written = write_event(&tick, &mut out);
+            let line = out.get(before..).ok_or("the lines before it stay")?;
+            let whole = if written.is_ok() {
+                b"tick 0 24\n".as_slice()
+            } else {
+                b"".as_slice()
+            };
+            assert_eq!(rt; line, whole);
+        }
+        assert!(rt; out.len() >= 990);
+        Ok(())
+    }
+}

@@ -186,6 +186,13 @@ pub enum Step {
 }
 
 impl Default for Step {
+    ghost use Rattle.std.specs.Prelude.{◌≡◌};
+    ghost use Rattle.l4_model.specs.Words.{global_id};
+    ghost use Rattle.l4_types.specs.declared.steps.Step.TheVariants.{Local};
+
+    ghost is_default = { λ step. step ≡ Local (global_id 0 1) };
+
+    /// What stands in an unused place.
     fn default() -> Step {
         Step::Local(GlobalId::default())
     }

@@ -3,6 +3,7 @@
 
 mod fault;
 mod job;
+mod lines;
 mod outcome;
 mod perform;
 mod run;
@@ -11,7 +12,7 @@ mod tests;
 
 use fault::{Fault, report};
 use job::{Job, WordsFault, job_of};
-use perform::perform;
+use perform::{perform, write_out};
 use std::alloc::{AllocError, Global};
 use std::io::Write;
 use std::process::ExitCode;
@@ -51,10 +52,10 @@ fn on_words<R: Files + AllocGlobal, W: Write, E: Write>(
 }
 
 fn print_help<W: Write, E: Write>(text: &str, out: &mut W, faults: &mut E) -> u8 {
-    if out.write_all(text.as_bytes()).is_err() || out.flush().is_err() {
-        return report(faults, &Fault::Write);
+    match write_out(out, text.as_bytes()) {
+        Ok(()) => 0,
+        Err(_) => report(faults, &Fault::Write),
     }
-    0
 }
 
 fn texts<'a>(alloc: Global, words: &'a [String]) -> Result<Vec<&'a str>, AllocError> {

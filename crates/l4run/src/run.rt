@@ -7,8 +7,8 @@ ghost use Rattle.l4run.specs.Outcomes.{IsOutcome};
 ghost use Rattle.l4run.specs.Rests.{alone, TakesTurns};
 
 use crate::outcome::{Outcome, RunFault};
-use l4_core::core::{Core, Turn};
 use l4_core::machine::Machine;
+use l4_core::processor::{Core, Turn};
 use l4_core_model::law_single_run;
 use l4_types::errors::NoMemory;
 use l4_types::reports::Ending;

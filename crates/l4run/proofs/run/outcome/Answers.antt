@@ -1,11 +1,11 @@
-use Rattle.std.proofs.Common.{ap, rules}
+use Rattle.std.proofs.Common.{◌≡◌, ◌∙◌, ap, sym, rules}
 use Rattle.l4run.proofs.Whole.{is_outcome}
 use Rattle.l4run.proofs.run.outcome.Goals as goal
 
 pub returns : goal.returns
 returns c =
-    let sound = c.cpus-only.ensures.sound in
-    let single = c.cpus-only.ensures.single in
+    let sound = c.cpus-only.ensures.lawful in
+    let single = sym c.cpus-only.ensures.value ∙ c.cpus-only.ensures.one in
     let law = c.law_single_run.ensures in
     let m = c.args.machine.now in
     let most = c.args.turns in

@@ -2,3 +2,4 @@ pub mod LineRows
 pub mod Spelling
 pub mod Joined
 pub mod Spelled
+pub mod Shown

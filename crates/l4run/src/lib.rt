@@ -2,3 +2,4 @@
 #![tactic(auto)]
 
 pub mod lines;
+pub mod report;

@@ -18,6 +18,6 @@ delivery_line s name receiver shown actual tag words = simp (join_words, append_
 -- The line of a thread in a report, put together piece by piece.
 pub thread_line_joined : (s id state error from actual : List ℕ) (words : List ℕ) →
     s ++ codes "thread" ++ codes " " ++ id ++ codes " " ++ state ++ codes " " ++ error ++ codes " " ++ from ++ codes " " ++ actual
-        ++ flat_map (λ word. codes " " ++ hexadecimal word) words ++ codes "\n"
+    ++ flat_map (λ word. codes " " ++ hexadecimal word) words ++ codes "\n"
     ≡ s ++ line_of_words (codes "thread" ∷ id ∷ state ∷ error ∷ from ∷ actual ∷ map hexadecimal words)
 thread_line_joined s id state error from actual words = simp (join_words, append_assoc)

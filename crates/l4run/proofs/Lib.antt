@@ -2,4 +2,5 @@ pub mod LineRows
 pub mod Spelling
 pub mod Joined
 pub mod Spelled
-pub mod Shown
+pub mod Registers
+pub mod ReportRows

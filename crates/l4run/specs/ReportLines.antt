@@ -39,7 +39,7 @@ shown_registers (mr0 ∷ words) = mr0 ∷ up_to_last_set words
 abbrev pub thread_line : Report → List ℕ
 thread_line r =
     line_of_words (codes "thread" ∷ thread_word r.id ∷ state_word r.state ∷ decimal r.error ∷ id_word r.from ∷ id_word r.actual
-        ∷ map hexadecimal (shown_registers r.words))
+    ∷ map hexadecimal (shown_registers r.words))
 
 -- An undecided send and its destination.
 abbrev pub waiting_line : Name × Id → List ℕ

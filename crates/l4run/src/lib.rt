@@ -2,4 +2,4 @@
 #![tactic(auto)]
 
 pub mod lines;
-pub mod report;
+pub mod report_lines;

@@ -1,8 +1,8 @@
-use Rattle.std.proofs.Common.{◌≡◌, ◌≤◌, length, arith, ◌∙◌, sym, ap, take, take_all}
+use Rattle.std.proofs.Common.{◌≡◌, ◌≤◌, length, arith, ◌∙◌, ap, take, take_all}
 use Rattle.l4run.specs.ReportLines.{shown_registers}
-use Rattle.l4run.proofs.Shown.{shown_without_last, shown_with_last}
-use Rattle.l4run.proofs.report.shown.Goals.{then-loop-end-test+else-words-end-eq0, else-loop-end-test}
-use Rattle.l4run.proofs.report.shown.Goals as goal
+use Rattle.l4run.proofs.Registers.{shown_without_last, shown_with_last}
+use Rattle.l4run.proofs.report_lines.shown.Goals.{then-loop-end-test+else-words-end-eq0, else-loop-end-test}
+use Rattle.l4run.proofs.report_lines.shown.Goals as goal
 
 pub loop-end-init : goal.loop-end-init
 loop-end-init c =
@@ -19,6 +19,6 @@ pub returns : goal.returns
 returns c =
     let within : c.loop-end.end ≤ length c.args.words.now = omega (arith, c.told-words, c.loop-end.invariant.within) in
     elim c.loop-end-test.branch [
-      then-loop-end-test+else-words-end-eq0 w ↦ shown_with_last c.args.words.now c.loop-end.end c.loop-end.invariant.some within (λ more. w.if-words-end-eq0.false) ∙ c.loop-end.invariant.same
-    | else-loop-end-test w ↦ shown_with_last c.args.words.now c.loop-end.end c.loop-end.invariant.some within (λ more. absurd (omega arith)) ∙ c.loop-end.invariant.same
+      | then-loop-end-test+else-words-end-eq0 w ↦ shown_with_last c.args.words.now c.loop-end.end c.loop-end.invariant.some within (λ more. w.if-words-end-eq0.false) ∙ c.loop-end.invariant.same
+      | else-loop-end-test w ↦ shown_with_last c.args.words.now c.loop-end.end c.loop-end.invariant.some within (λ more. absurd (omega arith)) ∙ c.loop-end.invariant.same
     ]

@@ -1,6 +1,6 @@
-use Rattle.std.proofs.Common.{◌-◌, ◌≡◌, ◌<◌, ◌≤◌, length, take}
+use Rattle.std.proofs.Common.{◌≡◌, ◌<◌, ◌≤◌, take}
 use Rattle.l4run.specs.ReportLines.{shown_registers}
-use Rattle.l4run.proofs.report.shown.Given as goal
+use Rattle.l4run.proofs.report_lines.shown.Given as goal
 
 abbrev pub invariant-loop-end : goal.invariant-loop-end
 invariant-loop-end l = record {

@@ -118,6 +118,7 @@ pub(crate) fn push_words(line: &mut String, words: &[u64]) -> Result<(), AllocEr
     Ok(())
 }
 
+#[tactic(auto, using(crate::proofs::Joined::order_line))]
 fn push_order(
     line: &mut String,
     caller: GlobalId,
@@ -144,7 +145,7 @@ fn spelled(what: What) -> &'static str
     }
 }
 
-/// A text is the trace of one list of steps at most.
+/// A text is the trace of at most one list of steps, so it tells which steps they were.
 pub fn law_one_spelling()
     ensures { (g h : List ModelStep) → list_all has_line g ≡ true → list_all has_line h ≡ true → trace_of g ≡ trace_of h → g ≡ h }
 {}

@@ -79,6 +79,7 @@ fn push_sends(text: &mut String, waiting: &[(Name, ThreadId)]) -> Result<(), All
     Ok(())
 }
 
+#[tactic(auto, using(crate::proofs::Joined::waiting_line_joined))]
 fn push_send(text: &mut String, name: Name, destination: ThreadId) -> Result<(), AllocError>
     ensures { OnOk result (string_bytes text.new ≡ string_bytes text.old ++ waiting_line (name, destination)) }
 {

@@ -1,4 +1,4 @@
-use Rattle.std.proofs.Common.{◌≡◌, ◌≤◌, length, arith, ◌∙◌, ap, take, take_all}
+use Rattle.std.proofs.Common.{◌≡◌, ◌<◌, ◌≤◌, length, arith, ◌∙◌, ap, take, take_all}
 use Rattle.l4run.specs.ReportLines.{shown_registers}
 use Rattle.l4run.proofs.Registers.{shown_without_last, shown_with_last}
 use Rattle.l4run.proofs.report_lines.shown.Goals.{then-loop-end-test+else-words-end-eq0, else-loop-end-test}
@@ -12,7 +12,8 @@ loop-end-init c =
 pub loop-end-preserved : goal.loop-end-preserved
 loop-end-preserved c =
     let within : c.loop-end.end ≤ length c.args.words.now = omega (arith, c.told-words, c.loop-end.invariant.within) in
-    let same = shown_without_last c.args.words.now c.loop-end.end c.loop-end-test.true within c.if-words-end-eq0.true in
+    let some : 1 < c.loop-end.end = omega (arith, c.loop-end-test.true) in
+    let same = shown_without_last c.args.words.now c.loop-end.end some within c.if-words-end-eq0.true in
     record { some = omega arith; within = omega arith; same = same ∙ c.loop-end.invariant.same }
 
 pub returns : goal.returns

@@ -1,6 +1,6 @@
 //! Message tags (manual: Messages and Message Registers, MsgTag).
 ghost use Rattle.std.specs.Prelude.{◌≡◌, ◌/◌, ◌%◌, ◌^◌, ◌<◌, ◌==◌, ◌↔◌, false, IsSome, IfSome, IsOk, IfOk};
-ghost use Rattle.l4_model.specs.Words.{tag_of_word, word_of_tag};
+ghost use Rattle.l4_model.specs.Words.{tag_of_word, word_of_tag, has_typed_words};
 ghost use Rattle.l4_types.specs.Flags.{flags_of};
 
 use std::marker::Model;
@@ -58,7 +58,7 @@ impl MsgTag {
     /// The tag that a word is. `TypedItems` where bits 6 to 11 are not all zero.
     pub fn from_raw(raw: u64) -> Result<MsgTag, TagFault>
         ensures ok { IfOk result (λ tag. tag ≡ tag_of_word raw) }
-        ensures when { IsOk result ↔ ((raw / 2 ^ 6) % 64 ≡ 0) }
+        ensures when { IsOk result ↔ (has_typed_words raw ≡ false) }
     {
         if (raw >> 6) & 0x3f != 0 {
             return Err(TagFault::TypedItems);
@@ -70,7 +70,7 @@ impl MsgTag {
     pub fn raw(&self) -> u64
         ensures value { result ≡ word_of_tag self.now }
         ensures back { tag_of_word result ≡ self.now }
-        ensures no_typed_words { (result / 2 ^ 6) % 64 ≡ 0 }
+        ensures no_typed_words { has_typed_words result ≡ false }
     {
         self.raw
     }

@@ -6,4 +6,5 @@ pub mod lists;
 mod lookups;
 pub mod machine;
 pub mod processor;
+pub mod text;
 pub mod thread;

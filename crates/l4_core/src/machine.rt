@@ -193,6 +193,7 @@ impl Machine {
     pub fn cpus(&self) -> u8
         ensures value { result ≡ self.now.cpus }
         ensures one { result ≡ 1 }
+        ensures lawful { IsMachine self.now }
     {
         let _ = &self.threads;
         1
@@ -221,6 +222,15 @@ impl Machine {
         self.threads
             .iter()
             .any(|thread| thread.id.number() == number)
+    }
+
+    // The length of the script of the thread that was declared last.
+    pub(crate) fn last_script_len(&self) -> usize
+        requires { 0 < length self.now.threads }
+        ensures { result ≡ length (last_thread self.now).script }
+    {
+        let thread = &self.threads[self.threads.len() - 1];
+        thread.script().len()
     }
 
     // Appends a thread.

@@ -1,5 +1,5 @@
 -- The world as the only processor of a machine knows it.
-use Rattle.std.specs.Prelude.{List, [], ◌∷◌, map}
+use Rattle.std.specs.Prelude.{[], ◌∷◌, map}
 use Rattle.l4_model.specs.World.{World}
 use Rattle.l4_core_model.specs.Local.{Local}
 

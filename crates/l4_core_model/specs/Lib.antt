@@ -7,3 +7,4 @@ pub mod Mail
 pub mod Runs
 pub mod Schedules
 pub mod Known
+pub mod Laws

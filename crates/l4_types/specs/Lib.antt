@@ -1,5 +1,6 @@
 pub mod ClockTick
 pub mod Codes
+pub mod Flags
 pub mod Ids
 pub mod LetterView
 pub mod ReportView

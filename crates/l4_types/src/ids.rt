@@ -1,5 +1,5 @@
 //! Thread ids (manual: ThreadId).
-ghost use Rattle.std.specs.Prelude.{◌≡◌, ◌↔◌, IsTrue, IsSome, IfSome, true, IsNone};
+ghost use Rattle.std.specs.Prelude.{◌≡◌, ◌/◌, ◌%◌, ◌^◌, ◌↔◌, true, IsSome, IfSome};
 ghost use Rattle.l4_model.specs.Words.{GlobalThread, word_of, id_of_word, is_global, global_id};
 ghost use Rattle.l4_types.specs.Ids.{kind_of, global_of};
 
@@ -42,7 +42,12 @@ pub enum Kind {
     /// A local id.
     Local,
     /// A global id, of a number and a version.
-    Global { number: u32, version: u32 },
+    Global {
+        /// The thread number.
+        number: u32,
+        /// The version.
+        version: u32,
+    },
 }
 
 /// A global thread id: a thread number and a version whose low six bits are not all zero. The number and the version
@@ -100,12 +105,14 @@ impl GlobalId {
         ensures { result ≡ GlobalThread self.now }
     {
         ThreadId {
-            raw: u64::from(self.number) * 0x1_0000_0000 + u64::from(self.version),
+            raw: u64::from(self.number) << 32 | u64::from(self.version),
         }
     }
 }
 
 impl Default for GlobalId {
+    ghost is_default = { λ id. id ≡ global_id 0 1 };
+
     /// The least global id, 0.1: what stands in an unused place.
     fn default() -> GlobalId {
         GlobalId {
@@ -124,6 +131,13 @@ impl From<GlobalId> for ThreadId {
 }
 
 impl ThreadId {
+    /// nilthread: no thread.
+    pub const NIL: ThreadId = ThreadId { raw: 0 };
+    /// anythread: every thread.
+    pub const ANY: ThreadId = ThreadId { raw: ANY };
+    /// anylocalthread: every thread of one's own address space.
+    pub const ANY_LOCAL: ThreadId = ThreadId { raw: ANY_LOCAL };
+
     /// The id that a word of 64 bits stands for.
     pub const fn from_raw(raw: u64) -> ThreadId
         ensures { result ≡ id_of_word raw }
@@ -133,7 +147,8 @@ impl ThreadId {
 
     /// The word of 64 bits that stands for this id.
     pub const fn raw(&self) -> u64
-        ensures { result ≡ word_of self.now }
+        ensures value { result ≡ word_of self.now }
+        ensures back { id_of_word result ≡ self.now }
     {
         self.raw
     }
@@ -156,10 +171,10 @@ impl ThreadId {
             ANY => Kind::Any,
             ANY_LOCAL => Kind::AnyLocal,
             raw if raw % 64 == 0 => Kind::Local,
-            raw => Kind::Global {
-                number: (raw / 0x1_0000_0000) as u32,
-                version: (raw % 0x1_0000_0000) as u32,
-            },
+            raw => {
+                let (number, version) = halves(raw);
+                Kind::Global { number, version }
+            }
         }
     }
 
@@ -170,10 +185,17 @@ impl ThreadId {
         match self.raw {
             0 | ANY | ANY_LOCAL => None,
             raw if raw % 64 == 0 => None,
-            raw => Some(GlobalId {
-                number: (raw / 0x1_0000_0000) as u32,
-                version: (raw % 0x1_0000_0000) as u32,
-            }),
+            raw => {
+                let (number, version) = halves(raw);
+                Some(GlobalId { number, version })
+            }
         }
     }
+}
+
+// The upper and the lower 32 bits of a word.
+fn halves(word: u64) -> (u32, u32)
+    ensures { result ≡ (word / 2 ^ 32, word % 2 ^ 32) }
+{
+    ((word >> 32) as u32, (word & 0xffff_ffff) as u32)
 }

@@ -79,6 +79,13 @@ pub struct Letter {
 }
 
 impl Default for Letter {
+    ghost use Rattle.std.specs.Prelude.{◌≡◌};
+    ghost use Rattle.l4_model.specs.Words.{global_id};
+    ghost use Rattle.l4_types.specs.declared.letters.Content.TheVariants.{OrderDone};
+
+    ghost is_default = { λ letter. letter ≡ record { stamp = 0; content = OrderDone (global_id 0 1) } };
+
+    /// What stands in an unused place.
     fn default() -> Letter {
         Letter {
             stamp: 0,

@@ -11,3 +11,5 @@ pub mod registers;
 pub mod reports;
 pub mod steps;
 pub mod tags;
+#[cfg(test)]
+mod tests;

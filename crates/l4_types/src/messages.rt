@@ -1,9 +1,9 @@
 //! Messages (manual: Messages and Message Registers).
-ghost use Rattle.std.specs.Prelude.{◌≡◌, ◌+◌, ◌*◌, ◌^◌, ◌<◌, ◌↔◌, IsSome, IfSome, length};
-ghost use Rattle.l4_model.specs.Rules.{bit};
+ghost use Rattle.std.specs.Prelude.{◌≡◌, ◌^◌, ◌<◌, ◌↔◌, IsSome, IfSome, length, false};
+ghost use Rattle.l4_types.specs.Flags.{flags_of};
 
 use crate::ids::GlobalId;
-use crate::tags::MsgTag;
+use crate::tags::{LABELS, MsgTag};
 use arrayvec::ArrayVec;
 use std::marker::Model;
 
@@ -43,7 +43,7 @@ impl Message {
         ensures some { IfSome result (λ m. m ≡ record { label = label; words = words.items; propagated = propagated; shown = shown; actual = actual }) }
         ensures when { IsSome result ↔ (label < 2 ^ 48) }
     {
-        if label >= 0x1_0000_0000_0000 {
+        if label >= LABELS {
             return None;
         }
         Some(Message {
@@ -94,7 +94,7 @@ impl Message {
 
     /// The tag of the message: its label, its number of words, and whether it is propagated.
     pub fn tag(&self) -> MsgTag
-        ensures { result ≡ record { label = self.now.label; flags = bit self.now.propagated; untyped = length self.now.words } }
+        ensures { result ≡ record { label = self.now.label; flags = flags_of false self.now.propagated; untyped = length self.now.words } }
     {
         MsgTag::of(self.label, false, self.propagated, self.words.len() as u8)
     }

@@ -25,13 +25,15 @@ impl Regs {
         Regs {
             words: [0; 64],
             error: 0,
-            from: ThreadId::from_raw(0),
-            actual: ThreadId::from_raw(0),
+            from: ThreadId::NIL,
+            actual: ThreadId::NIL,
         }
     }
 }
 
 impl Default for Regs {
+    ghost is_default = { λ regs. regs ≡ record { words = replicate 64 0; error = 0; from = NilThread; actual = NilThread } };
+
     fn default() -> Regs {
         Regs::new()
     }

@@ -9,7 +9,7 @@ use Rattle.l4_model.specs.Conditions.{Found, is_nobody, ◌>>=◌, ◌>>◌}
 use Rattle.l4_core_model.specs.Plain as plain
 use Rattle.l4_core_model.specs.Local.{Local, declared, is_own, own_places, thread, held, held_by}
 use Rattle.l4_core_model.specs.Acts.{first_acceptable, zero_refusable}
-use Rattle.l4_core_model.specs.Turns.{Duty, DeliversFirst, Choice, ByDuty, ByReady, duty_a, duty_b, duty_c, duty_d, duty_e, duty_f, duty_g, duty_h, duty_of, first_some, first_duty, choice}
+use Rattle.l4_core_model.specs.Turns.{Duty, DeliversFirst, Choice, ByDuty, ByReady, duty_drops_own, duty_refuses_waiting, duty_tells_gone, duty_cancels_own, duty_cancels_receive, duty_delivers_first, duty_closes_receive, duty_refuses_zero, duty_of, first_some, first_duty, choice}
 use Rattle.l4_core.specs.Simple.{Suits, IsSimple, IsSettled}
 
 pub never_deleted : (p : Phase) (send : Option Send) → Suits p send → is_deleted p ≡ false
@@ -52,14 +52,14 @@ duty-simple m cpu l i simple =
     let living = never_deleted (thread l i).phase (thread l i).send t.suits in
     let send_stays = t.no_cancel_send in
     let receive_stays = t.no_cancel_receive in
-    let a : duty_a l (held m l i) ≡ None = rw living in
-    let b : duty_b l (held m l i) ≡ None = rw living in
-    let c : duty_c m cpu l (held m l i) ≡ None = rw living in
-    let d : duty_d l (held m l i) ≡ None = and_false _ _ _ send_stays in
-    let e : duty_e (held m l i) ≡ None = and_false _ _ _ receive_stays in
-    let f : duty_f l (held m l i) ≡ option_map DeliversFirst (first_acceptable l i) = of_first (first_acceptable l i) in
-    let g : duty_g m l (held m l i) ≡ None = nobody m l (thread l i).phase (thread l i).send t.suits _ in
-    let h : duty_h m l (held m l i) ≡ None = by_find _ _ (find_none _ (λ w. endless m (held m l i) _ _ (simple w.block).suits) (plain.list_of l.lists i)) in
+    let a : duty_drops_own l (held m l i) ≡ None = rw living in
+    let b : duty_refuses_waiting l (held m l i) ≡ None = rw living in
+    let c : duty_tells_gone m cpu l (held m l i) ≡ None = rw living in
+    let d : duty_cancels_own l (held m l i) ≡ None = and_false _ _ _ send_stays in
+    let e : duty_cancels_receive (held m l i) ≡ None = and_false _ _ _ receive_stays in
+    let f : duty_delivers_first l (held m l i) ≡ option_map DeliversFirst (first_acceptable l i) = of_first (first_acceptable l i) in
+    let g : duty_closes_receive m l (held m l i) ≡ None = nobody m l (thread l i).phase (thread l i).send t.suits _ in
+    let h : duty_refuses_zero m l (held m l i) ≡ None = by_find _ _ (find_none _ (λ w. endless m (held m l i) _ _ (simple w.block).suits) (plain.list_of l.lists i)) in
     rw (a, b, c, d, e, f, g, h) (last (option_map DeliversFirst (first_acceptable l i)))
   where
     of_first : (o : Option ℕ) → (o >>= λ first. Some (DeliversFirst first)) ≡ option_map DeliversFirst o

@@ -1,18 +1,16 @@
 -- What the next turn does, where nothing is cancelled, deleted or timed: a waiting thread gets what waits for it, or a ready one runs.
-use Rattle.std.proofs.Common.{◌≡◌, ℕ, zero, suc, ◌+◌, ◌-◌, ◌<◌, ◌≤◌, subst, Bool, true, false, cond, Option, Some, None, List, [], ◌∷◌, length, filter, refl, sym, ap, ◌∙◌, arith}
-use Rattle.std.specs.Prelude.{find, ◌==◌, is_some, slice_get, slice_index_or}
+use Rattle.std.proofs.Common.{◌≡◌, ℕ, zero, suc, ◌+◌, ◌-◌, ◌<◌, ◌≤◌, subst, Bool, true, false, Option, Some, None, List, [], ◌∷◌, length, filter, refl, sym, ap, ◌∙◌, arith}
+use Rattle.std.specs.Prelude.{find, slice_get}
 use Rattle.std.specs.Option.{option_map}
 use Rattle.std.specs.List.{range_with_len}
-use Rattle.std.proofs.lemmas.Bool.Decides.{nat_tests}
-use Rattle.l4_model.specs.Words.{AnyThread}
 use Rattle.l4_model.specs.Machine.{Machine}
-use Rattle.l4_model.specs.World.{Send, Phase, Ready, Sending, Receiving, Ordering, Ended, Deleted, Thread, is_deleted, receive_now}
-use Rattle.l4_model.specs.Conditions.{Found, is_zero, is_nobody, is_refusable, ◌>>=◌, ◌>>◌}
+use Rattle.l4_model.specs.World.{Send, Phase, Ready, Sending, Receiving, Ordering, Ended, Deleted, is_deleted, receive_now}
+use Rattle.l4_model.specs.Conditions.{Found, is_nobody, ◌>>=◌, ◌>>◌}
 use Rattle.l4_core_model.specs.Plain as plain
 use Rattle.l4_core_model.specs.Local.{Local, declared, is_own, own_places, thread, held, held_by}
 use Rattle.l4_core_model.specs.Acts.{first_acceptable, zero_refusable}
 use Rattle.l4_core_model.specs.Turns.{Duty, DeliversFirst, Choice, ByDuty, ByReady, duty_drops_own, duty_refuses_waiting, duty_tells_gone, duty_cancels_own, duty_cancels_receive, duty_delivers_first, duty_closes_receive, duty_refuses_zero, duty_of, first_some, first_duty, choice}
-use Rattle.l4_core.specs.Simple.{open_wait, IsEndless, Suits, IsSimple, IsSettled}
+use Rattle.l4_core.specs.Simple.{Suits, IsSimple, IsSettled}
 
 pub never_deleted : (p : Phase) (send : Option Send) → Suits p send → is_deleted p ≡ false
 never_deleted Ready send s = refl
@@ -127,7 +125,7 @@ next_receiver l r n lt = let e : n - r ≡ suc (n - (r + 1)) = omega arith in rw
 pub choice-passes : (l : Local) (r n : ℕ) → r < n → first_acceptable l r ≡ None → choice_from l r n ≡ choice_from l (r + 1) n
 choice-passes l r n lt e =
     let passed : first_delivery l (range_with_len r (n - r)) ≡ first_delivery l (range_with_len (r + 1) (n - (r + 1))) =
-        next_receiver l r n lt ∙ ap (λ o. first_some (option_map (λ j. ByDuty r (DeliversFirst j)) o ∷ first_delivery l (range_with_len (r + 1) (n - (r + 1))) ∷ [])) e ∙ only (first_delivery l (range_with_len (r + 1) (n - (r + 1)))) in
+    next_receiver l r n lt ∙ ap (λ o. first_some (option_map (λ j. ByDuty r (DeliversFirst j)) o ∷ first_delivery l (range_with_len (r + 1) (n - (r + 1))) ∷ [])) e ∙ only (first_delivery l (range_with_len (r + 1) (n - (r + 1)))) in
     ap (λ o. first_some (o ∷ option_map ByReady (slice_get l.lists.ready 0) ∷ [])) passed
   where
     only : (o : Option Choice) → first_some (None ∷ o ∷ []) ≡ o

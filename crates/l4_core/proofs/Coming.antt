@@ -1,6 +1,6 @@
 -- A thread comes to a phase: what the program writes is what the core run does, and the state stays settled.
-use Rattle.std.proofs.Common.{◌≡◌, ℕ, ◌+◌, ◌<◌, ◌≤◌, Bool, true, false, cond, Option, Some, None, List, [], length, get_or, set, refl, ap, sym, ◌∙◌, subst, arith}
-use Rattle.std.specs.Prelude.{slice_index_or, unwrap_or, is_some}
+use Rattle.std.proofs.Common.{◌≡◌, ℕ, ◌<◌, Bool, true, false, Option, Some, None, List, length, get_or, set, refl, ap, sym, ◌∙◌, subst, arith}
+use Rattle.std.specs.Prelude.{unwrap_or, is_some}
 use Rattle.std.specs.Option.{option_map}
 use Rattle.std.proofs.lemmas.List.{get_or_read}
 use Rattle.l4_model.specs.Words.{GlobalId}
@@ -16,7 +16,7 @@ use Rattle.l4_core.specs.declared.machine.Instr.{Instr}
 use Rattle.l4_core.specs.declared.machine.Instr.TheVariants as instrs
 use Rattle.l4_core.specs.Scripts.{instr_of}
 use Rattle.l4_core.specs.PhaseView.{endless_send, IsAlone}
-use Rattle.l4_core.specs.Simple.{open_wait, IsEndless, Suits, IsSimple, IsOwn, IsIn, IsSettled, is_ready_in}
+use Rattle.l4_core.specs.Simple.{open_wait, Suits, IsSimple, IsOwn, IsSettled, is_ready_in}
 use Rattle.l4_core.proofs.Settling.{Comes, unarmed, queued-none}
 
 -- What was written

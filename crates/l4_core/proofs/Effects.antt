@@ -1,19 +1,19 @@
 -- The effects of an event on one thread and on the lists, as the program does them.
-use Rattle.std.proofs.Common.{◌≡◌, ℕ, ◌+◌, ◌<◌, Bool, true, false, Option, Some, None, List, [], length, get_or, set, refl, ap, sym, ◌∙◌, subst, arith}
+use Rattle.std.proofs.Common.{◌≡◌, ℕ, ◌<◌, true, false, Option, get_or, set, refl, ap, sym, ◌∙◌, subst}
 use Rattle.std.specs.Prelude.{is_some}
 use Rattle.l4_model.specs.Words.{GlobalId}
 use Rattle.l4_model.specs.Machine.{Machine}
-use Rattle.l4_model.specs.World.{Message, Phase, Sending, Thread, is_ready}
+use Rattle.l4_model.specs.World.{Message, Thread}
 use Rattle.l4_model.specs.Effects.{begins, waits, receives}
 use Rattle.l4_core_model.specs.Plain as plain
 use Rattle.l4_core_model.specs.Letters.{Result}
 use Rattle.l4_core_model.specs.Local.{Local, declared, thread, comes_to, relists, ended}
 use Rattle.l4_core.specs.declared.machine.Instr.{Instr}
 use Rattle.l4_core.specs.PhaseView.{endless_send, IsAlone}
-use Rattle.l4_core.specs.Simple.{open_wait, IsIn, IsSettled, is_ready_in}
+use Rattle.l4_core.specs.Simple.{open_wait, IsSettled}
 use Rattle.l4_core.specs.Processor.{Processor, with_local, IsCore}
 use Rattle.l4_core.specs.Turning.{IsAtHand, IsSender, IsReceiver}
-use Rattle.l4_core.proofs.Settling.{Comes, settled-comes_to, settled-unqueued, settled-queued, settled-popped}
+use Rattle.l4_core.proofs.Settling.{settled-comes_to, settled-unqueued}
 use Rattle.l4_core.proofs.Coming.{came, came_ready, comes-waits, comes-begins, comes-receives, comes-ended, comes-runs, ready_after, ready_on, still_off, runs_of}
 
 -- A change of what a core knows, in the program and in the definition.

@@ -1,5 +1,5 @@
 -- One row of sends in order of arrival shows the list of each receiver.
-use Rattle.std.proofs.Common.{◌≡◌, ℕ, zero, suc, ◌+◌, ◌-◌, ◌<◌, ◌≤◌, Bool, true, false, cond, eqb, Option, Some, None, List, [], ◌∷◌, ◌++◌, map, filter, drop, length, refl, ap, sym, ◌∙◌, subst, inl, inr, ⊎_elim, ◌⊎◌, arith}
+use Rattle.std.proofs.Common.{◌≡◌, ℕ, zero, suc, ◌+◌, ◌<◌, ◌≤◌, Bool, true, false, cond, eqb, Option, Some, None, List, [], ◌∷◌, ◌++◌, map, filter, drop, length, refl, ap, sym, ◌∙◌, subst, ⊎_elim, arith}
 use Rattle.std.specs.Prelude.{slice_index_or, ◌==◌, not, ◌||◌, find, replicate}
 use Rattle.std.specs.Option.{option_map, option_to_list, IfSome}
 use Rattle.std.specs.List.{list_any, range_with_len, IsDistinct, AllByRecursion}
@@ -93,7 +93,7 @@ at-filter i r (x ∷ xs) = by (not (i == x.waiting.block)) (x.receiver == r) ref
 
     by : (b d : Bool) → not (i == x.waiting.block) ≡ b → (x.receiver == r) ≡ d → waiting_at r (filter (λ (a : Arrival). not (i == a.waiting.block)) xs) ≡ filter (λ (w : plain.Waiting). not (i == w.block)) (waiting_at r xs) →
         waiting_at r (cond b (x ∷ filter (λ (a : Arrival). not (i == a.waiting.block)) xs) (filter (λ (a : Arrival). not (i == a.waiting.block)) xs))
-            ≡ filter (λ (w : plain.Waiting). not (i == w.block)) (cond d (x.waiting ∷ waiting_at r xs) (waiting_at r xs))
+        ≡ filter (λ (w : plain.Waiting). not (i == w.block)) (cond d (x.waiting ∷ waiting_at r xs) (waiting_at r xs))
     by true true eb ed h = rw (ed, eb) (ap (λ ws. x.waiting ∷ ws) h)
     by true false eb ed h = rw ed h
     by false true eb ed h = rw eb h

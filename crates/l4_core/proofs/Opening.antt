@@ -1,15 +1,14 @@
 -- A processor where nothing has happened.
-use Rattle.std.proofs.Common.{◌≡◌, ℕ, zero, suc, ◌+◌, ◌<◌, ◌≤◌, Bool, true, false, Option, Some, None, List, [], ◌∷◌, ◌++◌, map, length, refl, ap, sym, ◌∙◌, subst, arith}
+use Rattle.std.proofs.Common.{◌≡◌, ℕ, zero, suc, ◌+◌, ◌<◌, ◌≤◌, Bool, true, false, List, [], ◌∷◌, ◌++◌, map, length, refl, ap, sym, ◌∙◌, subst, arith}
 use Rattle.std.specs.Prelude.{slice_index_or, replicate, ◌==◌, ◌||◌}
 use Rattle.std.specs.List.{list_any, range_with_len}
 use Rattle.std.proofs.lemmas.Bool.{eqb-true}
-use Rattle.std.proofs.lemmas.Bool.Decides.{nat_tests}
-use Rattle.l4_model.specs.Machine.{Declaration, Machine}
+use Rattle.l4_model.specs.Machine.{Machine}
 use Rattle.l4_model.specs.World.{Thread, opening_thread}
 use Rattle.l4_core_model.specs.Plain as plain
 use Rattle.l4_core_model.specs.Local.{Local, declared, opening_local}
 use Rattle.l4_core_model.specs.Runs.{IsMachine}
-use Rattle.l4_core.specs.Simple.{IsSimple, IsSettled, IsOwn, IsIn}
+use Rattle.l4_core.specs.Simple.{IsSimple, IsSettled, IsOwn}
 use Rattle.l4_core.specs.Processor.{Processor, local_of, IsCore}
 use Rattle.l4_core.proofs.Choosing.{places-all}
 
@@ -102,9 +101,9 @@ opened-is m n cpu ts lists machine one lt e threads is =
     let same : local_of m ts lists 0 ≡ opened m (length m.threads) = ap (λ us. local_of m us lists 0) threads ∙ ap (λ s. local_of m (replicate n opening_thread) s 0) is ∙ ap (opened m) e in
     let put : List Thread → List (List plain.Waiting) → List ℕ → Local = λ us ws ready. record { threads = us; lists = record { waiting = ws; ready = ready; armed = [] }; told = map (λ d. 0) m.threads; clock = 0; stamp = 0 } in
     let opens : opened m (length m.threads) ≡ opening_local m 0 =
-        ap (λ us. put us (replicate (length m.threads) []) (range_with_len 0 (length m.threads))) (replicate-map opening_thread m.threads)
-        ∙ ap (λ ws. put (map (λ d. opening_thread) m.threads) ws (range_with_len 0 (length m.threads))) (replicate-map [] m.threads)
-        ∙ ap (λ r. put (map (λ d. opening_thread) m.threads) (map (λ d. []) m.threads) r) (sym places) in
+    ap (λ us. put us (replicate (length m.threads) []) (range_with_len 0 (length m.threads))) (replicate-map opening_thread m.threads)
+    ∙ ap (λ ws. put (map (λ d. opening_thread) m.threads) ws (range_with_len 0 (length m.threads))) (replicate-map [] m.threads)
+    ∙ ap (λ r. put (map (λ d. opening_thread) m.threads) (map (λ d. []) m.threads) r) (sym places) in
     ap (λ (l : Local). record { machine = m; cpu = 0; local = l }) (same ∙ opens) ∙ ap (λ n. record { machine = m; cpu = n; local = opening_local m n }) none
 
 -- One more thread

@@ -1,14 +1,14 @@
 -- The pieces of an event, as the program does them.
-use Rattle.std.proofs.Common.{◌≡◌, ℕ, zero, suc, ◌+◌, ◌<◌, ◌≤◌, Bool, true, false, cond, Option, Some, None, List, [], ◌∷◌, ◌++◌, map, length, refl, ap, sym, ◌∙◌, subst, inl, inr, ⊎_elim, ◌⊎◌, arith}
-use Rattle.std.specs.Prelude.{slice_index_or, ◌==◌, not, find, slice_get, unwrap_or}
+use Rattle.std.proofs.Common.{◌≡◌, ℕ, zero, suc, ◌<◌, ◌≤◌, Bool, true, false, cond, Option, Some, None, List, [], ◌∷◌, ◌++◌, map, length, refl, ap, sym, ◌∙◌, subst, inl, inr, ◌⊎◌, arith}
+use Rattle.std.specs.Prelude.{slice_index_or, ◌==◌, find, slice_get}
 use Rattle.std.specs.Option.{option_map}
 use Rattle.std.specs.List.{list_any}
 use Rattle.std.proofs.lemmas.Bool.{cases_lt}
 use Rattle.std.proofs.lemmas.List.{map_push}
 use Rattle.std.proofs.lemmas.List.Quantifiers.{position-Some}
 use Rattle.l4_model.specs.Words.{GlobalId, AnyThread, GlobalThread, same_id}
-use Rattle.l4_model.specs.Machine.{Declaration, Machine, End, instruction_at, place_of, declaration_of, same_cpu, agree}
-use Rattle.l4_model.specs.World.{Message, Send, Phase, Ready, Sending, Receiving, Ordering, Ended, Deleted, Thread, changed, opening_thread, is_deleted}
+use Rattle.l4_model.specs.Machine.{Declaration, Machine, instruction_at, place_of, declaration_of}
+use Rattle.l4_model.specs.World.{Message, Send, Phase, Ready, Sending, Receiving, Ordering, Ended, Deleted, Thread, opening_thread}
 use Rattle.l4_model.specs.Rules.{Act, Sends, Receives, act, message_of, received_tag, is_cross}
 use Rattle.l4_model.specs.Conditions.{act_of}
 use Rattle.l4_model.specs.Steps as steps
@@ -16,20 +16,18 @@ use Rattle.l4_model.specs.Effects.{begins, receives, waits}
 use Rattle.l4_core_model.specs.Plain as plain
 use Rattle.l4_core_model.specs.Letters.{Nobody, Refused, Delivered}
 use Rattle.l4_core_model.specs.Local.{Local, declared, undeclared, is_own, thread, held, last_name, comes_to, relists, ended}
-use Rattle.l4_core_model.specs.Acts.{Work, acts, tells, refuses, delivers, arrives, queues_send, begins_send, goes_to, entry, first_acceptable, first_of_list, zero_refusable, is_place, delivers_if_first}
+use Rattle.l4_core_model.specs.Acts.{Work, acts, tells, refuses, delivers, arrives, queues_send, begins_send, entry, first_acceptable, first_of_list, is_place, delivers_if_first}
 use Rattle.l4_core_model.proofs.Fit.{get_other}
 use Rattle.l4_core_model.proofs.Knows.{same_ids, same_nat, get-changed}
 use Rattle.l4_types.specs.declared.steps.Step.{Step}
 use Rattle.l4_types.specs.declared.steps.Step.TheVariants as told
 use Rattle.l4_types.specs.declared.steps.Delivery.{Delivery}
 use Rattle.l4_types.specs.StepView.{step_of}
-use Rattle.l4_core.specs.declared.machine.Instr.{Instr}
-use Rattle.l4_core.specs.declared.machine.Instr.TheVariants as instrs
 use Rattle.l4_core.specs.declared.machine.Ipc.{Ipc}
 use Rattle.l4_core.specs.declared.machine.Ipc.TheVariants as ipcs
-use Rattle.l4_core.specs.Scripts.{instr_of, ipc_of}
+use Rattle.l4_core.specs.Scripts.{ipc_of}
 use Rattle.l4_core.specs.PhaseView.{endless_send}
-use Rattle.l4_core.specs.Simple.{open_wait, Suits, IsSimple, IsOwn, IsIn, IsSettled, is_ready_in}
+use Rattle.l4_core.specs.Simple.{open_wait, Suits, IsOwn, IsSettled, is_ready_in}
 use Rattle.l4_core.specs.Processor.{Processor, with_local, IsCore}
 use Rattle.l4_core.specs.Turning.{work, Does, IsAtHand, IsSender, IsReceiver}
 use Rattle.l4_core.proofs.Choosing.{never_deleted, endless}
@@ -175,9 +173,9 @@ deliver_does p q u r i before after d message tag c first named to carries here 
     let is = delivery_is p.machine p.local r i s.0 before mine local s.1 in
     let carried : message ≡ s.0.message = sym s.2 in
     let last : u.local ≡ comes_to i (ended Delivered p.local.clock) (relists (plain.unqueued i) (comes_to r (receives message tag) p.local)) =
-        ap (λ (x : Processor). x.local) then_is ∙ ap (λ (x : Processor). comes_to i (ended Delivered x.local.clock) (relists (plain.unqueued i) x.local)) first_is in
+    ap (λ (x : Processor). x.local) then_is ∙ ap (λ (x : Processor). comes_to i (ended Delivered x.local.clock) (relists (plain.unqueued i) x.local)) first_is in
     let done : work u.local after ≡ delivered_work p.machine r i message tag p.local before =
-        told_one _ _ _ before after (told.Deliver d) last adds (ap (λ step. map step_of before ++ step ∷ []) (step_is d message tag named to carries here tagged)) in
+    told_one _ _ _ before after (told.Deliver d) last adds (ap (λ step. map step_of before ++ step ∷ []) (step_is d message tag named to carries here tagged)) in
     record {
       machine = ap (λ (x : Processor). x.machine) then_is ∙ ap (λ (x : Processor). x.machine) first_is;
       cpu = ap (λ (x : Processor). x.cpu) then_is ∙ ap (λ (x : Processor). x.cpu) first_is;
@@ -271,7 +269,7 @@ begin_does p q u i r to message before middle after name c lt at is named adds d
     let now : q.local ≡ comes_to i (begins (endless_send to message)) p.local = ap (λ (x : Processor). x.local) is in
     let named_so : name ≡ last_name p.machine (comes_to i (begins (endless_send to message)) p.local) i = named ∙ ap (λ (x : Processor). last_name x.machine x.local i) is in
     let begun : work q.local middle ≡ tells (steps.Begin (last_name p.machine (comes_to i (begins (endless_send to message)) p.local) i)) (work (comes_to i (begins (endless_send to message)) p.local) before) =
-        told_one _ _ _ before middle (told.Begin name) now adds (ap (λ n. map step_of before ++ steps.Begin n ∷ []) named_so) in
+    told_one _ _ _ before middle (told.Begin name) now adds (ap (λ n. map step_of before ++ steps.Begin n ∷ []) named_so) in
     record {
       machine = does.machine ∙ same;
       cpu = does.cpu ∙ ap (λ (x : Processor). x.cpu) is;
@@ -312,7 +310,7 @@ pub act_sends : (p q : Processor) (i : ℕ) (ipc : Ipc) (to : GlobalId) (before 
 act_sends p q i ipc to before after c e is does =
     let message : Message = message_of p.machine (declared p.machine i).id (thread p.local i).context in
     let a : act_here p i ≡ Sends (endless_send to message) =
-        acts_as p i ipc (ipcs.Send to) e is ∙ ap (λ n. Sends (record { to = GlobalThread to; message = message; period = None; since = n; receive = None })) c.settled.clock in
+    acts_as p i ipc (ipcs.Send to) e is ∙ ap (λ n. Sends (record { to = GlobalThread to; message = message; period = None; since = n; receive = None })) c.settled.clock in
     record { machine = does.machine; cpu = does.cpu; stamp = does.stamp; work = does.work ∙ ap (λ (x : Act). acts p.machine 0 i x (work p.local before)) (sym a) }
 
 pub act_waits : (p q : Processor) (i : ℕ) (ipc : Ipc) (before after : List Step) (id : GlobalId) → IsCore p.machine p.local → ipc ≡ ipcs.Wait →

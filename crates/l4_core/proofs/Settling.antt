@@ -1,17 +1,15 @@
 -- A settled local state stays settled.
-use Rattle.std.proofs.Common.{◌≡◌, ℕ, zero, suc, ◌+◌, ◌<◌, ◌≤◌, Bool, true, false, cond, Option, Some, None, List, [], ◌∷◌, ◌++◌, map, filter, drop, length, refl, ap, sym, ◌∙◌, subst, inl, inr, ⊎_elim, ◌⊎◌, arith}
-use Rattle.std.specs.Prelude.{slice_index_or, slice_get, ◌==◌, not, ◌||◌}
+use Rattle.std.proofs.Common.{◌≡◌, ℕ, zero, suc, ◌<◌, ◌≤◌, Bool, true, false, cond, Option, Some, None, List, [], ◌∷◌, ◌++◌, map, filter, drop, length, refl, ap, sym, ◌∙◌, subst, inl, inr, ⊎_elim, ◌⊎◌, arith}
+use Rattle.std.specs.Prelude.{slice_index_or, ◌==◌, not, ◌||◌}
 use Rattle.std.specs.List.{list_any}
 use Rattle.std.proofs.lemmas.Bool.{eqb-true}
-use Rattle.std.proofs.lemmas.Bool.Decides.{nat_tests}
-use Rattle.std.proofs.lemmas.List.Folds.{list_any-append}
 use Rattle.l4_model.specs.Machine.{Machine}
 use Rattle.l4_model.specs.World.{Send, Phase, Ready, Sending, Receiving, Ordering, Ended, Deleted, Thread, changed, opening_thread}
 use Rattle.l4_core_model.specs.Plain as plain
 use Rattle.l4_core_model.specs.Local.{Local, declared, thread, comes_to, relists, readied, armed_for, armed_period}
 use Rattle.l4_core_model.proofs.Fit.{get_cases}
-use Rattle.l4_core_model.proofs.Knows.{length-changed, same_nat}
-use Rattle.l4_core.specs.Simple.{open_wait, IsEndless, Suits, IsSimple, IsOwn, IsIn, IsSettled, is_ready_in}
+use Rattle.l4_core_model.proofs.Knows.{length-changed}
+use Rattle.l4_core.specs.Simple.{Suits, IsSimple, IsOwn, IsIn, IsSettled, is_ready_in}
 
 -- Lists
 

@@ -1,16 +1,13 @@
 -- The turn of the program is the core's turn.
-use Rattle.std.proofs.Common.{◌≡◌, ℕ, ◌+◌, ◌<◌, Option, Some, None, List, [], length, max, refl, ap, sym, ◌∙◌, subst, arith}
+use Rattle.std.proofs.Common.{◌≡◌, ◌+◌, Option, Some, ap, sym, ◌∙◌, subst, arith}
 use Rattle.std.specs.Option.{option_map}
 use Rattle.l4_model.specs.Machine.{Machine}
 use Rattle.l4_core_model.specs.Local.{Local}
-use Rattle.l4_core_model.specs.Acts.{Work}
 use Rattle.l4_core_model.specs.Turns as turns
-use Rattle.l4_types.specs.declared.steps.Step.{Step}
-use Rattle.l4_types.specs.declared.steps.Event.{Event}
 use Rattle.l4_core.specs.declared.processor.Choice.{Choice}
 use Rattle.l4_core.specs.declared.processor.Choice.TheVariants.{ByDuty, ByReady}
 use Rattle.l4_core.specs.Processor.{Processor, IsCore}
-use Rattle.l4_core.specs.Turning.{choice_of, work, Does, IsPossible, IsTurn, IsIdle}
+use Rattle.l4_core.specs.Turning.{choice_of, IsPossible}
 use Rattle.l4_core.proofs.Choosing.{duty-found, ready-found}
 use Rattle.l4_core.proofs.Pieces.{home}
 use Rattle.l4_core.proofs.Settling.{settled-stamped}

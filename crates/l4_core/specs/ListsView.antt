@@ -1,5 +1,5 @@
 -- The lists of a processor, kept as one row of sends in order of arrival.
-use Rattle.std.specs.Prelude.{◌≡◌, ℕ, ◌<◌, ◌≤◌, ◌==◌, eqb, Bool, true, if◌then◌else◌, List, [], ◌∷◌, map}
+use Rattle.std.specs.Prelude.{◌≡◌, ℕ, ◌<◌, ◌≤◌, ◌==◌, eqb, true, if◌then◌else◌, List, [], ◌∷◌, map}
 use Rattle.std.specs.List.{list_any, range_with_len, IsDistinct}
 use Rattle.l4_core.specs.declared.lists.Arrival.{Arrival}
 use Rattle.l4_core_model.specs.Plain.{Waiting, Plain}

@@ -1,5 +1,5 @@
 -- The local states that the only processor comes to where scripts send and wait without times, and nothing is cancelled or deleted.
-use Rattle.std.specs.Prelude.{◌≡◌, ℕ, ◌==◌, ◌<◌, ◌≤◌, Bool, true, false, Option, Some, None, List, [], length, replicate}
+use Rattle.std.specs.Prelude.{◌≡◌, ℕ, ◌==◌, ◌<◌, ◌≤◌, Bool, true, false, Option, Some, None, [], length, replicate}
 use Rattle.std.specs.List.{list_any}
 use Rattle.l4_model.specs.Words.{AnyThread, GlobalId}
 use Rattle.l4_model.specs.Machine.{Machine}

@@ -1,7 +1,6 @@
 -- What a turn of the program is in the core run.
-use Rattle.std.specs.Prelude.{◌≡◌, ℕ, ◌+◌, ◌<◌, false, Option, Some, None, List, [], length, map, slice_get}
-use Rattle.l4_model.specs.World.{Phase, Ready, Sending, Receiving}
-use Rattle.l4_core_model.specs.Plain.{is_queued}
+use Rattle.std.specs.Prelude.{◌≡◌, ℕ, ◌+◌, ◌<◌, false, Some, None, List, [], length, map, slice_get}
+use Rattle.l4_model.specs.World.{Ready, Sending, Receiving}
 use Rattle.l4_core_model.specs.Local.{Local, thread}
 use Rattle.l4_core_model.specs.Acts.{Work, first_acceptable}
 use Rattle.l4_core_model.specs.Turns as turns

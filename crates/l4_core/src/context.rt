@@ -154,6 +154,13 @@ impl Context {
     {
         let originator = self.originator(machine, sender);
         let label = self.regs.words[0] / 0x1_0000;
-        Message::new(label, originator.is_some(), self.words(), originator.unwrap_or(sender), sender).unwrap()
+        Message::new(
+            label,
+            originator.is_some(),
+            self.words(),
+            originator.unwrap_or(sender),
+            sender,
+        )
+        .unwrap()
     }
 }

@@ -30,7 +30,9 @@ impl Machine {
     fn declaration_of(&self, id: GlobalId) -> Option<&Declaration>
         ensures { option_copied result ≡ declaration_of self.now id }
     {
-        self.threads().iter().find(|thread| is_same(thread.id(), id))
+        self.threads()
+            .iter()
+            .find(|thread| is_same(thread.id(), id))
     }
 
     /// Whether two threads are declared, and of one address space.

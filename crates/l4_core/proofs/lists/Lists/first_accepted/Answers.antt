@@ -1,4 +1,4 @@
-use Rattle.std.proofs.Common.{◌<◌, ◌≡◌, length, ap, sym, ◌∙◌, arith}
+use Rattle.std.proofs.Common.{◌<◌, length, ap, sym, ◌∙◌, arith}
 use Rattle.l4_model.specs.Words.{AnyThread}
 use Rattle.l4_core_model.specs.Plain.{Plain, first_taken, list_of}
 use Rattle.l4_core.proofs.Listing.{first-shown, list-shown, blocks-shown}

@@ -1,4 +1,4 @@
-use Rattle.std.proofs.Common.{◌≡◌, ◌<◌, length, false, eqb, subst, sym, ap, ◌∙◌, arith}
+use Rattle.std.proofs.Common.{◌≡◌, ◌<◌, length, false, eqb, ap, ◌∙◌, arith}
 use Rattle.std.specs.List.{list_any}
 use Rattle.l4_core_model.specs.Plain.{Plain}
 use Rattle.l4_core.specs.Simple.{is_ready_in}

@@ -1,5 +1,4 @@
-use Rattle.std.proofs.Common.{◌≡◌, ◌<◌, length, false, eqb, subst, sym, ap, ◌∙◌, arith}
-use Rattle.std.specs.List.{list_any}
+use Rattle.std.proofs.Common.{◌≡◌, ◌<◌, length, false, ap, ◌∙◌, arith}
 use Rattle.l4_core_model.specs.Plain.{Plain, is_queued, queued}
 use Rattle.l4_core.specs.ListsView.{lists_of, senders}
 use Rattle.l4_core.specs.declared.lists.Arrival.{Arrival}

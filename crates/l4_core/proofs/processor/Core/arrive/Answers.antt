@@ -1,7 +1,6 @@
-use Rattle.std.proofs.Common.{subst, sym, ◌∙◌, refl, ap, ◌≡◌}
-use Rattle.l4_core_model.specs.Plain.{Waiting, is_queued}
+use Rattle.std.proofs.Common.{subst, sym, ◌∙◌, ap}
+use Rattle.l4_core_model.specs.Plain.{Waiting}
 use Rattle.l4_core.specs.Processor.{Processor, IsCore}
-use Rattle.l4_core.specs.Turning.{IsSender}
 use Rattle.l4_core.proofs.Pieces.{has_send, arrive_delivers, arrive_waits}
 use Rattle.l4_core.proofs.processor.Core.arrive.Goals as goal
 

@@ -1,5 +1,4 @@
-use Rattle.std.proofs.Common.{◌≡◌, ◌<◌, ◌≤◌, length, subst, sym, ◌∙◌, ap, arith, None}
-use Rattle.l4_core_model.specs.Acts.{first_acceptable}
+use Rattle.std.proofs.Common.{◌≡◌, ◌<◌, length, subst, sym, ◌∙◌, ap, arith, None}
 use Rattle.l4_core.specs.Processor.{Processor, IsCore}
 use Rattle.l4_core.proofs.Choosing.{choice-first, choice-finds, choice-passes}
 use Rattle.l4_core.proofs.Pieces.{home}

@@ -1,6 +1,5 @@
 use Rattle.std.proofs.Common.{subst, sym, ◌∙◌, refl, ap, Some}
 use Rattle.l4_model.specs.Effects.{receives}
-use Rattle.l4_core_model.specs.Acts.{first_acceptable}
 use Rattle.l4_core.specs.Processor.{Processor, IsCore}
 use Rattle.l4_core.specs.Turning.{IsSender}
 use Rattle.l4_core.proofs.Pieces.{receiver_of, sender_of, still_sends, deliver_does}

@@ -1,10 +1,9 @@
-use Rattle.std.proofs.Common.{◌≡◌, ◌<◌, ◌≤◌, length, ◌∙◌, ap, sym, subst, false, arith}
+use Rattle.std.proofs.Common.{◌≡◌, ◌<◌, ◌≤◌, length, ◌∙◌, ap, sym, subst, arith}
 use Rattle.std.specs.Prelude.{replicate}
 use Rattle.l4_model.specs.Machine.{Machine}
 use Rattle.l4_model.specs.World.{opening_thread}
 use Rattle.l4_core_model.specs.Local.{opening_local}
 use Rattle.l4_core.specs.Simple.{is_ready_in}
-use Rattle.l4_core.specs.Processor.{Processor}
 use Rattle.l4_core.proofs.Opening.{lists_after, threads_more, lists_more, not_yet, opened-core, opened-is}
 use Rattle.l4_core.proofs.processor.Core.new.Goals as goal
 
@@ -14,7 +13,7 @@ push_ready-requires-clause-free c = ap (λ s. is_ready_in s c.loop-place.place) 
 pub loop-place-preserved : goal.loop-place-preserved
 loop-place-preserved c = (
   threads_more c.loop-place.place c.loop-place.threads.items c.push.new.self.items c.new-in-loop-place.result c.loop-place.invariant.0 c.in_ok-push.ensures.items c.new-in-loop-place.ensures,
-  lists_more (length c.threads-count.result.now) c.loop-place.place c.loop-place.lists c.push_ready.new.self c.loop-place.invariant.1 c.push_ready.ensures
+  lists_more (length c.threads-count.result.now) c.loop-place.place c.loop-place.lists c.push_ready.new.self c.loop-place.invariant.1 c.push_ready.ensures,
 )
 
 pub invariant_of-result : goal.invariant_of-result

@@ -1,4 +1,3 @@
-
 use Rattle.l4_core.specs.Processor.{local_of}
 use Rattle.l4_core.proofs.Effects.{core_after}
 use Rattle.l4_core.proofs.Settling.{settled-popped}

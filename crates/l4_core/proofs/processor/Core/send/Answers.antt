@@ -1,11 +1,9 @@
 use Rattle.std.proofs.Common.{◌≡◌, ◌<◌, length, Some, subst, sym, ◌∙◌, ap, arith}
 use Rattle.l4_model.specs.World.{Message}
-use Rattle.l4_model.specs.Rules.{message_of}
 use Rattle.l4_model.specs.Machine.{Machine, place_of}
-use Rattle.l4_core_model.specs.Local.{declared, thread, comes_to}
 use Rattle.l4_core_model.specs.Acts.{begins_send}
 use Rattle.l4_core.specs.PhaseView.{endless_send}
-use Rattle.l4_core.specs.Processor.{Processor, IsCore, with_local}
+use Rattle.l4_core.specs.Processor.{Processor, IsCore}
 use Rattle.l4_core.specs.Turning.{Does, IsSender}
 use Rattle.l4_core.proofs.Pieces.{sends_now, begin_does}
 use Rattle.l4_core.proofs.processor.Core.send.Goals as goal
@@ -32,5 +30,5 @@ returns-in-Some c =
     let at : place_of c.args.self.now.machine c.args.to.now ≡ Some c.in-Some.receiver = ap (λ (m : Machine). place_of m c.args.to.now) (sym same) ∙ sym c.in-Some.ensures.value in
     let within : c.in-Some.receiver < length c.args.self.now.machine.threads = subst (λ (m : Machine). c.in-Some.receiver < length m.threads) same c.in-Some.ensures.within in
     let does = begin_does c.args.self.now c.begin.new.self c.arrive.new.self c.args.place c.in-Some.receiver c.args.to.now c.new_message-message.result c.args.steps.now.items c.push.new.self.items c.arrive.new.steps.items c.last_name.result
-        core within at c.begin.ensures c.last_name.ensures c.push.ensures.items c.arrive.ensures in
+    core within at c.begin.ensures c.last_name.ensures c.push.ensures.items c.arrive.ensures in
     subst (λ (message : Message). Does (begins_send c.args.self.now.machine 0 c.args.place (endless_send c.args.to.now message)) c.args.self.now c.arrive.new.self c.args.steps.now.items c.arrive.new.steps.items) c.new_message-message.ensures does

@@ -1,4 +1,4 @@
-use Rattle.std.proofs.Common.{◌≡◌, length, ap, sym, ◌∙◌, subst, arith}
+use Rattle.std.proofs.Common.{◌≡◌, length, ap, ◌∙◌, subst, arith}
 use Rattle.l4_core.specs.Processor.{Processor, IsCore}
 use Rattle.l4_core.proofs.Reporting.{reports, reports-all, reports-more}
 use Rattle.l4_core.proofs.processor.Core.threads.Goals as goal

@@ -1,4 +1,4 @@
-use Rattle.std.proofs.Common.{◌≡◌, subst, sym, ◌∙◌, ap, refl, arith}
+use Rattle.std.proofs.Common.{subst}
 use Rattle.l4_core.specs.Processor.{Processor, IsCore, local_of}
 use Rattle.l4_core.proofs.Turns.{core_stamped, possible}
 use Rattle.l4_core.proofs.processor.Core.turn.Goals as goal

@@ -1,6 +1,15 @@
-pub mod Growing
 pub mod Digits
 pub mod Splits
 pub mod GlobalIds
 pub mod ReadingLines
 pub mod TextRows
+pub mod Growing
+pub mod Choosing
+pub mod Coming
+pub mod Effects
+pub mod Listing
+pub mod Opening
+pub mod Pieces
+pub mod Reporting
+pub mod Settling
+pub mod Turns

@@ -7,3 +7,8 @@ pub mod Scripts
 pub mod Machines
 pub mod Statements
 pub mod Texts
+pub mod ListsView
+pub mod PhaseView
+pub mod Processor
+pub mod Simple
+pub mod Turning

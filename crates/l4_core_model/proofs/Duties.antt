@@ -16,7 +16,7 @@ use Rattle.l4_core_model.specs.Plain as plain
 use Rattle.l4_core_model.specs.Letters.{TimedOut, Nobody, Cancelled, Dropped, Refused}
 use Rattle.l4_core_model.specs.Local.{Local, declared, thread, held, held_by, destination_place, comes_to, ended, was_dropped}
 use Rattle.l4_core_model.specs.Acts.{Work, refuses, delivers, fails_receive, first_of_list, first_acceptable, zero_refusable}
-use Rattle.l4_core_model.specs.Turns.{Duty, DropsOwn, RefusesFirst, CancelsOwn, CancelsReceive, DeliversFirst, ClosesReceive, RefusesZero, duty_a, duty_b, duty_c, duty_d, duty_e, duty_f, duty_g, duty_h, duty_of, first_some, does_duty, next_untold}
+use Rattle.l4_core_model.specs.Turns.{Duty, DropsOwn, RefusesFirst, CancelsOwn, CancelsReceive, DeliversFirst, ClosesReceive, RefusesZero, duty_drops_own, duty_refuses_waiting, duty_tells_gone, duty_cancels_own, duty_cancels_receive, duty_delivers_first, duty_closes_receive, duty_refuses_zero, duty_of, first_some, does_duty, next_untold}
 use Rattle.l4_core_model.proofs.Knows.{IsSingle, Knows, told, held_found, pending_is, refuses_follows, knows-comes_to, first_is, changed_as, IsSeat}
 use Rattle.l4_core_model.proofs.Sending.{receiver_is, queued_same, deleted_follows, refused_follows}
 use Rattle.l4_core_model.proofs.Fit.{IsFit, fit-comes_to, keeps-same}
@@ -206,49 +206,49 @@ duty_ends m w x i d single before lt h =
     let l = x.local in
     let t : Found = held m x.local i in
     let P : Duty → Type 0 = λ duty. Ends m w (does_duty m 0 i duty x) in
-    first_then (duty_a x.local t) _ d h
+    first_then (duty_drops_own x.local t) _ d h
     (λ is.
     guard_then (is_deleted t.now.phase) _ d is λ gone rest.
     guard_then (plain.is_queued x.local.lists i) _ d rest λ queued rest.
     subst P (some_is DropsOwn d rest) (drops_ends m w x i single before gone queued))
     λ none_a h.
-    first_then (duty_b x.local t) _ d h
+    first_then (duty_refuses_waiting x.local t) _ d h
     (λ is.
     guard_then (is_deleted t.now.phase) _ d is λ gone rest.
     bind_then (slice_get (plain.list_of x.local.lists i) 0) _ d rest λ e at rest.
     subst P (some_is (RefusesFirst e.block) d rest) (refuses_first_ends m w x i e single before lt gone (at_first (IsSeat m x.local.threads i) (plain.list_of x.local.lists i) e (before.goes.fit.seats i) at)))
     λ none_b h.
-    first_then (duty_c m 0 x.local t) _ d h
+    first_then (duty_tells_gone m 0 x.local t) _ d h
     (λ is.
     guard_then (is_deleted t.now.phase) _ d is λ gone rest.
     bind_then (next_untold m 0 (slice_index_or x.local.told i 0)) _ d rest λ to untold rest.
     let none = none_untold m (slice_index_or x.local.told i 0) single.one in cc)
     λ none_c h.
-    first_then (duty_d x.local t) _ d h
+    first_then (duty_cancels_own x.local t) _ d h
     (λ is.
     guard_then (plain.is_queued x.local.lists i) _ d is λ queued rest.
     guard_then t.now.cancel_send _ d rest λ wish rest.
     subst P (some_is CancelsOwn d rest) (cancels_ends m w x i single before wish queued))
     λ none_d h.
-    first_then (duty_e t) _ d h
+    first_then (duty_cancels_receive t) _ d h
     (λ is.
     guard_then (is_some (receive_now t.now.phase)) _ d is λ receiving rest.
     guard_then t.now.cancel_receive _ d rest λ wish rest.
     let r = receives_some (receive_now t.now.phase) receiving in
     subst P (some_is CancelsReceive d rest) (cancels_receive_ends m w x i r.0 single before lt r.1 wish))
     λ none_e h.
-    first_then (duty_f x.local t) _ d h
+    first_then (duty_delivers_first x.local t) _ d h
     (λ is.
     bind_then (first_acceptable x.local i) _ d is λ first accepted rest.
     subst P (some_is (DeliversFirst first) d rest) (accepted_ends m w x i first single before lt accepted))
     λ none_f h.
-    first_then (duty_g m x.local t) _ d h
+    first_then (duty_closes_receive m x.local t) _ d h
     (λ is.
     bind_then (receive_now t.now.phase) _ d is λ receive receiving rest.
     guard_then (is_nobody receive.from (held_by m x.local receive.from)) _ d rest λ nobody rest.
     subst P (some_is ClosesReceive d rest) (closes_ends m w x i receive single before lt receiving nobody (accepts_none (first_acceptable x.local i) none_f)))
     λ none_g h.
-    first_then (duty_h m x.local t) _ d h
+    first_then (duty_refuses_zero m x.local t) _ d h
     (λ is.
     bind_then (find (λ e. zero_refusable m t (thread x.local e.block).send) (plain.list_of x.local.lists i)) _ d is λ e found rest.
     let seat = all_find (IsSeat m x.local.threads i) (λ e. zero_refusable m t (thread x.local e.block).send) (plain.list_of x.local.lists i) e (before.goes.fit.seats i) found in

@@ -11,7 +11,7 @@ use Rattle.l4_model.proofs.Chains.{some_is}
 use Rattle.l4_core_model.specs.Plain as plain
 use Rattle.l4_core_model.specs.Local.{Local, own_places, thread, held, held_by, destination_place, armed_period}
 use Rattle.l4_core_model.specs.Acts.{first_acceptable, zero_refusable}
-use Rattle.l4_core_model.specs.Turns.{DropsOwn, RefusesFirst, CancelsOwn, ClosesReceive, RefusesZero, duty_a, duty_b, duty_c, duty_d, duty_e, duty_f, duty_g, duty_h, duty_of, first_some, CancelsReceive, first_duty, Choice, ByDue, ByReady, choice, is_busy}
+use Rattle.l4_core_model.specs.Turns.{DropsOwn, RefusesFirst, CancelsOwn, ClosesReceive, RefusesZero, duty_drops_own, duty_refuses_waiting, duty_tells_gone, duty_cancels_own, duty_cancels_receive, duty_delivers_first, duty_closes_receive, duty_refuses_zero, duty_of, first_some, CancelsReceive, first_duty, Choice, ByDue, ByReady, choice, is_busy}
 use Rattle.l4_core_model.specs.Runs.{is_empty}
 use Rattle.l4_core_model.proofs.Knows.{IsSingle, IsSeat}
 use Rattle.l4_core_model.proofs.Fit.{IsFit}
@@ -79,9 +79,9 @@ is_waiting_here m l i send rest lt has = (rest.all i lt).waits (ap (λ o. is_som
 -- No thread has a duty.
 
 no_duties_of : (m : Machine) (l : Local) (i : ℕ) → IsResting m l → i < length m.threads →
-    AllByRecursion (λ o. o ≡ None) (duty_a l (held m l i) ∷ duty_b l (held m l i) ∷ duty_c m 0 l (held m l i) ∷ duty_d l (held m l i) ∷ duty_e (held m l i) ∷ duty_f l (held m l i) ∷ duty_g m l (held m l i) ∷ duty_h m l (held m l i) ∷ [])
+    AllByRecursion (λ o. o ≡ None) (duty_drops_own l (held m l i) ∷ duty_refuses_waiting l (held m l i) ∷ duty_tells_gone m 0 l (held m l i) ∷ duty_cancels_own l (held m l i) ∷ duty_cancels_receive (held m l i) ∷ duty_delivers_first l (held m l i) ∷ duty_closes_receive m l (held m l i) ∷ duty_refuses_zero m l (held m l i) ∷ [])
 no_duties_of m l i rest lt =
-    none_of (duty_a l (held m l i) ∷ duty_b l (held m l i) ∷ duty_c m 0 l (held m l i) ∷ duty_d l (held m l i) ∷ duty_e (held m l i) ∷ duty_f l (held m l i) ∷ duty_g m l (held m l i) ∷ duty_h m l (held m l i) ∷ [])
+    none_of (duty_drops_own l (held m l i) ∷ duty_refuses_waiting l (held m l i) ∷ duty_tells_gone m 0 l (held m l i) ∷ duty_cancels_own l (held m l i) ∷ duty_cancels_receive (held m l i) ∷ duty_delivers_first l (held m l i) ∷ duty_closes_receive m l (held m l i) ∷ duty_refuses_zero m l (held m l i) ∷ [])
     (rest.no_duty i lt)
 
 guarded : {A : Type 0} (a b : Bool) (x : A) → (a >> (b >> Some x)) ≡ None → a ≡ true → b ≡ true → ⊥

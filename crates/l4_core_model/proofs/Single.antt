@@ -16,7 +16,7 @@ use Rattle.l4_core_model.specs.Plain as plain
 use Rattle.l4_core_model.specs.Letters.{TimedOut}
 use Rattle.l4_core_model.specs.Local.{Local, is_own, own_places, thread, held, relists}
 use Rattle.l4_core_model.specs.Acts.{Work, ◌▷◌, does, refuses, fails_receive, first_acceptable, acts}
-use Rattle.l4_core_model.specs.Turns.{Duty, Choice, ByDuty, ByDue, ByReady, duty_a, duty_b, duty_c, duty_d, duty_e, duty_f, duty_g, duty_h, duty_of, first_some, first_duty, choice, does_choice, times_out, turn, opened}
+use Rattle.l4_core_model.specs.Turns.{Duty, Choice, ByDuty, ByDue, ByReady, duty_drops_own, duty_refuses_waiting, duty_tells_gone, duty_cancels_own, duty_cancels_receive, duty_delivers_first, duty_closes_receive, duty_refuses_zero, duty_of, first_some, first_duty, choice, does_choice, times_out, turn, opened}
 use Rattle.l4_core_model.proofs.Knows.{IsSingle, Knows, blocks, own, held_found, pending_is, refuses_follows}
 use Rattle.l4_core_model.proofs.Fit.{IsFit, IsArmedAt, IsReadyAt, Justifies, NotIn, AreDistinct, all-filter, all-map, fit-popped, fit-popped_due}
 use Rattle.l4_core_model.proofs.Remembers.{RemembersAll, RemembersBut, but_popped, but_popped_due}
@@ -59,8 +59,8 @@ own_at m P i single lt all = filtered_at P (is_own m 0) 0 (length m.threads) i a
 
 -- Where no thread has a duty, none accepts what waits for it.
 
-no_duty_f : (m : Machine) (l : Local) (t : Found) → duty_of m 0 l t ≡ None → duty_f l t ≡ None
-no_duty_f m l t h = by (duty_a l t) (duty_b l t) (duty_c m 0 l t) (duty_d l t) (duty_e t) (duty_f l t) (duty_g m l t ∷ duty_h m l t ∷ []) h
+no_duty_f : (m : Machine) (l : Local) (t : Found) → duty_of m 0 l t ≡ None → duty_delivers_first l t ≡ None
+no_duty_f m l t h = by (duty_drops_own l t) (duty_refuses_waiting l t) (duty_tells_gone m 0 l t) (duty_cancels_own l t) (duty_cancels_receive t) (duty_delivers_first l t) (duty_closes_receive m l t ∷ duty_refuses_zero m l t ∷ []) h
   where
     by : (a b c d e f : Option Duty) (rest : List (Option Duty)) → first_some (a ∷ b ∷ c ∷ d ∷ e ∷ f ∷ rest) ≡ None → f ≡ None
     by None None None None None None rest h = refl

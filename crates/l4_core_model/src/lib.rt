@@ -8,8 +8,6 @@ ghost use Rattle.l4_core_model.specs.Runs.{Run, IsMachine, TellsHistories, told}
 ghost use Rattle.l4_core_model.specs.Schedules.{replay, run};
 ghost use Rattle.l4_core_model.specs.Laws.{IsCoreRun, TellsWhatIsKnown, RestsStill};
 
-pub mod held;
-
 /// A run by a schedule is a core run.
 pub fn law_replay_is_core_run()
     ensures { (m : Machine) (schedule : List ℕ) → IsCoreRun m (replay m schedule) }
@@ -27,14 +25,14 @@ pub fn law_single_processor()
     ensures rest { (m : Machine) (r : Run) → IsMachine m → m.cpus ≡ 1 → IsCoreRun m r → RestsStill m r }
 {}
 
-/// So it is with a run by a schedule.
+/// The same holds of a run by a schedule on one processor.
 pub fn law_single_replay()
     ensures history { (m : Machine) (schedule : List ℕ) → IsMachine m → m.cpus ≡ 1 → IsHistory m (told (replay m schedule).events) }
     ensures known { (m : Machine) (schedule : List ℕ) → IsMachine m → m.cpus ≡ 1 → TellsWhatIsKnown m (replay m schedule) }
     ensures rest { (m : Machine) (schedule : List ℕ) → IsMachine m → m.cpus ≡ 1 → RestsStill m (replay m schedule) }
 {}
 
-/// And so it is with a run in rounds.
+/// The same holds of a run in rounds on one processor.
 pub fn law_single_run()
     ensures history { (m : Machine) (turns : ℕ) → IsMachine m → m.cpus ≡ 1 → IsHistory m (told (run m turns).events) }
     ensures known { (m : Machine) (turns : ℕ) → IsMachine m → m.cpus ≡ 1 → TellsWhatIsKnown m (run m turns) }

@@ -1,42 +1,24 @@
 -- Each begun send is decided once, or is still undecided: a step that begins it makes it undecided, one that
 -- decides it ends that, and no other step touches it.
-use Rattle.std.proofs.Common.{subst, ◌≡◌, ℕ, zero, suc, ◌+◌, ◌<◌, ◌≤◌, Bool, true, false, cond, Option, Some, None, List, [], ◌∷◌, map, refl, ap, sym, ◌∙◌, arith, get_or}
+use Rattle.std.proofs.Common.{subst, ◌≡◌, ℕ, zero, suc, ◌+◌, ◌≤◌, Bool, true, false, cond, Option, Some, None, List, [], ◌∷◌, map, refl, ap, sym, ◌∙◌, arith, get_or}
 use Rattle.std.proofs.lemmas.Bool.{eqb-true}
 use Rattle.std.proofs.lemmas.Bool.Decides.{nat_tests}
 use Rattle.std.proofs.lemmas.Option.{slice_get-get_or, slice_get-map}
-use Rattle.std.proofs.lemmas.List.Quantifiers.{position-Some}
 use Rattle.std.proofs.lemmas.List.Sums.{sum_by-cons}
-use Rattle.std.specs.Prelude.{slice_get, ◌*◌, nat_lt, ◌==◌, is_some, length}
+use Rattle.std.specs.Prelude.{slice_get, ◌*◌, nat_lt, ◌==◌, is_some}
 use Rattle.std.specs.List.{count_by, cons_option}
 use Rattle.std.specs.Option.{option_map}
-use Rattle.l4_model.specs.Words.{GlobalId, Id, same_id}
+use Rattle.l4_model.specs.Words.{GlobalId, Id}
 use Rattle.l4_model.specs.Machine.{Machine, Declaration, place_of}
 use Rattle.l4_model.specs.World.{World, Send, Thread, changed, opening, opening_thread, Name}
-use Rattle.l4_model.specs.Steps.{Step, Local, Begin, Queue, Deliver, Wait, SendTimeout, ReceiveTimeout, SendNobody, ReceiveNobody, SendCancel, ReceiveCancel, Drop, Order, Obey, Tick, next}
+use Rattle.l4_model.specs.Steps.{Step, Begin, Deliver, SendTimeout, SendNobody, SendCancel, Drop, next}
 use Rattle.l4_model.specs.Conditions.{Pending, undecided, found_at, ◌>>=◌, ◌>>◌}
 use Rattle.l4_model.specs.History.{run, reached, waiting, begun_name}
 use Rattle.l4_model.specs.Laws.{same_name, names, delivered_name, refused_name, dropped_name, begins_of, deliveries_of, refusals_of, drops_of}
 use Rattle.l4_model.proofs.Chains.{bind_then, some_is, get-changed_same, get-changed_other}
 use Rattle.l4_model.proofs.Sends.{Status, status, statuses, with_begun, with_decided, Begins, Decides, Keeps, Effect, effect}
-use Rattle.l4_model.proofs.Once.{same_id_is, same_name_is}
-use Rattle.l4_model.proofs.Sound.{IsSound, AreSound, all-get, ready_has_none, all-replicated, step_sound}
-
--- two ids of one place are one
-pub place_id : (m : Machine) (a : GlobalId) (i : ℕ) → place_of m a ≡ Some i → (d : Declaration) → (i < length m.threads) × ((get_or m.threads i d).id ≡ a)
-place_id m a i h d =
-    let p = position-Some (λ (x : Declaration). same_id x.id a) m.threads i d h in
-    (p.0, same_id_is (get_or m.threads i d).id a p.1)
-
-pub one_place : (m : Machine) (a b : GlobalId) (i : ℕ) → place_of m a ≡ Some i → place_of m b ≡ Some i → a ≡ b
-one_place m a b i ha hb =
-    let d : Declaration = record { id = a; cpu = 0; space = 0; script = [] } in
-    sym (place_id m a i ha d).1 ∙ (place_id m b i hb d).1
-
-eqb_same : (n : ℕ) → (n == n) ≡ true
-eqb_same n = grind (arith, nat_tests)
-
-same_name_refl : (s : Name) → same_name s s ≡ true
-same_name_refl s = rw (eqb_same s.thread.number, eqb_same s.thread.version, eqb_same s.k)
+use Rattle.l4_model.proofs.Sound.{AreSound, ready_has_none, opening_sound, step_sound}
+use Rattle.l4_model.proofs.Places.{same_name_is, same_name_refl, place_id, one_place}
 
 -- 1 where the k-th send is undecided
 abbrev pending : ℕ → Option Status → ℕ
@@ -60,11 +42,11 @@ kept_pending m w v s e = sym (ap (λ xs. pending s.k (place_of m s.thread >>= sl
 elsewhere : (k : ℕ) (f : Status → Status) (xs ys : List Status) (i j : ℕ) → ys ≡ changed f xs i → (i ≡ j → ⊥) → pending k (slice_get xs j) ≡ pending k (slice_get ys j)
 elsewhere k f xs ys i j e ne = rw (e, get-changed_other f xs i j ne)
 
-idle : (m : Machine) (w v : World) (s : Name) (b : Begins m w v s) → AreSound w → b.old.send ≡ None
+pub idle : (m : Machine) (w v : World) (s : Name) (b : Begins m w v s) → AreSound m w → b.old.send ≡ None
 idle m w v s b sound =
     let now = b.sender.now in
     ap (λ (x : Status). x.send) b.old_is
-    ∙ (ready_has_none now.phase now.send now.order b.ready (all-get IsSound w.threads b.sender.at now sound b.known.now).suits).0
+    ∙ (ready_has_none now.phase now.send now.order b.ready (sound b.sender.at b.sender.declared now b.known.declared b.known.now).suits).0
 
 -- what another name sees of a change at one place
 other_pending : (m : Machine) (w v : World) (s t : Name) (f : Status → Status) (i : ℕ) (old : Status) → same_name s t ≡ false →
@@ -108,7 +90,7 @@ cond_zero : (c : Bool) → ◌≡◌ {A = ℕ} (cond c 0 0) 0
 cond_zero true = refl
 cond_zero false = refl
 
-begun_pending : (m : Machine) (w v : World) (s t : Name) → Begins m w v t → AreSound w → cond (same_name s t) 1 0 + pending_of m w s ≡ pending_of m v s
+begun_pending : (m : Machine) (w v : World) (s t : Name) → Begins m w v t → AreSound m w → cond (same_name s t) 1 0 + pending_of m w s ≡ pending_of m v s
 begun_pending m w v s t b sound = by (same_name s t) refl
   where
     was_none : (k : ℕ) (x : Status) → x.send ≡ None → pending k (Some x) ≡ 0
@@ -155,26 +137,18 @@ decided_pending m w v s t d = by (same_name s t) refl
         omega (arith, same)
 
 -- the account of one step
-step_balance : (m : Machine) (w v : World) (s : Name) (step : Step) → Effect m w v step → AreSound w →
+step_balance : (m : Machine) (w v : World) (s : Name) (step : Step) → Effect m w v step → AreSound m w →
     beginnings s step + pending_of m w s ≡ decisions s step + pending_of m v s
-step_balance m w v s (Local t) e sound = omega (arith, kept_pending m w v s e)
 step_balance m w v s (Begin t) e sound = omega (arith, begun_pending m w v s t e sound)
-step_balance m w v s (Queue t) e sound = omega (arith, kept_pending m w v s e)
 step_balance m w v s (Deliver t receiver shown actual tag words) e sound = omega (arith, decided_pending m w v s t e)
-step_balance m w v s (Wait t) e sound = omega (arith, kept_pending m w v s e)
 step_balance m w v s (SendTimeout t) e sound = omega (arith, decided_pending m w v s t e)
-step_balance m w v s (ReceiveTimeout t) e sound = omega (arith, kept_pending m w v s e)
 step_balance m w v s (SendNobody t) e sound = omega (arith, decided_pending m w v s t e)
-step_balance m w v s (ReceiveNobody t) e sound = omega (arith, kept_pending m w v s e)
 step_balance m w v s (SendCancel t) e sound = omega (arith, decided_pending m w v s t e)
-step_balance m w v s (ReceiveCancel t) e sound = omega (arith, kept_pending m w v s e)
 step_balance m w v s (Drop t) e sound = omega (arith, decided_pending m w v s t e)
-step_balance m w v s (Order caller target what) e sound = omega (arith, kept_pending m w v s e)
-step_balance m w v s (Obey t) e sound = omega (arith, kept_pending m w v s e)
-step_balance m w v s (Tick cpu clock) e sound = omega (arith, kept_pending m w v s e)
+step_balance m w v s _ e sound = omega (arith, kept_pending m w v s e)
 
 -- the account of a run
-run_balance : (m : Machine) (s : Name) (h : List Step) (w v : World) → run m w h ≡ Some v → AreSound w →
+run_balance : (m : Machine) (s : Name) (h : List Step) (w v : World) → run m w h ≡ Some v → AreSound m w →
     begins_of s h + pending_of m w s ≡ deliveries_of s h + refusals_of s h + drops_of s h + pending_of m v s
 run_balance m s [] w v r sound = omega (arith, kept_pending m w v s (ap statuses (sym (some_is w v r))))
 run_balance m s (step ∷ h) w v r sound =
@@ -312,21 +286,13 @@ begun_unbegun m w v s t b = by (same_name s t) refl
     by false actual = let h = falls (unbegun s.k) (with_begun b.send) (unbegun-begun s.k b.send) m w v s.thread b.place b.now in omega arith
 
 step_unbegun : (m : Machine) (w v : World) (s : Name) (step : Step) → Effect m w v step → beginnings s step + unbegun_of m v s ≤ unbegun_of m w s
-step_unbegun m w v s (Local t) e = omega (arith, kept_unbegun m w v s e)
 step_unbegun m w v s (Begin t) e = begun_unbegun m w v s t e
-step_unbegun m w v s (Queue t) e = omega (arith, kept_unbegun m w v s e)
 step_unbegun m w v s (Deliver t receiver shown actual tag words) e = omega (arith, decided_unbegun m w v s t e)
-step_unbegun m w v s (Wait t) e = omega (arith, kept_unbegun m w v s e)
 step_unbegun m w v s (SendTimeout t) e = omega (arith, decided_unbegun m w v s t e)
-step_unbegun m w v s (ReceiveTimeout t) e = omega (arith, kept_unbegun m w v s e)
 step_unbegun m w v s (SendNobody t) e = omega (arith, decided_unbegun m w v s t e)
-step_unbegun m w v s (ReceiveNobody t) e = omega (arith, kept_unbegun m w v s e)
 step_unbegun m w v s (SendCancel t) e = omega (arith, decided_unbegun m w v s t e)
-step_unbegun m w v s (ReceiveCancel t) e = omega (arith, kept_unbegun m w v s e)
 step_unbegun m w v s (Drop t) e = omega (arith, decided_unbegun m w v s t e)
-step_unbegun m w v s (Order caller target what) e = omega (arith, kept_unbegun m w v s e)
-step_unbegun m w v s (Obey t) e = omega (arith, kept_unbegun m w v s e)
-step_unbegun m w v s (Tick cpu clock) e = omega (arith, kept_unbegun m w v s e)
+step_unbegun m w v s _ e = omega (arith, kept_unbegun m w v s e)
 
 run_unbegun : (m : Machine) (s : Name) (h : List Step) (w v : World) → run m w h ≡ Some v → begins_of s h + unbegun_of m v s ≤ unbegun_of m w s
 run_unbegun m s [] w v r = let e = kept_unbegun m w v s (ap statuses (sym (some_is w v r))) in omega arith
@@ -347,7 +313,7 @@ pub accounted : (m : Machine) (h : List Step) (s : Name) (w : World) → reached
     deliveries_of s h + refusals_of s h + drops_of s h + count_by (λ p. same_name s p.0) (waiting m w h) ≡ begins_of s h
 unfolding count
 accounted m h s w r =
-    let balance = run_balance m s h (opening m) w r (all-replicated m) in
+    let balance = run_balance m s h (opening m) w r (opening_sound m) in
     let nothing = opening_pending m s in
     let pends = pending_is m w s in
     let once = begins_once m h s w r in

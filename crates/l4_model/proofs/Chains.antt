@@ -67,3 +67,8 @@ pub set_changed : {A : Type 0} (f : A → A) (xs : List A) (i : ℕ) (d y : A) �
 set_changed f [] i d y lt e = absurd (omega arith)
 set_changed f (x ∷ xs) zero d y lt e = ap (λ z. z ∷ xs) e
 set_changed f (x ∷ xs) (suc i) d y lt e = ap (λ zs. x ∷ zs) (set_changed f xs i d y (omega arith) e)
+
+pub length-changed : {A : Type 0} (f : A → A) (xs : List A) (i : ℕ) → length (changed f xs i) ≡ length xs
+length-changed f [] i = refl
+length-changed f (x ∷ xs) zero = refl
+length-changed f (x ∷ xs) (suc i) = ap suc (length-changed f xs i)

@@ -1,13 +1,12 @@
 -- A deleted thread stays deleted, and receives nothing.
-use Rattle.std.proofs.Common.{subst, ◌≡◌, ℕ, Bool, true, false, Option, Some, None, List, [], ◌∷◌, ◌++◌, refl, ap, sym, ◌∙◌, arith, get_or}
+use Rattle.std.proofs.Common.{subst, ◌≡◌, ℕ, Bool, true, false, Option, Some, None, List, [], ◌∷◌, ◌++◌, refl, ap, sym, ◌∙◌, arith}
 use Rattle.std.proofs.lemmas.Bool.{eqb-true}
 use Rattle.std.proofs.lemmas.Bool.Decides.{nat_tests}
-use Rattle.std.proofs.lemmas.Option.{slice_get-get_or}
 use Rattle.std.specs.Prelude.{slice_get, ◌==◌}
 use Rattle.std.specs.List.{AllByRecursion}
 use Rattle.std.specs.Option.{option_map}
 use Rattle.l4_model.specs.Words.{GlobalId, Id, NilThread, AnyThread, AnyLocalThread, LocalThread, GlobalThread, same_id}
-use Rattle.l4_model.specs.Machine.{Machine, Declaration, What, CancelSend, CancelReceive, CancelBoth, Delete, place_of}
+use Rattle.l4_model.specs.Machine.{Machine, What, CancelSend, CancelReceive, CancelBoth, Delete, place_of}
 use Rattle.l4_model.specs.World.{World, Thread, Asked, Receive, Phase, Ready, Sending, Receiving, Ordering, Ended, Deleted, changed, change, is_ready, is_deleted, receive_now, unqueued}
 use Rattle.l4_model.specs.Conditions.{Found, Pending, found, found_by}
 use Rattle.l4_model.specs.Steps.{Step, Local, Begin, Queue, Deliver, Wait, SendTimeout, ReceiveTimeout, SendNobody, ReceiveNobody, SendCancel, ReceiveCancel, Drop, Order, Obey, Tick, next}
@@ -15,10 +14,8 @@ use Rattle.l4_model.specs.Effects.{fails, decided, refused, receives as gets, de
 use Rattle.l4_model.specs.History.{run}
 use Rattle.l4_model.specs.Laws.{undone, is_delivered_to}
 use Rattle.l4_model.proofs.Chains.{bind_then, some_is, get-changed_same, get-changed_other}
-use Rattle.l4_model.proofs.Sends.{known}
-use Rattle.l4_model.proofs.Once.{same_id_is}
-use Rattle.l4_model.proofs.Accounted.{place_id}
 use Rattle.l4_model.proofs.Inversions.{local_taken, begin_taken, queue_taken, DeliverTaken, deliver_taken, wait_taken, send_timeout_taken, send_nobody_taken, send_cancel_taken, drop_taken, receive_timeout_taken, receive_nobody_taken, receive_cancel_taken, order_taken, obey_taken, tick_taken}
+use Rattle.l4_model.proofs.Places.{same_id_is, known, receiver_place, receiver_there}
 
 -- no thread stands at this place, or a deleted one
 abbrev is_gone_thread : Option Thread → Bool
@@ -127,28 +124,6 @@ step_stays m w v (Obey caller) j h gone =
     (stays (change w k.target (asked k.order.what)) k.t.at obeyed j (λ x at. obeyed_stays x) (stays w k.target (asked k.order.what) j (λ x at. asked_stays k.order.what x) gone))
 step_stays m w v (Tick cpu clock) j h gone = let k = tick_taken m w v cpu clock h in subst (λ u. gone_at u j ≡ true) k.leads_to gone
 
--- who receives is not gone
-id_of : (m : Machine) (w : World) (id : GlobalId) (t : Found) → found m w id ≡ Some t → (t.declared.id ≡ id) × (place_of m id ≡ Some t.at)
-id_of m w id t is =
-    let k = known m w id t is in
-    let there = place_id m id t.at k.place t.declared in
-    let same : get_or m.threads t.at t.declared ≡ t.declared = some_is _ _ (sym (slice_get-get_or m.threads t.at t.declared there.0) ∙ k.declared) in
-    (ap (λ (d : Declaration). d.id) (sym same) ∙ there.1, k.place)
-
-receiver_place : (m : Machine) (w : World) (to : Id) (r : Found) → found_by m w to ≡ Some r → place_of m r.declared.id ≡ Some r.at
-receiver_place m w NilThread r is = cc
-receiver_place m w AnyThread r is = cc
-receiver_place m w AnyLocalThread r is = cc
-receiver_place m w (LocalThread word) r is = cc
-receiver_place m w (GlobalThread t) r is = let k = id_of m w t r is in ap (place_of m) k.0 ∙ k.1
-
-receiver_there : (m : Machine) (w : World) (to : Id) (r : Found) → found_by m w to ≡ Some r → slice_get w.threads r.at ≡ Some r.now
-receiver_there m w NilThread r is = cc
-receiver_there m w AnyThread r is = cc
-receiver_there m w AnyLocalThread r is = cc
-receiver_there m w (LocalThread word) r is = cc
-receiver_there m w (GlobalThread t) r is = (known m w t r is).now
-
 no_delivery : (m : Machine) (w v : World) (step : Step) (target : GlobalId) (j : ℕ) → next m w step ≡ Some v → place_of m target ≡ Some j → gone_at w j ≡ true → is_delivered_to target step ≡ false
 no_delivery m w v (Deliver s receiver shown actual tag words) target j h place gone = by (same_id target receiver) refl
   where
@@ -173,12 +148,12 @@ run_no_delivery m target j (step ∷ h) w v r place gone =
     (no_delivery m w u step target j is place gone, run_no_delivery m target j h u v rest place (step_stays m w u step j is gone))
 
 -- a history is run in two parts
-record Parted (m : Machine) (w v : World) (xs ys : List Step) : Type 0 where
-  between : World
-  first : run m w xs ≡ Some between
-  second : run m between ys ≡ Some v
+pub record Parted (m : Machine) (w v : World) (xs ys : List Step) : Type 0 where
+  pub between : World
+  pub first : run m w xs ≡ Some between
+  pub second : run m between ys ≡ Some v
 
-parted : (m : Machine) (xs ys : List Step) (w v : World) → run m w (xs ++ ys) ≡ Some v → Parted m w v xs ys
+pub parted : (m : Machine) (xs ys : List Step) (w v : World) → run m w (xs ++ ys) ≡ Some v → Parted m w v xs ys
 parted m [] ys w v r = record { between = w; first = refl; second = r }
 parted m (step ∷ xs) ys w v r =
     bind_then (next m w step) (λ u. run m u (xs ++ ys)) v r λ u is rest.

@@ -8,13 +8,13 @@ use Rattle.std.specs.Option.{option_map}
 use Rattle.l4_model.specs.Words.{GlobalId, same_id}
 use Rattle.l4_model.specs.Machine.{Machine, place_of}
 use Rattle.l4_model.specs.World.{World, Send, changed, opening, Name}
-use Rattle.l4_model.specs.Steps.{Step, Local, Begin, Queue, Deliver, Wait, SendTimeout, ReceiveTimeout, SendNobody, ReceiveNobody, SendCancel, ReceiveCancel, Drop, Order, Obey, Tick, next}
+use Rattle.l4_model.specs.Steps.{Step, Begin, Deliver, SendTimeout, SendNobody, SendCancel, Drop, next}
 use Rattle.l4_model.specs.Conditions.{◌>>=◌}
 use Rattle.l4_model.specs.History.{run, reached}
 use Rattle.l4_model.specs.Laws.{number_between, IsRising}
 use Rattle.l4_model.proofs.Chains.{bind_then, get-changed_same, get-changed_other}
 use Rattle.l4_model.proofs.Sends.{Status, statuses, with_begun, with_decided, Begins, Decides, Keeps, Effect, effect}
-use Rattle.l4_model.proofs.Once.{and_true, same_id_is}
+use Rattle.l4_model.proofs.Places.{and_true, same_id_is}
 
 -- the least number of a send of this thread that may yet be delivered
 abbrev least : Option Status → ℕ
@@ -90,21 +90,13 @@ delivered_between m w v from to receiver s d = by (same_id from s.thread && same
 
 step_between : (m : Machine) (w v : World) (from to : GlobalId) (step : Step) → Effect m w v step →
     Between (least_of m w from) (least_of m v from) (number_between from to step)
-step_between m w v from to (Local t) e = kept_between m w v from e
 step_between m w v from to (Begin s) e = begun_between m w v from s e
-step_between m w v from to (Queue s) e = kept_between m w v from e
 step_between m w v from to (Deliver s receiver shown actual tag words) e = delivered_between m w v from to receiver s e
-step_between m w v from to (Wait t) e = kept_between m w v from e
 step_between m w v from to (SendTimeout s) e = decided_between m w v from s e
-step_between m w v from to (ReceiveTimeout t) e = kept_between m w v from e
 step_between m w v from to (SendNobody s) e = decided_between m w v from s e
-step_between m w v from to (ReceiveNobody t) e = kept_between m w v from e
 step_between m w v from to (SendCancel s) e = decided_between m w v from s e
-step_between m w v from to (ReceiveCancel t) e = kept_between m w v from e
 step_between m w v from to (Drop s) e = decided_between m w v from s e
-step_between m w v from to (Order caller target what) e = kept_between m w v from e
-step_between m w v from to (Obey t) e = kept_between m w v from e
-step_between m w v from to (Tick cpu clock) e = kept_between m w v from e
+step_between m w v from to _ e = kept_between m w v from e
 
 -- numbers that rise, from a least one on
 record RisesFrom (a : ℕ) (xs : List ℕ) : Type 0 where

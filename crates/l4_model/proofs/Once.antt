@@ -2,37 +2,18 @@
 use Rattle.std.proofs.Common.{subst, ◌≡◌, ℕ, ◌+◌, ◌≤◌, Bool, true, false, cond, Option, Some, None, List, [], ◌∷◌, refl, ap, sym, ◌∙◌, arith}
 use Rattle.std.proofs.lemmas.Bool.{eqb-true}
 use Rattle.std.proofs.lemmas.Bool.Decides.{nat_tests}
-use Rattle.std.specs.Prelude.{slice_get, nat_lt, ◌==◌, ◌&&◌, is_some}
+use Rattle.std.specs.Prelude.{slice_get, nat_lt, ◌==◌, is_some}
 use Rattle.std.proofs.lemmas.List.Sums.{sum_by-cons}
 use Rattle.std.specs.Option.{option_map}
-use Rattle.l4_model.specs.Words.{GlobalId, same_id}
 use Rattle.l4_model.specs.Machine.{Machine, place_of}
 use Rattle.l4_model.specs.World.{World, Send, changed, opening, Name}
-use Rattle.l4_model.specs.Steps.{Step, Local, Begin, Queue, Deliver, Wait, SendTimeout, ReceiveTimeout, SendNobody, ReceiveNobody, SendCancel, ReceiveCancel, Drop, Order, Obey, Tick, next}
+use Rattle.l4_model.specs.Steps.{Step, Begin, Deliver, SendTimeout, SendNobody, SendCancel, Drop, next}
 use Rattle.l4_model.specs.Conditions.{◌>>=◌}
 use Rattle.l4_model.specs.History.{run, reached}
 use Rattle.l4_model.specs.Laws.{same_name, names, delivered_name, deliveries_of}
 use Rattle.l4_model.proofs.Chains.{bind_then, some_is, get-changed_same, get-changed_other}
 use Rattle.l4_model.proofs.Sends.{Status, statuses, with_begun, with_decided, Begins, Decides, Keeps, Effect, effect}
-
--- tests on names
-pub and_true : (a b : Bool) → (a && b) ≡ true → (a ≡ true) × (b ≡ true)
-and_true true b h = (refl, h)
-and_true false b h = cc
-
-pub same_id_is : (a b : GlobalId) → same_id a b ≡ true → a ≡ b
-same_id_is a b h =
-    let both = and_true (a.number == b.number) (a.version == b.version) h in
-    let number : a.number ≡ b.number = eqb-true _ _ both.0 in
-    let version : a.version ≡ b.version = eqb-true _ _ both.1 in
-    ap (λ n. record { number = n; version = a.version }) number ∙ ap (λ v. record { number = b.number; version = v }) version
-
-pub same_name_is : (a b : Name) → same_name a b ≡ true → a ≡ b
-same_name_is a b h =
-    let both = and_true (same_id a.thread b.thread) (a.k == b.k) h in
-    let thread = same_id_is a.thread b.thread both.0 in
-    let k : a.k ≡ b.k = eqb-true _ _ both.1 in
-    ap (λ t. record { thread = t; k = a.k }) thread ∙ ap (λ k. record { thread = b.thread; k = k }) k
+use Rattle.l4_model.proofs.Places.{same_name_is}
 
 -- how many deliveries the k-th send of a thread may still have: 1 until it is decided
 abbrev left : ℕ → Option Status → ℕ
@@ -115,21 +96,13 @@ delivered_left m w v s t d = by (same_name s t) refl
     by false actual = let h = decided_left m w v s t d in omega arith
 
 step_left : (m : Machine) (w v : World) (s : Name) (step : Step) → Effect m w v step → cond (names s (delivered_name step)) 1 0 + left_of m v s ≤ left_of m w s
-step_left m w v s (Local t) e = let h = kept_left m w v s e in omega arith
 step_left m w v s (Begin t) e = let h = begun_left m w v s t e in omega arith
-step_left m w v s (Queue t) e = let h = kept_left m w v s e in omega arith
 step_left m w v s (Deliver t receiver shown actual tag words) e = delivered_left m w v s t e
-step_left m w v s (Wait t) e = let h = kept_left m w v s e in omega arith
 step_left m w v s (SendTimeout t) e = let h = decided_left m w v s t e in omega arith
-step_left m w v s (ReceiveTimeout t) e = let h = kept_left m w v s e in omega arith
 step_left m w v s (SendNobody t) e = let h = decided_left m w v s t e in omega arith
-step_left m w v s (ReceiveNobody t) e = let h = kept_left m w v s e in omega arith
 step_left m w v s (SendCancel t) e = let h = decided_left m w v s t e in omega arith
-step_left m w v s (ReceiveCancel t) e = let h = kept_left m w v s e in omega arith
 step_left m w v s (Drop t) e = let h = decided_left m w v s t e in omega arith
-step_left m w v s (Order caller target what) e = let h = kept_left m w v s e in omega arith
-step_left m w v s (Obey t) e = let h = kept_left m w v s e in omega arith
-step_left m w v s (Tick cpu clock) e = let h = kept_left m w v s e in omega arith
+step_left m w v s _ e = let h = kept_left m w v s e in omega arith
 
 -- over a whole run
 run_left : (m : Machine) (s : Name) (h : List Step) (w v : World) → run m w h ≡ Some v → deliveries_of s h + left_of m v s ≤ left_of m w s

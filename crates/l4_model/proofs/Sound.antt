@@ -1,62 +1,19 @@
--- In each phase a thread has the undecided send and the undone order that belong to it.
-use Rattle.std.proofs.Common.{subst, ◌≡◌, ℕ, zero, suc, ◌+◌, true, false, Option, Some, None, List, [], ◌∷◌, map, refl, ap, sym, ◌∙◌}
-use Rattle.std.specs.Prelude.{slice_get, slice_set, nat_lt, ◌^◌, ◌==◌, not, ◌&&◌, is_some, is_none}
-use Rattle.std.specs.Str.{bytes_eq}
-use Rattle.std.specs.List.{AllByRecursion}
-use Rattle.l4_model.specs.Words.{GlobalId, Id, NilThread, AnyThread, AnyLocalThread, LocalThread, GlobalThread, same_id}
-use Rattle.l4_model.specs.Machine.{Machine, Declaration, Instr, End, What, CancelSend, CancelReceive, CancelBoth, Delete, place_of}
-use Rattle.l4_model.specs.World.{Thread, World, Send, Receive, Asked, Phase, Ready, Sending, Receiving, Ordering, Ended, Deleted, changed, change, opening, opening_thread, is_alive, is_ready, is_deleted, receive_now, queued, unqueued, Name}
-use Rattle.l4_model.specs.Steps.{Step, Local, Begin, Queue, Deliver, Wait, SendTimeout, ReceiveTimeout, SendNobody, ReceiveNobody, SendCancel, ReceiveCancel, Drop, Order, Obey, Tick, receive_passed, what_code, runs_alone, send_of, receive_of, order_of, without_send, after_local, after_begin, after_queue, after_deliver, after_wait, after_send_timeout, after_receive_timeout, after_send_nobody, after_receive_nobody, after_send_cancel, after_receive_cancel, after_drop, after_order, after_obey, after_tick, next}
-use Rattle.l4_model.specs.Conditions.{Found, Pending, found, found_by, undecided, receiver_of, is_waiting, first_accepted, is_nobody, is_no_destination, is_timed_out, act_of, instruction}
-use Rattle.l4_model.specs.Rules.{received_tag, is_cross}
-use Rattle.l4_model.specs.Effects.{phase_after, runs, begins, waits, fails, decided, refused, receives, goes_on, delivered, asked, orders, obeyed}
-use Rattle.l4_model.specs.History.{run}
-use Rattle.l4_model.proofs.Chains.{bind_then, guard_then, some_is, cond_keeps, part-changed}
-use Rattle.l4_model.proofs.Sends.{known, known_send}
+-- What is true of each thread: its phase goes with its undecided send and its undone order, and the rest of `ThreadFacts`.
+use Rattle.std.proofs.Common.{subst, ◌≡◌, ℕ, ◌+◌, ◌<◌, ◌≤◌, true, false, Option, Some, None, List, ◌∷◌, ◌++◌, length, drop, refl, ap, sym, ◌∙◌, arith, ⊎_elim}
+use Rattle.std.proofs.lemmas.Bool.{or_cases}
+use Rattle.std.proofs.lemmas.List.{length-set, length-append, length-drop}
+use Rattle.std.specs.Prelude.{◌==◌, is_some, IfSome}
+use Rattle.l4_model.specs.Machine.{Machine, Declaration, Instr, Set, Copy, Add, Tag, Vs, Ipc, Ask, Jump, OnErr, End, What, CancelSend, CancelReceive, CancelBoth, Delete, is_declared, instruction_at}
+use Rattle.l4_model.specs.World.{Context, Thread, World, Message, Send, Receive, Asked, Phase, Ready, Sending, Receiving, Ordering, Ended, Deleted, opening, is_alive, is_ready, is_sending, is_deleted, receive_now}
+use Rattle.l4_model.specs.Rules.{act, ran}
+use Rattle.l4_model.specs.Steps.{Step, send_of, next}
+use Rattle.l4_model.specs.Effects.{phase_after, runs, begins, waits, fails, decided, refused, receives, goes_on, delivered, has_receive_phase, asked, asked_send, asked_receive, orders, obeyed}
+use Rattle.l4_model.specs.Reached.{Suits, BeganBy, IsSendOf, ThreadFacts}
+use Rattle.l4_model.proofs.Chains.{cond_keeps, cond_both}
+use Rattle.l4_model.proofs.Requests.{act_request, message_short, shown_declared}
+use Rattle.l4_model.proofs.Keeping.{Each, Maintained, step_each, opening_each}
 
--- which send and order a phase goes with
-abbrev pub Suits : Phase → Option Send → Option Asked → Type 0
-Suits Ready send order = (send ≡ None) × (order ≡ None)
-Suits Sending send order = (is_some send ≡ true) × (order ≡ None)
-Suits (Receiving receive since) send order = (send ≡ None) × (order ≡ None)
-Suits Ordering send order = (send ≡ None) × (is_some order ≡ true)
-Suits Ended send order = (send ≡ None) × (order ≡ None)
-Suits Deleted send order = Unit {0}
-
-pub record IsSound (t : Thread) : Type 0 where
-  pub suits : Suits t.phase t.send t.order
-
-abbrev pub AreSound : World → Type 0
-AreSound w = AllByRecursion IsSound w.threads
-
--- one element changed, where the change keeps a fact of the element that stands there
-pub all-changed : {A : Type 0} (P : A → Type 0) (f : A → A) (xs : List A) (i : ℕ) → AllByRecursion P xs → ((x : A) → slice_get xs i ≡ Some x → P x → P (f x)) → AllByRecursion P (changed f xs i)
-all-changed P f [] i h keep = tt
-all-changed P f (x ∷ xs) zero h keep = (keep x refl h.0, h.1)
-all-changed P f (x ∷ xs) (suc i) h keep = (h.0, all-changed P f xs i h.1 keep)
-
-pub all-get : {A : Type 0} (P : A → Type 0) (xs : List A) (i : ℕ) (x : A) → AllByRecursion P xs → slice_get xs i ≡ Some x → P x
-all-get P [] i x h e = cc
-all-get P (y ∷ xs) zero x h e = subst P (some_is y x e) h.0
-all-get P (y ∷ xs) (suc i) x h e = all-get P xs i x h.1 e
-
-pub all-replicated : (m : Machine) → AreSound (opening m)
-all-replicated m = over m.threads
-  where
-    over : (ds : List Declaration) → AllByRecursion IsSound (map (λ d. opening_thread) ds)
-    over [] = tt
-    over (d ∷ ds) = (record { suits = (refl, refl) }, over ds)
-
--- what the phase is, by its tests
-ready_is : (p : Phase) → is_ready p ≡ true → p ≡ Ready
-ready_is Ready h = refl
-ready_is Sending h = cc
-ready_is (Receiving receive since) h = cc
-ready_is Ordering h = cc
-ready_is Ended h = cc
-ready_is Deleted h = cc
-
--- a ready or a receiving thread has neither
+-- a ready or a receiving thread has no send and no order, and a ready one no wish
 pub ready_has_none : (p : Phase) (send : Option Send) (order : Option Asked) → is_ready p ≡ true → Suits p send order → (send ≡ None) × (order ≡ None)
 ready_has_none Ready send order h s = s
 ready_has_none Sending send order h s = cc
@@ -73,7 +30,15 @@ receiving_has_none Ordering send order receive h s = cc
 receiving_has_none Ended send order receive h s = cc
 receiving_has_none Deleted send order receive h s = cc
 
--- a thread that is alive and has an undecided send has no order
+no_receive_phase : {P : Type 0} (p : Phase) (send : Option Send) → is_ready p ≡ true → has_receive_phase p send ≡ true → P
+no_receive_phase Ready send h r = cc
+no_receive_phase Sending send h r = cc
+no_receive_phase (Receiving receive since) send h r = cc
+no_receive_phase Ordering send h r = cc
+no_receive_phase Ended send h r = cc
+no_receive_phase Deleted send h r = cc
+
+-- a thread that is alive and has an undecided send has no order, and one with an order no send and no receive phase
 sender_has_no_order : (p : Phase) (send : Send) (order : Option Asked) → is_alive p ≡ true → Suits p (Some send) order → order ≡ None
 sender_has_no_order Ready send order h s = cc
 sender_has_no_order Sending send order h s = s.1
@@ -82,43 +47,15 @@ sender_has_no_order Ordering send order h s = cc
 sender_has_no_order Ended send order h s = cc
 sender_has_no_order Deleted send order h s = cc
 
-caller_has_no_send : (p : Phase) (send : Option Send) (order : Asked) → is_alive p ≡ true → Suits p send (Some order) → send ≡ None
-caller_has_no_send Ready send order h s = cc
-caller_has_no_send Sending send order h s = cc
-caller_has_no_send (Receiving receive since) send order h s = cc
-caller_has_no_send Ordering send order h s = s.0
-caller_has_no_send Ended send order h s = cc
-caller_has_no_send Deleted send order h s = cc
+caller_has_none : (p : Phase) (send : Option Send) (order : Asked) → is_alive p ≡ true → Suits p send (Some order) → (send ≡ None) × (has_receive_phase p send ≡ false)
+caller_has_none Ready send order h s = cc
+caller_has_none Sending send order h s = cc
+caller_has_none (Receiving receive since) send order h s = cc
+caller_has_none Ordering send order h s = (s.0, refl)
+caller_has_none Ended send order h s = cc
+caller_has_none Deleted send order h s = cc
 
-order-asked : (what : What) (t : Thread) → (asked what t).order ≡ t.order
-order-asked CancelSend t = refl
-order-asked CancelReceive t = refl
-order-asked CancelBoth t = refl
-order-asked Delete t = refl
-
--- the change of each kind keeps it
-runs_sound : (i : Instr) (t : Thread) → is_ready t.phase ≡ true → IsSound t → IsSound (runs i t)
-runs_sound i t ready h = record { suits = by i (ready_has_none t.phase t.send t.order ready h.suits) }
-  where
-    by : (i : Instr) → (t.send ≡ None) × (t.order ≡ None) → Suits (phase_after i) t.send t.order
-    by End none = none
-    by _ none = none
-
-fails_sound : (code : ℕ) (t : Thread) → (t.send ≡ None) × (t.order ≡ None) → IsSound t → IsSound (fails code t)
-fails_sound code t none h = cond_keeps IsSound (is_alive t.phase) _ t (λ alive. record { suits = none }) (λ gone. h)
-
--- a decided sender that is alive has no order either
-sender_none : (t : Thread) (send : Send) → t.send ≡ Some send → is_alive t.phase ≡ true → IsSound t → t.order ≡ None
-sender_none t send has alive h = sender_has_no_order t.phase send t.order alive (rw has at h.suits)
-
-deleted_is : (p : Phase) → is_alive p ≡ false → p ≡ Deleted
-deleted_is Ready h = cc
-deleted_is Sending h = cc
-deleted_is (Receiving receive since) h = cc
-deleted_is Ordering h = cc
-deleted_is Ended h = cc
-deleted_is Deleted h = refl
-
+-- a deleted thread may have both
 suits_deleted : (p : Phase) (send : Option Send) (order : Option Asked) → is_alive p ≡ false → Suits p send order
 suits_deleted Ready send order h = cc
 suits_deleted Sending send order h = cc
@@ -127,247 +64,223 @@ suits_deleted Ordering send order h = cc
 suits_deleted Ended send order h = cc
 suits_deleted Deleted send order h = tt
 
-refused_sound : (code : ℕ) (t : Thread) (send : Send) → t.send ≡ Some send → IsSound t → IsSound (refused code t)
-refused_sound code t send has h =
-    cond_keeps IsSound (is_alive t.phase) _ (decided t)
-    (λ alive. record { suits = (refl, sender_none t send has alive h) })
-    (λ gone. record { suits = suits_deleted t.phase None t.order gone })
+suits_gone : (p : Phase) (send : Option Send) (order : Option Asked) → is_deleted p ≡ true → Suits p send order
+suits_gone Ready send order h = cc
+suits_gone Sending send order h = cc
+suits_gone (Receiving receive since) send order h = cc
+suits_gone Ordering send order h = cc
+suits_gone Ended send order h = cc
+suits_gone Deleted send order h = tt
 
-goes_on_sound : (receive : Option Receive) (now : ℕ) (t : Thread) → t.order ≡ None → IsSound (goes_on receive now t)
-goes_on_sound None now t none = record { suits = (refl, none) }
-goes_on_sound (Some receive) now t none = record { suits = (refl, none) }
+-- An instruction leaves as many registers as there were.
+registers_ran : (i : Instr) (c : Context) → length (ran i c).words ≡ length c.words
+registers_ran (Set a word) c = length-set c.words a word
+registers_ran (Copy a b) c = length-set c.words a _
+registers_ran (Add a word) c = length-set c.words a _
+registers_ran (Tag word) c = length-set c.words 0 word
+registers_ran (Vs id) c = refl
+registers_ran (Ipc to from send_period receive_period) c = length-set c.words 0 0
+registers_ran (Ask target what) c = refl
+registers_ran (Jump place) c = refl
+registers_ran (OnErr place) c = cond_both (λ (x : Context). length x.words) (length c.words) (c.error == 0) _ _ refl refl
+registers_ran End c = refl
 
-delivered_sound : (send : Send) (now : ℕ) (t : Thread) → t.send ≡ Some send → IsSound t → IsSound (delivered send now t)
-delivered_sound send now t has h =
-    cond_keeps IsSound (is_alive t.phase) _ (decided t)
-    (λ alive. goes_on_sound send.receive now t (sender_none t send has alive h))
-    (λ gone. record { suits = suits_deleted t.phase None t.order gone })
+registers_received : (message : Message) (mr0 : ℕ) (words : List ℕ) → length message.words < 64 → length words ≡ 64 → length (mr0 ∷ message.words ++ drop (1 + length message.words) words) ≡ 64
+registers_received message mr0 words short all =
+    omega (arith, length-append (mr0 ∷ message.words) (drop (1 + length message.words) words), length-drop (1 + length message.words) words)
 
-asked_sound : (what : What) (t : Thread) → IsSound t → IsSound (asked what t)
-asked_sound CancelSend t h = record { suits = h.suits }
-asked_sound CancelReceive t h = record { suits = h.suits }
-asked_sound CancelBoth t h = record { suits = h.suits }
-asked_sound Delete t h = record { suits = tt }
+-- no wish is left
+no_wish : {P : Type 0} → false ≡ true → P
+no_wish h = cc
 
-obeyed_sound : (t : Thread) (order : Asked) → t.order ≡ Some order → IsSound t → IsSound (obeyed t)
-obeyed_sound t order has h =
-    cond_keeps IsSound (is_alive t.phase) _ _
-    (λ alive. record { suits = (caller_has_no_send t.phase t.send order alive (rw has at h.suits), refl) })
-    (λ gone. record { suits = suits_deleted t.phase t.send None gone })
-
--- a change of the thread that stands at a place
-change_sound : (w : World) (i : ℕ) (f : Thread → Thread) → AreSound w → ((t : Thread) → slice_get w.threads i ≡ Some t → IsSound t → IsSound (f t)) → AreSound (change w i f)
-change_sound w i f h keep = all-changed IsSound f w.threads i h keep
-
--- a change of the thread that was found
-found_sound : (m : Machine) (w : World) (id : GlobalId) (t : Found) (f : Thread → Thread) → found m w id ≡ Some t → AreSound w → (IsSound t.now → IsSound (f t.now)) → AreSound (change w t.at f)
-found_sound m w id t f is h keep =
-    let now = (known m w id t is).now in
-    change_sound w t.at f h (λ x at sound.
-    let same : t.now ≡ x = some_is t.now x (sym now ∙ at) in
-    subst (λ y. IsSound (f y)) same (keep (subst IsSound (sym same) sound)))
-
--- the sender of an undecided send was found
-sender_found : (m : Machine) (w : World) (s : Name) (p : Pending) → undecided m w s ≡ Some p → found m w s.thread ≡ Some p.sender
-sender_found m w s p h =
-    bind_then (found m w s.thread) _ p h λ t sender rest.
-    guard_then (t.now.context.begun == s.k) _ p rest λ last rest.
-    bind_then t.now.send _ p rest λ send has rest.
-    sender ∙ ap (λ (q : Pending). Some q.sender) (some_is _ p rest)
-
--- what a destination names was found
-receiver_sound : (m : Machine) (w : World) (r : Found) (to : Id) (f : Thread → Thread) → found_by m w to ≡ Some r → AreSound w → (IsSound r.now → IsSound (f r.now)) → AreSound (change w r.at f)
-receiver_sound m w r NilThread f is h keep = cc
-receiver_sound m w r AnyThread f is h keep = cc
-receiver_sound m w r AnyLocalThread f is h keep = cc
-receiver_sound m w r (LocalThread word) f is h keep = cc
-receiver_sound m w r (GlobalThread t) f is h keep = found_sound m w t r f is h keep
-
--- a change of any thread
-any_sound : (w : World) (i : ℕ) (f : Thread → Thread) → AreSound w → ((t : Thread) → IsSound t → IsSound (f t)) → AreSound (change w i f)
-any_sound w i f h keep = change_sound w i f h (λ t at sound. keep t sound)
-
--- the sender's send is still there after another thread changed
-sender_sound : (m : Machine) (w : World) (s : Name) (p : Pending) (i : ℕ) (g f : Thread → Thread) → undecided m w s ≡ Some p →
-    ((t : Thread) → (g t).send ≡ t.send) → AreSound (change w i g) → ((t : Thread) → t.send ≡ Some p.send → IsSound t → IsSound (f t)) →
-    AreSound (change (change w i g) p.sender.at f)
-sender_sound m w s p i g f is same h keep =
-    let k = known_send m w s p is in
-    change_sound (change w i g) p.sender.at f h (λ t at sound.
-    keep t (part-changed (λ (x : Thread). x.send) g same w.threads i p.sender.at p.sender.now t k.sender.now at ∙ k.send) sound)
-
-without_send_sound : (m : Machine) (w : World) (s : Name) (p : Pending) (f : Thread → Thread) → undecided m w s ≡ Some p → AreSound w →
-    ((t : Thread) → t.send ≡ Some p.send → t.phase ≡ p.sender.now.phase → IsSound t → IsSound (f t)) → AreSound (without_send w p f)
-without_send_sound m w s p f is h keep = found_sound m w s.thread p.sender f (sender_found m w s p is) h (keep p.sender.now (known_send m w s p is).send refl)
-
--- each kind of step keeps it
-
-local_sound : (m : Machine) (w v : World) (id : GlobalId) → after_local m w id ≡ Some v → AreSound w → AreSound v
-local_sound m w v id h sound =
-    bind_then (found m w id) _ v h λ t is rest.
-    guard_then (is_ready t.now.phase) _ v rest λ ready rest.
-    guard_then (runs_alone (act_of m t)) _ v rest λ alone rest.
-    subst AreSound (some_is (change w t.at (runs (instruction t))) v rest) (found_sound m w id t (runs (instruction t)) is sound (runs_sound (instruction t) t.now ready))
-
-begin_sound : (m : Machine) (w v : World) (s : Name) → after_begin m w s ≡ Some v → AreSound w → AreSound v
-begin_sound m w v s h sound =
-    bind_then (found m w s.thread) _ v h λ t is rest.
-    guard_then (is_ready t.now.phase) _ v rest λ ready rest.
-    guard_then (s.k == t.now.context.begun + 1) _ v rest λ next_k rest.
-    bind_then (send_of (act_of m t)) _ v rest λ send has rest.
-    subst AreSound (some_is (change w t.at (begins send)) v rest)
-    (found_sound m w s.thread t (begins send) is sound (λ old. record { suits = (refl, (ready_has_none t.now.phase t.now.send t.now.order ready old.suits).1) }))
-
-queue_sound : (m : Machine) (w v : World) (s : Name) → after_queue m w s ≡ Some v → AreSound w → AreSound v
-queue_sound m w v s h sound =
-    bind_then (undecided m w s) _ v h λ p is rest.
-    bind_then (receiver_of m w p) _ v rest λ r to rest.
-    guard_then (is_alive r.now.phase) _ v rest λ alive rest.
-    guard_then (not (is_waiting w p)) _ v rest λ free rest.
-    subst AreSound (some_is (queued w r.at p.sender.at) v rest) sound
-
-deliver_sound : (m : Machine) (w v : World) (s : Name) (receiver shown actual : GlobalId) (tag : ℕ) (words : List ℕ) →
-    after_deliver m w s receiver shown actual tag words ≡ Some v → AreSound w → AreSound v
-deliver_sound m w v s receiver shown actual tag words h sound =
-    bind_then (undecided m w s) _ v h λ p is rest.
-    bind_then (receiver_of m w p) _ v rest λ r to rest.
-    bind_then (receive_now r.now.phase) _ v rest λ receive now rest.
-    bind_then (first_accepted m w r receive.from) _ v rest λ first found rest.
-    guard_then (first == p.sender.at) _ v rest λ is_first rest.
-    guard_then (same_id receiver r.declared.id) _ v rest λ same_receiver rest.
-    guard_then (same_id shown p.send.message.shown) _ v rest λ same_shown rest.
-    guard_then (same_id actual p.send.message.actual) _ v rest λ same_actual rest.
-    guard_then (tag == received_tag (is_cross m receiver p.send.message) p.send.message) _ v rest λ same_tag rest.
-    guard_then (bytes_eq words p.send.message.words) _ v rest λ same_words rest.
-    let g : Thread → Thread = receives p.send.message tag in
-    let received : AreSound (change (unqueued w p.sender.at) r.at g) = receiver_sound m w r p.send.to g to sound
-    (λ old. record { suits = receiving_has_none r.now.phase r.now.send r.now.order receive now old.suits }) in
-    subst AreSound (some_is (change (change (unqueued w p.sender.at) r.at g) p.sender.at (delivered p.send p.sender.clock)) v rest)
-    (sender_sound m w s p r.at g (delivered p.send p.sender.clock) is (λ t. refl) received (delivered_sound p.send p.sender.clock))
-
-wait_sound : (m : Machine) (w v : World) (id : GlobalId) → after_wait m w id ≡ Some v → AreSound w → AreSound v
-wait_sound m w v id h sound =
-    bind_then (found m w id) _ v h λ t is rest.
-    guard_then (is_ready t.now.phase) _ v rest λ ready rest.
-    bind_then (receive_of (act_of m t)) _ v rest λ receive has rest.
-    subst AreSound (some_is (change w t.at (waits receive t.clock)) v rest)
-    (found_sound m w id t (waits receive t.clock) is sound (λ old. record { suits = ready_has_none t.now.phase t.now.send t.now.order ready old.suits }))
-
--- a send that is refused or dropped
-decided_sound : (m : Machine) (w v : World) (s : Name) (p : Pending) (f : Thread → Thread) → undecided m w s ≡ Some p →
-    ((t : Thread) → t.send ≡ Some p.send → t.phase ≡ p.sender.now.phase → IsSound t → IsSound (f t)) →
-    AreSound w → Some (without_send w p f) ≡ Some v → AreSound v
-decided_sound m w v s p f is keep sound rest = subst AreSound (some_is (without_send w p f) v rest) (without_send_sound m w s p f is sound keep)
-
-send_timeout_sound : (m : Machine) (w v : World) (s : Name) → after_send_timeout m w s ≡ Some v → AreSound w → AreSound v
-send_timeout_sound m w v s h sound =
-    bind_then (undecided m w s) _ v h λ p is rest.
-    guard_then (is_timed_out m w p) _ v rest λ due rest.
-    decided_sound m w v s p (refused 2) is (λ t has same. refused_sound 2 t p.send has) sound rest
-
-send_nobody_sound : (m : Machine) (w v : World) (s : Name) → after_send_nobody m w s ≡ Some v → AreSound w → AreSound v
-send_nobody_sound m w v s h sound =
-    bind_then (undecided m w s) _ v h λ p is rest.
-    guard_then (is_no_destination p.send.to (receiver_of m w p)) _ v rest λ nobody rest.
-    decided_sound m w v s p (refused 4) is (λ t has same. refused_sound 4 t p.send has) sound rest
-
-send_cancel_sound : (m : Machine) (w v : World) (s : Name) → after_send_cancel m w s ≡ Some v → AreSound w → AreSound v
-send_cancel_sound m w v s h sound =
-    bind_then (undecided m w s) _ v h λ p is rest.
-    guard_then (is_waiting w p) _ v rest λ in_list rest.
-    guard_then p.sender.now.cancel_send _ v rest λ wish rest.
-    decided_sound m w v s p (refused 6) is (λ t has same. refused_sound 6 t p.send has) sound rest
-
--- where a thread receives, its receive phase may fail
-fails_receiving : (m : Machine) (w v : World) (id : GlobalId) (t : Found) (code : ℕ) (receive : Receive) → found m w id ≡ Some t →
-    receive_now t.now.phase ≡ Some receive → AreSound w → Some (change w t.at (fails code)) ≡ Some v → AreSound v
-fails_receiving m w v id t code receive is now sound rest =
-    subst AreSound (some_is (change w t.at (fails code)) v rest)
-    (found_sound m w id t (fails code) is sound (λ old. fails_sound code t.now (receiving_has_none t.now.phase t.now.send t.now.order receive now old.suits) old))
-
-receive_timeout_sound : (m : Machine) (w v : World) (id : GlobalId) → after_receive_timeout m w id ≡ Some v → AreSound w → AreSound v
-receive_timeout_sound m w v id h sound =
-    bind_then (found m w id) _ v h λ t is rest.
-    bind_then (receive_now t.now.phase) _ v rest λ receive now rest.
-    guard_then (receive_passed t t.now.phase) _ v rest λ due rest.
-    guard_then (is_none (first_accepted m w t receive.from)) _ v rest λ none rest.
-    fails_receiving m w v id t 3 receive is now sound rest
-
-receive_nobody_sound : (m : Machine) (w v : World) (id : GlobalId) → after_receive_nobody m w id ≡ Some v → AreSound w → AreSound v
-receive_nobody_sound m w v id h sound =
-    bind_then (found m w id) _ v h λ t is rest.
-    bind_then (receive_now t.now.phase) _ v rest λ receive now rest.
-    guard_then (is_nobody receive.from (found_by m w receive.from)) _ v rest λ nobody rest.
-    guard_then (is_none (first_accepted m w t receive.from)) _ v rest λ none rest.
-    fails_receiving m w v id t 5 receive is now sound rest
-
-receive_cancel_sound : (m : Machine) (w v : World) (id : GlobalId) → after_receive_cancel m w id ≡ Some v → AreSound w → AreSound v
-receive_cancel_sound m w v id h sound =
-    bind_then (found m w id) _ v h λ t is rest.
-    bind_then (receive_now t.now.phase) _ v rest λ receive now rest.
-    guard_then t.now.cancel_receive _ v rest λ wish rest.
-    fails_receiving m w v id t 7 receive is now sound rest
-
-order_sound : (m : Machine) (w v : World) (caller target : GlobalId) (what : What) → after_order m w caller target what ≡ Some v → AreSound w → AreSound v
-order_sound m w v caller target what h sound =
-    bind_then (found m w caller) _ v h λ t is rest.
-    guard_then (is_ready t.now.phase) _ v rest λ ready rest.
-    bind_then (order_of (act_of m t)) _ v rest λ order has rest.
-    guard_then (same_id target order.target && what_code what == what_code order.what) _ v rest λ same rest.
-    subst AreSound (some_is (change w t.at (orders order)) v rest)
-    (found_sound m w caller t (orders order) is sound (λ old. record { suits = ((ready_has_none t.now.phase t.now.send t.now.order ready old.suits).0, refl) }))
-
-obey_sound : (m : Machine) (w v : World) (caller : GlobalId) → after_obey m w caller ≡ Some v → AreSound w → AreSound v
-obey_sound m w v caller h sound =
-    bind_then (found m w caller) _ v h λ t is rest.
-    bind_then t.now.order _ v rest λ order has rest.
-    bind_then (place_of m order.target) _ v rest λ target named rest.
-    let g : Thread → Thread = asked order.what in
-    let now = (known m w caller t is).now in
-    subst AreSound (some_is (change (change w target g) t.at obeyed) v rest)
-    (change_sound (change w target g) t.at obeyed (any_sound w target g sound (asked_sound order.what)) (λ x at old.
-    obeyed_sound x order (part-changed (λ (y : Thread). y.order) g (order-asked order.what) w.threads target t.at t.now x now at ∙ has) old))
-
-drop_sound : (m : Machine) (w v : World) (s : Name) → after_drop m w s ≡ Some v → AreSound w → AreSound v
-drop_sound m w v s h sound =
-    bind_then (undecided m w s) _ v h λ p is rest.
-    guard_then (is_waiting w p) _ v rest λ in_list rest.
-    guard_then (is_deleted p.sender.now.phase) _ v rest λ gone rest.
-    decided_sound m w v s p decided is (λ t has same old. record { suits = dropped t.phase t.order (rw same gone) }) sound rest
+-- each change of a thread keeps it
+run_keeps : (m : Machine) (d : Declaration) (now : ℕ) (i : Instr) (t : Thread) → is_ready t.phase ≡ true → ThreadFacts m d now t → ThreadFacts m d now (runs i t)
+run_keeps m d now i t ready h =
+    record {
+      suits = suits i (ready_has_none t.phase t.send t.order ready h.suits);
+      send = h.send;
+      began = began i;
+      send_wish = h.send_wish;
+      receive_wish = λ wish. no_receive_phase t.phase t.send ready (h.receive_wish wish);
+      registers = registers_ran i t.context ∙ h.registers;
+    }
   where
-    dropped : (q : Phase) (order : Option Asked) → is_deleted q ≡ true → Suits q None order
-    dropped Ready order h = cc
-    dropped Sending order h = cc
-    dropped (Receiving receive since) order h = cc
-    dropped Ordering order h = cc
-    dropped Ended order h = cc
-    dropped Deleted order h = tt
+    suits : (i : Instr) → (t.send ≡ None) × (t.order ≡ None) → Suits (phase_after i) t.send t.order
+    suits End none = none
+    suits _ none = none
 
-tick_sound : (m : Machine) (w v : World) (cpu clock : ℕ) → after_tick m w cpu clock ≡ Some v → AreSound w → AreSound v
-tick_sound m w v cpu clock h sound =
-    bind_then (slice_get w.clocks cpu) _ v h λ now is rest.
-    guard_then (nat_lt now clock && nat_lt clock (2 ^ 62)) _ v rest λ later rest.
-    subst AreSound (some_is (record w { clocks = slice_set w.clocks cpu clock }) v rest) sound
+    began : (i : Instr) → BeganBy now (phase_after i)
+    began End = tt
+    began _ = tt
 
-pub step_sound : (m : Machine) (w v : World) (step : Step) → next m w step ≡ Some v → AreSound w → AreSound v
-step_sound m w v (Local t) h = local_sound m w v t h
-step_sound m w v (Begin s) h = begin_sound m w v s h
-step_sound m w v (Queue s) h = queue_sound m w v s h
-step_sound m w v (Deliver s receiver shown actual tag words) h = deliver_sound m w v s receiver shown actual tag words h
-step_sound m w v (Wait t) h = wait_sound m w v t h
-step_sound m w v (SendTimeout s) h = send_timeout_sound m w v s h
-step_sound m w v (ReceiveTimeout t) h = receive_timeout_sound m w v t h
-step_sound m w v (SendNobody s) h = send_nobody_sound m w v s h
-step_sound m w v (ReceiveNobody t) h = receive_nobody_sound m w v t h
-step_sound m w v (SendCancel s) h = send_cancel_sound m w v s h
-step_sound m w v (ReceiveCancel t) h = receive_cancel_sound m w v t h
-step_sound m w v (Drop s) h = drop_sound m w v s h
-step_sound m w v (Order caller target what) h = order_sound m w v caller target what h
-step_sound m w v (Obey caller) h = obey_sound m w v caller h
-step_sound m w v (Tick cpu clock) h = tick_sound m w v cpu clock h
+begin_keeps : (m : Machine) (d : Declaration) (now : ℕ) (t : Thread) (send : Send) → is_declared m d.id ≡ true → is_ready t.phase ≡ true →
+    send_of (act m d.id now t.context (instruction_at d.script t.context.place)) ≡ Some send → ThreadFacts m d now t → ThreadFacts m d now (begins send t)
+begin_keeps m d now t send declared ready sends h =
+    let asks = act_request m d.id now t.context (instruction_at d.script t.context.place) send sends in
+    record {
+      suits = (refl, (ready_has_none t.phase t.send t.order ready h.suits).1);
+      send = record {
+        since = omega (arith, asks.since);
+        actual = ap (λ (x : Message). x.actual) (sym asks.message);
+        shown = ap (λ (x : Message). is_declared m x.shown) (sym asks.message) ∙ shown_declared m d.id t.context declared;
+        short = subst (λ (x : Message). length x.words < 64) asks.message (message_short m d.id t.context);
+      };
+      began = tt;
+      send_wish = λ wish. refl;
+      receive_wish = λ wish. no_receive_phase t.phase t.send ready (h.receive_wish wish);
+      registers = h.registers;
+    }
 
-pub run_sound : (m : Machine) (h : List Step) (w v : World) → run m w h ≡ Some v → AreSound w → AreSound v
-run_sound m [] w v r sound = subst AreSound (some_is w v r) sound
-run_sound m (step ∷ h) w v r sound =
-    bind_then (next m w step) (λ u. run m u h) v r λ u is rest.
-    run_sound m h u v rest (step_sound m w u step is sound)
+wait_keeps : (m : Machine) (d : Declaration) (now : ℕ) (t : Thread) (receive : Receive) → is_ready t.phase ≡ true → ThreadFacts m d now t → ThreadFacts m d now (waits receive now t)
+wait_keeps m d now t receive ready h =
+    record { suits = ready_has_none t.phase t.send t.order ready h.suits; send = h.send; began = omega arith; send_wish = h.send_wish; receive_wish = λ wish. refl; registers = h.registers }
+
+order_keeps : (m : Machine) (d : Declaration) (now : ℕ) (t : Thread) (order : Asked) → is_ready t.phase ≡ true → ThreadFacts m d now t → ThreadFacts m d now (orders order t)
+order_keeps m d now t order ready h =
+    record {
+      suits = ((ready_has_none t.phase t.send t.order ready h.suits).0, refl);
+      send = h.send;
+      began = tt;
+      send_wish = h.send_wish;
+      receive_wish = λ wish. no_receive_phase t.phase t.send ready (h.receive_wish wish);
+      registers = h.registers;
+    }
+
+failure_keeps : (m : Machine) (d : Declaration) (now : ℕ) (t : Thread) (code : ℕ) (receive : Receive) → receive_now t.phase ≡ Some receive → ThreadFacts m d now t → ThreadFacts m d now (fails code t)
+failure_keeps m d now t code receive receiving h =
+    cond_keeps (ThreadFacts m d now) (is_alive t.phase) _ t
+    (λ alive. record {
+      suits = receiving_has_none t.phase t.send t.order receive receiving h.suits;
+      send = h.send;
+      began = tt;
+      send_wish = h.send_wish;
+      receive_wish = λ wish. no_wish wish;
+      registers = length-set t.context.words 0 0x8000 ∙ h.registers;
+    })
+    (λ gone. h)
+
+decided_gone : (m : Machine) (d : Declaration) (now : ℕ) (t : Thread) → Suits t.phase None t.order → ThreadFacts m d now t → ThreadFacts m d now (decided t)
+decided_gone m d now t suits h = record { suits = suits; send = tt; began = h.began; send_wish = λ wish. no_wish wish; receive_wish = λ wish. no_wish wish; registers = h.registers }
+
+sender_none : (t : Thread) (send : Send) → t.send ≡ Some send → is_alive t.phase ≡ true → Suits t.phase t.send t.order → t.order ≡ None
+sender_none t send has alive h = sender_has_no_order t.phase send t.order alive (rw has at h)
+
+refusal_keeps : (m : Machine) (d : Declaration) (now : ℕ) (t : Thread) (code : ℕ) (send : Send) → t.send ≡ Some send → ThreadFacts m d now t → ThreadFacts m d now (refused code t)
+refusal_keeps m d now t code send has h =
+    cond_keeps (ThreadFacts m d now) (is_alive t.phase) _ (decided t)
+    (λ alive. record {
+      suits = (refl, sender_none t send has alive h.suits);
+      send = tt;
+      began = tt;
+      send_wish = λ wish. no_wish wish;
+      receive_wish = λ wish. no_wish wish;
+      registers = length-set t.context.words 0 0x8000 ∙ h.registers;
+    })
+    (λ gone. decided_gone m d now t (suits_deleted t.phase None t.order gone) h)
+
+receipt_keeps : (m : Machine) (d sd : Declaration) (now sender_now : ℕ) (t sender : Thread) (receive : Receive) (send : Send) (tag : ℕ) → receive_now t.phase ≡ Some receive →
+    sender.send ≡ Some send → ThreadFacts m sd sender_now sender → ThreadFacts m d now t → ThreadFacts m d now (receives send.message tag t)
+receipt_keeps m d sd now sender_now t sender receive send tag receiving has sent h =
+    let its : IsSendOf m sd.id sender_now send = rw has at sent.send in
+    record {
+      suits = receiving_has_none t.phase t.send t.order receive receiving h.suits;
+      send = h.send;
+      began = tt;
+      send_wish = h.send_wish;
+      receive_wish = λ wish. no_wish wish;
+      registers = registers_received send.message tag t.context.words its.short h.registers;
+    }
+
+goes_on_keeps : (m : Machine) (d : Declaration) (now : ℕ) (t : Thread) (receive : Option Receive) → t.order ≡ None → ThreadFacts m d now t → ThreadFacts m d now (goes_on receive now t)
+goes_on_keeps m d now t None none h =
+    record { suits = (refl, none); send = tt; began = tt; send_wish = λ wish. no_wish wish; receive_wish = λ wish. no_wish wish; registers = length-set t.context.words 0 0 ∙ h.registers }
+goes_on_keeps m d now t (Some receive) none h =
+    record { suits = (refl, none); send = tt; began = omega arith; send_wish = λ wish. no_wish wish; receive_wish = λ wish. refl; registers = h.registers }
+
+delivery_keeps : (m : Machine) (d : Declaration) (now : ℕ) (t : Thread) (send : Send) → t.send ≡ Some send → ThreadFacts m d now t → ThreadFacts m d now (delivered send now t)
+delivery_keeps m d now t send has h =
+    cond_keeps (ThreadFacts m d now) (is_alive t.phase) _ (decided t)
+    (λ alive. goes_on_keeps m d now t send.receive (sender_none t send has alive h.suits) h)
+    (λ gone. decided_gone m d now t (suits_deleted t.phase None t.order gone) h)
+
+sending_has_one : (p : Phase) (send : Option Send) (order : Option Asked) → is_sending p ≡ true → Suits p send order → is_some send ≡ true
+sending_has_one Ready send order h s = cc
+sending_has_one Sending send order h s = s.0
+sending_has_one (Receiving receive since) send order h s = cc
+sending_has_one Ordering send order h s = cc
+sending_has_one Ended send order h s = cc
+sending_has_one Deleted send order h s = cc
+
+asked_send_keeps : (m : Machine) (d : Declaration) (now : ℕ) (t : Thread) → ThreadFacts m d now t → ThreadFacts m d now (asked_send t)
+asked_send_keeps m d now t h =
+    record {
+      suits = h.suits;
+      send = h.send;
+      began = h.began;
+      send_wish = λ wish. ⊎_elim h.send_wish (λ sending. sending_has_one t.phase t.send t.order sending h.suits) (or_cases t.cancel_send (is_sending t.phase) wish);
+      receive_wish = h.receive_wish;
+      registers = h.registers;
+    }
+
+asked_receive_keeps : (m : Machine) (d : Declaration) (now : ℕ) (t : Thread) → ThreadFacts m d now t → ThreadFacts m d now (asked_receive t)
+asked_receive_keeps m d now t h =
+    record {
+      suits = h.suits;
+      send = h.send;
+      began = h.began;
+      send_wish = h.send_wish;
+      receive_wish = λ wish. ⊎_elim h.receive_wish (λ has. has) (or_cases t.cancel_receive (has_receive_phase t.phase t.send) wish);
+      registers = h.registers;
+    }
+
+asked_keeps : (m : Machine) (d : Declaration) (now : ℕ) (t : Thread) (what : What) → ThreadFacts m d now t → ThreadFacts m d now (asked what t)
+asked_keeps m d now t CancelSend h = asked_send_keeps m d now t h
+asked_keeps m d now t CancelReceive h = asked_receive_keeps m d now t h
+asked_keeps m d now t CancelBoth h = asked_receive_keeps m d now (asked_send t) (asked_send_keeps m d now t h)
+asked_keeps m d now t Delete h = record { suits = tt; send = h.send; began = tt; send_wish = h.send_wish; receive_wish = λ wish. no_wish wish; registers = h.registers }
+
+obedience_keeps : (m : Machine) (d : Declaration) (now : ℕ) (t : Thread) (order : Asked) → t.order ≡ Some order → ThreadFacts m d now t → ThreadFacts m d now (obeyed t)
+obedience_keeps m d now t order has h =
+    cond_keeps (ThreadFacts m d now) (is_alive t.phase) _ _
+    (λ alive.
+    let none = caller_has_none t.phase t.send order alive (rw has at h.suits) in
+    record { suits = (none.0, refl); send = h.send; began = tt; send_wish = h.send_wish; receive_wish = λ wish. no_wish (sym none.1 ∙ h.receive_wish wish); registers = h.registers })
+    (λ gone. record { suits = suits_deleted t.phase t.send None gone; send = h.send; began = h.began; send_wish = h.send_wish; receive_wish = h.receive_wish; registers = h.registers })
+
+tick_keeps : (m : Machine) (d : Declaration) (now later : ℕ) (t : Thread) → now ≤ later → ThreadFacts m d now t → ThreadFacts m d later t
+tick_keeps m d now later t le h =
+    record { suits = h.suits; send = sent t.send h.send; began = began t.phase h.began; send_wish = h.send_wish; receive_wish = h.receive_wish; registers = h.registers }
+  where
+    sent : (o : Option Send) → IfSome o (IsSendOf m d.id now) → IfSome o (IsSendOf m d.id later)
+    sent None s = tt
+    sent (Some send) s = record { since = omega (arith, s.since); actual = s.actual; shown = s.shown; short = s.short }
+
+    began : (p : Phase) → BeganBy now p → BeganBy later p
+    began (Receiving receive since) b = omega arith
+    began _ b = tt
+
+facts_kept : (m : Machine) → Maintained m (ThreadFacts m)
+facts_kept m =
+    record {
+      at_run = λ d now t. run_keeps m d now (instruction_at d.script t.context.place) t;
+      at_begin = begin_keeps m;
+      at_wait = wait_keeps m;
+      at_order = order_keeps m;
+      at_failure = failure_keeps m;
+      at_refusal = refusal_keeps m;
+      at_drop = λ d now t gone h. decided_gone m d now t (suits_gone t.phase None t.order gone) h;
+      at_receipt = receipt_keeps m;
+      at_delivery = delivery_keeps m;
+      at_asked = asked_keeps m;
+      at_obedience = obedience_keeps m;
+      at_tick = tick_keeps m;
+    }
+
+abbrev pub AreSound : Machine → World → Type 0
+AreSound m w = Each m (ThreadFacts m) w
+
+pub opening_sound : (m : Machine) → AreSound m (opening m)
+opening_sound m = opening_each m (ThreadFacts m) (λ d now. record { suits = (refl, refl); send = tt; began = tt; send_wish = λ wish. no_wish wish; receive_wish = λ wish. no_wish wish; registers = refl })
+
+pub step_sound : (m : Machine) (w v : World) (step : Step) → next m w step ≡ Some v → AreSound m w → AreSound m v
+step_sound m w v step h sound = step_each m (ThreadFacts m) w v step (facts_kept m) h sound

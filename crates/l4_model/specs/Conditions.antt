@@ -70,6 +70,7 @@ act_of m t = act m t.declared.id t.clock t.now.context (instruction t)
 abbrev pub is_waiting : World → Pending → Bool
 is_waiting w p = is_queued w.waiting p.sender.at
 
+-- A thread's undecided send shows a sender that is accepted.
 abbrev pub shows_accepted : Machine → Id → GlobalId → Option Thread → Bool
 shows_accepted m from receiver None = false
 shows_accepted m from receiver (Some t) = shown_accepted t.send
@@ -82,11 +83,12 @@ shows_accepted m from receiver (Some t) = shown_accepted t.send
 abbrev pub first_accepted : Machine → World → Found → Id → Option ℕ
 first_accepted m w r from = find (λ i. shows_accepted m from r.declared.id (slice_get w.threads i)) (slice_index_or w.waiting r.at [])
 
+-- It is not declared, or deleted.
 abbrev pub is_gone : Option Found → Bool
 is_gone None = true
 is_gone (Some t) = is_deleted t.now.phase
 
--- A local or undeclared id, or a deleted thread.
+-- Non-existing partners (manual: Ipc, ErrorCode). Own: a local or undeclared id is one, and so is a deleted thread.
 abbrev pub is_nobody : Id → Option Found → Bool
 is_nobody (LocalThread word) t = true
 is_nobody (GlobalThread id) t = is_gone t
@@ -98,6 +100,7 @@ is_no_destination AnyThread t = true
 is_no_destination AnyLocalThread t = true
 is_no_destination to t = is_nobody to t
 
+-- A period that began at a clock has passed (manual: Time). Never never passes.
 abbrev pub has_passed : Period → (since now : ℕ) → Bool
 has_passed None since now = false
 has_passed (Some n) since now = nat_le (since + n) now
@@ -106,11 +109,13 @@ abbrev pub is_zero : Period → Bool
 is_zero None = false
 is_zero (Some n) = n == 0
 
+-- A receive phase, where there is one, accepts this sender.
 abbrev pub receive_accepts : Machine → Option Receive → (shown receiver : GlobalId) → Bool
 receive_accepts m None shown receiver = false
 receive_accepts m (Some receive) shown receiver = accepts m receive.from shown receiver
 
--- The call that a thread is in sends to a declared thread of another processor, and its receive phase would accept.
+-- The call that a receiver is in sends to a declared thread of another processor than its own, and its receive phase would
+-- accept this sender.
 abbrev pub call_accepts : Machine → Found → Option Send → GlobalId → Bool
 call_accepts m r None shown = false
 call_accepts m r (Some call) shown = is_elsewhere call.to && receive_accepts m call.receive shown r.declared.id
@@ -119,16 +124,19 @@ call_accepts m r (Some call) shown = is_elsewhere call.to && receive_accepts m c
     is_elsewhere (GlobalThread t) = is_declared m t && not (same_cpu m t r.declared.id)
     is_elsewhere _ = false
 
+-- A receiver accepts this sender now, or may once its call is decided.
 abbrev pub may_still_accept : Machine → Found → GlobalId → Phase → Bool
 may_still_accept m r shown (Receiving receive since) = accepts m receive.from shown r.declared.id
 may_still_accept m r shown Sending = call_accepts m r r.now.send shown
 may_still_accept m r shown _ = false
 
--- A send of timeout zero may be refused.
+-- A send of timeout zero may be refused (manual: Ipc, send timeout): its receiver is alive, and neither waits and accepts it nor is
+-- in a call between processors that would still accept it.
 abbrev pub is_refusable : Machine → Send → Option Found → Bool
 is_refusable m send None = false
 is_refusable m send (Some r) = is_alive r.now.phase && not (may_still_accept m r send.message.shown r.now.phase)
 
+-- A send may time out: of timeout zero where it may be refused, else where its period has passed and it waits.
 abbrev pub is_timed_out : Machine → World → Pending → Bool
 is_timed_out m w p =
     has_passed p.send.period p.send.since p.sender.clock

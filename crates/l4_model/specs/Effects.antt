@@ -4,19 +4,20 @@ use Rattle.l4_model.specs.Machine.{What, CancelSend, CancelReceive, CancelBoth, 
 use Rattle.l4_model.specs.World.{Receive, Message, Send, Asked, Phase, Ready, Sending, Receiving, Ordering, Ended, Deleted, Thread, is_sending, is_alive}
 use Rattle.l4_model.specs.Rules.{advanced, failed, sent, received, ordered, ran}
 
--- It runs an instruction that concerns nobody else. At an `end` it has ended.
+-- At an `end` a thread has ended.
 abbrev pub phase_after : Instr → Phase
 phase_after End = Ended
 phase_after _ = Ready
 
+-- It runs an instruction that concerns nobody else.
 abbrev pub runs : Instr → Thread → Thread
 runs i t = record t { context = ran i t.context; phase = phase_after i }
 
--- It begins a send.
+-- It begins a send (manual: Ipc, send phase).
 abbrev pub begins : Send → Thread → Thread
 begins send t = record t { context = record (advanced t.context) { begun = t.context.begun + 1 }; phase = Sending; send = Some send }
 
--- It begins a receive phase without a send.
+-- It begins a receive phase without a send (manual: Ipc, receive phase).
 abbrev pub waits : Receive → (now : ℕ) → Thread → Thread
 waits receive now t = record t { context = advanced t.context; phase = Receiving receive now }
 
@@ -35,7 +36,8 @@ refused code t = fails code (decided t)
 abbrev pub receives : Message → (tag : ℕ) → Thread → Thread
 receives message tag t = record t { context = received message tag t.context; phase = Ready; cancel_receive = false }
 
--- Its send was delivered: the receive phase of the same call begins, or the ipc has ended.
+-- Its send was delivered: the receive phase of the same call begins at once (manual: Ipc, the switch from the one phase to the
+-- other is atomic), with a wish that its receive phase be cancelled kept; or the ipc has ended.
 abbrev pub goes_on : Option Receive → (now : ℕ) → Thread → Thread
 goes_on (Some receive) now t = record t { phase = Receiving receive now; send = None; cancel_send = false }
 goes_on None now t = record (decided t) { context = sent t.context; phase = Ready }
@@ -52,13 +54,15 @@ has_receive_phase (Receiving receive since) send = true
 has_receive_phase Sending send = calls_to_receive send
 has_receive_phase _ send = false
 
--- It is asked for a cancellation, which is without effect where it has no such phase, or it is deleted.
+-- It is asked for a cancellation (manual: ExchangeRegisters, `S` and `R`). `S` makes a wish in a send phase; `R` makes one in a
+-- receive phase and in the send phase of a call that has one. Else there is no effect.
 abbrev pub asked_send : Thread → Thread
 asked_send t = record t { cancel_send = t.cancel_send || is_sending t.phase }
 
 abbrev pub asked_receive : Thread → Thread
 asked_receive t = record t { cancel_receive = t.cancel_receive || has_receive_phase t.phase t.send }
 
+-- It is asked for a cancellation, or it is deleted (manual: ThreadControl).
 abbrev pub asked : What → Thread → Thread
 asked CancelSend t = asked_send t
 asked CancelReceive t = asked_receive t

@@ -1,5 +1,5 @@
 -- Histories: lists of steps, each possible at the world that the earlier ones reach.
-use Rattle.std.specs.Prelude.{ℕ, ◌+◌, ◌≡◌, Option, Some, None, List, [], ◌∷◌, map, filter_map, zip}
+use Rattle.std.specs.Prelude.{ℕ, ◌+◌, ◌<◌, ◌≤◌, ◌≡◌, ◌↔◌, Option, Some, None, List, [], ◌∷◌, length, take, map, filter_map, zip}
 use Rattle.l4_model.specs.Words.{GlobalId, Id}
 use Rattle.l4_model.specs.Machine.{Machine}
 use Rattle.l4_model.specs.World.{Phase, Ready, Sending, Receiving, Ordering, Ended, Deleted, Thread, World, opening, Name}
@@ -28,6 +28,19 @@ refused_from m w place (step ∷ steps) = place_or_rest (next m w step) place (�
 
 abbrev pub refused_place : Machine → List Step → Option ℕ
 refused_place m h = refused_from m (opening m) 1 h
+
+-- The place, counted from 1, after the longest beginning that is a history.
+pub record IsFirstFault (m : Machine) (h : List Step) (place : ℕ) : Type 0 where
+  pub beginning : ℕ
+  pub place_is : place ≡ beginning + 1
+  pub within : beginning < length h
+  pub is_history : IsHistory m (take beginning h)
+  pub is_longest : (more : ℕ) → more ≤ length h → IsHistory m (take more h) → more ≤ beginning
+
+-- The place that is told is that of the first fault, and none is told of a history.
+pub record TellsFirstFault (m : Machine) (h : List Step) : Type 0 where
+  pub history : (refused_place m h ≡ None) ↔ IsHistory m h
+  pub fault : (place : ℕ) → (refused_place m h ≡ Some place) ↔ IsFirstFault m h place
 
 -- The send that a step begins.
 abbrev pub begun_name : Step → Option Name

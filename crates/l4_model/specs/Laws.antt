@@ -1,12 +1,12 @@
 -- What is true of every history.
-use Rattle.std.specs.Prelude.{ℕ, ◌+◌, ◌/◌, ◌^◌, ◌<◌, ◌≤◌, ◌≡◌, Bool, true, false, if◌then◌else◌, ◌&&◌, ◌==◌, Option, Some, None, is_some, IfSome, List, [], ◌∷◌, ◌++◌, filter_map, count_by}
-use Rattle.std.specs.List.{AllByRecursion}
-use Rattle.l4_model.specs.Words.{GlobalId, same_id}
+use Rattle.std.specs.Prelude.{ℕ, ◌+◌, ◌<◌, ◌≤◌, ◌≡◌, Bool, true, false, if◌then◌else◌, ◌&&◌, ◌==◌, Option, Some, None, is_some, IsSomeAnd, List, [], ◌∷◌, ◌++◌, filter_map, count_by}
+use Rattle.std.specs.List.{AllByRecursion, before_first}
+use Rattle.l4_model.specs.Words.{GlobalId, same_id, tag_of_word}
 use Rattle.l4_model.specs.Machine.{Machine, Delete}
-use Rattle.l4_model.specs.World.{World, Asked, receive_now, Name}
-use Rattle.l4_model.specs.Rules.{accepts}
+use Rattle.l4_model.specs.World.{World, Asked, Message, receive_now, Name}
+use Rattle.l4_model.specs.Rules.{accepts, message_of}
 use Rattle.l4_model.specs.Steps.{Step, Begin, Queue, Deliver, SendTimeout, SendNobody, SendCancel, Drop, Obey}
-use Rattle.l4_model.specs.Conditions.{Pending, found, undecided, receiver_of, ◌>>=◌, ◌>>◌}
+use Rattle.l4_model.specs.Conditions.{found, undecided, receiver_of, ◌>>=◌, ◌>>◌}
 use Rattle.l4_model.specs.History.{reached, waiting, begun_name}
 
 abbrev pub same_name : Name → Name → Bool
@@ -65,30 +65,32 @@ IsRising (x ∷ xs) = AllByRecursion (λ y. x < y) xs × IsRising xs
 abbrev pub InOrder : List Step → Type 0
 InOrder h = (from to : GlobalId) → IsRising (filter_map (number_between from to) h)
 
--- A step, if it delivers this send, delivers its request.
-abbrev pub IsAsRequested : Name → Pending → Step → Type 0
-IsAsRequested s p (Deliver t receiver shown actual tag words) =
-    same_name s t ≡ true → (words ≡ p.send.message.words) × (shown ≡ p.send.message.shown) × (actual ≡ s.thread) × (label_of tag ≡ p.send.message.label)
-  where
-    label_of : ℕ → ℕ
-    label_of tag = tag / 2 ^ 16
-IsAsRequested s p _ = Unit {0}
+-- The message that a thread's registers hold for a send that begins now.
+abbrev pub message_at : Machine → World → GlobalId → Option Message
+message_at m w id = found m w id >>= λ t. Some (message_of m id t.now.context)
 
--- What is delivered is what was asked for when the send began.
+-- What a delivery shows is this message: its label, its words, and its senders.
+pub record Carries (message : Message) (shown actual : GlobalId) (tag : ℕ) (words : List ℕ) : Type 0 where
+  pub same_label : (tag_of_word tag).label ≡ message.label
+  pub same_words : words ≡ message.words
+  pub same_shown : shown ≡ message.shown
+  pub same_actual : actual ≡ message.actual
+
+-- A step, if it delivers this send, delivers this message.
+abbrev pub DeliversAs : Name → Message → Step → Type 0
+DeliversAs s message (Deliver t receiver shown actual tag words) = same_name s t ≡ true → Carries message shown actual tag words
+DeliversAs s message _ = Unit {0}
+
+-- What is delivered is what stood in the sender's registers when the send began.
 abbrev pub IsUnaltered : Machine → List Step → Type 0
 IsUnaltered m h =
     (before after : List Step) (s : Name) (w : World) →
-    h ≡ before ++ Begin s ∷ after → reached m (before ++ Begin s ∷ []) ≡ Some w →
-    IfSome (undecided m w s) (λ p. AllByRecursion (IsAsRequested s p) after)
+    h ≡ before ++ Begin s ∷ after → reached m before ≡ Some w →
+    IsSomeAnd (message_at m w s.thread) (λ message. AllByRecursion (DeliversAs s message) after)
 
 -- The sends that were queued before this one.
 abbrev pub queued_before : Name → List Step → List Name
-queued_before s [] = []
-queued_before s (step ∷ h) = until (queued_name step) (queued_before s h)
-  where
-    until : Option Name → List Name → List Name
-    until None rest = rest
-    until (Some t) rest = if same_name s t then [] else t ∷ rest
+queued_before s h = before_first (same_name s) (filter_map queued_name h)
 
 -- A send is undecided, was sent to this thread, and is one that it waits for.
 abbrev pub is_awaited : Machine → World → GlobalId → Name → Bool
@@ -130,3 +132,14 @@ pub record IsAccounted (m : Machine) (h : List Step) (w : World) (s : Name) : Ty
 
 abbrev pub AreAccounted : Machine → List Step → Type 0
 AreAccounted m h = (w : World) → reached m h ≡ Some w → (s : Name) → IsAccounted m h w s
+
+-- The laws of a history. Each send is delivered at most once and unaltered, one sender's messages reach one receiver in
+-- sending order, a receive takes its first acceptable waiting sender, a deleted thread receives nothing, and every other
+-- begun send is refused, dropped with its deleted sender, or listed waiting.
+pub record IsLawful (m : Machine) (h : List Step) : Type 0 where
+  pub delivered_at_most_once : AtMostOnce h
+  pub delivered_unaltered : IsUnaltered m h
+  pub in_sending_order : InOrder h
+  pub first_acceptable_taken : TakesTurns m h
+  pub nothing_after_deletion : NoneAfterDelete m h
+  pub every_send_accounted : AreAccounted m h

@@ -8,3 +8,4 @@ pub mod Steps
 pub mod History
 pub mod Laws
 pub mod Still
+pub mod Reached

@@ -2,18 +2,20 @@
 use Rattle.std.specs.Prelude.{ℕ, Bool, ◌==◌, false, Option, Some, None, is_some, List, find, position, slice_get, unwrap_or}
 use Rattle.l4_model.specs.Words.{GlobalId, Id, same_id, Period}
 
--- Where an ipc sends to: an id, or what the register `from` has at that moment.
+-- Where an ipc sends to (manual: Ipc, `to`): an id, or what the register `from` has at that moment.
 pub data To : Type 0 where
   ToId : Id → To
   ToLast : To
 
--- What one thread may ask of another: a cancellation, by the bits S and R of ExchangeRegisters, or a deletion.
+-- What one thread may ask of another: a cancellation, by the bits S and R of the control word (manual: ExchangeRegisters), or a
+-- deletion (manual: ThreadControl).
 pub data What : Type 0 where
   CancelSend : What
   CancelReceive : What
   CancelBoth : What
   Delete : What
 
+-- One instruction of a script. `Vs` writes VirtualSender, `Ask` is an ExchangeRegisters or a deletion.
 pub data Instr : Type 0 where
   Set : (a word : ℕ) → Instr
   Copy : (a b : ℕ) → Instr
@@ -26,7 +28,7 @@ pub data Instr : Type 0 where
   OnErr : (place : ℕ) → Instr
   End : Instr
 
--- A declared thread.
+-- A declared thread: its id, its processor, its address space by a number, and its script.
 pub record Declaration : Type 0 where
   pub id : GlobalId
   pub cpu : ℕ

@@ -4,6 +4,9 @@ use Rattle.l4_model.specs.Words.{GlobalId, Id, NilThread, AnyThread, AnyLocalThr
 use Rattle.l4_model.specs.Machine.{Tag, To, ToId, ToLast, What, Delete, Instr, Set, Copy, Add, Vs, Ipc, Ask, Jump, OnErr, End, Machine, is_declared, same_space, same_cpu}
 use Rattle.l4_model.specs.World.{Context, Receive, Message, Send, Asked}
 
+-- Who is accepted (manual: Ipc, `FromSpecifier`): anythread takes every sender, anylocalthread those of the receiver's address
+-- space, a global id that sender alone. What is compared is the sender that the message shows.
+
 -- A receive phase with this specifier takes a sender that is shown so, of the receiver's space or not.
 abbrev pub takes : Id → (shown : GlobalId) → (local : Bool) → Bool
 takes AnyThread shown local = true
@@ -12,10 +15,11 @@ takes (GlobalThread t) shown local = same_id t shown
 takes NilThread shown local = false
 takes (LocalThread word) shown local = false
 
+-- A receiver with this specifier accepts a sender that is shown so.
 abbrev pub accepts : Machine → Id → (shown receiver : GlobalId) → Bool
 accepts m from shown receiver = takes from shown (same_space m shown receiver)
 
--- What happens to a context
+-- What happens to a context (manual: Ipc, output parameters). Registers change only when the operation ends.
 
 abbrev pub register : Context → ℕ → ℕ
 register c a = slice_index c.words a
@@ -27,7 +31,8 @@ with_register a word c = record c { words = slice_set c.words a word }
 abbrev pub advanced : Context → Context
 advanced c = record c { place = c.place + 1 }
 
--- An ipc failed with this ErrorCode.
+-- An ipc failed with this ErrorCode: MR0 has the bit `E` alone, and nobody is `from`. Bit 0 of an ErrorCode is the phase that
+-- failed, 0 for send and 1 for receive; bits 1 to 3 are the cause: 1 timeout, 2 non-existing partner, 3 cancelled.
 abbrev pub failed : ℕ → Context → Context
 failed code c = record c { words = slice_set c.words 0 0x8000; error = code; from = NilThread }
 
@@ -35,16 +40,17 @@ failed code c = record c { words = slice_set c.words 0 0x8000; error = code; fro
 abbrev pub sent : Context → Context
 sent c = record c { words = slice_set c.words 0 0; error = 0; from = NilThread }
 
--- An ipc received a message. Registers past its words keep their contents.
+-- An ipc received a message: `from` is the sender that it shows, ActualSender the one that sent it. Registers past its words
+-- keep their contents.
 abbrev pub received : Message → (mr0 : ℕ) → Context → Context
 received message mr0 c =
     record c { words = mr0 ∷ message.words ++ drop (1 + length message.words) c.words; error = 0; from = GlobalThread message.shown; actual = GlobalThread message.actual }
 
--- An order was done, code 0, or refused, code 2.
+-- An order (manual: ExchangeRegisters, ThreadControl) was done, ErrorCode 0, or refused, ErrorCode 2.
 abbrev pub ordered : ℕ → Context → Context
 ordered code c = advanced (record c { error = code })
 
--- An instruction was run that concerns nobody else. An ipc is then one without phases, and an order is refused.
+-- An instruction was run that concerns nobody else. An ipc is then one without phases (manual: Ipc), and an order is refused.
 abbrev pub ran : Instr → Context → Context
 ran (Set a word) c = advanced (with_register a word c)
 ran (Copy a b) c = advanced (with_register a (register c b) c)
@@ -65,7 +71,7 @@ pub data Act : Type 0 where
   Receives : Receive → Act
   Orders : Asked → Act
 
--- The destination that an ipc names.
+-- The destination that an ipc names. `last` is the content of the register `from`.
 abbrev pub destination : Context → To → Id
 destination c (ToId id) = id
 destination c ToLast = c.from
@@ -75,16 +81,16 @@ abbrev pub receive_phase : Id → Period → Option Receive
 receive_phase NilThread period = None
 receive_phase from period = Some (record { from = from; period = period })
 
--- An originator is permitted where it is a declared thread of the sender's space.
+-- Propagation (manual: Messages and Message Registers, `p`; Ipc, VirtualSender). An originator is permitted where it is a declared thread of the sender's space, on no other ground (own).
 abbrev pub permitted : Machine → GlobalId → Id → Option GlobalId
 permitted m sender (GlobalThread t) = if same_space m t sender then Some t else None
 permitted m sender _ = None
 
--- Bit 12 of MR0 asks for propagation.
+-- The originator of a propagated send: bit 12 of MR0 asks for propagation, VirtualSender names the originator.
 abbrev pub originator : Machine → GlobalId → Context → Option GlobalId
 originator m sender c = if (register c 0 / 2 ^ 12) % 2 == 1 then permitted m sender c.actual else None
 
--- The message of a send that begins now.
+-- The message of a send that begins now. Where propagation is not asked for or not permitted, the sender is shown.
 abbrev pub message_of : Machine → GlobalId → Context → Message
 message_of m sender c =
     record {
@@ -100,7 +106,8 @@ abbrev pub request : Machine → GlobalId → (now : ℕ) → Context → Id →
 request m sender now c to period receive =
     record { to = to; message = message_of m sender c; period = period; since = now; receive = receive }
 
--- Without a destination an ipc has no send phase.
+-- An ipc has a send phase unless its destination is nilthread, and then a receive phase unless its specifier is nilthread
+-- (manual: Ipc).
 abbrev pub ipc_act : Machine → GlobalId → (now : ℕ) → Context → Id → Period → Option Receive → Act
 ipc_act m sender now c NilThread period None = RunsAlone
 ipc_act m sender now c NilThread period (Some receive) = Receives receive
@@ -125,7 +132,8 @@ act m t now c _ = RunsAlone
 abbrev pub bit : Bool → ℕ
 bit b = if b then 1 else 0
 
--- The tag that a receiver gets: label, `p`, `X` and `u`. `r` and `E` are clear.
+-- The tag that a receiver gets (manual: Messages and Message Registers, MsgTag): the label, `p` and `u` of the message, and `X`
+-- where it comes from another processor. `r` and `E` are clear.
 abbrev pub received_tag : (cross : Bool) → Message → ℕ
 received_tag cross message =
     message.label * 2 ^ 16 + bit cross * 2 ^ 14 + bit message.propagated * 2 ^ 12 + length message.words

@@ -1,12 +1,14 @@
--- The ids, tags and times of the manual, and the words that stand for them.
+-- The ids, tags and times of the manual (X.2), and the words that stand for them in the 64-bit format. A section of the
+-- manual is named by its title.
 use Rattle.std.specs.Prelude.{ℕ, ◌+◌, ◌*◌, ◌/◌, ◌%◌, ◌^◌, ◌-◌, Bool, if◌then◌else◌, ◌==◌, not, ◌&&◌, nat_lt, Option, Some, None}
 
--- A global thread id.
+-- A global thread id (manual: ThreadId): a thread number and a version.
 pub record GlobalId : Type 0 where
   pub number : ℕ
   pub version : ℕ
 
--- Any thread id.
+-- Any thread id (manual: ThreadId), one value whatever the width of a word. A local id has no other meaning here than
+-- its word: it names nobody.
 pub data Id : Type 0 where
   NilThread : Id
   AnyThread : Id
@@ -20,13 +22,14 @@ same_id a b = (a.number == b.number) && (a.version == b.version)
 abbrev pub global_id : (number version : ℕ) → GlobalId
 global_id number version = record { number = number; version = version }
 
--- A global id has 32 bits of number and 32 of version, of which the low six are not all zero. The word of
--- all ones is anythread.
+-- Which numbers make a global id in 64 bits (manual: ThreadId): 32 bits of number and 32 of version, of which the low six
+-- are not all zero. The word of all ones is anythread.
 abbrev pub is_global : GlobalId → Bool
 is_global t =
     nat_lt t.number (2 ^ 32) && nat_lt t.version (2 ^ 32) && not (t.version % 64 == 0)
     && not (t.number == 2 ^ 32 - 1 && t.version == 2 ^ 32 - 1)
 
+-- The word of an id.
 abbrev pub word_of : Id → ℕ
 word_of NilThread = 0
 word_of AnyThread = 2 ^ 64 - 1
@@ -34,6 +37,7 @@ word_of AnyLocalThread = 2 ^ 64 - 64
 word_of (LocalThread word) = word
 word_of (GlobalThread t) = t.number * 2 ^ 32 + t.version
 
+-- The id that a word of 64 bits stands for.
 abbrev pub id_of_word : ℕ → Id
 id_of_word word =
     if word == 0 then NilThread
@@ -42,7 +46,8 @@ id_of_word word =
     else if word % 64 == 0 then LocalThread word
     else GlobalThread (record { number = word / 2 ^ 32; version = word % 2 ^ 32 })
 
--- A message tag: its label of 48 bits, its flags, and the number of its untyped words. It has no typed words.
+-- A message tag (manual: Messages and Message Registers, MsgTag): its label of 48 bits, its four flags, and the number of its
+-- untyped words. The number of typed words, bits 6 to 11, is 0. Of the flags bit 0 is `p`, 1 `r`, 2 `X` and 3 `E`.
 pub record MessageTag : Type 0 where
   pub label : ℕ
   pub flags : ℕ
@@ -54,11 +59,33 @@ tag_of_word word = record { label = word / 2 ^ 16; flags = (word / 2 ^ 12) % 16;
 abbrev pub word_of_tag : MessageTag → ℕ
 word_of_tag tag = tag.label * 2 ^ 16 + tag.flags * 2 ^ 12 + tag.untyped
 
--- A period in ticks. None is never.
+-- A period in ticks of a processor's clock (manual: Time). None is never.
 abbrev pub Period : Type 0
 Period = Option ℕ
 
--- What a time of 16 bits means: 0 never, else the mantissa times a power of two.
--- (Bit 15 is zero.)
+-- What a time of 16 bits means where bit 15 is zero (manual: Time): 0 never, else the mantissa, bits 0 to 9, times the power of
+-- two of the exponent, bits 10 to 14. A mantissa of 0 with another exponent than 0 means zero.
 abbrev pub period_of : ℕ → Period
 period_of time = if time == 0 then None else Some (2 ^ (time / 1024) * (time % 1024))
+
+-- Bits 6 to 11 of a tag count typed words, which are left out.
+abbrev pub has_typed_words : ℕ → Bool
+has_typed_words word = not ((word / 2 ^ 6) % 64 == 0)
+
+-- The period of a time. Bit 15 set would be a point in time, which is left out.
+abbrev pub time_of : ℕ → Option Period
+time_of time = if nat_lt time (2 ^ 15) then Some (period_of time) else None
+
+-- A word of timeouts (manual: Ipc): the send time in bits 16 to 31, the receive time in bits 0 to 15.
+abbrev pub send_time : ℕ → ℕ
+send_time timeouts = timeouts / 2 ^ 16
+
+abbrev pub receive_time : ℕ → ℕ
+receive_time timeouts = timeouts % 2 ^ 16
+
+abbrev pub timeouts_of : ℕ → Option (Period × Period)
+timeouts_of timeouts = both (time_of (send_time timeouts)) (time_of (receive_time timeouts))
+  where
+    both : Option Period → Option Period → Option (Period × Period)
+    both (Some send) (Some receive) = Some (send, receive)
+    both _ _ = None

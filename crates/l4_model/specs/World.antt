@@ -4,13 +4,14 @@ use Rattle.std.specs.List.{list_any}
 use Rattle.l4_model.specs.Words.{GlobalId, Id, NilThread, Period}
 use Rattle.l4_model.specs.Machine.{What, Machine}
 
--- The k-th send that a thread began, from k = 1.
+-- A send's name: the k-th send that a thread began, from k = 1.
 pub record Name : Type 0 where
   pub thread : GlobalId
   pub k : ℕ
 
--- The part of a thread that its own instructions read and write: MR0 to MR63, ErrorCode, the register
--- `from`, the register that is VirtualSender and ActualSender, its place in its script, and how many sends it began.
+-- The part of a thread that its own instructions read and write: MR0 to MR63 (manual: Messages and Message Registers), ErrorCode
+-- (manual: Thread Control Registers), the register `from` (manual: Ipc), the one register that is VirtualSender and ActualSender
+-- (manual: Thread Control Registers), its place in its script, and how many sends it began.
 pub record Context : Type 0 where
   pub words : List ℕ
   pub error : ℕ
@@ -19,7 +20,7 @@ pub record Context : Type 0 where
   pub place : ℕ
   pub begun : ℕ
 
--- Whom a receive phase accepts, and how long it lasts.
+-- Whom a receive phase accepts, and how long it lasts (manual: Ipc, `FromSpecifier` and the receive timeout).
 pub record Receive : Type 0 where
   pub from : Id
   pub period : Period
@@ -41,10 +42,13 @@ pub record Send : Type 0 where
   pub since : ℕ
   pub receive : Option Receive
 
+-- What a thread has asked of another, and is not done yet.
 pub record Asked : Type 0 where
   pub target : GlobalId
   pub what : What
 
+-- What a thread is about. A receive phase has the clock of its processor at its beginning. A deleted thread has no phase, but
+-- its undecided send and its undone order go on.
 pub data Phase : Type 0 where
   Ready : Phase
   Sending : Phase
@@ -53,7 +57,8 @@ pub data Phase : Type 0 where
   Ended : Phase
   Deleted : Phase
 
--- A thread. It has at most one undecided send, the last one that it began, and at most one undone order.
+-- A thread. It has at most one undecided send, the last one that it began, and at most one undone order. The wishes are those of
+-- ExchangeRegisters: that its send be cancelled, and that its receive phase be.
 pub record Thread : Type 0 where
   pub context : Context
   pub phase : Phase

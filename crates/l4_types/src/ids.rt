@@ -1,5 +1,5 @@
 //! Thread ids (manual: ThreadId).
-ghost use Rattle.std.specs.Prelude.{◌≡◌, ◌↔◌, IsTrue, IsSome, IfSome, true, IsNone};
+ghost use Rattle.std.specs.Prelude.{◌≡◌, ◌/◌, ◌%◌, ◌^◌, ◌↔◌, true, IsSome, IfSome};
 ghost use Rattle.l4_model.specs.Words.{GlobalThread, word_of, id_of_word, is_global, global_id};
 ghost use Rattle.l4_types.specs.Ids.{kind_of, global_of};
 
@@ -147,7 +147,8 @@ impl ThreadId {
 
     /// The word of 64 bits that stands for this id.
     pub const fn raw(&self) -> u64
-        ensures { result ≡ word_of self.now }
+        ensures value { result ≡ word_of self.now }
+        ensures back { id_of_word result ≡ self.now }
     {
         self.raw
     }
@@ -170,10 +171,10 @@ impl ThreadId {
             ANY => Kind::Any,
             ANY_LOCAL => Kind::AnyLocal,
             raw if raw % 64 == 0 => Kind::Local,
-            raw => Kind::Global {
-                number: (raw >> 32) as u32,
-                version: (raw & 0xffff_ffff) as u32,
-            },
+            raw => {
+                let (number, version) = halves(raw);
+                Kind::Global { number, version }
+            }
         }
     }
 
@@ -184,10 +185,17 @@ impl ThreadId {
         match self.raw {
             0 | ANY | ANY_LOCAL => None,
             raw if raw % 64 == 0 => None,
-            raw => Some(GlobalId {
-                number: (raw >> 32) as u32,
-                version: (raw & 0xffff_ffff) as u32,
-            }),
+            raw => {
+                let (number, version) = halves(raw);
+                Some(GlobalId { number, version })
+            }
         }
     }
+}
+
+// The upper and the lower 32 bits of a word.
+fn halves(word: u64) -> (u32, u32)
+    ensures { result ≡ (word / 2 ^ 32, word % 2 ^ 32) }
+{
+    ((word >> 32) as u32, (word & 0xffff_ffff) as u32)
 }

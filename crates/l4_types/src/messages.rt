@@ -1,5 +1,5 @@
 //! Messages (manual: Messages and Message Registers).
-ghost use Rattle.std.specs.Prelude.{◌≡◌, ◌+◌, ◌*◌, ◌^◌, ◌<◌, ◌↔◌, IsSome, IfSome, length, false};
+ghost use Rattle.std.specs.Prelude.{◌≡◌, ◌^◌, ◌<◌, ◌↔◌, IsSome, IfSome, length, false};
 ghost use Rattle.l4_types.specs.Flags.{flags_of};
 
 use crate::ids::GlobalId;

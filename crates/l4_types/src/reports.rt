@@ -22,16 +22,19 @@ pub enum State {
 /// What a report says of one thread.
 #[derive(Clone, Copy, PartialEq, Eq, Debug)]
 pub struct ThreadView {
+    /// The thread.
     pub id: GlobalId,
+    /// What it is about.
     pub state: State,
+    /// Its registers.
     pub regs: Regs,
 }
 
 /// How a run ends.
 #[derive(Clone, Copy, PartialEq, Eq, Debug)]
 pub enum Ending {
-    /// Nothing is left to do, now or at any later clock.
+    /// Nothing was left to do.
     Quiet,
-    /// The turns were used up.
+    /// Something was left to do, as where all turns were used.
     Spent,
 }

@@ -1,5 +1,5 @@
 //! The steps of a machine, and the events that processors tell.
-ghost use Rattle.std.specs.Prelude.{◌≡◌, ◌≤◌, ◌<◌, ◌^◌, ◌↔◌, IsSome, IfSome};
+ghost use Rattle.std.specs.Prelude.{◌≡◌, ◌<◌, ◌^◌, ◌↔◌, IsSome, IfSome};
 ghost use Rattle.l4_model.specs.Words.{word_of_tag, tag_of_word};
 ghost use Rattle.l4_model.specs.Rules.{received_tag};
 
@@ -8,6 +8,12 @@ use crate::messages::Message;
 use crate::tags::MsgTag;
 use arrayvec::ArrayVec;
 use std::marker::Model;
+
+/// A machine has at most so many processors.
+pub const CPUS: u8 = 16;
+
+/// Clocks and stamps are below it.
+pub const CLOCKS: u64 = 1 << 62;
 
 /// The name of a send: the k-th that a thread began, from k = 1.
 #[derive(Clone, Copy, PartialEq, Eq, Debug)]
@@ -122,7 +128,7 @@ impl Tick {
         ensures some { IfSome result (λ t. t ≡ record { cpu = cpu; clock = clock }) }
         ensures when { IsSome result ↔ ((cpu < 16) × (0 < clock) × (clock < 2 ^ 62)) }
     {
-        if cpu >= 16 || clock == 0 || clock >= 0x4000_0000_0000_0000 {
+        if cpu >= CPUS || clock == 0 || clock >= CLOCKS {
             return None;
         }
         Some(Tick { cpu, clock })

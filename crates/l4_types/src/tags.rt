@@ -1,5 +1,5 @@
 //! Message tags (manual: Messages and Message Registers, MsgTag).
-ghost use Rattle.std.specs.Prelude.{◌≡◌, ◌+◌, ◌*◌, ◌/◌, ◌%◌, ◌^◌, ◌<◌, ◌==◌, ◌↔◌, false, IsSome, IfSome, IsOk, IfOk};
+ghost use Rattle.std.specs.Prelude.{◌≡◌, ◌/◌, ◌%◌, ◌^◌, ◌<◌, ◌==◌, ◌↔◌, false, IsSome, IfSome, IsOk, IfOk};
 ghost use Rattle.l4_model.specs.Words.{tag_of_word, word_of_tag};
 ghost use Rattle.l4_types.specs.Flags.{flags_of};
 
@@ -68,7 +68,9 @@ impl MsgTag {
 
     /// The word of this tag.
     pub fn raw(&self) -> u64
-        ensures { result ≡ word_of_tag self.now }
+        ensures value { result ≡ word_of_tag self.now }
+        ensures back { tag_of_word result ≡ self.now }
+        ensures no_typed_words { (result / 2 ^ 6) % 64 ≡ 0 }
     {
         self.raw
     }

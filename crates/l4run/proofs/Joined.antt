@@ -14,3 +14,21 @@ pub delivery_line : (s name receiver shown actual tag : List ℕ) (words : List 
     ++ codes " " ++ tag ++ flat_map (λ word. codes " " ++ hexadecimal word) words ++ codes "\n"
     ≡ s ++ line_of_words (codes "deliver" ∷ name ∷ receiver ∷ shown ∷ actual ∷ tag ∷ map hexadecimal words)
 delivery_line s name receiver shown actual tag words = simp (join_words, append_assoc)
+
+-- The line of a thread in a report, put together piece by piece.
+pub thread_line_joined : (s id state error from actual : List ℕ) (words : List ℕ) →
+    s ++ codes "thread" ++ codes " " ++ id ++ codes " " ++ state ++ codes " " ++ error ++ codes " " ++ from ++ codes " " ++ actual
+    ++ flat_map (λ word. codes " " ++ hexadecimal word) words ++ codes "\n"
+    ≡ s ++ line_of_words (codes "thread" ∷ id ∷ state ∷ error ∷ from ∷ actual ∷ map hexadecimal words)
+thread_line_joined s id state error from actual words = simp (join_words, append_assoc)
+
+-- The lines of an order and of a waiting send.
+pub order_line : (s caller target what : List ℕ) →
+    s ++ codes "order" ++ codes " " ++ caller ++ codes " " ++ target ++ (codes " " ++ (what ++ codes "\n"))
+    ≡ s ++ line_of_words (codes "order" ∷ caller ∷ target ∷ what ∷ [])
+order_line s caller target what = simp append_assoc
+
+pub waiting_line_joined : (s name destination : List ℕ) →
+    s ++ codes "waiting" ++ codes " " ++ name ++ codes " " ++ destination ++ codes "\n"
+    ≡ s ++ line_of_words (codes "waiting" ∷ name ∷ destination ∷ [])
+waiting_line_joined s name destination = simp append_assoc

@@ -7,7 +7,7 @@ use Rattle.l4_model.specs.Machine.{What, CancelSend, CancelReceive, CancelBoth, 
 use Rattle.l4_model.specs.World.{Name}
 use Rattle.l4_model.specs.Steps.{Step, Local, Begin, Queue, Deliver, Wait, SendTimeout, ReceiveTimeout, SendNobody, ReceiveNobody, SendCancel, ReceiveCancel, Drop, Order, Obey, Tick}
 
--- The digits of a number, the first of them not 0, or `0` alone.
+-- In lower case, with no prefix and no leading zero, as `decimal` has none: 0 is `0`.
 abbrev pub hexadecimal : ℕ → List ℕ
 hexadecimal n = digits 16 false n
 
@@ -45,7 +45,7 @@ words_of (Order caller target what) =
 words_of (Obey caller) = codes "obey" ∷ thread_word caller ∷ []
 words_of (Tick cpu clock) = codes "tick" ∷ decimal cpu ∷ decimal clock ∷ []
 
--- The words of a line are separated by one space, and a line ends with a line feed.
+-- The words of a line are separated by one space, the byte 32, and a line ends with a line feed.
 abbrev pub line_of_words : List (List ℕ) → List ℕ
 line_of_words words = join_with_byte 32 words ++ codes "\n"
 

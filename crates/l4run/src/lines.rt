@@ -58,7 +58,7 @@ fn push_word(line: &mut String, word: u64) -> Result<(), AllocError>
     write!(line, " {word:x}")
 }
 
-fn push_thread(line: &mut String, thread: GlobalId) -> Result<(), AllocError>
+pub(crate) fn push_thread(line: &mut String, thread: GlobalId) -> Result<(), AllocError>
     ensures word { OnOk result (string_bytes line.new ≡ string_bytes line.old ++ codes " " ++ thread_word thread) }
     ensures spelled { is_global thread ≡ true }
 {
@@ -66,7 +66,7 @@ fn push_thread(line: &mut String, thread: GlobalId) -> Result<(), AllocError>
 }
 
 #[tactic(auto, using(crate::proofs::Spelled::spelled_name))]
-fn push_name(line: &mut String, name: Name) -> Result<(), AllocError>
+pub(crate) fn push_name(line: &mut String, name: Name) -> Result<(), AllocError>
     ensures word { OnOk result (string_bytes line.new ≡ string_bytes line.old ++ codes " " ++ name_word name) }
     ensures spelled { OnOk result (is_name name ≡ true) }
 {
@@ -108,7 +108,7 @@ fn push_delivery(line: &mut String, delivery: &Delivery) -> Result<(), AllocErro
     Ok(())
 }
 
-fn push_words(line: &mut String, words: &[u64]) -> Result<(), AllocError>
+pub(crate) fn push_words(line: &mut String, words: &[u64]) -> Result<(), AllocError>
     ensures words { OnOk result (string_bytes line.new ≡ string_bytes line.old ++ flat_map (λ word. codes " " ++ hexadecimal word) words.now) }
     ensures spelled { OnOk result (list_all is_word words.now ≡ true) }
 {
@@ -118,6 +118,7 @@ fn push_words(line: &mut String, words: &[u64]) -> Result<(), AllocError>
     Ok(())
 }
 
+#[tactic(auto, using(crate::proofs::Joined::order_line))]
 fn push_order(
     line: &mut String,
     caller: GlobalId,
@@ -144,7 +145,7 @@ fn spelled(what: What) -> &'static str
     }
 }
 
-/// A text is the trace of one list of steps at most.
+/// A text is the trace of at most one list of steps, so it tells which steps they were.
 pub fn law_one_spelling()
     ensures { (g h : List ModelStep) → list_all has_line g ≡ true → list_all has_line h ≡ true → trace_of g ≡ trace_of h → g ≡ h }
 {}

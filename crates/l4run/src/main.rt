@@ -6,6 +6,7 @@ mod job;
 mod lines;
 mod outcome;
 mod perform;
+mod report_lines;
 mod run;
 #[cfg(test)]
 mod tests;

@@ -1,0 +1,88 @@
+-- Worked rows: what the laws refuse. None of these lists of steps is a history.
+use Rattle.std.proofs.Common.{◌≡◌, ℕ, ◌<◌, ◌≤◌, true, false, List, [], ◌∷◌, ◌++◌, refl, ap, arith}
+use Rattle.std.specs.Prelude.{unwrap_or}
+use Rattle.l4_model.specs.Words.{GlobalId}
+use Rattle.l4_model.specs.Machine.{Machine, Delete}
+use Rattle.l4_model.specs.World.{World, opening}
+use Rattle.l4_model.specs.Steps.{Step, Local, Begin, Queue, Deliver, Wait, SendTimeout, SendNobody, SendCancel, Drop, Order, Obey}
+use Rattle.l4_model.specs.History.{reached}
+use Rattle.l4_model.specs.Laws.{AtMostOnce, InOrder, IsUnaltered, TakesTurns, NoneAfterDelete, IsAccounted, Carries}
+use Rattle.l4_model.proofs.Rows.Writing.{thread, send}
+use Rattle.l4_model.proofs.Rows.Messages.{first_path}
+use Rattle.l4_model.proofs.Rows.Queues.{order_of_arrival}
+use Rattle.l4_model.proofs.Rows.Deleted.{one_deleted}
+
+-- A delivery of an empty message from one thread to another.
+abbrev delivery : (from k to : ℕ) → Step
+delivery from k to = Deliver (send from k) (thread to) (thread from) (thread from) 0 []
+
+abbrev world_after : Machine → List Step → World
+world_after m h = unwrap_or (reached m h) (opening m)
+
+delivered_twice : AtMostOnce (delivery 1 1 2 ∷ Wait (thread 2) ∷ delivery 1 1 2 ∷ []) → ⊥
+delivered_twice law = let two : 2 ≤ 1 = law (send 1 1) in absurd (omega arith)
+
+to_two_receivers : AtMostOnce (delivery 1 1 2 ∷ delivery 1 1 3 ∷ []) → ⊥
+to_two_receivers law = let two : 2 ≤ 1 = law (send 1 1) in absurd (omega arith)
+
+second_first : InOrder (delivery 1 2 2 ∷ delivery 3 5 2 ∷ delivery 1 1 2 ∷ []) → ⊥
+second_first law = let rises : 2 < 1 = (law (thread 1) (thread 2)).0.0 in absurd (omega arith)
+
+one_number_twice : InOrder (delivery 1 1 2 ∷ delivery 1 1 2 ∷ []) → ⊥
+one_number_twice law = let rises : 1 < 1 = (law (thread 1) (thread 2)).0.0 in absurd (omega arith)
+
+-- What the first path delivers, told with a change.
+abbrev begun : List Step
+begun = Local (thread 1) ∷ Local (thread 1) ∷ Wait (thread 2) ∷ []
+
+abbrev told : (shown actual : GlobalId) → (tag : ℕ) → (words : List ℕ) → List Step
+told shown actual tag words = begun ++ Begin (send 1 1) ∷ Queue (send 1 1) ∷ Deliver (send 1 1) (thread 2) shown actual tag words ∷ []
+
+carried : (shown actual : GlobalId) (tag : ℕ) (words : List ℕ) → IsUnaltered first_path (told shown actual tag words) →
+    Carries (record { label = 7; words = 0xa ∷ []; propagated = false; shown = thread 1; actual = thread 1 }) shown actual tag words
+carried shown actual tag words law =
+    (law begun (Queue (send 1 1) ∷ Deliver (send 1 1) (thread 2) shown actual tag words ∷ []) (send 1 1) (world_after first_path begun) refl refl).1.0 refl
+
+other_word : IsUnaltered first_path (told (thread 1) (thread 1) 0x70001 (0xb ∷ [])) → ⊥
+other_word law = let same = (carried (thread 1) (thread 1) 0x70001 (0xb ∷ []) law).same_words in cc
+
+no_word : IsUnaltered first_path (told (thread 1) (thread 1) 0x70001 []) → ⊥
+no_word law = let same = (carried (thread 1) (thread 1) 0x70001 [] law).same_words in cc
+
+other_label : IsUnaltered first_path (told (thread 1) (thread 1) 0x80001 (0xa ∷ [])) → ⊥
+other_label law = let same : ◌≡◌ {A = ℕ} 8 7 = (carried (thread 1) (thread 1) 0x80001 (0xa ∷ []) law).same_label in absurd (omega arith)
+
+other_shown : IsUnaltered first_path (told (thread 2) (thread 1) 0x70001 (0xa ∷ [])) → ⊥
+other_shown law = let same : ◌≡◌ {A = ℕ} 2 1 = ap (λ (t : GlobalId). t.number) (carried (thread 2) (thread 1) 0x70001 (0xa ∷ []) law).same_shown in absurd (omega arith)
+
+other_actual : IsUnaltered first_path (told (thread 1) (thread 2) 0x70001 (0xa ∷ [])) → ⊥
+other_actual law = let same : ◌≡◌ {A = ℕ} 2 1 = ap (λ (t : GlobalId). t.number) (carried (thread 1) (thread 2) 0x70001 (0xa ∷ []) law).same_actual in absurd (omega arith)
+
+-- The first that waits is passed over.
+abbrev two_wait : List Step
+two_wait = Begin (send 1 1) ∷ Begin (send 2 1) ∷ Queue (send 2 1) ∷ Queue (send 1 1) ∷ Wait (thread 4) ∷ []
+
+passed_over : TakesTurns order_of_arrival (two_wait ++ delivery 1 1 4 ∷ []) → ⊥
+passed_over law = let out : true ≡ false = (law two_wait [] (send 1 1) (thread 4) (thread 1) (thread 1) 0 [] (world_after order_of_arrival two_wait) refl refl).0 in cc
+
+abbrev deletion : List Step
+deletion = Begin (send 2 1) ∷ Queue (send 2 1) ∷ Order (thread 3) (thread 1) Delete ∷ []
+
+deleted_receives : NoneAfterDelete one_deleted (deletion ++ Obey (thread 3) ∷ delivery 2 1 1 ∷ []) → ⊥
+deleted_receives law = let out : true ≡ false = (law deletion (delivery 2 1 1 ∷ []) (thread 3) (thread 1) (world_after one_deleted deletion) refl refl refl).0 in cc
+
+-- A send is lost, has two ends, begins twice, or ends without a beginning.
+lost : IsAccounted first_path (Begin (send 1 1) ∷ []) (opening first_path) (send 1 1) → ⊥
+lost law = let parts : ◌≡◌ {A = ℕ} 0 1 = law.parts in absurd (omega arith)
+
+refused_and_delivered : IsAccounted first_path (Begin (send 1 1) ∷ SendTimeout (send 1 1) ∷ delivery 1 1 2 ∷ []) (opening first_path) (send 1 1) → ⊥
+refused_and_delivered law = let parts : ◌≡◌ {A = ℕ} 2 1 = law.parts in absurd (omega arith)
+
+dropped_and_refused : IsAccounted first_path (Begin (send 1 1) ∷ Drop (send 1 1) ∷ SendNobody (send 1 1) ∷ []) (opening first_path) (send 1 1) → ⊥
+dropped_and_refused law = let parts : ◌≡◌ {A = ℕ} 2 1 = law.parts in absurd (omega arith)
+
+begun_twice : IsAccounted first_path (Begin (send 1 1) ∷ delivery 1 1 2 ∷ Begin (send 1 1) ∷ SendCancel (send 1 1) ∷ []) (opening first_path) (send 1 1) → ⊥
+begun_twice law = let once : 2 ≤ 1 = law.once in absurd (omega arith)
+
+never_begun : IsAccounted first_path (delivery 1 1 2 ∷ []) (opening first_path) (send 1 1) → ⊥
+never_begun law = let parts : ◌≡◌ {A = ℕ} 1 0 = law.parts in absurd (omega arith)

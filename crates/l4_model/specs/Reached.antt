@@ -1,0 +1,72 @@
+-- What is true of every world that a history reaches.
+use Rattle.std.specs.Prelude.{ℕ, ◌^◌, ◌<◌, ◌≤◌, ◌≡◌, Bool, ◌==◌, true, false, Option, Some, None, is_some, IfSome, IsSomeAnd, List, [], ◌∷◌, length, slice_get, slice_index, slice_index_or}
+use Rattle.std.specs.List.{AllByRecursion, list_any}
+use Rattle.l4_model.specs.Words.{GlobalId, Id, GlobalThread}
+use Rattle.l4_model.specs.Machine.{Machine, Declaration, place_of, is_declared}
+use Rattle.l4_model.specs.World.{Send, Asked, Phase, Ready, Sending, Receiving, Ordering, Ended, Deleted, Thread, World}
+use Rattle.l4_model.specs.Effects.{has_receive_phase}
+
+-- The undecided send and the undone order that go with a phase: a thread that is alive has a send exactly while it is
+-- sending, and an order exactly while it is ordering.
+abbrev pub Suits : Phase → Option Send → Option Asked → Type 0
+Suits Ready send order = (send ≡ None) × (order ≡ None)
+Suits Sending send order = (is_some send ≡ true) × (order ≡ None)
+Suits (Receiving receive since) send order = (send ≡ None) × (order ≡ None)
+Suits Ordering send order = (send ≡ None) × (is_some order ≡ true)
+Suits Ended send order = (send ≡ None) × (order ≡ None)
+Suits Deleted send order = Unit {0}
+
+-- A phase began no later than now.
+abbrev pub BeganBy : ℕ → Phase → Type 0
+BeganBy now (Receiving receive since) = since ≤ now
+BeganBy now _ = Unit {0}
+
+-- An undecided send began no later than now, is of its thread, shows a declared sender, and has at most 63 words.
+pub record IsSendOf (m : Machine) (thread : GlobalId) (now : ℕ) (send : Send) : Type 0 where
+  pub since : send.since ≤ now
+  pub actual : send.message.actual ≡ thread
+  pub shown : is_declared m send.message.shown ≡ true
+  pub short : length send.message.words < 64
+
+-- Of each thread, with what is declared of it and the clock of its processor.
+pub record ThreadFacts (m : Machine) (d : Declaration) (now : ℕ) (t : Thread) : Type 0 where
+  pub suits : Suits t.phase t.send t.order
+  pub send : IfSome t.send (IsSendOf m d.id now)
+  pub began : BeganBy now t.phase
+  pub send_wish : t.cancel_send ≡ true → is_some t.send ≡ true
+  pub receive_wish : t.cancel_receive ≡ true → has_receive_phase t.phase t.send ≡ true
+  pub registers : length t.context.words ≡ 64
+
+-- The place of the thread that an id names.
+abbrev pub place_to : Machine → Id → Option ℕ
+place_to m (GlobalThread t) = place_of m t
+place_to m _ = None
+
+-- A sender stands in a list, by its place.
+abbrev pub is_in : ℕ → List ℕ → Bool
+is_in i xs = list_any (λ x. i == x) xs
+
+-- The list of the thread at a place.
+abbrev pub list_at : List (List ℕ) → ℕ → List ℕ
+list_at lists j = slice_index_or lists j []
+
+-- A list has no place twice.
+abbrev pub IsOnce : List ℕ → Type 0
+IsOnce [] = Unit {0}
+IsOnce (x ∷ xs) = (is_in x xs ≡ false) × IsOnce xs
+
+-- A thread's undecided send goes to the thread at a place.
+abbrev pub SendsTo : Machine → ℕ → Option Send → Type 0
+SendsTo m receiver send = IsSomeAnd send (λ x. place_to m x.to ≡ Some receiver)
+
+-- Of the whole world. The sender in a list has an undecided send to the list's thread, and stands in no other list and
+-- there once.
+pub record WorldFacts (m : Machine) (w : World) : Type 0 where
+  pub threads_counted : length w.threads ≡ length m.threads
+  pub lists_counted : length w.waiting ≡ length m.threads
+  pub clocks_counted : length w.clocks ≡ m.cpus
+  pub clocks_low : AllByRecursion (λ clock. clock < 2 ^ 62) w.clocks
+  pub each_thread : (i : ℕ) (d : Declaration) (t : Thread) → slice_get m.threads i ≡ Some d → slice_get w.threads i ≡ Some t → ThreadFacts m d (slice_index w.clocks d.cpu) t
+  pub listed_sends : (receiver sender : ℕ) → is_in sender (list_at w.waiting receiver) ≡ true → IsSomeAnd (slice_get w.threads sender) (λ t. SendsTo m receiver t.send)
+  pub one_list : (i j sender : ℕ) → is_in sender (list_at w.waiting i) ≡ true → is_in sender (list_at w.waiting j) ≡ true → i ≡ j
+  pub listed_once : (receiver : ℕ) → IsOnce (list_at w.waiting receiver)

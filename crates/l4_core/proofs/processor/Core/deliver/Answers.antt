@@ -38,4 +38,4 @@ returns c =
     let core = subst (λ (p : Processor). IsCore p.machine p.local) c.self.view_is c.self.invariant in
     deliver_does c.args.self.now c.receive.new.self c.end_send.new.self c.args.receiver c.args.sender c.args.steps.now.items c.push.new.self.items
     (record { name = c.last_name.result; receiver = c.id.result; message = c.copy.result; cross = _ }) c.copy.result c.raw.result core c.requires.first
-    c.last_name.ensures c.id.ensures refl refl (c.message.ensures ∙ ap Some (sym c.copy.ensures)) (c.raw.ensures ∙ c.tag.ensures.word) c.push.ensures.items c.receive.ensures c.end_send.ensures
+    c.last_name.ensures c.id.ensures refl refl (c.message.ensures ∙ ap Some (sym c.copy.ensures)) (c.raw.ensures.value ∙ c.tag.ensures.word) c.push.ensures.items c.receive.ensures c.end_send.ensures

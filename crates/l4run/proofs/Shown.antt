@@ -1,12 +1,13 @@
 -- What is read of a text, and what is written of a run.
 use Rattle.std.proofs.Common.{◌≡◌, ℕ, ◌+◌, ◌<◌, ◌≤◌, Bool, true, false, Option, Some, None, Ok, Err, List, [], ◌++◌, length, take, refl, ap, sym, subst, ◌∙◌, arith}
-use Rattle.std.specs.Prelude.{IfSome, nat_lt, if◌then◌else◌}
+use Rattle.std.specs.Prelude.{IfSome, nat_lt}
 use Rattle.std.specs.Option.{option_map}
 use Rattle.std.specs.Io.KnownBytes.{Appends}
 use Rattle.std.proofs.lemmas.Bool.Decides.{nat_tests}
 use Rattle.std.proofs.lemmas.List.{length-take, take_all}
 use Rattle.l4_model.specs.Machine.{Machine}
-use Rattle.l4_core.specs.Texts.{fault_at, machine_of_text, inner}
+use Rattle.l4_core.specs.Texts.{machine_of_text}
+use Rattle.l4_core.specs.Faults.{fault_at}
 use Rattle.l4_core.specs.declared.text.fault.TextFaultKind.TheVariants.{TooLong}
 use Rattle.l4run.specs.Jobs.{IsShown}
 
@@ -30,7 +31,7 @@ whole : (bytes : List ℕ) (m : Machine) → machine_of_text (take 0x100001 byte
 whole bytes m h = by (nat_lt 0x100000 (length (take 0x100001 bytes))) refl
   where
     by : (b : Bool) → nat_lt 0x100000 (length (take 0x100001 bytes)) ≡ b → take 0x100001 bytes ≡ bytes
-    by true long = let fault : Err (fault_at 0 TooLong) ≡ Ok m = subst (λ b. (if b then Err (fault_at 0 TooLong) else inner (take 0x100001 bytes)) ≡ Ok m) long h in cc
+    by true long = let fault : machine_of_text (take 0x100001 bytes) ≡ Err (fault_at 0 TooLong) = rw long refl in cc
     by false short =
         let least : length (take 0x100001 bytes) ≤ 0x100000 = not_below _ _ short in
         let taken = length-take 0x100001 bytes in

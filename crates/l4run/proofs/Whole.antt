@@ -4,6 +4,8 @@ use Rattle.std.specs.Prelude.{slice_get, not, ◌&&◌}
 use Rattle.l4_model.specs.Machine.{Machine}
 use Rattle.l4_model.specs.World.{World}
 use Rattle.l4_model.specs.History.{IsHistory, reached, view, waiting as undecided_sends}
+use Rattle.l4_model.specs.Steps.{Step}
+use Rattle.l4_model.specs.Laws.{IsLawful}
 use Rattle.l4_model.specs.Still.{IsStill}
 use Rattle.l4_core_model.specs.Local.{Local}
 use Rattle.l4_core_model.specs.Acts.{Work}
@@ -27,14 +29,15 @@ some_is a b h = cc
 
 pub is_outcome : (m : Machine) (before after : Processor) (most : ℕ) (o : Outcome) → before.machine ≡ m →
     TakesTurns before after most o.history.items o.turns →
-    IsHistory m (told (run m most).events) → TellsWhatIsKnown m (run m most) → RestsStill m (run m most) →
+    IsHistory m (told (run m most).events) → ((h : List Step) → IsHistory m h → IsLawful m h) → TellsWhatIsKnown m (run m most) → RestsStill m (run m most) →
     o.waiting.items ≡ undecided_sends after.machine (known_world after.local) (map step_of o.history.items) →
     map report_of_view o.threads.items ≡ view after.machine (known_world after.local) →
     (o.ending ≡ Quiet) ↔ (at_rest after.machine (alone after.local) ≡ true) →
     IsOutcome m most o
-is_outcome m before after most o same t possible known rests waiting threads quiet = record {
+is_outcome m before after most o same t possible laws known rests waiting threads quiet = record {
   history = told_is;
-  possible = subst (IsHistory m) (sym told_is) possible;
+  possible = is_possible;
+  lawful = laws (map step_of o.history.items) is_possible;
   waiting = λ w is. subst (λ v. o.waiting.items ≡ undecided_sends m v (map step_of o.history.items)) (world w is) (subst (λ n. o.waiting.items ≡ undecided_sends n (known_world after.local) (map step_of o.history.items)) here waiting);
   threads = λ w is. subst (λ v. map report_of_view o.threads.items ≡ view m v) (world w is) (subst (λ n. map report_of_view o.threads.items ≡ view n (known_world after.local)) here threads);
   turns = t.count ∙ ap (λ n. length (run n most).events) same;
@@ -47,6 +50,9 @@ is_outcome m before after most o same t possible known rests waiting threads qui
 
     told_is : map step_of o.history.items ≡ told (run m most).events
     told_is = t.told ∙ ap (λ n. told (run n most).events) same
+
+    is_possible : IsHistory m (map step_of o.history.items)
+    is_possible = subst (IsHistory m) (sym told_is) possible
 
     system_is : (run m most).system ≡ alone after.local
     system_is = ap (λ n. (run n most).system) (sym same) ∙ t.local

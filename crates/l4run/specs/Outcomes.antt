@@ -3,6 +3,7 @@ use Rattle.std.specs.Prelude.{◌≡◌, ◌↔◌, ℕ, true, Option, Some, Lis
 use Rattle.l4_model.specs.Machine.{Machine}
 use Rattle.l4_model.specs.World.{World}
 use Rattle.l4_model.specs.History.{IsHistory, reached, view, waiting as undecided_sends}
+use Rattle.l4_model.specs.Laws.{IsLawful}
 use Rattle.l4_model.specs.Still.{IsStill}
 use Rattle.l4_core_model.specs.Runs.{told, at_rest}
 use Rattle.l4_core_model.specs.Schedules.{run}
@@ -19,6 +20,9 @@ pub record IsOutcome (m : Machine) (most : ℕ) (o : Outcome) : Type 0 where
   pub history : map step_of o.history.items ≡ told (run m most).events
   -- each of its steps is possible at the world that the earlier ones reach from the opening world
   pub possible : IsHistory m (map step_of o.history.items)
+  -- each send is delivered at most once and unaltered, one sender's messages reach one receiver in sending order, a receive takes its
+  -- first acceptable waiting sender, a deleted thread receives nothing, and every other begun send is refused, dropped or waiting
+  pub lawful : IsLawful m (map step_of o.history.items)
   -- the undecided sends are those of the world that the history reaches, in order of beginning
   pub waiting : (w : World) → reached m (map step_of o.history.items) ≡ Some w → o.waiting.items ≡ undecided_sends m w (map step_of o.history.items)
   -- the threads are those of that world, in order of declaration

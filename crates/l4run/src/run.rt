@@ -10,6 +10,7 @@ use crate::outcome::{Outcome, RunFault};
 use l4_core::machine::Machine;
 use l4_core::processor::{Core, Turn};
 use l4_core_model::law_single_run;
+use l4_model::law_of_histories;
 use l4_types::errors::NoMemory;
 use l4_types::reports::Ending;
 use l4_types::steps::{Event, Step};
@@ -64,6 +65,7 @@ fn outcome(alloc: Global, machine: &Machine, turns: u64) -> Result<Outcome, NoMe
     requires { turns ≤ 1000000 }
     ensures { IfOk result (IsOutcome machine.now turns) }
 {
+    law_of_histories();
     law_single_run();
     let only = machine.cpus() - 1;
     let mut core = Core::new(alloc, machine, only)?;

@@ -10,5 +10,5 @@ returns c =
     let m = c.args.machine.now in
     let most = c.args.turns in
     is_outcome m c.in_ok-core.core _ most _ (ap (λ p. p.machine) c.in_ok-core.ensures) c.in_ok-history.ensures
-    (law.history m most sound single) (law.known m most sound single) (law.rest m most sound single)
+    (law.history m most sound single) (λ h is. c.law_of_histories.ensures m h is) (law.known m most sound single) (law.rest m most sound single)
     (search rules) (search rules) (search rules)

@@ -1,6 +1,6 @@
 -- Runs in rounds where the machine has one processor: each round is one turn of it, until there is none.
-use Rattle.std.proofs.Common.{◌≡◌, ℕ, zero, suc, ◌+◌, ◌<◌, ◌≤◌, Bool, true, false, Option, Some, None, List, [], ◌∷◌, ◌++◌, length, map, refl, ap, sym, ◌∙◌, arith, length-append}
-use Rattle.std.specs.Prelude.{if◌then◌else◌, not, ◌&&◌, is_some, slice_get, nat_lt, nat_le}
+use Rattle.std.proofs.Common.{◌≡◌, ℕ, zero, suc, ◌+◌, Bool, true, false, Option, Some, None, List, [], ◌∷◌, ◌++◌, length, map, refl, ap, ◌∙◌, arith, length-append}
+use Rattle.std.specs.Prelude.{if◌then◌else◌, not, ◌&&◌, is_some, slice_get, nat_le}
 use Rattle.std.specs.Option.{option_map}
 use Rattle.std.specs.List.{range_with_len, list_all}
 use Rattle.std.proofs.lemmas.Bool.Decides.{nat_tests}
@@ -9,7 +9,7 @@ use Rattle.l4_core_model.specs.Local.{Local}
 use Rattle.l4_core_model.specs.Acts.{Work}
 use Rattle.l4_core_model.specs.Turns.{Choice, choice, does_choice, opened, turn, is_busy}
 use Rattle.l4run.specs.Rests.{alone}
-use Rattle.l4_core_model.specs.Runs.{System, Turns, Event, Run, is_empty, local_at_rest, at_rest}
+use Rattle.l4_core_model.specs.Runs.{Turns, Event, Run, is_empty, local_at_rest, at_rest}
 use Rattle.l4_core_model.specs.Schedules.{first_poster, turn_of, next_turn, attempts, turns_in_order, round, least_deadline, earliest_of, earliest_deadline, ticks_to, ticks, turns_of, has_gone_on, round_or_ticks, unless_ended, rounds}
 
 abbrev pub run_of : List Event → Local → Run

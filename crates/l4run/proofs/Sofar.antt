@@ -1,11 +1,10 @@
 -- What the turns of a run have come to so far.
-use Rattle.std.proofs.Common.{◌≡◌, ℕ, zero, suc, ◌+◌, ◌-◌, ◌<◌, ◌≤◌, ◌^◌, true, Some, None, List, [], ◌∷◌, ◌++◌, map, length, refl, ap, sym, subst, ◌∙◌, arith, append_assoc, length-append}
+use Rattle.std.proofs.Common.{◌≡◌, ℕ, suc, ◌+◌, ◌-◌, ◌<◌, ◌≤◌, Some, None, List, [], ◌∷◌, ◌++◌, map, length, refl, ap, sym, subst, ◌∙◌, arith, append_assoc, length-append}
 use Rattle.std.proofs.lemmas.List.{map-append}
 use Rattle.l4_model.specs.Machine.{Machine}
-use Rattle.l4_core_model.specs.Local.{Local}
 use Rattle.l4_core_model.specs.Acts.{Work}
 use Rattle.l4_core_model.specs.Turns.{turn}
-use Rattle.l4_core_model.specs.Runs.{Event, Run, told}
+use Rattle.l4_core_model.specs.Runs.{Event, told}
 use Rattle.l4_core_model.specs.Schedules.{rounds, run}
 use Rattle.l4_core.specs.Processor.{Processor}
 use Rattle.l4_types.specs.declared.steps.Step.{Step}

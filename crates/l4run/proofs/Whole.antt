@@ -1,6 +1,6 @@
 -- A run that is over, and its outcome.
-use Rattle.std.proofs.Common.{◌≡◌, ◌↔◌, ℕ, ◌≤◌, Bool, true, false, Some, None, List, [], ◌∷◌, map, length, refl, ap, sym, subst, ◌∙◌}
-use Rattle.std.specs.Prelude.{slice_get, not, ◌&&◌}
+use Rattle.std.proofs.Common.{◌≡◌, ◌↔◌, ℕ, true, Some, None, List, [], map, length, refl, ap, sym, subst, ◌∙◌}
+use Rattle.std.specs.Prelude.{slice_get, not}
 use Rattle.l4_model.specs.Machine.{Machine}
 use Rattle.l4_model.specs.World.{World}
 use Rattle.l4_model.specs.History.{IsHistory, reached, view, waiting as undecided_sends}
@@ -9,13 +9,12 @@ use Rattle.l4_model.specs.Laws.{IsLawful}
 use Rattle.l4_model.specs.Still.{IsStill}
 use Rattle.l4_core_model.specs.Local.{Local}
 use Rattle.l4_core_model.specs.Acts.{Work}
-use Rattle.l4_core_model.specs.Turns.{turn, is_busy}
+use Rattle.l4_core_model.specs.Turns.{turn}
 use Rattle.l4_core_model.specs.Runs.{told, at_rest}
 use Rattle.l4_core_model.specs.Schedules.{run}
 use Rattle.l4_core_model.specs.Known.{known_world}
 use Rattle.l4_core_model.specs.Laws.{TellsWhatIsKnown, RestsStill}
 use Rattle.l4_core.specs.Processor.{Processor}
-use Rattle.l4_types.specs.declared.reports.Ending.{Ending}
 use Rattle.l4_types.specs.declared.reports.Ending.TheVariants.{Quiet, Spent}
 use Rattle.l4_types.specs.StepView.{step_of}
 use Rattle.l4_types.specs.ReportView.{report_of_view}

@@ -1,5 +1,5 @@
 -- What the outcome of a run says.
-use Rattle.std.specs.Prelude.{◌≡◌, ◌↔◌, ℕ, true, Option, Some, List, map, length}
+use Rattle.std.specs.Prelude.{◌≡◌, ◌↔◌, ℕ, true, Some, map, length}
 use Rattle.l4_model.specs.Machine.{Machine}
 use Rattle.l4_model.specs.World.{World}
 use Rattle.l4_model.specs.History.{IsHistory, reached, view, waiting as undecided_sends}
@@ -7,9 +7,7 @@ use Rattle.l4_model.specs.Laws.{IsLawful}
 use Rattle.l4_model.specs.Still.{IsStill}
 use Rattle.l4_core_model.specs.Runs.{told, at_rest}
 use Rattle.l4_core_model.specs.Schedules.{run}
-use Rattle.l4_types.specs.declared.steps.Step.{Step}
-use Rattle.l4_types.specs.declared.reports.Ending.{Ending}
-use Rattle.l4_types.specs.declared.reports.Ending.TheVariants.{Quiet, Spent}
+use Rattle.l4_types.specs.declared.reports.Ending.TheVariants.{Quiet}
 use Rattle.l4_types.specs.StepView.{step_of}
 use Rattle.l4_types.specs.ReportView.{report_of_view}
 use Rattle.l4run.specs.declared.outcome.Outcome.{Outcome}

@@ -1,4 +1,4 @@
-use Rattle.std.proofs.Common.{◌≡◌, ◌∙◌, ap, sym, rules}
+use Rattle.std.proofs.Common.{◌∙◌, ap, sym, rules}
 use Rattle.l4run.proofs.Whole.{is_outcome}
 use Rattle.l4run.proofs.run.outcome.Goals as goal
 

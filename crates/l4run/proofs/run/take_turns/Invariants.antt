@@ -1,4 +1,3 @@
-use Rattle.std.proofs.Common.{ℕ, ◌-◌}
 use Rattle.l4run.proofs.Sofar.{IsSoFar}
 use Rattle.l4run.proofs.run.take_turns.Given as goal
 

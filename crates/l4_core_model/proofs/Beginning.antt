@@ -19,7 +19,8 @@ use Rattle.l4_core_model.proofs.Knows.{IsSingle, own, get-changed, IsSeat}
 use Rattle.l4_core_model.proofs.Sending.{begin_follows, nowhere_follows}
 use Rattle.l4_core_model.proofs.Fit.{IsFit, NotIn, fit-comes_to, keeps-none}
 use Rattle.l4_core_model.proofs.Good.{ready_has_none, begins_good}
-use Rattle.l4_core_model.proofs.Pieces.{Goes, refuses_goes, arrives_goes}
+use Rattle.l4_core_model.proofs.Remembers.{IsListed, RemembersBut, comes_listed, but_comes_to}
+use Rattle.l4_core_model.proofs.Pieces.{Goes, Ends, size_of, refuses_but, arrives_ends}
 
 -- A place is one of the machine's.
 
@@ -113,9 +114,9 @@ act_sends m id now c (OnErr place) send h = cc
 act_sends m id now c End send h = cc
 
 -- begin, and what follows at once
-pub begins_goes : (m : Machine) (w : World) (x : Work) (i : ℕ) (send : Send) → IsSingle m → Goes m w x → i < length m.threads → NotIn i x.local.lists.ready →
-    is_ready (thread x.local i).phase ≡ true → act_of m (held m x.local i) ≡ Sends send → Goes m w (begins_send m 0 i send x)
-begins_goes m w x i send single go lt out ready is =
+pub begins_ends : (m : Machine) (w : World) (x : Work) (i : ℕ) (send : Send) → IsSingle m → Goes m w x → RemembersBut m x.local i → i < length m.threads → NotIn i x.local.lists.ready →
+    is_ready (thread x.local i).phase ≡ true → act_of m (held m x.local i) ≡ Sends send → Ends m w (begins_send m 0 i send x)
+begins_ends m w x i send single go but lt out ready is =
     let now = act_sends m (declared m i).id x.local.clock (thread x.local i).context _ send is in
     let none = ready_has_none (thread x.local i).phase (thread x.local i).send (thread x.local i).order ready (go.fit.good i lt).suits in
     let since : send.since ≤ x.local.clock = omega (arith, now.since) in
@@ -126,15 +127,15 @@ begins_goes m w x i send single go lt out ready is =
       fit = fit-comes_to m x.local i g go.fit lt out (begins_good x.local.clock send (thread x.local i) ready since (go.fit.good i lt)) (keeps-none m x.local i g go.fit none.0);
       no_letters = go.no_letters;
     } in
-    let size : i < length x.local.threads = omega (arith, go.fit.threads) in
+    let size = size_of m x.local i go.fit lt in
     let has : (thread y.local i).send ≡ Some send = ap (λ (t : Thread). t.send) (get-changed g x.local.threads i opening_thread size) in
     let free = none_free m x.local i go.fit none.0 in
-    by y begun has free since now (destination_place m send.to) refl
+    by y begun has free since now (comes_listed x.local i g size none.1) (but_comes_to m x.local i g but) (destination_place m send.to) refl
   where
     by : (y : Work) → Goes m w y → (thread y.local i).send ≡ Some send → plain.is_queued y.local.lists i ≡ false → send.since ≤ y.local.clock → BeginsNow x.local.clock send →
-        (o : Option ℕ) → destination_place m send.to ≡ o → Goes m w (goes_to m 0 i send o y)
-    by y begun has free since now None to = refuses_goes m w y i Nobody send single begun lt has (nowhere_follows m w y i send single begun.follows lt has to now.not_nil)
-    by y begun has free since now (Some r) to =
+        IsListed y.local.threads y.local.lists i → RemembersBut m y.local i → (o : Option ℕ) → destination_place m send.to ≡ o → Ends m w (goes_to m 0 i send o y)
+    by y begun has free since now listed but None to = refuses_but m w y i Nobody send single begun but lt has listed.done (nowhere_follows m w y i send single begun.follows lt has to now.not_nil)
+    by y begun has free since now listed but (Some r) to =
         let within = destination_within m send.to r to in
         let here = own m r single within in
-        rw here (arrives_goes m w y r i single begun (record { send = send; has = has; to = to; since = since; receiver = within; sender = lt; free = free }))
+        rw here (arrives_ends m w y r i single begun (record { send = send; has = has; to = to; since = since; receiver = within; sender = lt; free = free; listed = listed; but = but }))

@@ -282,7 +282,7 @@ pub record IsMild (f : Thread → Thread) : Type 0 where
   pub send : (t : Thread) → (f t).send ≡ t.send
   pub order : (t : Thread) → (f t).order ≡ t.order
 
-part_at : {B : Type 0} (g : Thread → B) (f : Thread → Thread) → ((t : Thread) → g (f t) ≡ g t) → (ts : List Thread) (i j : ℕ) → g (slice_index_or (changed f ts i) j opening_thread) ≡ g (slice_index_or ts j opening_thread)
+pub part_at : {B : Type 0} (g : Thread → B) (f : Thread → Thread) → ((t : Thread) → g (f t) ≡ g t) → (ts : List Thread) (i j : ℕ) → g (slice_index_or (changed f ts i) j opening_thread) ≡ g (slice_index_or ts j opening_thread)
 part_at g f e ts i j = part-changed_at g f e ts i j opening_thread
 
 pub fit-changes : (m : Machine) (l : Local) (i : ℕ) (f : Thread → Thread) → IsFit m l → IsMild f → IsFit m (changes i f l)

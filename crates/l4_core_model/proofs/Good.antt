@@ -3,7 +3,7 @@ use Rattle.std.proofs.Common.{◌≡◌, ℕ, ◌≤◌, true, false, Option, So
 use Rattle.l4_model.specs.Machine.{Instr, End, What, CancelSend, CancelReceive, CancelBoth, Delete}
 use Rattle.l4_model.specs.World.{Thread, Send, Receive, Asked, Message, Phase, Ready, Sending, Receiving, Ordering, Ended, Deleted, is_ready, is_alive}
 use Rattle.l4_model.specs.Effects.{phase_after, runs, waits, begins, fails, decided, refused, receives, goes_on, delivered, asked, orders, obeyed}
-use Rattle.l4_model.proofs.Chains.{cond_keeps}
+use Rattle.l4_model.proofs.Chains.{cond_both, cond_keeps}
 use Rattle.l4_core_model.specs.Letters.{Refusal, TimedOut, Nobody, Cancelled, Dropped, Refused, Delivered}
 use Rattle.l4_core_model.specs.Local.{ended, was_delivered, was_dropped}
 use Rattle.l4_core_model.proofs.Fit.{IsGood, Suits, SendIsSince, PhaseIsSince, IsMild}
@@ -160,3 +160,26 @@ asked_mild CancelSend ne = record { phase = λ t. refl; send = λ t. refl; order
 asked_mild CancelReceive ne = record { phase = λ t. refl; send = λ t. refl; order = λ t. refl }
 asked_mild CancelBoth ne = record { phase = λ t. refl; send = λ t. refl; order = λ t. refl }
 asked_mild Delete ne = absurd (ne refl)
+
+-- Of a thread whose send was decided, neither send nor order is left.
+
+refused_none : (code : ℕ) (t : Thread) → t.order ≡ None → ((refused code t).send ≡ None) × ((refused code t).order ≡ None)
+refused_none code t done = (cond_both (λ (x : Thread). x.send) None (is_alive t.phase) _ (decided t) refl refl, cond_both (λ (x : Thread). x.order) None (is_alive t.phase) _ (decided t) done done)
+
+pub ended_refused_none : (clock : ℕ) (refusal : Refusal) (t : Thread) → t.order ≡ None → ((ended (Refused refusal) clock t).send ≡ None) × ((ended (Refused refusal) clock t).order ≡ None)
+ended_refused_none clock TimedOut t done = refused_none 2 t done
+ended_refused_none clock Nobody t done = refused_none 4 t done
+ended_refused_none clock Cancelled t done = refused_none 6 t done
+ended_refused_none clock Dropped t done = (cond_both (λ (x : Thread). x.send) None (is_alive t.phase) _ (decided t) refl refl, cond_both (λ (x : Thread). x.order) None (is_alive t.phase) _ (decided t) done done)
+
+goes_on_none : (clock : ℕ) (receive : Option Receive) (t : Thread) → t.order ≡ None → ((goes_on receive clock t).send ≡ None) × ((goes_on receive clock t).order ≡ None)
+goes_on_none clock None t done = (refl, done)
+goes_on_none clock (Some receive) t done = (refl, done)
+
+delivered_none : (clock : ℕ) (t : Thread) (send : Send) → t.order ≡ None → ((delivered send clock t).send ≡ None) × ((delivered send clock t).order ≡ None)
+delivered_none clock t send done =
+    let on = goes_on_none clock send.receive t done in
+    (cond_both (λ (x : Thread). x.send) None (is_alive t.phase) _ (decided t) on.0 refl, cond_both (λ (x : Thread). x.order) None (is_alive t.phase) _ (decided t) on.1 done)
+
+pub ended_delivered_none : (clock : ℕ) (t : Thread) (send : Send) → t.send ≡ Some send → t.order ≡ None → ((ended Delivered clock t).send ≡ None) × ((ended Delivered clock t).order ≡ None)
+ended_delivered_none clock t send has done = subst (λ o. ((was_delivered o clock t).send ≡ None) × ((was_delivered o clock t).order ≡ None)) (sym has) (delivered_none clock t send done)

@@ -3,7 +3,7 @@ use Rattle.std.specs.Prelude.{◌≡◌, ℕ, Bool, true, false, Some, List, [],
 use Rattle.std.specs.Option.{option_map}
 use Rattle.l4_model.specs.Steps.{Step, Local, Begin, Queue, Deliver, Wait}
 use Rattle.l4_core_model.specs.Runs.{told, merged, at_rest, Turns, Handles, core_run, opening_run}
-use Rattle.l4_core_model.specs.Schedules.{replay, run}
+use Rattle.l4_core_model.specs.Schedules.{replay}
 use Rattle.l4_model.proofs.Rows.{first_path, first_path_trace, two_processors, two_processors_trace, zero_send, zero_send_trace, answer, answer_trace, order_of_arrival, order_of_arrival_trace, closed_receive, closed_receive_trace, nobody_there, nobody_there_trace, withdrawn_too_late, withdrawn_too_late_trace, withdrawn, withdrawn_trace, crossing_calls, crossing_calls_trace, originator, cancelled_receive, cancelled_receive_trace, deletion, deletion_trace, mutual_sends, mutual_sends_trace, finite_receive, finite_receive_trace, zero_receive, zero_receive_trace, timeouts, timeouts_trace, propagates, propagates_trace, cancels, cancels_trace, deletes_itself, deletes_itself_trace, call_deleted_a, call_deleted_a_trace, call_deleted_b, call_deleted_b_trace, room_one, room_one_trace}
 
 abbrev first_path_schedule : List ℕ
@@ -99,7 +99,7 @@ crossing_calls_rests = refl
 abbrev originator_schedule : List ℕ
 originator_schedule = 0 ∷ 0 ∷ 0 ∷ 0 ∷ 0 ∷ 0 ∷ 0 ∷ 0 ∷ 0 ∷ 0 ∷ 0 ∷ 0 ∷ 0 ∷ 0 ∷ 0 ∷ 0 ∷ 0 ∷ 0 ∷ 0 ∷ 0 ∷ []
 
-abbrev is_delivery : Step → Bool
+abbrev pub is_delivery : Step → Bool
 is_delivery (Deliver s receiver shown actual tag words) = true
 is_delivery _ = false
 
@@ -228,6 +228,3 @@ two_processors_stamps = refl
 -- Room for one letter: the receiver's processor takes the core's turn while letters are under way.
 room_one_told : option_map (λ r. told (merged r.events)) (core_run room_one (opening_run room_one) (Turns 0 ∷ Turns 0 ∷ Turns 0 ∷ Handles 1 0 ∷ Turns 1 ∷ Turns 1 ∷ [])) ≡ Some room_one_trace
 room_one_told = refl
-
-first_path_run : told (run first_path 100000).events ≡ first_path_trace
-first_path_run = refl

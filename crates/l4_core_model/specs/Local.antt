@@ -12,7 +12,8 @@ use Rattle.l4_core_model.specs.Letters.{TimedOut, Nobody, Cancelled, Dropped, Re
 
 -- Places are those of the order of declaration, of all threads of the machine. Of a thread of this processor
 -- `threads` has all that is known at its home. Of another's it has what is known here: whether it is deleted, and the send
--- that waits here in its place. `told` is the first processor that may not yet know of a thread's deletion.
+-- that waits here in its place, whose number is then the thread's count. `told` is the first processor that may not yet know of
+-- a thread's deletion: all below it but this one were told.
 pub record Local : Type 0 where
   pub threads : List Thread
   pub lists : plain.Plain
@@ -106,14 +107,15 @@ comes_to i f l = record l { threads = changed f l.threads i; lists = entered (f 
 abbrev pub settles : ℕ → Local → Local
 settles i l = record l { lists = entered (thread l i) l.clock i l.lists }
 
--- What becomes of a thread whose send was decided. A living thread whose send was dropped goes on with its registers as they are.
 abbrev pub was_delivered : Option Send → (now : ℕ) → Thread → Thread
 was_delivered None now t = t
 was_delivered (Some send) now t = delivered send now t
 
+-- A living thread whose send was dropped goes on with its registers as they are.
 abbrev pub was_dropped : Thread → Thread
 was_dropped t = if is_alive t.phase then record (decided t) { phase = Ready } else decided t
 
+-- What becomes of a thread whose send was decided.
 abbrev pub ended : Result → (now : ℕ) → Thread → Thread
 ended Delivered now t = was_delivered t.send now t
 ended (Refused TimedOut) now t = refused 2 t

@@ -115,11 +115,11 @@ abbrev pub merged : List Event → List Event
 merged [] = []
 merged (e ∷ es) = put_event e (merged es)
 
--- Nothing is to be done, armed or under way.
 abbrev pub is_empty : {A : Type 0} → List A → Bool
 is_empty [] = true
 is_empty (x ∷ xs) = false
 
+-- A processor has no duty, due timeout, ready thread or armed deadline.
 abbrev pub local_at_rest : Machine → System → ℕ → Bool
 local_at_rest m g cpu = at (slice_get g.locals cpu)
   where
@@ -127,6 +127,7 @@ local_at_rest m g cpu = at (slice_get g.locals cpu)
     at None = true
     at (Some l) = not (is_busy m cpu l) && is_empty l.lists.armed
 
+-- Nothing is to be done, armed or under way.
 abbrev pub at_rest : Machine → System → Bool
 at_rest m g = list_all (local_at_rest m g) (processors m) && is_empty g.mail
 

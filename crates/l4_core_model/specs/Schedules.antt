@@ -32,8 +32,8 @@ attempts_all m r (e ∷ es) = attempts_all m (attempts m r e) es
 abbrev pub least_deadline : System → (cpu : ℕ) → Option ℕ
 least_deadline g cpu = slice_get g.locals cpu >>= λ l. option_map (λ e. e.0) (slice_get l.lists.armed 0)
 
--- Replay: an entry below 16 is a turn of that processor, an entry above it a tick of that processor less 16 to its least
--- deadline. Where there is nothing to do, it leaves the run as it is.
+-- Replay: an entry below 16 is a turn of that processor, an entry of 16 and more a tick of the processor of that number less 16
+-- to its least deadline. Where there is nothing to do, it leaves the run as it is.
 
 abbrev pub entry_event : Machine → System → (entry : ℕ) → Option Happening
 entry_event m g entry =

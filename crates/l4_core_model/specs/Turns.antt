@@ -33,16 +33,16 @@ pub data Duty : Type 0 where
   ClosesReceive : Duty
   RefusesZero : (sender : ℕ) → Duty
 
--- a: deleted, its send waits in a list of this processor.
-abbrev pub duty_a : Local → Found → Option Duty
-duty_a l t = do
+-- Deleted, its send waits in a list of this processor.
+abbrev pub duty_drops_own : Local → Found → Option Duty
+duty_drops_own l t = do
   is_deleted t.now.phase
   plain.is_queued l.lists t.at
   Some DropsOwn
 
--- b: deleted, its list is not empty.
-abbrev pub duty_b : Local → Found → Option Duty
-duty_b l t = do
+-- Deleted, its list is not empty.
+abbrev pub duty_refuses_waiting : Local → Found → Option Duty
+duty_refuses_waiting l t = do
   is_deleted t.now.phase
   first ← slice_get (plain.list_of l.lists t.at) 0
   Some (RefusesFirst first.block)
@@ -54,43 +54,43 @@ next_untold m cpu told = within (if told == cpu then told + 1 else told)
     within : ℕ → Option ℕ
     within n = if nat_lt n m.cpus then Some n else None
 
--- c: deleted, some other processor is not yet told.
-abbrev pub duty_c : Machine → (cpu : ℕ) → Local → Found → Option Duty
-duty_c m cpu l t = do
+-- Deleted, some other processor is not yet told.
+abbrev pub duty_tells_gone : Machine → (cpu : ℕ) → Local → Found → Option Duty
+duty_tells_gone m cpu l t = do
   is_deleted t.now.phase
   to ← next_untold m cpu (slice_index_or l.told t.at 0)
   Some (TellsGone to)
 
--- d: its send waits in a list of this processor, and is to be cancelled.
-abbrev pub duty_d : Local → Found → Option Duty
-duty_d l t = do
+-- Its send waits in a list of this processor, and is to be cancelled.
+abbrev pub duty_cancels_own : Local → Found → Option Duty
+duty_cancels_own l t = do
   plain.is_queued l.lists t.at
   t.now.cancel_send
   Some CancelsOwn
 
--- e: receiving, and its receive phase is to be cancelled.
-abbrev pub duty_e : Found → Option Duty
-duty_e t = do
+-- Receiving, and its receive phase is to be cancelled.
+abbrev pub duty_cancels_receive : Found → Option Duty
+duty_cancels_receive t = do
   is_some (receive_now t.now.phase)
   t.now.cancel_receive
   Some CancelsReceive
 
--- f: receiving, its list has an acceptable name.
-abbrev pub duty_f : Local → Found → Option Duty
-duty_f l t = do
+-- Receiving, its list has an acceptable name.
+abbrev pub duty_delivers_first : Local → Found → Option Duty
+duty_delivers_first l t = do
   first ← first_acceptable l t.at
   Some (DeliversFirst first)
 
--- g: receiving closed for nobody, as far as is known here.
-abbrev pub duty_g : Machine → Local → Found → Option Duty
-duty_g m l t = do
+-- Receiving closed for nobody, as far as is known here.
+abbrev pub duty_closes_receive : Machine → Local → Found → Option Duty
+duty_closes_receive m l t = do
   receive ← receive_now t.now.phase
   is_nobody receive.from (held_by m l receive.from)
   Some ClosesReceive
 
--- h: its list has a name of timeout zero that may be refused, as far as is known here.
-abbrev pub duty_h : Machine → Local → Found → Option Duty
-duty_h m l t = do
+-- Its list has a name of timeout zero that may be refused, as far as is known here.
+abbrev pub duty_refuses_zero : Machine → Local → Found → Option Duty
+duty_refuses_zero m l t = do
   w ← find (λ w. zero_refusable m t (thread l w.block).send) (plain.list_of l.lists t.at)
   Some (RefusesZero w.block)
 
@@ -101,7 +101,7 @@ first_some (Some x ∷ os) = Some x
 
 abbrev pub duty_of : Machine → (cpu : ℕ) → Local → Found → Option Duty
 duty_of m cpu l t =
-    first_some (duty_a l t ∷ duty_b l t ∷ duty_c m cpu l t ∷ duty_d l t ∷ duty_e t ∷ duty_f l t ∷ duty_g m l t ∷ duty_h m l t ∷ [])
+    first_some (duty_drops_own l t ∷ duty_refuses_waiting l t ∷ duty_tells_gone m cpu l t ∷ duty_cancels_own l t ∷ duty_cancels_receive t ∷ duty_delivers_first l t ∷ duty_closes_receive m l t ∷ duty_refuses_zero m l t ∷ [])
 
 -- What the core's turn does: a duty of a thread, a due timeout, or an instruction.
 pub data Choice : Type 0 where
@@ -152,10 +152,10 @@ turn m cpu l = option_map (λ c. does_choice m cpu c (opened 0 l)) (choice m cpu
 abbrev pub is_busy : Machine → (cpu : ℕ) → Local → Bool
 is_busy m cpu l = is_some (choice m cpu l)
 
--- The clock goes on. None where it may not.
 abbrev pub clock_is : ℕ → Local → Local
 clock_is to l = record l { clock = to }
 
+-- The clock goes on. None where it may not.
 abbrev pub advance : Machine → (cpu : ℕ) → (to : ℕ) → Local → Option Work
 advance m cpu to l = do
   nat_lt l.clock to

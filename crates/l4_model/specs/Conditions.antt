@@ -88,7 +88,7 @@ abbrev pub is_gone : Option Found → Bool
 is_gone None = true
 is_gone (Some t) = is_deleted t.now.phase
 
--- Non-existing partners (manual: Ipc, ErrorCode): a local or undeclared id, or a deleted thread.
+-- Non-existing partners (manual: Ipc, ErrorCode). Own: a local or undeclared id is one, and so is a deleted thread.
 abbrev pub is_nobody : Id → Option Found → Bool
 is_nobody (LocalThread word) t = true
 is_nobody (GlobalThread id) t = is_gone t

@@ -4,11 +4,12 @@ use Rattle.l4_model.specs.Machine.{What, CancelSend, CancelReceive, CancelBoth, 
 use Rattle.l4_model.specs.World.{Receive, Message, Send, Asked, Phase, Ready, Sending, Receiving, Ordering, Ended, Deleted, Thread, is_sending, is_alive}
 use Rattle.l4_model.specs.Rules.{advanced, failed, sent, received, ordered, ran}
 
--- It runs an instruction that concerns nobody else. At an `end` it has ended.
+-- At an `end` a thread has ended.
 abbrev pub phase_after : Instr → Phase
 phase_after End = Ended
 phase_after _ = Ready
 
+-- It runs an instruction that concerns nobody else.
 abbrev pub runs : Instr → Thread → Thread
 runs i t = record t { context = ran i t.context; phase = phase_after i }
 
@@ -54,13 +55,14 @@ has_receive_phase Sending send = calls_to_receive send
 has_receive_phase _ send = false
 
 -- It is asked for a cancellation (manual: ExchangeRegisters, `S` and `R`). `S` makes a wish in a send phase; `R` makes one in a
--- receive phase and in the send phase of a call that has one. Else there is no effect. Or it is deleted.
+-- receive phase and in the send phase of a call that has one. Else there is no effect.
 abbrev pub asked_send : Thread → Thread
 asked_send t = record t { cancel_send = t.cancel_send || is_sending t.phase }
 
 abbrev pub asked_receive : Thread → Thread
 asked_receive t = record t { cancel_receive = t.cancel_receive || has_receive_phase t.phase t.send }
 
+-- It is asked for a cancellation, or it is deleted (manual: ThreadControl).
 abbrev pub asked : What → Thread → Thread
 asked CancelSend t = asked_send t
 asked CancelReceive t = asked_receive t

@@ -50,7 +50,7 @@ received message mr0 c =
 abbrev pub ordered : ℕ → Context → Context
 ordered code c = advanced (record c { error = code })
 
--- An instruction was run that concerns nobody else. An ipc is then one without phases, and an order is refused.
+-- An instruction was run that concerns nobody else. An ipc is then one without phases (manual: Ipc), and an order is refused.
 abbrev pub ran : Instr → Context → Context
 ran (Set a word) c = advanced (with_register a word c)
 ran (Copy a b) c = advanced (with_register a (register c b) c)
@@ -81,7 +81,7 @@ abbrev pub receive_phase : Id → Period → Option Receive
 receive_phase NilThread period = None
 receive_phase from period = Some (record { from = from; period = period })
 
--- Propagation (manual: Messages and Message Registers, `p`; Ipc, VirtualSender). An originator is permitted where it is a declared thread of the sender's space.
+-- Propagation (manual: Messages and Message Registers, `p`; Ipc, VirtualSender). An originator is permitted where it is a declared thread of the sender's space, on no other ground (own).
 abbrev pub permitted : Machine → GlobalId → Id → Option GlobalId
 permitted m sender (GlobalThread t) = if same_space m t sender then Some t else None
 permitted m sender _ = None

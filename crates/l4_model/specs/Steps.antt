@@ -8,7 +8,8 @@ use Rattle.l4_model.specs.Rules.{Act, RunsAlone, Sends, Receives, Orders, receiv
 use Rattle.l4_model.specs.Effects.{runs, begins, waits, fails, decided, refused, receives, delivered, asked, orders, obeyed}
 use Rattle.l4_model.specs.Conditions.{◌>>=◌, ◌>>◌, Found, found, found_by, Pending, undecided, receiver_of, instruction, act_of, is_waiting, first_accepted, is_nobody, is_no_destination, has_passed, is_timed_out}
 
--- What a history tells: one step for each change that concerns more than the thread's own registers, and `Local` for the rest.
+-- What a history tells: a step for each change of a phase, a send, an order or a clock, and `Local` where a thread runs an
+-- instruction that has none of these.
 pub data Step : Type 0 where
   Local : GlobalId → Step
   Begin : Name → Step
@@ -57,7 +58,7 @@ after_local m w id = do
   runs_alone (act_of m t)
   Some (change w t.at (runs (instruction t)))
 
--- A thread begins its next send.
+-- A thread begins its next send (manual: Ipc, send phase).
 abbrev pub after_begin : Machine → World → Name → Option World
 after_begin m w s = do
   t ← found m w s.thread
@@ -75,7 +76,8 @@ after_queue m w s = do
   not (is_waiting w p)
   Some (queued w r.at p.sender.at)
 
--- The receiver waits, the send is the first in its list that it accepts, and the message is as it was sent.
+-- The receiver waits, the send is the first in its list that it accepts, and the message is as it was sent (manual: Ipc). In the same
+-- step the sender goes on.
 abbrev pub after_deliver : Machine → World → Name → (receiver shown actual : GlobalId) → (tag : ℕ) → (words : List ℕ) → Option World
 after_deliver m w s receiver shown actual tag words = do
   p ← undecided m w s
@@ -90,7 +92,7 @@ after_deliver m w s receiver shown actual tag words = do
   bytes_eq words p.send.message.words
   Some (change (change (unqueued w p.sender.at) r.at (receives p.send.message tag)) p.sender.at (delivered p.send p.sender.clock))
 
--- A thread begins a receive phase without a send phase.
+-- A thread begins a receive phase without a send phase (manual: Ipc, receive phase).
 abbrev pub after_wait : Machine → World → GlobalId → Option World
 after_wait m w id = do
   t ← found m w id
@@ -102,7 +104,7 @@ after_wait m w id = do
 abbrev pub without_send : World → Pending → (Thread → Thread) → World
 without_send w p f = change (unqueued w p.sender.at) p.sender.at f
 
--- A send is refused since its time is over: ErrorCode 2.
+-- A send is refused since its time is over (manual: Ipc, Time): ErrorCode 2.
 abbrev pub after_send_timeout : Machine → World → Name → Option World
 after_send_timeout m w s = do
   p ← undecided m w s
@@ -116,7 +118,7 @@ after_send_nobody m w s = do
   is_no_destination p.send.to (receiver_of m w p)
   Some (without_send w p (refused 4))
 
--- A waiting send is cancelled: ErrorCode 6.
+-- A waiting send is cancelled (manual: ExchangeRegisters, `S`): ErrorCode 6.
 abbrev pub after_send_cancel : Machine → World → Name → Option World
 after_send_cancel m w s = do
   p ← undecided m w s
@@ -137,7 +139,7 @@ abbrev pub receive_passed : Found → Phase → Bool
 receive_passed t (Receiving receive since) = has_passed receive.period since t.clock
 receive_passed t _ = false
 
--- A receive phase is over since its time is: ErrorCode 3.
+-- A receive phase is over since its time is (manual: Ipc, Time): ErrorCode 3.
 abbrev pub after_receive_timeout : Machine → World → GlobalId → Option World
 after_receive_timeout m w id = do
   t ← found m w id
@@ -155,7 +157,7 @@ after_receive_nobody m w id = do
   is_none (first_accepted m w t receive.from)
   Some (change w t.at (fails 5))
 
--- A receive phase is cancelled: ErrorCode 7.
+-- A receive phase is cancelled (manual: ExchangeRegisters, `R`): ErrorCode 7.
 abbrev pub after_receive_cancel : Machine → World → GlobalId → Option World
 after_receive_cancel m w id = do
   t ← found m w id
@@ -163,7 +165,7 @@ after_receive_cancel m w id = do
   t.now.cancel_receive
   Some (change w t.at (fails 7))
 
--- A thread asks for a cancellation or a deletion, and waits until it is done.
+-- A thread asks for a cancellation or a deletion (manual: ExchangeRegisters, ThreadControl), and waits until it is done.
 abbrev pub after_order : Machine → World → (caller target : GlobalId) → What → Option World
 after_order m w caller target what = do
   t ← found m w caller
@@ -180,7 +182,7 @@ after_obey m w caller = do
   target ← place_of m order.target
   Some (change (change w target (asked order.what)) t.at obeyed)
 
--- The clock of a processor goes on.
+-- The clock of a processor goes on, to below 2^62 (own).
 abbrev pub after_tick : Machine → World → (cpu clock : ℕ) → Option World
 after_tick m w cpu clock = do
   now ← slice_get w.clocks cpu

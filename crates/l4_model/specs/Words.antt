@@ -68,9 +68,13 @@ Period = Option ℕ
 abbrev pub period_of : ℕ → Period
 period_of time = if time == 0 then None else Some (2 ^ (time / 1024) * (time % 1024))
 
--- Bit 15 set would be a point in time, which is left out.
-abbrev pub is_period : ℕ → Bool
-is_period time = nat_lt time (2 ^ 15)
+-- Bits 6 to 11 of a tag count typed words, which are left out.
+abbrev pub has_typed_words : ℕ → Bool
+has_typed_words word = not ((word / 2 ^ 6) % 64 == 0)
+
+-- The period of a time. Bit 15 set would be a point in time, which is left out.
+abbrev pub time_of : ℕ → Option Period
+time_of time = if nat_lt time (2 ^ 15) then Some (period_of time) else None
 
 -- A word of timeouts (manual: Ipc): the send time in bits 16 to 31, the receive time in bits 0 to 15.
 abbrev pub send_time : ℕ → ℕ
@@ -78,3 +82,10 @@ send_time timeouts = timeouts / 2 ^ 16
 
 abbrev pub receive_time : ℕ → ℕ
 receive_time timeouts = timeouts % 2 ^ 16
+
+abbrev pub timeouts_of : ℕ → Option (Period × Period)
+timeouts_of timeouts = both (time_of (send_time timeouts)) (time_of (receive_time timeouts))
+  where
+    both : Option Period → Option Period → Option (Period × Period)
+    both (Some send) (Some receive) = Some (send, receive)
+    both _ _ = None

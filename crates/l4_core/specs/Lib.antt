@@ -1,0 +1,14 @@
+pub mod Faults
+pub mod Ids
+pub mod Judged
+pub mod Lines
+pub mod ListsView
+pub mod Machines
+pub mod Numbers
+pub mod PhaseView
+pub mod Processor
+pub mod Scripts
+pub mod Simple
+pub mod Statements
+pub mod Texts
+pub mod Turning

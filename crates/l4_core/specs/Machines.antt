@@ -1,0 +1,35 @@
+-- How a machine grows as its text is read.
+use Rattle.std.specs.Prelude.{ℕ, ◌-◌, ◌≤◌, Bool, ◌==◌, [], ◌∷◌, ◌++◌, length, slice_set}
+use Rattle.std.specs.List.{list_any}
+use Rattle.l4_model.specs.Machine.{Instr, Declaration, Machine}
+use Rattle.l4_core_model.specs.Local.{declared}
+use Rattle.l4_core_model.specs.Runs.{IsMachine}
+
+-- A machine as a text declares it.
+pub record IsLawful (m : Machine) : Type 0 where
+  pub machine : IsMachine m
+  pub threads : length m.threads ≤ 1024
+
+abbrev pub has_number : ℕ → Declaration → Bool
+has_number number d = d.id.number == number
+
+-- A thread of this number is declared, with any version.
+abbrev pub is_taken : ℕ → Machine → Bool
+is_taken number m = list_any (has_number number) m.threads
+
+abbrev pub with_instruction : Instr → Declaration → Declaration
+with_instruction instr d = record d { script = d.script ++ instr ∷ [] }
+
+abbrev pub with_thread : Declaration → Machine → Machine
+with_thread d m = record m { threads = m.threads ++ d ∷ [] }
+
+-- The thread that was declared last.
+abbrev pub last_place : Machine → ℕ
+last_place m = length m.threads - 1
+
+abbrev pub last_thread : Machine → Declaration
+last_thread m = declared m (last_place m)
+
+-- Its script has one more instruction.
+abbrev pub extended : Instr → Machine → Machine
+extended instr m = record m { threads = slice_set m.threads (last_place m) (with_instruction instr (last_thread m)) }

@@ -1,0 +1,9 @@
+pub mod ClockTick
+pub mod Codes
+pub mod Flags
+pub mod Ids
+pub mod LetterView
+pub mod ReportView
+pub mod StepView
+pub mod TagLemmas
+pub mod WordLemmas

@@ -1,0 +1,201 @@
+//! Thread ids (manual: ThreadId).
+ghost use Rattle.std.specs.Prelude.{◌≡◌, ◌/◌, ◌%◌, ◌^◌, ◌↔◌, true, IsSome, IfSome};
+ghost use Rattle.l4_model.specs.Words.{GlobalThread, word_of, id_of_word, is_global, global_id};
+ghost use Rattle.l4_types.specs.Ids.{kind_of, global_of};
+
+use std::marker::Model;
+
+const ANY: u64 = 0xffff_ffff_ffff_ffff;
+
+const ANY_LOCAL: u64 = 0xffff_ffff_ffff_ffc0;
+
+/// A thread id: nilthread, anythread, anylocalthread, a local id or a global one. It is one value, whatever the
+/// width of the word that stands for it.
+#[derive(Clone, Copy, PartialEq, Eq, Debug)]
+pub struct ThreadId {
+    raw: u64,
+}
+
+impl Model for ThreadId {
+    ghost use Rattle.l4_model.specs.Words.{Id, word_of, id_of_word};
+    ghost use Rattle.std.proofs.Common.{ap};
+    ghost use Rattle.l4_types.specs.WordLemmas.{word_of_id};
+
+    ghost Value = { Id };
+
+    ghost view = { λ t. id_of_word t.raw };
+
+    ghost inverse = { λ id. record { raw = word_of id } };
+
+    ghost inverse_ok = { λ t h. ap (λ raw. record { raw = raw }) (word_of_id t.raw) };
+}
+
+/// What a thread id stands for.
+#[derive(Clone, Copy, PartialEq, Eq, Debug)]
+pub enum Kind {
+    /// nilthread: no thread.
+    Nil,
+    /// anythread: every thread.
+    Any,
+    /// anylocalthread: every thread of one's own address space.
+    AnyLocal,
+    /// A local id.
+    Local,
+    /// A global id, of a number and a version.
+    Global {
+        /// The thread number.
+        number: u32,
+        /// The version.
+        version: u32,
+    },
+}
+
+/// A global thread id: a thread number and a version whose low six bits are not all zero. The number and the version
+/// of all ones are no global id, since their word is anythread.
+#[derive(Clone, Copy, PartialEq, Eq, Debug)]
+pub struct GlobalId {
+    number: u32,
+    version: u32,
+}
+
+impl Model for GlobalId {
+    ghost use Rattle.std.specs.Prelude.{◌≡◌, true};
+    ghost use Rattle.l4_model.specs.Words.{GlobalId as ModelGlobalId, is_global, global_id};
+
+    ghost Value = { ModelGlobalId };
+
+    ghost view = { λ t. record { number = t.number; version = t.version } };
+
+    ghost invariant = { λ t. is_global (global_id t.number t.version) ≡ true };
+
+    ghost inverse = { λ t. record { number = t.number; version = t.version } };
+}
+
+impl GlobalId {
+    /// The global id of a number and a version, or None where the low six bits of the version are zero or both
+    /// numbers are 2^32 - 1.
+    pub const fn new(number: u32, version: u32) -> Option<GlobalId>
+        ensures some { IfSome result (λ id. id ≡ global_id number version) }
+        ensures when { IsSome result ↔ (is_global (global_id number version) ≡ true) }
+    {
+        if version % 64 == 0 || (number == u32::MAX && version == u32::MAX) {
+            return None;
+        }
+        Some(GlobalId { number, version })
+    }
+
+    /// The thread number, the upper 32 bits of the word.
+    pub const fn number(&self) -> u32
+        ensures { result ≡ self.now.number }
+    {
+        self.number
+    }
+
+    /// The version, the lower 32 bits of the word.
+    pub const fn version(&self) -> u32
+        ensures value { result ≡ self.now.version }
+        ensures valid { is_global self.now ≡ true }
+    {
+        self.version
+    }
+
+    /// This id as a thread id.
+    #[tactic(auto, using(crate::specs::WordLemmas::id_of_global))]
+    pub fn id(&self) -> ThreadId
+        ensures { result ≡ GlobalThread self.now }
+    {
+        ThreadId {
+            raw: u64::from(self.number) << 32 | u64::from(self.version),
+        }
+    }
+}
+
+impl Default for GlobalId {
+    ghost is_default = { λ id. id ≡ global_id 0 1 };
+
+    /// The least global id, 0.1: what stands in an unused place.
+    fn default() -> GlobalId {
+        GlobalId {
+            number: 0,
+            version: 1,
+        }
+    }
+}
+
+impl From<GlobalId> for ThreadId {
+    ghost from_gives = { λ global id. id ≡ GlobalThread global };
+
+    fn from(global: GlobalId) -> ThreadId {
+        global.id()
+    }
+}
+
+impl ThreadId {
+    /// nilthread: no thread.
+    pub const NIL: ThreadId = ThreadId { raw: 0 };
+    /// anythread: every thread.
+    pub const ANY: ThreadId = ThreadId { raw: ANY };
+    /// anylocalthread: every thread of one's own address space.
+    pub const ANY_LOCAL: ThreadId = ThreadId { raw: ANY_LOCAL };
+
+    /// The id that a word of 64 bits stands for.
+    pub const fn from_raw(raw: u64) -> ThreadId
+        ensures { result ≡ id_of_word raw }
+    {
+        ThreadId { raw }
+    }
+
+    /// The word of 64 bits that stands for this id.
+    pub const fn raw(&self) -> u64
+        ensures value { result ≡ word_of self.now }
+        ensures back { id_of_word result ≡ self.now }
+    {
+        self.raw
+    }
+
+    /// The global id of a number and a version, or None where the low six bits of the version are zero or both
+    /// numbers are 2^32 - 1.
+    pub fn global(number: u32, version: u32) -> Option<ThreadId>
+        ensures some { IfSome result (λ id. id ≡ GlobalThread (global_id number version)) }
+        ensures when { IsSome result ↔ (is_global (global_id number version) ≡ true) }
+    {
+        GlobalId::new(number, version).map(|global| global.id())
+    }
+
+    /// What this id stands for.
+    pub fn kind(&self) -> Kind
+        ensures { result ≡ kind_of self.now }
+    {
+        match self.raw {
+            0 => Kind::Nil,
+            ANY => Kind::Any,
+            ANY_LOCAL => Kind::AnyLocal,
+            raw if raw % 64 == 0 => Kind::Local,
+            raw => {
+                let (number, version) = halves(raw);
+                Kind::Global { number, version }
+            }
+        }
+    }
+
+    /// The global id that this id is, or None where it is none.
+    pub fn as_global(&self) -> Option<GlobalId>
+        ensures { result ≡ global_of self.now }
+    {
+        match self.raw {
+            0 | ANY | ANY_LOCAL => None,
+            raw if raw % 64 == 0 => None,
+            raw => {
+                let (number, version) = halves(raw);
+                Some(GlobalId { number, version })
+            }
+        }
+    }
+}
+
+// The upper and the lower 32 bits of a word.
+fn halves(word: u64) -> (u32, u32)
+    ensures { result ≡ (word / 2 ^ 32, word % 2 ^ 32) }
+{
+    ((word >> 32) as u32, (word & 0xffff_ffff) as u32)
+}

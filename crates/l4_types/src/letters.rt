@@ -1,0 +1,95 @@
+//! What processors tell each other.
+use crate::ids::GlobalId;
+use crate::messages::Message;
+use crate::steps::{Name, What};
+
+/// How a send is decided without a delivery.
+#[derive(Clone, Copy, PartialEq, Eq, Debug)]
+pub enum Refusal {
+    /// Its time has passed.
+    TimedOut,
+    /// Nobody has the id that it goes to.
+    Nobody,
+    /// It was cancelled.
+    Cancelled,
+    /// Its thread was deleted.
+    Dropped,
+}
+
+/// How a send is decided.
+#[derive(Clone, Copy, PartialEq, Eq, Debug)]
+pub enum Decision {
+    /// Its message was delivered.
+    Delivered,
+    /// It was not.
+    Refused(Refusal),
+}
+
+/// Why a send is withdrawn.
+#[derive(Clone, Copy, PartialEq, Eq, Debug)]
+pub enum Cause {
+    /// Its time has passed.
+    ByTimeout,
+    /// It was cancelled.
+    ByCancel,
+    /// Its thread was deleted.
+    ByDeletion,
+}
+
+/// The content of a letter.
+#[derive(PartialEq, Eq, Debug, Drop)]
+pub enum Content {
+    /// A send has begun, whose receiver is of the processor that gets this.
+    Send {
+        name: Name,
+        receiver: GlobalId,
+        message: Message,
+        zero_timeout: bool,
+    },
+    /// A send is decided.
+    Done {
+        name: Name,
+        decision: Decision,
+    },
+    /// A send is to be decided without a delivery, where it still waits.
+    Withdraw {
+        name: Name,
+        receiver: GlobalId,
+        cause: Cause,
+    },
+    /// The thread is deleted.
+    Gone(GlobalId),
+    /// The caller asks for a cancellation or the deletion of the target.
+    Order {
+        caller: GlobalId,
+        target: GlobalId,
+        what: What,
+    },
+    /// What this caller asked for was done.
+    OrderDone(GlobalId),
+}
+
+/// A letter from one processor to another.
+#[derive(PartialEq, Eq, Debug, Drop)]
+pub struct Letter {
+    /// The stamp of the event that posted it, below 2^62.
+    pub stamp: u64,
+    /// What it tells.
+    pub content: Content,
+}
+
+impl Default for Letter {
+    ghost use Rattle.std.specs.Prelude.{◌≡◌};
+    ghost use Rattle.l4_model.specs.Words.{global_id};
+    ghost use Rattle.l4_types.specs.declared.letters.Content.TheVariants.{OrderDone};
+
+    ghost is_default = { λ letter. letter ≡ record { stamp = 0; content = OrderDone (global_id 0 1) } };
+
+    /// What stands in an unused place.
+    fn default() -> Letter {
+        Letter {
+            stamp: 0,
+            content: Content::OrderDone(GlobalId::default()),
+        }
+    }
+}

@@ -1,0 +1,15 @@
+//! Thread ids, message tags, registers, messages, steps and letters, as Rust types.
+//!
+//! No call of this crate takes memory.
+#![tactic(auto)]
+
+pub mod errors;
+pub mod ids;
+pub mod letters;
+pub mod messages;
+pub mod registers;
+pub mod reports;
+pub mod steps;
+pub mod tags;
+#[cfg(test)]
+mod tests;

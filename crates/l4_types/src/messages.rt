@@ -1,0 +1,110 @@
+//! Messages (manual: Messages and Message Registers).
+ghost use Rattle.std.specs.Prelude.{◌≡◌, ◌^◌, ◌<◌, ◌↔◌, IsSome, IfSome, length, false};
+ghost use Rattle.l4_types.specs.Flags.{flags_of};
+
+use crate::ids::GlobalId;
+use crate::tags::{LABELS, MsgTag};
+use arrayvec::ArrayVec;
+use std::marker::Model;
+
+/// A message as it was fixed when its send began.
+#[derive(PartialEq, Eq, Debug, Drop)]
+pub struct Message {
+    label: u64,
+    propagated: bool,
+    words: ArrayVec<u64, 63>,
+    shown: GlobalId,
+    actual: GlobalId,
+}
+
+impl Model for Message {
+    ghost use Rattle.std.specs.Prelude.{◌^◌, ◌<◌};
+    ghost use Rattle.l4_model.specs.World.{Message as ModelMessage};
+
+    ghost Value = { ModelMessage };
+
+    ghost view = { λ m. record { label = m.label; words = m.words.items; propagated = m.propagated; shown = m.shown; actual = m.actual } };
+
+    ghost invariant = { λ m. m.label < 2 ^ 48 };
+
+    ghost inverse = { λ m. record { label = m.label; propagated = m.propagated; words = record { items = m.words }; shown = m.shown; actual = m.actual } };
+}
+
+impl Message {
+    /// A message of a label below 2^48 and at most 63 words. `shown` is the sender that its receiver is shown, `actual`
+    /// the thread that sends it. None where the label is 2^48 or above.
+    pub fn new(
+        label: u64,
+        propagated: bool,
+        words: ArrayVec<u64, 63>,
+        shown: GlobalId,
+        actual: GlobalId,
+    ) -> Option<Message>
+        ensures some { IfSome result (λ m. m ≡ record { label = label; words = words.items; propagated = propagated; shown = shown; actual = actual }) }
+        ensures when { IsSome result ↔ (label < 2 ^ 48) }
+    {
+        if label >= LABELS {
+            return None;
+        }
+        Some(Message {
+            label,
+            propagated,
+            words,
+            shown,
+            actual,
+        })
+    }
+
+    /// The label, below 2^48.
+    pub fn label(&self) -> u64
+        ensures value { result ≡ self.now.label }
+        ensures fits { result < 2 ^ 48 }
+    {
+        self.label
+    }
+
+    /// Whether the message is propagated.
+    pub fn propagated(&self) -> bool
+        ensures { result ≡ self.now.propagated }
+    {
+        self.propagated
+    }
+
+    /// The untyped words, at most 63.
+    pub fn words(&self) -> &[u64]
+        ensures value { result.now ≡ self.now.words }
+        ensures fits { length result.now < 64 }
+    {
+        self.words.as_slice()
+    }
+
+    /// The sender that the receiver is shown: with propagation the originator, else the actual sender.
+    pub fn shown(&self) -> GlobalId
+        ensures { result ≡ self.now.shown }
+    {
+        self.shown
+    }
+
+    /// The thread that sends.
+    pub fn actual(&self) -> GlobalId
+        ensures { result ≡ self.now.actual }
+    {
+        self.actual
+    }
+
+    /// The tag of the message: its label, its number of words, and whether it is propagated.
+    pub fn tag(&self) -> MsgTag
+        ensures { result ≡ record { label = self.now.label; flags = flags_of false self.now.propagated; untyped = length self.now.words } }
+    {
+        MsgTag::of(self.label, false, self.propagated, self.words.len() as u8)
+    }
+
+    /// The same message again.
+    pub fn copy(&self) -> Message
+        ensures { result ≡ self.now }
+    {
+        let mut words = ArrayVec::new();
+        words.try_extend_from_slice(&self.words).unwrap();
+        Message { words, ..*self }
+    }
+}

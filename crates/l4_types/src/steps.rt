@@ -1,0 +1,214 @@
+//! The steps of a machine, and the events that processors tell.
+ghost use Rattle.std.specs.Prelude.{◌≡◌, ◌<◌, ◌^◌, ◌↔◌, IsSome, IfSome};
+ghost use Rattle.l4_model.specs.Words.{word_of_tag, tag_of_word};
+ghost use Rattle.l4_model.specs.Rules.{received_tag};
+
+use crate::ids::GlobalId;
+use crate::messages::Message;
+use crate::tags::MsgTag;
+use arrayvec::ArrayVec;
+use std::marker::Model;
+
+/// A machine has at most so many processors.
+pub const CPUS: u8 = 16;
+
+/// Clocks and stamps are below it.
+pub const CLOCKS: u64 = 1 << 62;
+
+/// The name of a send: the k-th that a thread began, from k = 1.
+#[derive(Clone, Copy, PartialEq, Eq, Debug)]
+pub struct Name {
+    thread: GlobalId,
+    k: u64,
+}
+
+impl Model for Name {
+    ghost use Rattle.std.specs.Prelude.{◌<◌};
+    ghost use Rattle.l4_model.specs.World.{Name as ModelName};
+
+    ghost Value = { ModelName };
+
+    ghost view = { λ s. record { thread = s.thread; k = s.k } };
+
+    ghost invariant = { λ s. 0 < s.k };
+
+    ghost inverse = { λ s. record { thread = s.thread; k = s.k } };
+}
+
+impl Name {
+    /// The k-th send of a thread. None where k is 0.
+    pub fn new(thread: GlobalId, k: u64) -> Option<Name>
+        ensures some { IfSome result (λ s. s ≡ record { thread = thread; k = k }) }
+        ensures when { IsSome result ↔ (0 < k) }
+    {
+        if k == 0 {
+            return None;
+        }
+        Some(Name { thread, k })
+    }
+
+    /// The thread that began the send.
+    pub fn thread(&self) -> GlobalId
+        ensures { result ≡ self.now.thread }
+    {
+        self.thread
+    }
+
+    /// The number of the send among those of its thread, at least 1.
+    pub fn k(&self) -> u64
+        ensures value { result ≡ self.now.k }
+        ensures positive { 0 < result }
+    {
+        self.k
+    }
+}
+
+/// What one thread may ask of another: a cancellation, by the bits S and R of ExchangeRegisters, or a deletion (manual:
+/// ExchangeRegisters, ThreadControl).
+#[derive(Clone, Copy, PartialEq, Eq, Debug)]
+pub enum What {
+    /// Bit S: the send that is under way is cancelled.
+    CancelSend,
+    /// Bit R: the receive that is under way is cancelled.
+    CancelReceive,
+    /// Bits S and R.
+    CancelBoth,
+    /// The thread is deleted.
+    Delete,
+}
+
+/// The delivery of a message.
+#[derive(PartialEq, Eq, Debug, Drop)]
+pub struct Delivery {
+    /// The send that is over with it.
+    pub name: Name,
+    /// The thread that gets the message.
+    pub receiver: GlobalId,
+    /// The message, as it was sent.
+    pub message: Message,
+    /// Whether sender and receiver are of different processors.
+    pub cross: bool,
+}
+
+impl Delivery {
+    /// The tag that the receiver gets in message register 0.
+    pub fn tag(&self) -> MsgTag
+        ensures value { result ≡ tag_of_word (received_tag self.now.cross self.now.message) }
+        ensures word { word_of_tag result ≡ received_tag self.now.cross self.now.message }
+    {
+        self.message
+            .tag()
+            .received(self.cross, self.message.propagated())
+    }
+}
+
+/// The clock of a processor goes on.
+#[derive(Clone, Copy, PartialEq, Eq, Debug)]
+pub struct Tick {
+    cpu: u8,
+    clock: u64,
+}
+
+impl Model for Tick {
+    ghost use Rattle.std.specs.Prelude.{◌<◌, ◌^◌};
+    ghost use Rattle.l4_types.specs.ClockTick.{ClockTick};
+
+    ghost Value = { ClockTick };
+
+    ghost view = { λ t. record { cpu = t.cpu; clock = t.clock } };
+
+    ghost invariant = { λ t. (t.cpu < 16) × (0 < t.clock) × (t.clock < 2 ^ 62) };
+
+    ghost inverse = { λ t. record { cpu = t.cpu; clock = t.clock } };
+}
+
+impl Tick {
+    /// The clock of a processor (0 to 15) becomes `clock` ticks (1 to 2^62 - 1). None outside these ranges.
+    pub fn new(cpu: u8, clock: u64) -> Option<Tick>
+        ensures some { IfSome result (λ t. t ≡ record { cpu = cpu; clock = clock }) }
+        ensures when { IsSome result ↔ ((cpu < 16) × (0 < clock) × (clock < 2 ^ 62)) }
+    {
+        if cpu >= CPUS || clock == 0 || clock >= CLOCKS {
+            return None;
+        }
+        Some(Tick { cpu, clock })
+    }
+
+    /// The processor, 0 to 15.
+    pub fn cpu(&self) -> u8
+        ensures value { result ≡ self.now.cpu }
+        ensures fits { result < 16 }
+    {
+        self.cpu
+    }
+
+    /// What its clock has become, in ticks: 1 to 2^62 - 1.
+    pub fn clock(&self) -> u64
+        ensures value { result ≡ self.now.clock }
+        ensures positive { 0 < result }
+        ensures fits { result < 2 ^ 62 }
+    {
+        self.clock
+    }
+}
+
+/// One step of a machine. It holds only what a line of a trace can spell.
+#[derive(PartialEq, Eq, Debug, Drop)]
+pub enum Step {
+    /// The thread ran an instruction that concerns nobody else, or ended.
+    Local(GlobalId),
+    /// A thread began this send.
+    Begin(Name),
+    /// The send was appended to the list of its receiver.
+    Queue(Name),
+    /// The message of a send was delivered.
+    Deliver(Delivery),
+    /// The thread began a receive phase without a send phase.
+    Wait(GlobalId),
+    /// The send was refused, since its time has passed.
+    SendTimeout(Name),
+    /// The receive phase was refused, since its time has passed.
+    ReceiveTimeout(GlobalId),
+    /// The send was refused, since nobody has the id that it goes to.
+    SendNobody(Name),
+    /// The receive phase was refused, since nobody has the id that it is closed for.
+    ReceiveNobody(GlobalId),
+    /// The send was cancelled.
+    SendCancel(Name),
+    /// The receive phase was cancelled.
+    ReceiveCancel(GlobalId),
+    /// The send of a deleted thread was dropped.
+    Drop(Name),
+    /// The caller asked for a cancellation or the deletion of the target.
+    Order {
+        caller: GlobalId,
+        target: GlobalId,
+        what: What,
+    },
+    /// What this caller asked for was done.
+    Obey(GlobalId),
+    /// The clock of a processor went on.
+    Tick(Tick),
+}
+
+impl Default for Step {
+    ghost use Rattle.std.specs.Prelude.{◌≡◌};
+    ghost use Rattle.l4_model.specs.Words.{global_id};
+    ghost use Rattle.l4_types.specs.declared.steps.Step.TheVariants.{Local};
+
+    ghost is_default = { λ step. step ≡ Local (global_id 0 1) };
+
+    /// What stands in an unused place.
+    fn default() -> Step {
+        Step::Local(GlobalId::default())
+    }
+}
+
+/// What one processor did at once: one to three steps, or none where it only handled a letter.
+#[derive(PartialEq, Eq, Debug, Drop)]
+pub struct Event {
+    /// The stamp of the event, below 2^62.
+    pub stamp: u64,
+    /// Its steps in order.
+    pub steps: ArrayVec<Step, 3>,
+}

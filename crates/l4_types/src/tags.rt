@@ -1,0 +1,120 @@
+//! Message tags (manual: Messages and Message Registers, MsgTag).
+ghost use Rattle.std.specs.Prelude.{◌≡◌, ◌/◌, ◌%◌, ◌^◌, ◌<◌, ◌==◌, ◌↔◌, false, IsSome, IfSome, IsOk, IfOk};
+ghost use Rattle.l4_model.specs.Words.{tag_of_word, word_of_tag, has_typed_words};
+ghost use Rattle.l4_types.specs.Flags.{flags_of};
+
+use std::marker::Model;
+
+/// The number of labels: each is below it.
+pub const LABELS: u64 = 1 << 48;
+
+/// The content of message register 0: a label of 48 bits, four flags, and the number of untyped words, at most 63.
+/// There are no typed words.
+///
+/// Of the flags, bit 12 of the word is `p`: propagation is asked for or, in a received tag, took place. In a received
+/// tag bit 14, `X`, says that the message comes from another processor, and bits 13 and 15 are clear.
+#[derive(Clone, Copy, PartialEq, Eq, Debug)]
+pub struct MsgTag {
+    raw: u64,
+}
+
+impl Model for MsgTag {
+    ghost use Rattle.std.specs.Prelude.{◌≡◌, ◌/◌, ◌%◌, ◌^◌};
+    ghost use Rattle.l4_model.specs.Words.{MessageTag, tag_of_word, word_of_tag};
+    ghost use Rattle.std.proofs.Common.{ap};
+    ghost use Rattle.l4_types.specs.TagLemmas.{word_of_tag_of};
+
+    ghost Value = { MessageTag };
+
+    ghost view = { λ t. tag_of_word t.raw };
+
+    ghost invariant = { λ t. (t.raw / 2 ^ 6) % 64 ≡ 0 };
+
+    ghost inverse = { λ tag. record { raw = word_of_tag tag } };
+
+    ghost inverse_ok = { λ t h. ap (λ raw. record { raw = raw }) (word_of_tag_of t.raw h) };
+}
+
+/// Why a word is no message tag.
+#[derive(Clone, Copy, PartialEq, Eq, Debug)]
+pub enum TagFault {
+    /// The number of typed words is not 0.
+    TypedItems,
+}
+
+impl MsgTag {
+    /// The tag of a label, a number of untyped words and a wish to propagate (bit 12). None where the label is 2^48 or
+    /// above, or there are more than 63 words.
+    pub fn new(label: u64, untyped: u8, propagate: bool) -> Option<MsgTag>
+        ensures some { IfSome result (λ tag. tag ≡ record { label = label; flags = flags_of false propagate; untyped = untyped }) }
+        ensures when { IsSome result ↔ ((label < 2 ^ 48) × (untyped < 64)) }
+    {
+        if label >= LABELS || untyped > 63 {
+            return None;
+        }
+        Some(MsgTag::of(label, false, propagate, untyped))
+    }
+
+    /// The tag that a word is. `TypedItems` where bits 6 to 11 are not all zero.
+    pub fn from_raw(raw: u64) -> Result<MsgTag, TagFault>
+        ensures ok { IfOk result (λ tag. tag ≡ tag_of_word raw) }
+        ensures when { IsOk result ↔ (has_typed_words raw ≡ false) }
+    {
+        if (raw >> 6) & 0x3f != 0 {
+            return Err(TagFault::TypedItems);
+        }
+        Ok(MsgTag { raw })
+    }
+
+    /// The word of this tag.
+    pub fn raw(&self) -> u64
+        ensures value { result ≡ word_of_tag self.now }
+        ensures back { tag_of_word result ≡ self.now }
+        ensures no_typed_words { has_typed_words result ≡ false }
+    {
+        self.raw
+    }
+
+    /// The label, below 2^48.
+    pub fn label(&self) -> u64
+        ensures value { result ≡ self.now.label }
+        ensures fits { result < 2 ^ 48 }
+    {
+        self.raw >> 16
+    }
+
+    /// The number of untyped words, at most 63.
+    pub fn untyped(&self) -> u8
+        ensures value { result ≡ self.now.untyped }
+        ensures fits { result < 64 }
+    {
+        (self.raw & 0x3f) as u8
+    }
+
+    /// Whether propagation is asked for or, in a received tag, took place (bit 12).
+    pub fn propagate(&self) -> bool
+        ensures { result ≡ (self.now.flags % 2 == 1) }
+    {
+        (self.raw >> 12) & 1 == 1
+    }
+
+    /// The tag that a receiver gets: the label and the number of words stay, the flags say whether the message came
+    /// from another processor and whether it was propagated, and no more.
+    pub fn received(&self, cross: bool, propagated: bool) -> MsgTag
+        ensures { result ≡ record self.now { flags = flags_of cross propagated } }
+    {
+        MsgTag::of(self.label(), cross, propagated, self.untyped())
+    }
+
+    // The tag of these parts, with all other flags clear.
+    pub(crate) fn of(label: u64, cross: bool, propagated: bool, untyped: u8) -> MsgTag
+        requires label { label < 2 ^ 48 }
+        requires untyped { untyped < 64 }
+        ensures { result ≡ record { label = label; flags = flags_of cross propagated; untyped = untyped } }
+    {
+        let flags = u64::from(cross) * 4 + u64::from(propagated);
+        MsgTag {
+            raw: (label << 16) + (flags << 12) + u64::from(untyped),
+        }
+    }
+}

@@ -1,0 +1,92 @@
+use crate::errors::{IpcError, NoMemory};
+use crate::ids::{GlobalId, Kind, ThreadId};
+use crate::letters::{Content, Letter};
+use crate::messages::Message;
+use crate::registers::Regs;
+use crate::steps::{Delivery, Name, Step, Tick};
+use crate::tags::{MsgTag, TagFault};
+use arrayvec::ArrayVec;
+use std::alloc::AllocError;
+use std::test::Fail;
+
+#[test]
+fn ids_have_their_words(rt: HostRuntime) -> Result<(), Fail> {
+    let id = GlobalId::new(2, 65).ok_or("a global id")?;
+    let same = ThreadId::from_raw(8589934657);
+    assert_eq!(rt; [id.id().raw(), ThreadId::from(id).raw()], [8589934657; 2]);
+    assert!(rt; same.as_global() == Some(id) && ThreadId::global(2, 65) == Some(same));
+    let (number, version) = (id.number(), id.version());
+    assert!(rt; same.kind() == Kind::Global { number, version });
+    assert!(rt; GlobalId::new(4294967295, 4294967295).is_none());
+    Ok(())
+}
+
+#[test]
+fn tags_have_their_words(rt: HostRuntime) -> Result<(), Fail> {
+    let tag = MsgTag::new(7, 1, false).ok_or("a tag")?;
+    let asking = MsgTag::new(5, 1, true).ok_or("a tag")?;
+    let words = [
+        tag.raw(),
+        tag.received(true, false).raw(),
+        asking.raw(),
+        asking.received(false, true).raw(),
+        asking.received(false, false).raw(),
+    ];
+    assert_eq!(rt; words, [0x70001, 0x74001, 0x51001, 0x51001, 0x50001]);
+    assert_eq!(rt;
+        (asking.label(), asking.untyped(), asking.propagate()),
+        (5, 1, true)
+    );
+    assert!(rt; MsgTag::from_raw(0x51001) == Ok(asking));
+    assert!(rt; MsgTag::from_raw(0x41) == Err(TagFault::TypedItems));
+    Ok(())
+}
+
+#[test]
+fn a_delivery_has_the_received_tag(rt: HostRuntime) -> Result<(), Fail> {
+    let id = GlobalId::new(1, 1).ok_or("a global id")?;
+    let name = Name::new(id, 3).ok_or("a name")?;
+    let message = Message::new(7, false, ArrayVec::from([10; 63]), id, id).ok_or("a message")?;
+    assert!(rt; name.thread() == message.shown() && name.thread() == message.actual());
+    assert!(rt; message.copy() == message && !message.propagated());
+    assert_eq!(rt; message.words().last(), Some(&10));
+    let numbers = [name.k(), message.label(), message.tag().raw()];
+    assert_eq!(rt; numbers, [3, 7, 0x7003f]);
+    let delivery = Delivery {
+        name,
+        receiver: id,
+        message,
+        cross: true,
+    };
+    assert_eq!(rt; delivery.tag().raw(), 0x7403f);
+    Ok(())
+}
+
+#[test]
+fn rooms_for_steps_and_letters(rt: HostRuntime) -> Result<(), Fail> {
+    let tick = Tick::new(15, 24).ok_or("a tick")?;
+    assert!(rt; tick.cpu() == 15 && tick.clock() == 24);
+    let mut steps: ArrayVec<Step, 3> = ArrayVec::new();
+    steps.push(Step::Tick(tick));
+    let mut letters: ArrayVec<(u8, Letter), 2> = ArrayVec::new();
+    let content = Content::Gone(GlobalId::default());
+    letters.push((1, Letter { stamp: 4, content }));
+    assert_eq!(rt; (steps.len(), letters.len()), (1, 1));
+    Ok(())
+}
+
+#[test]
+fn registers_and_faults(rt: HostRuntime) {
+    let regs = Regs::new();
+    assert!(rt; regs == Regs::default() && regs.from == ThreadId::NIL);
+    let codes = [
+        IpcError::SendTimeout.code(),
+        IpcError::ReceiveTimeout.code(),
+        IpcError::SendNobody.code(),
+        IpcError::ReceiveNobody.code(),
+        IpcError::SendCancelled.code(),
+        IpcError::ReceiveCancelled.code(),
+    ];
+    assert_eq!(rt; codes, [2, 3, 4, 5, 6, 7]);
+    assert!(rt; NoMemory::from(AllocError) == NoMemory);
+}

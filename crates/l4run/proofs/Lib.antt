@@ -1,0 +1,10 @@
+pub mod LineRows
+pub mod Spelling
+pub mod Joined
+pub mod Spelled
+pub mod Registers
+pub mod ReportRows
+pub mod Rounds
+pub mod Sofar
+pub mod Whole
+pub mod Shown

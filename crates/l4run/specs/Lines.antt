@@ -1,0 +1,89 @@
+-- The line of a step in a trace.
+use Rattle.std.specs.Prelude.{ℕ, ◌/◌, ◌%◌, ◌^◌, Bool, false, ◌==◌, ◌&&◌, nat_lt, List, [], ◌∷◌, ◌++◌, length, map, flat_map, codes, decimal}
+use Rattle.std.specs.Fmt.{digits}
+use Rattle.std.specs.List.{join_with_byte, list_all}
+use Rattle.l4_model.specs.Words.{GlobalId, is_global}
+use Rattle.l4_model.specs.Machine.{What, CancelSend, CancelReceive, CancelBoth, Delete}
+use Rattle.l4_model.specs.World.{Name}
+use Rattle.l4_model.specs.Steps.{Step, Local, Begin, Queue, Deliver, Wait, SendTimeout, ReceiveTimeout, SendNobody, ReceiveNobody, SendCancel, ReceiveCancel, Drop, Order, Obey, Tick}
+
+-- In lower case, with no prefix and no leading zero, as `decimal` has none: 0 is `0`.
+abbrev pub hexadecimal : ℕ → List ℕ
+hexadecimal n = digits 16 false n
+
+-- A thread is spelled by its number and its version, in decimal.
+abbrev pub thread_word : GlobalId → List ℕ
+thread_word t = decimal t.number ++ codes "." ++ decimal t.version
+
+abbrev pub name_word : Name → List ℕ
+name_word s = thread_word s.thread ++ codes "#" ++ decimal s.k
+
+abbrev pub what_word : What → List ℕ
+what_word CancelSend = codes "S"
+what_word CancelReceive = codes "R"
+what_word CancelBoth = codes "SR"
+what_word Delete = codes "delete"
+
+-- The words of the line of a step.
+abbrev pub words_of : Step → List (List ℕ)
+words_of (Local t) = codes "local" ∷ thread_word t ∷ []
+words_of (Begin s) = codes "begin" ∷ name_word s ∷ []
+words_of (Queue s) = codes "queue" ∷ name_word s ∷ []
+words_of (Deliver s receiver shown actual tag words) =
+    codes "deliver" ∷ name_word s ∷ thread_word receiver ∷ thread_word shown ∷ thread_word actual ∷ hexadecimal tag
+    ∷ map hexadecimal words
+words_of (Wait t) = codes "wait" ∷ thread_word t ∷ []
+words_of (SendTimeout s) = codes "stimeout" ∷ name_word s ∷ []
+words_of (ReceiveTimeout t) = codes "rtimeout" ∷ thread_word t ∷ []
+words_of (SendNobody s) = codes "snobody" ∷ name_word s ∷ []
+words_of (ReceiveNobody t) = codes "rnobody" ∷ thread_word t ∷ []
+words_of (SendCancel s) = codes "scancel" ∷ name_word s ∷ []
+words_of (ReceiveCancel t) = codes "rcancel" ∷ thread_word t ∷ []
+words_of (Drop s) = codes "drop" ∷ name_word s ∷ []
+words_of (Order caller target what) =
+    codes "order" ∷ thread_word caller ∷ thread_word target ∷ what_word what ∷ []
+words_of (Obey caller) = codes "obey" ∷ thread_word caller ∷ []
+words_of (Tick cpu clock) = codes "tick" ∷ decimal cpu ∷ decimal clock ∷ []
+
+-- The words of a line are separated by one space, the byte 32, and a line ends with a line feed.
+abbrev pub line_of_words : List (List ℕ) → List ℕ
+line_of_words words = join_with_byte 32 words ++ codes "\n"
+
+abbrev pub line_of : Step → List ℕ
+line_of step = line_of_words (words_of step)
+
+-- The lines of the steps of a history, in order.
+abbrev pub trace_of : List Step → List ℕ
+trace_of steps = flat_map line_of steps
+
+-- Which steps a trace can spell
+
+abbrev pub is_word : ℕ → Bool
+is_word n = nat_lt n (2 ^ 64)
+
+-- The sends of a thread are counted from 1.
+abbrev pub is_name : Name → Bool
+is_name s = is_global s.thread && nat_lt 0 s.k && is_word s.k
+
+-- The tag of a delivery counts its words, and has no typed items and neither of the flags `r` and `E`.
+abbrev pub is_tag_of : (tag : ℕ) → (words : List ℕ) → Bool
+is_tag_of tag words =
+    is_word tag && (tag / 2 ^ 6) % 64 == 0 && (tag / 2 ^ 13) % 2 == 0 && (tag / 2 ^ 15) % 2 == 0 && tag % 64 == length words
+
+abbrev pub has_line : Step → Bool
+has_line (Local t) = is_global t
+has_line (Begin s) = is_name s
+has_line (Queue s) = is_name s
+has_line (Deliver s receiver shown actual tag words) =
+    is_name s && is_global receiver && is_global shown && is_global actual && is_tag_of tag words && list_all is_word words
+has_line (Wait t) = is_global t
+has_line (SendTimeout s) = is_name s
+has_line (ReceiveTimeout t) = is_global t
+has_line (SendNobody s) = is_name s
+has_line (ReceiveNobody t) = is_global t
+has_line (SendCancel s) = is_name s
+has_line (ReceiveCancel t) = is_global t
+has_line (Drop s) = is_name s
+has_line (Order caller target what) = is_global caller && is_global target
+has_line (Obey caller) = is_global caller
+has_line (Tick cpu clock) = nat_lt cpu 16 && nat_lt 0 clock && nat_lt clock (2 ^ 62)

@@ -23,9 +23,6 @@ use Rattle.l4_model.proofs.Places.{and_true, same_id_is, known, known_send, send
 
 -- Ticks
 
-abbrev last_clock : ℕ
-last_clock = 2 ^ 62 - 1
-
 abbrev IsLow : List ℕ → Type 0
 IsLow clocks = AllByRecursion (λ clock. clock < 2 ^ 62) clocks
 

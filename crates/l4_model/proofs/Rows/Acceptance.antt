@@ -113,6 +113,16 @@ order_of_beginning_trace =
 order_of_beginning_ending : ends order_of_arrival order_of_beginning_trace ≡ spent (((send 3 1), (id 4)) ∷ ((send 2 1), (id 4)) ∷ ((send 1 1), (id 4)) ∷ [])
 order_of_beginning_ending = refl
 
+-- Where a message can be delivered, a world is not still.
+abbrev pub accepted_and_waiting_trace : List Step
+accepted_and_waiting_trace =
+    Begin (send 1 1)
+    ∷ Queue (send 1 1)
+    ∷ Wait (thread 2) ∷ []
+
+accepted_and_waiting_ending : ends two_sends accepted_and_waiting_trace ≡ spent (((send 1 1), (id 2)) ∷ [])
+accepted_and_waiting_ending = refl
+
 -- A send to oneself waits for ever.
 abbrev pub to_itself : Machine
 to_itself = record {

@@ -47,7 +47,7 @@ send_at_its_time : refused_place withdrawn (
     ∷ SendTimeout (send 1 1) ∷ []) ≡ None
 send_at_its_time = refl
 
--- So does that of a receive phase,
+-- The period of a receive phase counts from its beginning.
 receive_since_its_beginning : refused_place finite_receive (
     Tick 0 7
     ∷ Wait (thread 1)
@@ -62,7 +62,7 @@ receive_at_its_time : refused_place finite_receive (
     ∷ ReceiveTimeout (thread 1) ∷ []) ≡ None
 receive_at_its_time = refl
 
--- and in a call it begins with the delivery, by the caller's clock.
+-- The receive phase of a call begins with the delivery, by the caller's clock.
 abbrev pub timed_call : Machine
 timed_call = record {
   cpus = 2;
@@ -155,6 +155,7 @@ waits_its_time_trace =
 waits_its_time_ending : ends finite_receive waits_its_time_trace ≡ spent []
 waits_its_time_ending = refl
 
+-- A thread that has not ended is not still.
 abbrev pub waits_for_ever_trace : List Step
 waits_for_ever_trace =
     Local (thread 1)

@@ -1,10 +1,10 @@
 -- Worked rows: what is left of a deleted thread.
 use Rattle.std.specs.Prelude.{◌≡◌, Some, None, List, [], ◌∷◌, refl}
-use Rattle.l4_model.specs.Words.{NilThread}
-use Rattle.l4_model.specs.Machine.{Machine, ToId, Delete, Set, Tag, Vs, Ipc, Ask}
-use Rattle.l4_model.specs.Steps.{Step, Local, Begin, Queue, Deliver, Wait, SendNobody, ReceiveNobody, Drop, Order, Obey}
+use Rattle.l4_model.specs.Words.{NilThread, period_of}
+use Rattle.l4_model.specs.Machine.{Machine, ToId, CancelSend, Delete, Set, Tag, Vs, Ipc, Ask, End}
+use Rattle.l4_model.specs.Steps.{Step, Local, Begin, Queue, Deliver, Wait, SendTimeout, SendNobody, ReceiveNobody, Drop, Order, Obey, Tick}
 use Rattle.l4_model.specs.History.{refused_place, IsReceiving, IsEnded, IsDeleted}
-use Rattle.l4_model.proofs.Rows.Writing.{thread, id, send, sends, receives, declared, ends, quiet, reports, report}
+use Rattle.l4_model.proofs.Rows.Writing.{thread, id, send, sends, receives, declared, ends, quiet, spent, reports, report}
 use Rattle.l4_model.proofs.Rows.Orders.{call_deleted_a, call_deleted_a_trace, call_deleted_b, call_deleted_b_trace}
 
 -- A deleted thread runs, receives and is sent nothing more; it gets no code.
@@ -50,6 +50,13 @@ not_dropped_alive : refused_place one_deleted (
     ∷ Drop (send 2 1) ∷ []) ≡ Some 3
 not_dropped_alive = refl
 
+not_dropped_before_it_arrives : refused_place call_deleted_a (
+    Begin (send 1 1)
+    ∷ Order (thread 3) (thread 1) Delete
+    ∷ Obey (thread 3)
+    ∷ Drop (send 1 1) ∷ []) ≡ Some 4
+not_dropped_before_it_arrives = refl
+
 not_nobody_alive : refused_place one_deleted (
     Begin (send 2 1)
     ∷ Queue (send 2 1)
@@ -61,6 +68,7 @@ not_nobody_to_receive_from : refused_place one_deleted (
     ∷ ReceiveNobody (thread 4) ∷ []) ≡ Some 2
 not_nobody_to_receive_from = refl
 
+-- Its registers stay.
 abbrev pub registers_stay_trace : List Step
 registers_stay_trace =
     Local (thread 1)
@@ -84,6 +92,73 @@ registers_stay_view : reports one_deleted registers_stay_trace ≡ Some (
     ∷ report 3 IsEnded 0 NilThread NilThread (0 ∷ [])
     ∷ report 4 IsEnded 5 NilThread NilThread (0x8000 ∷ []) ∷ [])
 registers_stay_view = refl
+
+-- Its send may still be refused, without a code.
+abbrev pub refused_after_deletion : Machine
+refused_after_deletion = record {
+  cpus = 1;
+  threads =
+      declared 1 0 1 (Set 1 7 ∷ Ipc (ToId (id 2)) NilThread (period_of 5) None ∷ [])
+      ∷ declared 2 0 1 (End ∷ [])
+      ∷ declared 3 0 1 (Ask (id 1) Delete ∷ []) ∷ [];
+}
+
+abbrev pub refused_after_deletion_trace : List Step
+refused_after_deletion_trace =
+    Local (thread 1)
+    ∷ Begin (send 1 1)
+    ∷ Queue (send 1 1)
+    ∷ Order (thread 3) (thread 1) Delete
+    ∷ Obey (thread 3)
+    ∷ Tick 0 5
+    ∷ SendTimeout (send 1 1)
+    ∷ Local (thread 2)
+    ∷ Local (thread 3) ∷ []
+
+refused_after_deletion_ending : ends refused_after_deletion refused_after_deletion_trace ≡ quiet []
+refused_after_deletion_ending = refl
+
+refused_after_deletion_view : reports refused_after_deletion refused_after_deletion_trace ≡ Some (
+    report 1 IsDeleted 0 NilThread NilThread (0 ∷ 0x7 ∷ [])
+    ∷ report 2 IsEnded 0 NilThread NilThread (0 ∷ [])
+    ∷ report 3 IsEnded 0 NilThread NilThread (0 ∷ []) ∷ [])
+refused_after_deletion_view = refl
+
+-- Who deletes itself is deleted before it could get a code: its own stays.
+abbrev pub deletes_itself_late : Machine
+deletes_itself_late = record {
+  cpus = 1;
+  threads =
+      declared 1 0 1 (Ask (id 9) CancelSend ∷ Ask (id 1) Delete ∷ []) ∷ [];
+}
+
+abbrev pub deletes_itself_late_trace : List Step
+deletes_itself_late_trace =
+    Local (thread 1)
+    ∷ Order (thread 1) (thread 1) Delete
+    ∷ Obey (thread 1) ∷ []
+
+deletes_itself_late_ending : ends deletes_itself_late deletes_itself_late_trace ≡ quiet []
+deletes_itself_late_ending = refl
+
+deletes_itself_late_view : reports deletes_itself_late deletes_itself_late_trace ≡ Some (
+    report 1 IsDeleted 2 NilThread NilThread (0 ∷ []) ∷ [])
+deletes_itself_late_view = refl
+
+-- Where an order can be given, a world is not still.
+abbrev pub to_be_deleted : Machine
+to_be_deleted = record {
+  cpus = 1;
+  threads =
+      declared 1 0 1 (Ask (id 1) Delete ∷ []) ∷ [];
+}
+
+abbrev pub to_be_deleted_trace : List Step
+to_be_deleted_trace =
+    []
+
+to_be_deleted_ending : ends to_be_deleted to_be_deleted_trace ≡ spent []
+to_be_deleted_ending = refl
 
 call_deleted_a_view : reports call_deleted_a call_deleted_a_trace ≡ Some (
     report 1 IsDeleted 0 NilThread NilThread (0 ∷ [])

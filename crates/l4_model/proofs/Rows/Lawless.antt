@@ -6,11 +6,12 @@ use Rattle.l4_model.specs.Machine.{Machine, Delete}
 use Rattle.l4_model.specs.World.{World, opening}
 use Rattle.l4_model.specs.Steps.{Step, Local, Begin, Queue, Deliver, Wait, SendTimeout, SendNobody, SendCancel, Drop, Order, Obey}
 use Rattle.l4_model.specs.History.{reached}
-use Rattle.l4_model.specs.Laws.{AtMostOnce, InOrder, IsUnaltered, TakesTurns, NoneAfterDelete, IsAccounted, Carries}
+use Rattle.l4_model.specs.Laws.{AtMostOnce, InOrder, IsUnaltered, TakesTurns, NoneAfterDelete, IsAccounted, Carries, begins_of, deliveries_of}
 use Rattle.l4_model.proofs.Rows.Writing.{thread, send}
 use Rattle.l4_model.proofs.Rows.Messages.{first_path}
 use Rattle.l4_model.proofs.Rows.Queues.{order_of_arrival}
 use Rattle.l4_model.proofs.Rows.Deleted.{one_deleted}
+use Rattle.l4_model.proofs.Rows.Acceptance.{two_sends_trace}
 
 -- A delivery of an empty message from one thread to another.
 abbrev delivery : (from k to : ℕ) → Step
@@ -24,6 +25,10 @@ delivered_twice law = let two : 2 ≤ 1 = law (send 1 1) in absurd (omega arith)
 
 to_two_receivers : AtMostOnce (delivery 1 1 2 ∷ delivery 1 1 3 ∷ []) → ⊥
 to_two_receivers law = let two : 2 ≤ 1 = law (send 1 1) in absurd (omega arith)
+
+-- The sends of one thread are told apart.
+counted_apart : (deliveries_of (send 1 1) two_sends_trace ≡ 1) × (begins_of (send 1 2) two_sends_trace ≡ 1)
+counted_apart = (refl, refl)
 
 second_first : InOrder (delivery 1 2 2 ∷ delivery 3 5 2 ∷ delivery 1 1 2 ∷ []) → ⊥
 second_first law = let rises : 2 < 1 = (law (thread 1) (thread 2)).0.0 in absurd (omega arith)

@@ -119,6 +119,36 @@ own_name_trace =
 own_name_ending : ends own_name own_name_trace ≡ quiet []
 own_name_ending = refl
 
+-- An ipc that ended well without receiving clears `from`, and leaves ActualSender.
+abbrev pub answered_once : Machine
+answered_once = record {
+  cpus = 1;
+  threads =
+      declared 1 0 1 (sends 2 ∷ receives ∷ [])
+      ∷ declared 2 0 1 (receives ∷ Ipc ToLast NilThread None None ∷ []) ∷ [];
+}
+
+abbrev pub answered_once_trace : List Step
+answered_once_trace =
+    Begin (send 1 1)
+    ∷ Queue (send 1 1)
+    ∷ Wait (thread 2)
+    ∷ Deliver (send 1 1) (thread 2) (thread 1) (thread 1) 0 []
+    ∷ Begin (send 2 1)
+    ∷ Queue (send 2 1)
+    ∷ Wait (thread 1)
+    ∷ Deliver (send 2 1) (thread 1) (thread 2) (thread 2) 0 []
+    ∷ Local (thread 1)
+    ∷ Local (thread 2) ∷ []
+
+answered_once_ending : ends answered_once answered_once_trace ≡ quiet []
+answered_once_ending = refl
+
+answered_once_view : reports answered_once answered_once_trace ≡ Some (
+    report 1 IsEnded 0 (id 2) (id 2) (0 ∷ [])
+    ∷ report 2 IsEnded 0 NilThread (id 1) (0 ∷ []) ∷ [])
+answered_once_view = refl
+
 -- `X` is of the current sender's processor, not of the originator's.
 abbrev pub originator_elsewhere : Machine
 originator_elsewhere = record {

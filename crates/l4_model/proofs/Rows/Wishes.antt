@@ -1,7 +1,7 @@
 -- Worked rows: what a cancellation is worth, and how long.
 use Rattle.std.specs.Prelude.{◌≡◌, Some, None, List, [], ◌∷◌, refl}
 use Rattle.l4_model.specs.Words.{NilThread, AnyThread, period_of}
-use Rattle.l4_model.specs.Machine.{Machine, ToId, CancelSend, CancelReceive, CancelBoth, Delete, Ipc, Ask}
+use Rattle.l4_model.specs.Machine.{Machine, ToId, ToLast, CancelSend, CancelReceive, CancelBoth, Delete, Ipc, Ask}
 use Rattle.l4_model.specs.Steps.{Step, Local, Begin, Queue, Deliver, Wait, SendTimeout, ReceiveNobody, SendCancel, ReceiveCancel, Order, Obey, Tick}
 use Rattle.l4_model.specs.History.{refused_place, IsReady, IsSending, IsOrdering, IsEnded, IsDeleted}
 use Rattle.l4_model.proofs.Rows.Writing.{thread, id, send, sends, receives, declared, ends, quiet, spent, reports, report}
@@ -116,6 +116,15 @@ no_receive_wish : refused_place receives_twice (
     ∷ ReceiveCancel (thread 1) ∷ []) ≡ Some 2
 no_receive_wish = refl
 
+cancelled_once : refused_place receives_twice (
+    Wait (thread 1)
+    ∷ Order (thread 2) (thread 1) CancelReceive
+    ∷ Obey (thread 2)
+    ∷ ReceiveCancel (thread 1)
+    ∷ Wait (thread 1)
+    ∷ ReceiveCancel (thread 1) ∷ []) ≡ Some 6
+cancelled_once = refl
+
 receive_cancelled : refused_place receives_twice (
     Wait (thread 1)
     ∷ Order (thread 2) (thread 1) CancelReceive
@@ -124,7 +133,7 @@ receive_cancelled : refused_place receives_twice (
     ∷ Wait (thread 1) ∷ []) ≡ None
 receive_cancelled = refl
 
--- A send without a receive phase has none to cancel; one that fails takes the wish away.
+-- A send without a receive phase has none to cancel.
 abbrev pub sends_then_receives : Machine
 sends_then_receives = record {
   cpus = 1;
@@ -145,6 +154,7 @@ later_receive_phase : refused_place sends_then_receives (
     ∷ ReceiveCancel (thread 1) ∷ []) ≡ Some 8
 later_receive_phase = refl
 
+-- A call that fails takes the wish to cancel its receive phase away.
 abbrev pub call_that_fails : Machine
 call_that_fails = record {
   cpus = 1;
@@ -164,6 +174,31 @@ wish_of_a_failed_call : refused_place call_that_fails (
     ∷ Wait (thread 1)
     ∷ ReceiveCancel (thread 1) ∷ []) ≡ Some 8
 wish_of_a_failed_call = refl
+
+-- A delivered call takes the wish to cancel its send away.
+abbrev pub calls_then_sends : Machine
+calls_then_sends = record {
+  cpus = 1;
+  threads =
+      declared 1 0 1 (Ipc (ToId (id 3)) (id 3) None None ∷ sends 3 ∷ [])
+      ∷ declared 2 0 1 (Ask (id 1) CancelSend ∷ [])
+      ∷ declared 3 0 2 (receives ∷ Ipc ToLast NilThread None None ∷ []) ∷ [];
+}
+
+wish_of_a_delivered_call : refused_place calls_then_sends (
+    Begin (send 1 1)
+    ∷ Queue (send 1 1)
+    ∷ Order (thread 2) (thread 1) CancelSend
+    ∷ Obey (thread 2)
+    ∷ Wait (thread 3)
+    ∷ Deliver (send 1 1) (thread 3) (thread 1) (thread 1) 0 []
+    ∷ Begin (send 3 1)
+    ∷ Queue (send 3 1)
+    ∷ Deliver (send 3 1) (thread 1) (thread 3) (thread 3) 0 []
+    ∷ Begin (send 1 2)
+    ∷ Queue (send 1 2)
+    ∷ SendCancel (send 1 2) ∷ []) ≡ Some 12
+wish_of_a_delivered_call = refl
 
 -- Both bits at once.
 abbrev pub both_wishes : Machine
@@ -205,11 +240,12 @@ send_cancelled_by_both : refused_place both_wishes (
     ∷ SendCancel (send 1 1) ∷ []) ≡ None
 send_cancelled_by_both = refl
 
--- A cancellation from another space is no order; a deletion is one from anywhere.
+-- A cancellation from another space is no order.
 from_another_space : refused_place cancels (
     Order (thread 3) (thread 1) CancelSend ∷ []) ≡ Some 1
 from_another_space = refl
 
+-- A deletion is admitted from any space, of a declared thread.
 abbrev pub deleted_from_elsewhere : Machine
 deleted_from_elsewhere = record {
   cpus = 1;

@@ -22,7 +22,7 @@ not_while_it_calls : refused_place to_a_call_elsewhere (
     ∷ SendTimeout (send 2 1) ∷ []) ≡ Some 3
 not_while_it_calls = refl
 
--- A call within the receiver's processor does not.
+-- A call within the receiver's processor does not protect it.
 abbrev pub to_a_call_within : Machine
 to_a_call_within = record {
   cpus = 2;
@@ -38,7 +38,7 @@ while_it_calls_within : refused_place to_a_call_within (
     ∷ SendTimeout (send 2 1) ∷ []) ≡ None
 while_it_calls_within = refl
 
--- Nor does a send without a receive phase,
+-- A send without a receive phase does not.
 abbrev pub to_a_send_elsewhere : Machine
 to_a_send_elsewhere = record {
   cpus = 2;
@@ -54,7 +54,7 @@ while_it_sends : refused_place to_a_send_elsewhere (
     ∷ SendTimeout (send 2 1) ∷ []) ≡ None
 while_it_sends = refl
 
--- a call whose receive phase would not accept,
+-- A call whose receive phase would not accept the sender does not.
 abbrev pub to_a_closed_call : Machine
 to_a_closed_call = record {
   cpus = 2;
@@ -70,7 +70,7 @@ while_it_calls_another : refused_place to_a_closed_call (
     ∷ SendTimeout (send 2 1) ∷ []) ≡ None
 while_it_calls_another = refl
 
--- or a call to nobody.
+-- A call to nobody does not.
 abbrev pub to_a_call_of_nobody : Machine
 to_a_call_of_nobody = record {
   cpus = 2;

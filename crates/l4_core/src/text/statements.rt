@@ -74,6 +74,7 @@ pub(super) fn declaration(
         return Err(TextFaultKind::BadLine);
     }
     let id = global_id(id).ok_or(TextFaultKind::BadId)?;
+    // With one processor it is 0, which a declaration does not store.
     processor(cpus, cpu)?;
     let space = number_from(0, u64::from(u32::MAX), space)?;
     Ok(Declaration::new(alloc, id, space as u32))

@@ -1,5 +1,5 @@
 //! The words of a line.
-ghost use Rattle.std.specs.Prelude.{◌≡◌, ◌==◌, ◌∷◌, [], MatchOption, position, map};
+ghost use Rattle.std.specs.Prelude.{◌≡◌, ◌==◌, ◌∷◌, [], MatchOption, position};
 ghost use Rattle.l4_core.specs.Judged.{Returns};
 ghost use Rattle.l4_core.specs.Lines.{words_of, has_empty_word, is_printable, is_skipped, line_of, after, one, two, four, five};
 
@@ -72,7 +72,9 @@ pub(super) fn find_byte(byte: u8, bytes: &[u8]) -> Option<usize>
 impl<'a> Words<'a> {
     /// The next word, or None where no word is left.
     pub(super) fn next(&mut self) -> Option<&'a [u8]>
-        ensures { MatchOption result ((self.old ≡ []) × (self.new ≡ [])) (λ word. self.old ≡ word.now ∷ self.new) }
+        ensures { MatchOption result
+            ((self.old ≡ []) × (self.new ≡ []))
+            (λ word. self.old ≡ word.now ∷ self.new) }
     {
         let line = self.rest?;
         match find_byte(b' ', line) {
@@ -119,7 +121,8 @@ impl<'a> Words<'a> {
 
     /// The four words that are left.
     pub(super) fn four(mut self) -> Result<FourWords<'a>, TextFaultKind>
-        ensures { Returns (λ words. (words.0.now, words.1.now, words.2.now, words.3.now)) result (four self.entry) }
+        ensures { Returns (λ words. (words.0.now, words.1.now, words.2.now, words.3.now))
+            result (four self.entry) }
     {
         match (
             self.next(),
@@ -137,7 +140,8 @@ impl<'a> Words<'a> {
 
     /// The five words that are left.
     pub(super) fn five(mut self) -> Result<FiveWords<'a>, TextFaultKind>
-        ensures { Returns (λ words. (words.0.now, words.1.now, words.2.now, words.3.now, words.4.now)) result (five self.entry) }
+        ensures { Returns (λ words. (words.0.now, words.1.now, words.2.now, words.3.now, words.4.now))
+            result (five self.entry) }
     {
         match (
             self.next(),

@@ -137,6 +137,12 @@ choice-finds l r n i lt e =
     let found : first_delivery l (range_with_len r (n - r)) ≡ Some (ByDuty r (DeliversFirst i)) = next_receiver l r n lt ∙ ap (λ o. first_some (option_map (λ j. ByDuty r (DeliversFirst j)) o ∷ first_delivery l (range_with_len (r + 1) (n - (r + 1))) ∷ [])) e in
     ap (λ o. first_some (o ∷ option_map ByReady (slice_get l.lists.ready 0) ∷ [])) found
 
+pub choice-skips : (l : Local) (n k : ℕ) → k ≤ n → ((p : ℕ) → p < k → first_acceptable l p ≡ None) → choice_from l 0 n ≡ choice_from l k n
+choice-skips l n zero le free = refl
+choice-skips l n (suc k) le free =
+    let next : k + 1 ≡ suc k = omega arith in
+    choice-skips l n k (omega arith) (λ p lt. free p (omega arith)) ∙ choice-passes l k n (omega arith) (free k (omega arith)) ∙ ap (λ r. choice_from l r n) next
+
 pub choice-last : (l : Local) (r n : ℕ) → n ≤ r → choice_from l r n ≡ option_map ByReady (slice_get l.lists.ready 0)
 choice-last l r n le = let e : n - r ≡ 0 = omega arith in rw e (only (option_map ByReady (slice_get l.lists.ready 0)))
   where

@@ -1,21 +1,23 @@
 -- A thread comes to a phase: what the program writes is what the core run does, and the state stays settled.
-use Rattle.std.proofs.Common.{◌≡◌, ℕ, ◌<◌, Bool, true, false, Option, Some, None, List, length, get_or, set, refl, ap, sym, ◌∙◌, subst, arith}
-use Rattle.std.specs.Prelude.{unwrap_or, is_some}
+use Rattle.std.proofs.Common.{◌≡◌, ℕ, ◌<◌, Bool, true, false, cond, Option, Some, None, List, length, get_or, set, refl, ap, sym, ◌∙◌, subst, arith}
+use Rattle.std.specs.Prelude.{◌==◌, unwrap_or}
 use Rattle.std.specs.Option.{option_map}
 use Rattle.std.proofs.lemmas.List.{get_or_read}
-use Rattle.l4_model.specs.Words.{GlobalId}
+use Rattle.l4_model.specs.Words.{Id}
+use Rattle.l4_model.specs.Machine as model
 use Rattle.l4_model.specs.Machine.{Machine, End}
 use Rattle.l4_model.specs.World.{Context, Message, Send, Phase, Ready, Sending, Receiving, Ordering, Ended, Deleted, Thread, changed, opening_thread, is_ready}
-use Rattle.l4_model.specs.Rules.{sent, failed}
+use Rattle.l4_model.specs.Rules.{sent, failed, advanced, ran}
 use Rattle.l4_model.specs.Effects.{runs, begins, waits, receives}
 use Rattle.l4_model.proofs.Chains.{set_changed}
 use Rattle.l4_core_model.specs.Plain as plain
 use Rattle.l4_core_model.specs.Letters.{Result, Delivered, Refused, TimedOut, Nobody, Cancelled, Dropped}
 use Rattle.l4_core_model.specs.Local.{Local, declared, thread, comes_to, relists, readied, armed_for, armed_period, ended}
-use Rattle.l4_core.specs.declared.machine.Instr.{Instr}
-use Rattle.l4_core.specs.declared.machine.Instr.TheVariants as instrs
-use Rattle.l4_core.specs.Scripts.{instr_of}
-use Rattle.l4_core.specs.PhaseView.{endless_send, IsAlone}
+use Rattle.l4_script.specs.declared.machine.Instr.{Instr}
+use Rattle.l4_script.specs.declared.machine.Instr.TheVariants as instrs
+use Rattle.l4_script.specs.declared.machine.Ipc.TheVariants as ipcs
+use Rattle.l4_script.specs.Scripts.{instr_of}
+use Rattle.l4_core.specs.PhaseView.{endless_send, goes_on}
 use Rattle.l4_core.specs.Simple.{open_wait, Suits, IsSimple, IsOwn, IsSettled, is_ready_in}
 use Rattle.l4_core.proofs.Settling.{Comes, unarmed, queued-none}
 
@@ -90,7 +92,7 @@ comes-waits m l i s lt ready free =
       free = free;
     }
 
-pub comes-begins : (m : Machine) (l : Local) (i : ℕ) (to : GlobalId) (message : Message) → IsSettled m l → i < length m.threads → (thread l i).phase ≡ Ready → is_ready_in l.lists i ≡ false →
+pub comes-begins : (m : Machine) (l : Local) (i : ℕ) (to : Id) (message : Message) → IsSettled m l → i < length m.threads → (thread l i).phase ≡ Ready → is_ready_in l.lists i ≡ false →
     (thread l i).context.begun < l.stamp → message.actual ≡ (declared m i).id → Comes m l i (begins (endless_send to message) (thread l i))
 comes-begins m l i to message s lt ready free count own =
     let t = s.simple i in
@@ -168,8 +170,8 @@ ready_after m l i d now s sends = ap (λ (t : Thread). t.phase) (ended_is d now 
 abbrev pub runs_of : Option Instr → Thread → Thread
 runs_of instr = runs (unwrap_or (option_map instr_of instr) End)
 
-pub comes-runs : (m : Machine) (l : Local) (i : ℕ) (instr : Option Instr) → IsAlone instr → IsSettled m l → i < length m.threads → (thread l i).phase ≡ Ready → is_ready_in l.lists i ≡ false → Comes m l i (runs_of instr (thread l i))
-comes-runs m l i instr alone s lt ready free = by instr alone
+pub comes-runs : (m : Machine) (l : Local) (i : ℕ) (instr : Option Instr) → IsSettled m l → i < length m.threads → (thread l i).phase ≡ Ready → is_ready_in l.lists i ≡ false → Comes m l i (runs_of instr (thread l i))
+comes-runs m l i instr s lt ready free = by instr
   where
     keeps : (c : Context) (p : Phase) → (Suits p (thread l i).send) → c.begun ≡ (thread l i).context.begun → Comes m l i (record (thread l i) { context = c; phase = p })
     keeps c p suits same =
@@ -184,18 +186,47 @@ comes-runs m l i instr alone s lt ready free = by instr alone
           free = free;
         }
 
-    by : (o : Option Instr) → IsAlone o → Comes m l i (runs_of o (thread l i))
-    by None alone = keeps _ Ended (sends_none (thread l i) (s.simple i) ready) refl
-    by (Some (instrs.Set register word)) alone = keeps _ Ready (sends_none (thread l i) (s.simple i) ready) refl
-    by (Some (instrs.Tag tag)) alone = keeps _ Ready (sends_none (thread l i) (s.simple i) ready) refl
-    by (Some (instrs.Ipc ipc)) alone = absurd alone
+    free_of : (p : Phase) → Suits p None → Suits p (thread l i).send
+    free_of p h = let none = sends_none (thread l i) (s.simple i) ready in rw none h
 
-pub ready_on : (instr : Option Instr) (t : Thread) → IsAlone instr → is_some instr ≡ true → (runs_of instr t).phase ≡ Ready
-ready_on None t alone e = cc
-ready_on (Some (instrs.Set register word)) t alone e = refl
-ready_on (Some (instrs.Tag tag)) t alone e = refl
-ready_on (Some (instrs.Ipc ipc)) t alone e = absurd alone
+    begun_by : (place : ℕ) (c : Context) → (ran (model.OnErr place) c).begun ≡ c.begun
+    begun_by place c = either (c.error == 0)
+      where
+        either : (b : Bool) → (cond b (advanced c) (record c { place = place })).begun ≡ c.begun
+        either true = refl
+        either false = refl
 
-pub still_off : (instr : Option Instr) (t : Thread) → is_some instr ≡ false → is_ready (runs_of instr t).phase ≡ false
+    by : (o : Option Instr) → Comes m l i (runs_of o (thread l i))
+    by None = keeps _ Ended (free_of Ended refl) refl
+    by (Some (instrs.Set register word)) = keeps _ Ready (free_of Ready refl) refl
+    by (Some (instrs.Copy register source)) = keeps _ Ready (free_of Ready refl) refl
+    by (Some (instrs.Add register word)) = keeps _ Ready (free_of Ready refl) refl
+    by (Some (instrs.Tag tag)) = keeps _ Ready (free_of Ready refl) refl
+    by (Some (instrs.Ipc (ipcs.Send to))) = keeps _ Ready (free_of Ready refl) refl
+    by (Some (instrs.Ipc ipcs.Wait)) = keeps _ Ready (free_of Ready refl) refl
+    by (Some (instrs.Jump place)) = keeps _ Ready (free_of Ready refl) refl
+    by (Some (instrs.OnErr place)) = keeps _ Ready (free_of Ready refl) (begun_by place (thread l i).context)
+    by (Some instrs.End) = keeps _ Ended (free_of Ended refl) refl
+
+pub ready_on : (instr : Option Instr) (t : Thread) → goes_on instr ≡ true → (runs_of instr t).phase ≡ Ready
+ready_on None t e = cc
+ready_on (Some (instrs.Set register word)) t e = refl
+ready_on (Some (instrs.Copy register source)) t e = refl
+ready_on (Some (instrs.Add register word)) t e = refl
+ready_on (Some (instrs.Tag tag)) t e = refl
+ready_on (Some (instrs.Ipc (ipcs.Send to))) t e = refl
+ready_on (Some (instrs.Ipc ipcs.Wait)) t e = refl
+ready_on (Some (instrs.Jump place)) t e = refl
+ready_on (Some (instrs.OnErr place)) t e = refl
+ready_on (Some instrs.End) t e = cc
+
+pub still_off : (instr : Option Instr) (t : Thread) → goes_on instr ≡ false → is_ready (runs_of instr t).phase ≡ false
 still_off None t e = refl
-still_off (Some instr) t e = cc
+still_off (Some (instrs.Set register word)) t e = cc
+still_off (Some (instrs.Copy register source)) t e = cc
+still_off (Some (instrs.Add register word)) t e = cc
+still_off (Some (instrs.Tag tag)) t e = cc
+still_off (Some (instrs.Ipc ipc)) t e = cc
+still_off (Some (instrs.Jump place)) t e = cc
+still_off (Some (instrs.OnErr place)) t e = cc
+still_off (Some instrs.End) t e = refl

@@ -1,15 +1,14 @@
 -- The effects of an event on one thread and on the lists, as the program does them.
 use Rattle.std.proofs.Common.{◌≡◌, ℕ, ◌<◌, true, false, Option, get_or, set, refl, ap, sym, ◌∙◌, subst}
-use Rattle.std.specs.Prelude.{is_some}
-use Rattle.l4_model.specs.Words.{GlobalId}
+use Rattle.l4_model.specs.Words.{Id}
 use Rattle.l4_model.specs.Machine.{Machine}
 use Rattle.l4_model.specs.World.{Message, Thread}
 use Rattle.l4_model.specs.Effects.{begins, waits, receives}
 use Rattle.l4_core_model.specs.Plain as plain
 use Rattle.l4_core_model.specs.Letters.{Result}
 use Rattle.l4_core_model.specs.Local.{Local, declared, thread, comes_to, relists, ended}
-use Rattle.l4_core.specs.declared.machine.Instr.{Instr}
-use Rattle.l4_core.specs.PhaseView.{endless_send, IsAlone}
+use Rattle.l4_script.specs.declared.machine.Instr.{Instr}
+use Rattle.l4_core.specs.PhaseView.{endless_send, goes_on}
 use Rattle.l4_core.specs.Simple.{open_wait, IsSettled}
 use Rattle.l4_core.specs.Processor.{Processor, with_local, IsCore}
 use Rattle.l4_core.specs.Turning.{IsAtHand, IsSender, IsReceiver}
@@ -42,7 +41,7 @@ waited m l i old new s hand w =
     let c = comes-waits m l i s hand.within hand.ready hand.free in
     effect_of m l _ _ (came m l i (waits open_wait 0) old new s c refl w.at w.is) (settled-comes_to m l i (waits open_wait 0) s c)
 
-pub begun : (m : Machine) (l : Local) (i : ℕ) (to : GlobalId) (message : Message) (old new : Thread) → IsSettled m l → IsAtHand (record { machine = m; cpu = 0; local = l }) i →
+pub begun : (m : Machine) (l : Local) (i : ℕ) (to : Id) (message : Message) (old new : Thread) → IsSettled m l → IsAtHand (record { machine = m; cpu = 0; local = l }) i →
     (thread l i).context.begun < l.stamp → message.actual ≡ (declared m i).id → Writes l i (begins (endless_send to message)) old new →
     IsEffect m l (record l { threads = set l.threads i new }) (comes_to i (begins (endless_send to message)))
 begun m l i to message old new s hand count own w =
@@ -64,14 +63,14 @@ send_ended m l i d now old new s sender w =
     let k : Local = relists (plain.unqueued i) l in
     effect_of m l _ _ (came_ready m k i (ended d now) old new u c (ready_after m l i d now s sender.sends) w.at w.is) (settled-comes_to m k i (ended d now) u c)
 
-pub run_ready : (m : Machine) (l : Local) (i : ℕ) (instr : Option Instr) (old new : Thread) → IsAlone instr → is_some instr ≡ true → IsSettled m l → IsAtHand (record { machine = m; cpu = 0; local = l }) i →
+pub run_ready : (m : Machine) (l : Local) (i : ℕ) (instr : Option Instr) (old new : Thread) → goes_on instr ≡ true → IsSettled m l → IsAtHand (record { machine = m; cpu = 0; local = l }) i →
     Writes l i (runs_of instr) old new → IsEffect m l (record l { threads = set l.threads i new; lists = plain.made_ready i l.lists }) (comes_to i (runs_of instr))
-run_ready m l i instr old new alone some s hand w =
-    let c = comes-runs m l i instr alone s hand.within hand.ready hand.free in
-    effect_of m l _ _ (came_ready m l i (runs_of instr) old new s c (ready_on instr (thread l i) alone some) w.at w.is) (settled-comes_to m l i (runs_of instr) s c)
+run_ready m l i instr old new on s hand w =
+    let c = comes-runs m l i instr s hand.within hand.ready hand.free in
+    effect_of m l _ _ (came_ready m l i (runs_of instr) old new s c (ready_on instr (thread l i) on) w.at w.is) (settled-comes_to m l i (runs_of instr) s c)
 
-pub run_last : (m : Machine) (l : Local) (i : ℕ) (instr : Option Instr) (old new : Thread) → IsAlone instr → is_some instr ≡ false → IsSettled m l → IsAtHand (record { machine = m; cpu = 0; local = l }) i →
+pub run_last : (m : Machine) (l : Local) (i : ℕ) (instr : Option Instr) (old new : Thread) → goes_on instr ≡ false → IsSettled m l → IsAtHand (record { machine = m; cpu = 0; local = l }) i →
     Writes l i (runs_of instr) old new → IsEffect m l (record l { threads = set l.threads i new }) (comes_to i (runs_of instr))
-run_last m l i instr old new alone none s hand w =
-    let c = comes-runs m l i instr alone s hand.within hand.ready hand.free in
-    effect_of m l _ _ (came m l i (runs_of instr) old new s c (still_off instr (thread l i) none) w.at w.is) (settled-comes_to m l i (runs_of instr) s c)
+run_last m l i instr old new off s hand w =
+    let c = comes-runs m l i instr s hand.within hand.ready hand.free in
+    effect_of m l _ _ (came m l i (runs_of instr) old new s c (still_off instr (thread l i) off) w.at w.is) (settled-comes_to m l i (runs_of instr) s c)

@@ -1,15 +1,10 @@
 pub mod Choosing
 pub mod Coming
-pub mod Digits
+pub mod Covering
 pub mod Effects
-pub mod GlobalIds
-pub mod Growing
-pub mod Listing
 pub mod Opening
 pub mod Pieces
-pub mod ReadingLines
+pub mod PlaceSets
 pub mod Reporting
 pub mod Settling
-pub mod Splits
-pub mod TextRows
 pub mod Turns

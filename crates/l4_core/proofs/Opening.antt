@@ -52,7 +52,7 @@ not_yet n = by (list_any (λ k. n == k) (range_with_len 0 n)) (in_range 0 n n)
     by true f = absurd (let h = f refl in omega arith)
     by false f = refl
 
-get-replicate : {A : Type 0} (n : ℕ) (x : A) (i : ℕ) → slice_index_or (replicate n x) i x ≡ x
+pub get-replicate : {A : Type 0} (n : ℕ) (x : A) (i : ℕ) → slice_index_or (replicate n x) i x ≡ x
 get-replicate zero x i = refl
 get-replicate (suc n) x zero = refl
 get-replicate (suc n) x (suc i) = get-replicate n x i

@@ -6,16 +6,16 @@ use Rattle.std.specs.List.{list_any}
 use Rattle.std.proofs.lemmas.Bool.{cases_lt}
 use Rattle.std.proofs.lemmas.List.{map_push}
 use Rattle.std.proofs.lemmas.List.Quantifiers.{position-Some}
-use Rattle.l4_model.specs.Words.{GlobalId, AnyThread, GlobalThread, same_id}
+use Rattle.l4_model.specs.Words.{GlobalId, Id, NilThread, AnyThread, AnyLocalThread, LocalThread, GlobalThread, same_id}
 use Rattle.l4_model.specs.Machine.{Declaration, Machine, instruction_at, place_of, declaration_of}
-use Rattle.l4_model.specs.World.{Message, Send, Phase, Ready, Sending, Receiving, Ordering, Ended, Deleted, Thread, opening_thread}
+use Rattle.l4_model.specs.World.{Context, Message, Send, Phase, Ready, Sending, Receiving, Ordering, Ended, Deleted, Thread, opening_thread}
 use Rattle.l4_model.specs.Rules.{Act, Sends, Receives, act, message_of, received_tag, is_cross}
 use Rattle.l4_model.specs.Conditions.{act_of}
 use Rattle.l4_model.specs.Steps as steps
 use Rattle.l4_model.specs.Effects.{begins, receives, waits}
 use Rattle.l4_core_model.specs.Plain as plain
 use Rattle.l4_core_model.specs.Letters.{Nobody, Refused, Delivered}
-use Rattle.l4_core_model.specs.Local.{Local, declared, undeclared, is_own, thread, held, last_name, comes_to, relists, ended}
+use Rattle.l4_core_model.specs.Local.{Local, declared, undeclared, is_own, thread, held, last_name, destination_place, comes_to, relists, ended}
 use Rattle.l4_core_model.specs.Acts.{Work, acts, tells, refuses, delivers, arrives, queues_send, begins_send, entry, first_acceptable, first_of_list, is_place, delivers_if_first}
 use Rattle.l4_core_model.proofs.Fit.{get_other}
 use Rattle.l4_core_model.proofs.Knows.{same_ids, same_nat, get-changed}
@@ -23,10 +23,10 @@ use Rattle.l4_types.specs.declared.steps.Step.{Step}
 use Rattle.l4_types.specs.declared.steps.Step.TheVariants as told
 use Rattle.l4_types.specs.declared.steps.Delivery.{Delivery}
 use Rattle.l4_types.specs.StepView.{step_of}
-use Rattle.l4_core.specs.declared.machine.Ipc.{Ipc}
-use Rattle.l4_core.specs.declared.machine.Ipc.TheVariants as ipcs
-use Rattle.l4_core.specs.Scripts.{ipc_of}
-use Rattle.l4_core.specs.PhaseView.{endless_send}
+use Rattle.l4_script.specs.declared.machine.Ipc.{Ipc}
+use Rattle.l4_script.specs.declared.machine.Ipc.TheVariants as ipcs
+use Rattle.l4_script.specs.Scripts.{ipc_of}
+use Rattle.l4_core.specs.PhaseView.{endless_send, has_phase}
 use Rattle.l4_core.specs.Simple.{open_wait, Suits, IsOwn, IsSettled, is_ready_in}
 use Rattle.l4_core.specs.Processor.{Processor, with_local, IsCore}
 use Rattle.l4_core.specs.Turning.{work, Does, IsAtHand, IsSender, IsReceiver}
@@ -257,10 +257,10 @@ arrive_waits p q r i before after name w c sender named adds listed is first =
 
 -- A begin
 
-pub sends_now : (p : Processor) (i : ℕ) (to : GlobalId) (message : Message) → i < length p.machine.threads → i < length p.local.threads → IsSender (with_local p (comes_to i (begins (endless_send to message)) p.local)) i
+pub sends_now : (p : Processor) (i : ℕ) (to : Id) (message : Message) → i < length p.machine.threads → i < length p.local.threads → IsSender (with_local p (comes_to i (begins (endless_send to message)) p.local)) i
 sends_now p i to message lt within = record { within = lt; sends = ap (λ (t : Thread). t.phase) (get-changed (begins (endless_send to message)) p.local.threads i opening_thread within) }
 
-pub begin_does : (p q u : Processor) (i r : ℕ) (to : GlobalId) (message : Message) (before middle after : List Step) (name : _) → IsCore p.machine p.local → r < length p.machine.threads → place_of p.machine to ≡ Some r →
+pub begin_does : (p q u : Processor) (i r : ℕ) (to : Id) (message : Message) (before middle after : List Step) (name : _) → IsCore p.machine p.local → r < length p.machine.threads → destination_place p.machine to ≡ Some r →
     q ≡ with_local p (comes_to i (begins (endless_send to message)) p.local) → name ≡ last_name q.machine q.local i → middle ≡ before ++ told.Begin name ∷ [] →
     Does (arrives q.machine 0 r i) q u middle after → Does (begins_send p.machine 0 i (endless_send to message)) p u before after
 begin_does p q u i r to message before middle after name c lt at is named adds does =
@@ -304,13 +304,23 @@ acts_as : (p : Processor) (i : ℕ) (ipc other : Ipc) → ipc ≡ other → ipc_
     act_here p i ≡ act p.machine (declared p.machine i).id p.local.clock (thread p.local i).context (ipc_of other)
 acts_as p i ipc other e is = ap (act p.machine (declared p.machine i).id p.local.clock (thread p.local i).context) (sym is ∙ ap ipc_of e)
 
-pub act_sends : (p q : Processor) (i : ℕ) (ipc : Ipc) (to : GlobalId) (before after : List Step) → IsCore p.machine p.local → ipc ≡ ipcs.Send to →
+-- A send to an id other than nilthread has a phase.
+sends_to : (m : Machine) (t : GlobalId) (now : ℕ) (c : Context) (to : Id) → has_phase (ipcs.Send to) ≡ true →
+    act m t now c (ipc_of (ipcs.Send to)) ≡ Sends (record { to = to; message = message_of m t c; period = None; since = now; receive = None })
+sends_to m t now c NilThread e = cc
+sends_to m t now c AnyThread e = refl
+sends_to m t now c AnyLocalThread e = refl
+sends_to m t now c (LocalThread word) e = refl
+sends_to m t now c (GlobalThread to) e = refl
+
+pub act_sends : (p q : Processor) (i : ℕ) (ipc : Ipc) (to : Id) (before after : List Step) → IsCore p.machine p.local → ipc ≡ ipcs.Send to → has_phase ipc ≡ true →
     ipc_of ipc ≡ instruction_at (declared p.machine i).script (thread p.local i).context.place →
     Does (begins_send p.machine 0 i (endless_send to (message_of p.machine (declared p.machine i).id (thread p.local i).context))) p q before after → Does (acts p.machine 0 i (act_here p i)) p q before after
-act_sends p q i ipc to before after c e is does =
+act_sends p q i ipc to before after c e phase is does =
     let message : Message = message_of p.machine (declared p.machine i).id (thread p.local i).context in
     let a : act_here p i ≡ Sends (endless_send to message) =
-    acts_as p i ipc (ipcs.Send to) e is ∙ ap (λ n. Sends (record { to = GlobalThread to; message = message; period = None; since = n; receive = None })) c.settled.clock in
+    acts_as p i ipc (ipcs.Send to) e is ∙ sends_to p.machine (declared p.machine i).id p.local.clock (thread p.local i).context to (subst (λ (x : Ipc). has_phase x ≡ true) e phase)
+    ∙ ap (λ n. Sends (record { to = to; message = message; period = None; since = n; receive = None })) c.settled.clock in
     record { machine = does.machine; cpu = does.cpu; stamp = does.stamp; work = does.work ∙ ap (λ (x : Act). acts p.machine 0 i x (work p.local before)) (sym a) }
 
 pub act_waits : (p q : Processor) (i : ℕ) (ipc : Ipc) (before after : List Step) (id : GlobalId) → IsCore p.machine p.local → ipc ≡ ipcs.Wait →

@@ -1,14 +1,6 @@
-pub mod Faults
-pub mod Ids
-pub mod Judged
-pub mod Lines
-pub mod ListsView
-pub mod Machines
-pub mod Numbers
+pub mod Duties
 pub mod PhaseView
+pub mod Places
 pub mod Processor
-pub mod Scripts
 pub mod Simple
-pub mod Statements
-pub mod Texts
 pub mod Turning

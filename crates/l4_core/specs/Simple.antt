@@ -1,5 +1,5 @@
 -- The local states that the only processor comes to where scripts send and wait without times, and nothing is cancelled or deleted.
-use Rattle.std.specs.Prelude.{◌≡◌, ℕ, ◌==◌, ◌<◌, ◌≤◌, Bool, true, false, Option, Some, None, [], length, replicate}
+use Rattle.std.specs.Prelude.{◌≡◌, ℕ, ◌==◌, ◌<◌, ◌≤◌, Bool, true, false, Option, Some, None, [], length}
 use Rattle.std.specs.List.{list_any}
 use Rattle.l4_model.specs.Words.{AnyThread, GlobalId}
 use Rattle.l4_model.specs.Machine.{Machine}
@@ -34,10 +34,6 @@ pub record IsSimple (t : Thread) : Type 0 where
 
 abbrev pub is_ready_in : plain.Plain → ℕ → Bool
 is_ready_in s block = list_any (λ b. block == b) s.ready
-
--- No block waits or is ready.
-abbrev pub no_lists : (blocks : ℕ) → plain.Plain
-no_lists blocks = record { waiting = replicate blocks []; ready = []; armed = [] }
 
 -- A send has its own thread as its sender, and was counted.
 abbrev pub IsOwn : GlobalId → Option Send → (begun : ℕ) → Type 0

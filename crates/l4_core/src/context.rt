@@ -1,12 +1,11 @@
 //! The part of a thread that its own instructions read and write.
-ghost use Rattle.std.specs.Prelude.{◌≡◌, ◌<◌, ◌^◌, ◌+◌, ◌/◌, ◌%◌, ◌==◌, length, take, drop, slice_index, Some};
+ghost use Rattle.std.specs.Prelude.{◌≡◌, ◌<◌, ◌^◌, ◌+◌, ◌/◌, ◌%◌, ◌==◌, length, take, drop, slice_index};
 ghost use Rattle.l4_model.specs.World.{opening_context};
-ghost use Rattle.l4_model.specs.Rules.{failed, sent, received, advanced, ran, originator, message_of};
-ghost use Rattle.l4_core.specs.PhaseView.{IsAlone};
-ghost use Rattle.l4_core.specs.Scripts.{instr_of};
+ghost use Rattle.l4_model.specs.Rules.{failed, sent, received, advanced, ran, register, with_register, originator, message_of};
+ghost use Rattle.l4_script.specs.Scripts.{instr_of};
 
-use crate::machine::{Instr, Machine};
 use arrayvec::ArrayVec;
+use l4_script::machine::{Instr, Machine, Register};
 use l4_types::ids::{GlobalId, ThreadId};
 use l4_types::messages::Message;
 use l4_types::registers::Regs;
@@ -69,18 +68,48 @@ impl Context {
         self.place += 1;
     }
 
-    /// It runs an instruction that concerns nobody else.
+    // A message register becomes a word.
+    fn set(&mut self, register: Register, word: u64)
+        ensures { self.new ≡ with_register register word self.old }
+    {
+        self.regs.words[usize::from(register.number())] = word;
+    }
+
+    // What a message register has.
+    fn register(&self, number: u8) -> u64
+        requires { number < 64 }
+        ensures { result ≡ register self.now number }
+    {
+        self.regs.words[usize::from(number)]
+    }
+
+    // It goes on at a place of the script.
+    fn jump(&mut self, place: u64)
+        ensures { self.new ≡ record self.old { place = place } }
+    {
+        self.place = place as usize;
+    }
+
+    /// It runs an instruction that concerns nobody else (manual: Messages and Message Registers). An Ipc is then one without phases.
     pub fn run(&mut self, instr: &Instr)
-        requires alone { IsAlone (Some instr.now) }
         requires room { self.old.place + 1 < 2 ^ 64 }
         ensures { self.new ≡ ran (instr_of instr.now) self.old }
     {
         match instr {
-            Instr::Set(register, word) => self.regs.words[usize::from(register.number())] = *word,
+            Instr::Set(register, word) => self.set(*register, *word),
+            Instr::Copy(register, source) => self.set(*register, self.register(source.number())),
+            Instr::Add(register, word) => {
+                let sum = self.register(register.number()).wrapping_add(*word);
+                self.set(*register, sum);
+            }
             Instr::Tag(tag) => self.regs.words[0] = tag.raw(),
-            Instr::Ipc(_) => unreachable!(),
+            Instr::Ipc(_) => self.sent(),
+            Instr::Jump(place) => return self.jump(*place),
+            Instr::OnErr(place) if self.regs.error != 0 => return self.jump(*place),
+            Instr::OnErr(_) => {}
+            Instr::End => return,
         }
-        self.place += 1;
+        self.advance();
     }
 
     /// An Ipc failed with this ErrorCode.
@@ -89,7 +118,7 @@ impl Context {
     {
         self.regs.words[0] = 0x8000;
         self.regs.error = code;
-        self.regs.from = ThreadId::from_raw(0);
+        self.regs.from = ThreadId::NIL;
     }
 
     /// An Ipc ended well and received nothing.
@@ -98,7 +127,7 @@ impl Context {
     {
         self.regs.words[0] = 0;
         self.regs.error = 0;
-        self.regs.from = ThreadId::from_raw(0);
+        self.regs.from = ThreadId::NIL;
     }
 
     /// An Ipc received a message, with this tag in message register 0. Registers past its words keep their contents.

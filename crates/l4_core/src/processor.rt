@@ -6,16 +6,19 @@ ghost use Rattle.l4_core_model.specs.Acts.{first_acceptable};
 ghost use Rattle.l4_core_model.specs.Turns.{choice, can_stamp};
 ghost use Rattle.l4_core.specs.Turning.{choice_of, Turned};
 
-use crate::lists::Lists;
-use crate::machine::Machine;
+use crate::places::Places;
 use crate::thread::Thread;
 use arrayvec::ArrayVec;
+use duties::{first_accepted, first_duty};
+use l4_script::machine::Machine;
 use l4_types::errors::NoMemory;
 use l4_types::letters::Letter;
 use l4_types::steps::{Event, Step};
 use std::alloc::Global;
 use std::marker::Model;
+use tcb_arena::Arena;
 
+mod duties;
 mod effects;
 mod pieces;
 mod views;
@@ -25,7 +28,9 @@ mod views;
 pub struct Core {
     machine: Machine,
     threads: Vec<Thread>,
-    lists: Lists,
+    lists: Arena,
+    // Each place that has a duty is in it.
+    duties: Places,
     stamp: u64,
 }
 
@@ -36,7 +41,9 @@ impl Model for Core {
 
     ghost view = { λ c. record { machine = c.machine; cpu = 0; local = local_of c.machine c.threads.items c.lists c.stamp } };
 
-    ghost invariant = { λ c. IsCore c.machine (local_of c.machine c.threads.items c.lists c.stamp) };
+    ghost use Rattle.l4_core.specs.Duties.{Covers};
+
+    ghost invariant = { λ c. IsCore c.machine (local_of c.machine c.threads.items c.lists c.stamp) × Covers c.duties c.threads.items c.lists };
 }
 
 /// What a turn is about.
@@ -70,7 +77,8 @@ impl Core {
         prove!(cpu < cpus);
         let machine = machine.try_clone(alloc)?;
         let count = machine.threads().len();
-        let mut lists = Lists::new(alloc, count)?;
+        let duties = Places::new();
+        let mut lists = Arena::new(alloc, count)?;
         let mut threads = Vec::with_capacity(alloc, count)?;
         for place in 0..count {
             threads.push(Thread::new())?;
@@ -80,6 +88,7 @@ impl Core {
             machine,
             threads,
             lists,
+            duties,
             stamp: 0,
         })
     }
@@ -108,13 +117,14 @@ impl Core {
     }
 
     // What the next turn is about.
-    fn choice(&self) -> Option<Choice>
-        ensures { option_map choice_of result ≡ choice self.now.machine 0 self.now.local }
+    fn choice(&mut self) -> Option<Choice>
+        ensures choice { option_map choice_of result ≡ choice self.old.machine self.old.cpu self.old.local }
+        ensures same { self.new ≡ self.old }
+        ensures untimed { self.new.local.lists.armed ≡ [] }
     {
-        for receiver in 0..self.threads.len() {
-            if let Some(sender) = self.first_acceptable(receiver) {
-                return Some(Choice::ByDuty { receiver, sender });
-            }
+        let duty = first_duty(&mut self.duties, self.threads.as_slice(), &self.lists);
+        if let Some((receiver, sender)) = duty {
+            return Some(Choice::ByDuty { receiver, sender });
         }
         let place = self.lists.first_ready()?;
         Some(Choice::ByReady(place))
@@ -125,10 +135,6 @@ impl Core {
         requires { place < length self.now.machine.threads }
         ensures { result ≡ first_acceptable self.now.local place }
     {
-        if self.threads[place].is_receiving() {
-            self.lists.first_accepted(place)
-        } else {
-            None
-        }
+        first_accepted(self.threads.as_slice(), &self.lists, place)
     }
 }

@@ -12,13 +12,13 @@ ghost use Rattle.l4_types.specs.LetterView.{decision_of};
 ghost use Rattle.l4_types.specs.ReportView.{state_of_view};
 ghost use Rattle.l4_model.specs.History.{state_of};
 ghost use Rattle.l4_core.specs.Simple.{open_wait, IsSimple};
-ghost use Rattle.l4_core.specs.PhaseView.{endless_send, phase_of, send_of, IsAlone};
-ghost use Rattle.l4_core.specs.Scripts.{instr_of};
+ghost use Rattle.l4_core.specs.PhaseView.{endless_send, phase_of, send_of};
+ghost use Rattle.l4_script.specs.Scripts.{instr_of};
 
 use crate::context::Context;
-use crate::machine::Instr;
+use l4_script::machine::Instr;
 use l4_types::errors::IpcError;
-use l4_types::ids::{GlobalId, ThreadId};
+use l4_types::ids::ThreadId;
 use l4_types::letters::{Decision, Refusal};
 use l4_types::messages::Message;
 use l4_types::reports::State;
@@ -29,8 +29,8 @@ use std::marker::Model;
 pub enum Phase {
     /// It can run its next instruction.
     Ready,
-    /// It is in the send phase of an Ipc, with this message, to this thread.
-    Sending(GlobalId, Message),
+    /// It is in the send phase of an Ipc, to this id, with this message.
+    Sending(ThreadId, Message),
     /// It waits for any sender.
     Receiving,
     /// Its script has ended.
@@ -105,7 +105,7 @@ impl Thread {
         ensures { result ≡ option_map (λ send. send.to) self.now.send }
     {
         match &self.phase {
-            Phase::Sending(to, _) => Some(to.id()),
+            Phase::Sending(to, _) => Some(*to),
             _ => None,
         }
     }
@@ -125,18 +125,17 @@ impl Thread {
     /// It runs an instruction that concerns nobody else, or its script ends.
     pub fn run(&mut self, instr: Option<Instr>)
         requires ready { self.old.phase ≡ IsReady }
-        requires alone { IsAlone instr }
         requires room { IsSome instr → self.old.context.place + 1 < 2 ^ 64 }
         ensures { self.new ≡ runs (unwrap_or (option_map instr_of instr) End) self.old }
     {
         match &instr {
+            None | Some(Instr::End) => self.phase = Phase::Ended,
             Some(instr) => self.context.run(instr),
-            None => self.phase = Phase::Ended,
         }
     }
 
     /// It begins a send.
-    pub fn begin(&mut self, to: GlobalId, message: Message)
+    pub fn begin(&mut self, to: ThreadId, message: Message)
         requires room { self.old.context.place + 1 < 2 ^ 64 }
         requires count { self.old.context.begun + 1 < 2 ^ 64 }
         ensures { self.new ≡ begins (endless_send to message) self.old }

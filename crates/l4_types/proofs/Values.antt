@@ -1,7 +1,11 @@
--- Words of ids and tags, and error codes, as they are written out.
-use Rattle.std.proofs.Common.{◌≡◌, ◌^◌, ◌-◌, true, false, refl}
-use Rattle.l4_model.specs.Words.{NilThread, AnyThread, AnyLocalThread, LocalThread, GlobalThread, global_id, is_global, word_of, id_of_word, word_of_tag}
+-- Words of ids and tags, times, and error codes, as they are written out.
+use Rattle.std.proofs.Common.{◌≡◌, ℕ, ◌^◌, ◌-◌, true, false, List, [], ◌∷◌, Option, Some, None, map, refl}
+use Rattle.std.specs.Option.{option_map}
+use Rattle.l4_model.specs.Words.{NilThread, AnyThread, AnyLocalThread, LocalThread, GlobalThread, global_id, is_global, word_of, id_of_word, word_of_tag, time_of, timeouts_of}
 use Rattle.l4_types.specs.Flags.{flags_of}
+use Rattle.l4_types.specs.PeriodView.{period_from, periods_from}
+use Rattle.l4_types.specs.declared.times.Period.{Period}
+use Rattle.l4_types.specs.declared.times.Period.TheVariants.{Never, Zero, Ticks}
 use Rattle.l4_types.specs.Codes.{code_of}
 use Rattle.l4_types.specs.declared.errors.IpcError.TheVariants.{SendTimeout, ReceiveTimeout, SendNobody, ReceiveNobody, SendCancelled, ReceiveCancelled}
 
@@ -56,6 +60,38 @@ ordinary_5_1 = refl
 -- The greatest label with the greatest number of words.
 sent_greatest : word_of_tag (record { label = 2 ^ 48 - 1; flags = flags_of false false; untyped = 63 }) ≡ 0xffffffffffff003f
 sent_greatest = refl
+
+-- Times and their periods: never, zero, and from 1 tick to the most that a time can name.
+abbrev times : List (ℕ × Option Period)
+times =
+    (0x0000, Some Never)
+    ∷ (0x0400, Some Zero)
+    ∷ (0x0800, Some Zero)
+    ∷ (0x7c00, Some Zero)
+    ∷ (0x0001, Some (Ticks 1))
+    ∷ (0x0005, Some (Ticks 5))
+    ∷ (0x0c03, Some (Ticks 24))
+    ∷ (0x7fff, Some (Ticks 2196875771904))
+    ∷ (0x8000, None)
+    ∷ (0x8005, None)
+    ∷ (0xffff, None)
+    ∷ []
+
+periods_of_times : map (λ row. option_map period_from (time_of row.0)) times ≡ map (λ row. row.1) times
+periods_of_times = refl
+
+-- Words of timeouts: the send time stands above the receive time.
+abbrev timeouts : List (ℕ × Option (Period × Period))
+timeouts =
+    (0x00000000, Some (Never, Never))
+    ∷ (0x00050400, Some (Ticks 5, Zero))
+    ∷ (0x04000c03, Some (Zero, Ticks 24))
+    ∷ (0x80000000, None)
+    ∷ (0x00008000, None)
+    ∷ []
+
+periods_of_timeouts : map (λ row. option_map periods_from (timeouts_of row.0)) timeouts ≡ map (λ row. row.1) timeouts
+periods_of_timeouts = refl
 
 -- The codes of all failures.
 code_of_send_timeout : code_of SendTimeout ≡ 2

@@ -52,7 +52,7 @@ pub enum Kind {
 
 /// A global thread id: a thread number and a version whose low six bits are not all zero. The number and the version
 /// of all ones are no global id, since their word is anythread.
-#[derive(Clone, Copy, PartialEq, Eq, Debug)]
+#[derive(Clone, Copy, PartialEq, Eq, Hash, Debug)]
 pub struct GlobalId {
     number: u32,
     version: u32,

@@ -1,4 +1,4 @@
-//! Thread ids, message tags, registers, messages, steps and letters, as Rust types.
+//! Thread ids, message tags, times, registers, messages, steps and letters, as Rust types.
 //!
 //! No call of this crate takes memory.
 #![tactic(auto)]
@@ -13,3 +13,4 @@ pub mod steps;
 pub mod tags;
 #[cfg(test)]
 mod tests;
+pub mod times;

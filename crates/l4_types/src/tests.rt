@@ -5,6 +5,7 @@ use crate::messages::Message;
 use crate::registers::Regs;
 use crate::steps::{Delivery, Name, Step, Tick};
 use crate::tags::{MsgTag, TagFault};
+use crate::times::{Period, time_of, timeouts};
 use arrayvec::ArrayVec;
 use std::alloc::AllocError;
 use std::test::Fail;
@@ -40,6 +41,23 @@ fn tags_have_their_words(rt: HostRuntime) -> Result<(), Fail> {
     assert!(rt; MsgTag::from_raw(0x51001) == Ok(asking));
     assert!(rt; MsgTag::from_raw(0x41) == Err(TagFault::TypedItems));
     Ok(())
+}
+
+#[test]
+fn times_have_their_periods(rt: HostRuntime) {
+    for (time, period) in [
+        (0, Some(Period::Never)),
+        (0x0400, Some(Period::Zero)),
+        (0x0c03, Some(Period::Ticks(24))),
+        (0x7fff, Some(Period::Ticks(2196875771904))),
+        (0x8000, None),
+    ] {
+        assert_eq!(rt; time_of(time), period, "at {time}");
+    }
+    assert_eq!(rt;
+        timeouts(0x0005_0400),
+        Some((Period::Ticks(5), Period::Zero))
+    );
 }
 
 #[test]

@@ -1,19 +1,11 @@
 //! The program `l4run`: runs machine texts and prints what happened.
 #![tactic(auto)]
 
-mod fault;
-mod job;
-mod lines;
-mod outcome;
-mod perform;
-mod report_lines;
-mod run;
-#[cfg(test)]
-mod tests;
-
-use fault::{Fault, report};
-use job::{Job, WordsFault, job_of};
-use perform::{perform, write_out};
+use l4_jobs::fault::{Fault, report};
+use l4_jobs::job::Job;
+use l4_jobs::perform::perform;
+use l4_jobs::refusal::refuse;
+use l4_jobs::words::job_of;
 use std::alloc::{AllocError, Global};
 use std::io::Write;
 use std::process::ExitCode;
@@ -27,10 +19,9 @@ fn on_file<R: Files + AllocGlobal, W: Write, E: Write>(
     out: &mut W,
     faults: &mut E,
 ) -> u8 {
-    let Job::Run { file, .. } = *job;
-    match fs::open(rt, file) {
+    match fs::open(rt, job.file()) {
         Ok(mut machine) => perform(rt.alloc(), job, &mut machine, out, faults),
-        Err(_) => report(faults, &Fault::Read(file)),
+        Err(_) => report(faults, &Fault::Read(job.file())),
     }
 }
 
@@ -43,19 +34,7 @@ fn on_words<R: Files + AllocGlobal, W: Write, E: Write>(
 ) -> u8 {
     match job_of(rt.alloc(), words) {
         Ok(job) => on_file(rt, &job, out, faults),
-        Err(WordsFault::Help(text)) => print_help(text.as_str(), out, faults),
-        Err(WordsFault::Usage(text)) => {
-            let _ = write!(faults, "{text}");
-            2
-        }
-        Err(WordsFault::NoMemory) => report(faults, &Fault::NoMemory),
-    }
-}
-
-fn print_help<W: Write, E: Write>(text: &str, out: &mut W, faults: &mut E) -> u8 {
-    match write_out(out, text.as_bytes()) {
-        Ok(()) => 0,
-        Err(_) => report(faults, &Fault::Write),
+        Err(fault) => refuse(&fault, out, faults),
     }
 }
 
@@ -74,7 +53,7 @@ fn run_program<R: Files + Env + AllocGlobal, W: Write, E: Write>(
             return report(faults, &Fault::NoMemory);
         }
         Err(_) => {
-            report(faults, &Fault::NotText);
+            let _ = writeln!(faults, "l4run: an argument is not UTF-8");
             return 2;
         }
     };

@@ -8,16 +8,23 @@ ghost use Rattle.l4_core_model.specs.Local.{declared, thread, comes_to, relists,
 ghost use Rattle.l4_types.specs.LetterView.{decision_of};
 ghost use Rattle.l4_core.specs.Simple.{open_wait, is_ready_in};
 ghost use Rattle.l4_core.specs.Processor.{with_local};
-ghost use Rattle.l4_core.specs.PhaseView.{endless_send, IsAlone};
-ghost use Rattle.l4_core.specs.Scripts.{instr_of};
+ghost use Rattle.l4_core.specs.PhaseView.{endless_send, goes_on, IsAlone};
+ghost use Rattle.l4_script.specs.Scripts.{instr_of};
 ghost use Rattle.l4_core.specs.Turning.{IsAtHand, IsSender, IsReceiver};
 
-use crate::lists::Waiting;
-use crate::machine::Instr;
 use crate::processor::Core;
-use l4_types::ids::GlobalId;
+use l4_script::machine::Instr;
+use l4_types::ids::ThreadId;
 use l4_types::letters::Decision;
 use l4_types::messages::Message;
+use tcb_arena::Waiting;
+
+// Whether there is a next instruction to run behind this one. None is an `end`.
+fn goes_on(instr: &Option<Instr>) -> bool
+    ensures { result ≡ goes_on instr.now }
+{
+    !matches!(instr, None | Some(Instr::End))
+}
 
 impl Core {
     // A thread runs an instruction that concerns nobody else, or its script ends.
@@ -27,7 +34,7 @@ impl Core {
         requires room { IsSome instr → (thread self.old.local place).context.place + 1 < 2 ^ 64 }
         ensures { self.new ≡ with_local self.old (comes_to place (runs (unwrap_or (option_map instr_of instr) End)) self.old.local) }
     {
-        let is_ready = instr.is_some();
+        let is_ready = goes_on(&instr);
         self.threads[place].run(instr);
         if is_ready {
             self.lists.push_ready(place);
@@ -40,11 +47,12 @@ impl Core {
         requires room { (thread self.old.local place).context.place + 1 < 2 ^ 64 }
         ensures { self.new ≡ with_local self.old (comes_to place (waits open_wait 0) self.old.local) }
     {
+        self.duties.insert(place);
         self.threads[place].wait();
     }
 
     // A thread begins a send.
-    pub(super) fn begin(&mut self, place: usize, to: GlobalId, message: Message)
+    pub(super) fn begin(&mut self, place: usize, to: ThreadId, message: Message)
         requires hand { IsAtHand self.old place }
         requires room { (thread self.old.local place).context.place + 1 < 2 ^ 64 }
         requires count { (thread self.old.local place).context.begun < self.old.local.stamp }
@@ -81,6 +89,7 @@ impl Core {
         requires free { is_queued self.old.local.lists waiting.block ≡ false }
         ensures { self.new ≡ with_local self.old (relists (queued receiver waiting) self.old.local) }
     {
+        self.duties.insert(receiver);
         self.lists.queue_send(receiver, waiting);
     }
 

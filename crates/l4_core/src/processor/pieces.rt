@@ -1,28 +1,38 @@
 //! The pieces of an event: what is done, and the steps that it tells.
-ghost use Rattle.std.specs.Prelude.{◌≡◌, ◌<◌, ◌≤◌, ◌+◌, ◌^◌, Some, false, length, slice_get, unwrap_or, IsSome, IfSome, ℕ};
+ghost use Rattle.std.specs.Prelude.{◌≡◌, ◌<◌, ◌≤◌, ◌+◌, ◌^◌, Some, true, false, length, slice_get, unwrap_or, IsSome, IfSome, ℕ};
 ghost use Rattle.std.specs.Option.{option_map};
 ghost use Rattle.l4_model.specs.Machine.{End, instruction_at, place_of};
 ghost use Rattle.l4_model.specs.Conditions.{act_of};
 ghost use Rattle.l4_core_model.specs.Plain.{is_queued};
-ghost use Rattle.l4_core_model.specs.Local.{declared, thread, held, last_name};
+ghost use Rattle.l4_core_model.specs.Local.{declared, thread, held, last_name, destination_place};
 ghost use Rattle.l4_core_model.specs.Acts.{acts, arrives, begins_send, delivers, entry, refuses, first_acceptable, is_place};
 ghost use Rattle.l4_model.specs.Rules.{message_of};
 ghost use Rattle.l4_model.specs.World.{Send};
-ghost use Rattle.l4_core.specs.PhaseView.{endless_send};
+ghost use Rattle.l4_core.specs.PhaseView.{endless_send, has_phase};
 ghost use Rattle.l4_core_model.specs.Letters.{Nobody as IsNobody};
 ghost use Rattle.l4_core_model.specs.Turns.{does_choice, ByReady};
-ghost use Rattle.l4_core.specs.Scripts.{instr_of, ipc_of};
+ghost use Rattle.l4_script.specs.Scripts.{instr_of, ipc_of};
 ghost use Rattle.l4_core.specs.Turning.{choice_of, Does, IsAtHand, IsPossible, IsSender};
 ghost use Rattle.arrayvec.specs.ArrayVec.{array_vec_len};
 
-use crate::lists::Waiting;
-use crate::machine::{Instr, Ipc};
 use crate::processor::{Choice, Core};
 use arrayvec::ArrayVec;
-use l4_types::ids::GlobalId;
+use l4_script::machine::{Instr, Ipc};
+use l4_types::ids::{GlobalId, Kind, ThreadId};
 use l4_types::letters::{Decision, Refusal};
 use l4_types::messages::Message;
 use l4_types::steps::{Delivery, Name, Step};
+use tcb_arena::Waiting;
+
+// Whether an Ipc has a phase: one that sends to nilthread and waits for nobody has none.
+fn has_phase(ipc: &Ipc) -> bool
+    ensures { result ≡ has_phase ipc.now }
+{
+    match ipc {
+        Ipc::Send(to) => !matches!(to.kind(), Kind::Nil),
+        Ipc::Wait => true,
+    }
+}
 
 impl Core {
     // What was chosen is done.
@@ -59,7 +69,7 @@ impl Core {
     {
         let instr = self.instruction(place);
         match &instr {
-            Some(Instr::Ipc(ipc)) => self.ipc(place, ipc, steps),
+            Some(Instr::Ipc(ipc)) if has_phase(ipc) => self.ipc(place, ipc, steps),
             _ => {
                 steps.push(Step::Local(self.id(place)));
                 self.run_alone(place, instr);
@@ -67,12 +77,13 @@ impl Core {
         }
     }
 
-    // A thread begins its next Ipc.
+    // A thread begins its next Ipc, which has a phase.
     fn ipc(&mut self, place: usize, ipc: &Ipc, steps: &mut ArrayVec<Step, 3>)
         requires hand { IsAtHand self.old place }
         requires count { (thread self.old.local place).context.begun < self.old.local.stamp }
         requires room { array_vec_len steps.old ≡ 0 }
         requires next { (thread self.old.local place).context.place < 1024 }
+        requires phase { has_phase ipc.now ≡ true }
         requires instr { ipc_of ipc.now ≡ instruction_at (declared self.old.machine place).script (thread self.old.local place).context.place }
         ensures { Does (acts self.old.machine 0 place (act_of self.old.machine (held self.old.machine self.old.local place))) self.old self.new steps.old.items steps.new.items }
     {
@@ -113,7 +124,7 @@ impl Core {
     }
 
     // A thread begins a send.
-    fn send(&mut self, place: usize, to: &GlobalId, steps: &mut ArrayVec<Step, 3>)
+    fn send(&mut self, place: usize, to: &ThreadId, steps: &mut ArrayVec<Step, 3>)
         requires hand { IsAtHand self.old place }
         requires room { (thread self.old.local place).context.place + 1 < 2 ^ 64 }
         requires count { (thread self.old.local place).context.begun < self.old.local.stamp }
@@ -124,7 +135,7 @@ impl Core {
         let message = self.new_message(place);
         self.begin(place, *to, message);
         steps.push(Step::Begin(self.last_name(place)));
-        match self.place_of(*to) {
+        match self.destination_place(*to) {
             Some(receiver) => self.arrive(receiver, place, steps),
             None => self.refuse(place, steps),
         }
@@ -146,6 +157,14 @@ impl Core {
         ensures within { IfSome result (λ place. place < length self.now.machine.threads) }
     {
         self.machine.place_of(id)
+    }
+
+    // The place of the thread that an id names.
+    fn destination_place(&self, to: ThreadId) -> Option<usize>
+        ensures value { result ≡ destination_place self.now.machine to }
+        ensures within { IfSome result (λ place. place < length self.now.machine.threads) }
+    {
+        self.place_of(to.as_global()?)
     }
 
     // The send of a thread is refused, since nobody has the id that it goes to.

@@ -1,25 +1,30 @@
-use Rattle.std.proofs.Common.{◌≡◌, ◌<◌, length, subst, sym, ◌∙◌, ap, arith, None}
-use Rattle.l4_core.specs.Processor.{Processor, IsCore}
-use Rattle.l4_core.proofs.Choosing.{choice-first, choice-finds, choice-passes}
-use Rattle.l4_core.proofs.Pieces.{home}
+use Rattle.std.proofs.Common.{◌≡◌, Some, subst, sym, ◌∙◌, ap}
+use Rattle.std.specs.Prelude.{slice_get}
+use Rattle.std.specs.Option.{option_map}
+use Rattle.l4_core_model.specs.Turns as turns
+use Rattle.l4_core.specs.Processor.{Processor, local_of}
+use Rattle.l4_core.specs.Turning.{choice_of}
+use Rattle.l4_core.proofs.Turns.{chooses_duty, chooses_ready}
 use Rattle.l4_core.proofs.processor.Core.choice.Goals as goal
 
-pub loop-receiver-init : goal.loop-receiver-init
-loop-receiver-init c =
-    let core = subst (λ (p : Processor). IsCore p.machine p.local) c.self.view_is c.self.invariant in
-    choice-first c.args.self.now.machine c.args.self.now.local (λ i lt. home c.args.self.now.machine c.args.self.now.local i core lt) core.settled
+pub returns-in-Some-clause-choice : goal.returns-in-Some-clause-choice
+returns-in-Some-clause-choice c =
+    let s = c.self.inside in
+    let p : Processor = record { machine = s.machine; cpu = 0; local = local_of s.machine s.threads.items s.lists s.stamp } in
+    let first = c.in-Some.ensures.first in
+    subst (λ (q : Processor). Some (turns.ByDuty c.in-Some.receiver (turns.DeliversFirst c.in-Some.sender)) ≡ turns.choice q.machine q.cpu q.local) c.self.view_is
+    (chooses_duty p c.as_slice.result.now c.in-Some.receiver c.in-Some.sender c.self.invariant.0 c.as_slice.ensures.value first.0 first.1)
 
-pub returns-in-Some : goal.returns-in-Some
-returns-in-Some c =
-    let core = subst (λ (p : Processor). IsCore p.machine p.local) c.self.view_is c.self.invariant in
-    let count = ap (λ (p : Processor). length p.local.threads) c.self.view_is in
-    let lt : c.loop-receiver.receiver < length c.args.self.now.machine.threads = omega (arith, count, core.settled.threads, c.len-receiver-end.ensures, c.loop-receiver-test.true) in
-    sym (c.loop-receiver.invariant ∙ choice-finds c.args.self.now.local c.loop-receiver.receiver (length c.args.self.now.machine.threads) c.in-Some.sender lt (sym c.first_acceptable.ensures ∙ c.in-Some.is))
+pub returns-in_err-place-clause-choice : goal.returns-in_err-place-clause-choice
+returns-in_err-place-clause-choice c =
+    let s = c.self.inside in
+    let p : Processor = record { machine = s.machine; cpu = 0; local = local_of s.machine s.threads.items s.lists s.stamp } in
+    ap (option_map choice_of) c.from_residual.ensures ∙ ap (option_map turns.ByReady) (sym c.in_err-place.was ∙ c.first_ready.ensures)
+    ∙ subst (λ (q : Processor). option_map turns.ByReady (slice_get s.lists.ready 0) ≡ turns.choice q.machine q.cpu q.local) c.self.view_is (chooses_ready p c.as_slice.result.now c.self.invariant.0 c.as_slice.ensures.value c.in_default.ensures.first)
 
-pub loop-receiver-preserved : goal.loop-receiver-preserved
-loop-receiver-preserved c =
-    let core = subst (λ (p : Processor). IsCore p.machine p.local) c.self.view_is c.self.invariant in
-    let count = ap (λ (p : Processor). length p.local.threads) c.self.view_is in
-    let lt : c.loop-receiver.receiver < length c.args.self.now.machine.threads = omega (arith, count, core.settled.threads, c.len-receiver-end.ensures, c.loop-receiver-test.true) in
-    let none : c.first_acceptable.result ≡ None = c.in_default.is in
-    c.loop-receiver.invariant ∙ choice-passes c.args.self.now.local c.loop-receiver.receiver (length c.args.self.now.machine.threads) lt (sym c.first_acceptable.ensures ∙ none)
+pub returns-clause-choice : goal.returns-clause-choice
+returns-clause-choice c =
+    let s = c.self.inside in
+    let p : Processor = record { machine = s.machine; cpu = 0; local = local_of s.machine s.threads.items s.lists s.stamp } in
+    ap (option_map turns.ByReady) (sym c.in_ok-place.was ∙ c.first_ready.ensures)
+    ∙ subst (λ (q : Processor). option_map turns.ByReady (slice_get s.lists.ready 0) ≡ turns.choice q.machine q.cpu q.local) c.self.view_is (chooses_ready p c.as_slice.result.now c.self.invariant.0 c.as_slice.ensures.value c.in_default.ensures.first)

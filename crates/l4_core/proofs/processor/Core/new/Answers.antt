@@ -4,6 +4,7 @@ use Rattle.l4_model.specs.Machine.{Machine}
 use Rattle.l4_model.specs.World.{opening_thread}
 use Rattle.l4_core_model.specs.Local.{opening_local}
 use Rattle.l4_core.specs.Simple.{is_ready_in}
+use Rattle.l4_core.proofs.Covering.{covers-opened}
 use Rattle.l4_core.proofs.Opening.{lists_after, threads_more, lists_more, not_yet, opened-core, opened-is}
 use Rattle.l4_core.proofs.processor.Core.new.Goals as goal
 
@@ -22,8 +23,10 @@ invariant_of-result c =
     let place : c.loop-place.place ≡ length c.threads-count.result.now = omega (arith, c.loop-place.auto.place-end, c.loop-place-test.false) in
     let one : c.in_ok-machine.machine.cpus ≡ 1 = ap (λ (m : Machine). m.cpus) c.in_ok-machine.ensures ∙ sym c.cpus-cpus.ensures.value ∙ c.cpus-cpus.ensures.one in
     let few : length c.in_ok-machine.machine.threads ≤ 1024 = omega (arith, ap length c.threads-count.ensures.value, c.threads-count.ensures.limit) in
-    opened-core c.in_ok-machine.machine count c.loop-place.threads.items c.loop-place.lists c.threads-count.ensures.lawful one few (ap length c.threads-count.ensures.value)
-    (c.loop-place.invariant.0 ∙ ap (λ n. replicate n opening_thread) place) (c.loop-place.invariant.1 ∙ ap (lists_after count) place)
+    let threads = c.loop-place.invariant.0 ∙ ap (λ n. replicate n opening_thread) place in (
+      opened-core c.in_ok-machine.machine count c.loop-place.threads.items c.loop-place.lists c.threads-count.ensures.lawful one few (ap length c.threads-count.ensures.value) threads (c.loop-place.invariant.1 ∙ ap (lists_after count) place),
+      covers-opened c.new-duties.result count c.loop-place.threads.items c.loop-place.lists threads c.new-duties.ensures,
+    )
 
 pub returns : goal.returns
 returns c =

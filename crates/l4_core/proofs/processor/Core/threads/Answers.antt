@@ -9,7 +9,7 @@ loop-place-preserved c =
 
 pub returns : goal.returns
 returns c =
-    let core = subst (λ (p : Processor). IsCore p.machine p.local) c.self.view_is c.self.invariant in
+    let core = subst (λ (p : Processor). IsCore p.machine p.local) c.self.view_is c.self.invariant.0 in
     let count = ap (λ (p : Processor). length p.local.threads) c.self.view_is in
     let all : c.loop-place.place ≡ length c.args.self.now.machine.threads = omega (arith, count, core.settled.threads, c.len-place-end.ensures, c.loop-place.auto.place-end, c.loop-place-test.false) in
     c.loop-place.invariant ∙ ap (reports c.args.self.now.machine c.args.self.now.local) all ∙ reports-all c.args.self.now.machine c.args.self.now.local core.settled.threads

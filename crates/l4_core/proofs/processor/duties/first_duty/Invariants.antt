@@ -1,0 +1,9 @@
+use Rattle.l4_core.specs.Places.{count}
+use Rattle.l4_core.specs.Duties.{Covers}
+use Rattle.l4_core.proofs.processor.duties.first_duty.Given as goal
+
+abbrev pub invariant-places : goal.invariant-places
+invariant-places l = Covers l.duties l.threads l.lists
+
+abbrev pub decreases-places : goal.decreases-places
+decreases-places l = count l.duties 1024

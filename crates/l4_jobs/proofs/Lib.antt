@@ -1,0 +1,12 @@
+pub mod LineRows
+pub mod Spelling
+pub mod Joined
+pub mod Spelled
+pub mod Registers
+pub mod ReportRows
+pub mod CommandSimple
+pub mod ItemSpelling
+pub mod Lawful
+pub mod Matched
+pub mod Shown
+pub mod Splits

@@ -1,0 +1,62 @@
+-- From the getters of the matches to the job that they have.
+use Rattle.std.proofs.Common.{◌≡◌, ℕ, Bool, true, false, Option, Some, None, List, [], ◌∷◌, codes, refl, sym, ap, subst, inl, inr, ◌∙◌}
+use Rattle.std.specs.Prelude.{◌⊎◌, IfSome, MatchBool, option_map, option_and_then}
+use Rattle.std.specs.Str.Parse.{ParsesBool}
+use Rattle.clap.specs.Matches.{ReadsOne}
+use Rattle.clap.specs.Words.{Text, first_of, first_value, one_text, rows_of}
+use Rattle.clap.specs.Kinds.{Kinds, IsAmong}
+use Rattle.clap.specs.declared.error.kind.ErrorKind.{ErrorKind}
+use Rattle.clap.specs.declared.error.kind.ErrorKind.TheVariants.{OutOfMemory}
+use Rattle.clap.specs.declared.parser.matches.Found.{Found}
+use Rattle.clap.proofs.WalkLemmas.{first_value-rows, one_text-rows}
+use Rattle.l4_jobs.specs.Asked.{ToRun, ToReplay, number_of, flag_of, turns_in, report_in, run_in, replay_in, IsRefusal}
+use Rattle.l4_jobs.specs.declared.words.WordsFault.{WordsFault}
+use Rattle.l4_jobs.specs.declared.words.WordsFault.TheVariants.{Help, Usage, NoMemory}
+
+-- A value that was read is that of a text.
+pub read : {T : Type 0} (IsRead : Text → Type 0) (o : Option Text) (v : T) →
+    (o ≡ None → Some v ≡ None) → ((t : Text) → o ≡ Some t → IsRead t) → (t : Text) × (o ≡ Some t) × IsRead t
+read IsRead None v none value = absurd (let e = none refl in cc)
+read IsRead (Some t) v none value = (t, refl, value t refl)
+
+pub flag_is : (t : Text) (b : Bool) → MatchBool b (t ≡ codes "true") (t ≡ codes "false") → flag_of t ≡ Some b
+flag_is t true e = ap flag_of e
+flag_is t false e = ap flag_of e
+
+pub report_is : (f : Found) (report : Bool) → option_and_then flag_of (one_text f (codes "report")) ≡ Some report → report_in (rows_of f) ≡ Some report
+report_is f report h = ap (option_and_then flag_of) (sym (one_text-rows f (codes "report"))) ∙ h
+
+-- A flag that was read is that of the rows.
+pub report_read : (E : Type 0) (f : Found) (o : Option Bool) → (one_text f (codes "report") ≡ None → o ≡ None) →
+    ((t : Text) → one_text f (codes "report") ≡ Some t → ReadsOne {E = E} ParsesBool t o) → IfSome o (λ report. report_in (rows_of f) ≡ Some report)
+report_read E f None none value = tt
+report_read E f (Some b) none value =
+    let flag = read (λ t. MatchBool b (t ≡ codes "true") (t ≡ codes "false")) _ b none value in
+    report_is f b (ap (option_and_then flag_of) flag.1 ∙ flag_is flag.0 b flag.2)
+
+pub run_is : (f : Found) (file : Text) (turns : ℕ) (report : Bool) → first_value f (codes "file") ≡ Some file →
+    option_map number_of (one_text f (codes "turns")) ≡ Some turns → report_in (rows_of f) ≡ Some report →
+    run_in (rows_of f) ≡ Some (ToRun file turns report)
+run_is f file turns report p q r =
+    let here : first_of (codes "file") (rows_of f) ≡ Some file = sym (first_value-rows f (codes "file")) ∙ p in
+    let number : turns_in (rows_of f) ≡ Some turns = ap (option_map number_of) (sym (one_text-rows f (codes "turns"))) ∙ q in
+    rw (here, number, r) refl
+
+pub replay_is : (f : Found) (file schedule : Text) (report : Bool) → first_value f (codes "file") ≡ Some file →
+    first_value f (codes "schedule") ≡ Some schedule → report_in (rows_of f) ≡ Some report →
+    replay_in (rows_of f) ≡ Some (ToReplay file schedule report)
+replay_is f file schedule report p q r =
+    let here : first_of (codes "file") (rows_of f) ≡ Some file = sym (first_value-rows f (codes "file")) ∙ p in
+    let list : first_of (codes "schedule") (rows_of f) ≡ Some schedule = sym (first_value-rows f (codes "schedule")) ∙ q in
+    rw (here, list, r) refl
+
+-- What is answered of an error is answered of the words that it comes from.
+pub refusal_of : (kinds : Kinds) (kind : ErrorKind) (fault : WordsFault) → (kind ≡ OutOfMemory → fault ≡ NoMemory) → IsRefusal (kind ∷ []) fault →
+    (kind ≡ OutOfMemory) ⊎ IsAmong kind kinds → IsRefusal kinds fault
+refusal_of kinds kind NoMemory memory refusal among = tt
+refusal_of kinds kind (Help text) memory refusal (inl e) = absurd (let bad = memory e in cc)
+refusal_of kinds kind (Usage text) memory refusal (inl e) = absurd (let bad = memory e in cc)
+refusal_of kinds kind (Help text) memory (k, inl e, rest) (inr among) = (k, subst (λ x. IsAmong x kinds) (sym e) among, rest)
+refusal_of kinds kind (Help text) memory (k, inr none, rest) (inr among) = elim none [ ]
+refusal_of kinds kind (Usage text) memory (k, inl e, no_help, no_version) (inr among) = (k, subst (λ x. IsAmong x kinds) (sym e) among, no_help, no_version)
+refusal_of kinds kind (Usage text) memory (k, inr none, no_help, no_version) (inr among) = elim none [ ]

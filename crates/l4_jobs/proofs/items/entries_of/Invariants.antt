@@ -1,0 +1,12 @@
+use Rattle.std.proofs.Common.{◌≡◌, ◌≤◌, ◌+◌, length}
+use Rattle.l4_jobs.specs.Items.{items_of, read_items}
+use Rattle.l4_jobs.proofs.items.entries_of.Given as goal
+
+abbrev pub invariant-loop-item : goal.invariant-loop-item
+invariant-loop-item l = record {
+  whole : read_items l.machine l.entries.items l.items ≡ read_items l.machine l.initial.entries.items (items_of l.list);
+  counted : length l.entries.items + length l.items ≤ 1000000;
+}
+
+abbrev pub decreases-loop-item : goal.decreases-loop-item
+decreases-loop-item l = length l.items

@@ -1,0 +1,75 @@
+-- What the words of the command line ask for.
+use Rattle.std.specs.Prelude.{◌≡◌, ◌≢◌, ◌⊎◌, ℕ, Bool, true, false, ⊤, if◌then◌else◌, Option, Some, None, List, codes, option_map, option_and_then}
+use Rattle.std.specs.Io.KnownBytes.{Appends}
+use Rattle.std.specs.Str.{bytes_eq}
+use Rattle.std.specs.Str.Parse.{digits_value, without_leading_plus}
+use Rattle.std.specs.String.{string_bytes}
+use Rattle.l4_model.specs.Conditions.{◌>>=◌}
+use Rattle.clap.specs.Words.{Row, Text, first_of, one_of, subcommand_of}
+use Rattle.clap.specs.Kinds.{Kinds, IsAmong}
+use Rattle.clap.specs.declared.error.kind.ErrorKind.{ErrorKind}
+use Rattle.clap.specs.declared.error.kind.ErrorKind.TheVariants.{DisplayHelp, DisplayVersion}
+use Rattle.l4_jobs.specs.Commands.{l4run_app}
+use Rattle.l4_jobs.specs.declared.job.Job.{Job}
+use Rattle.l4_jobs.specs.declared.job.Job.TheVariants.{Run, Replay}
+use Rattle.l4_jobs.specs.declared.words.WordsFault.{WordsFault}
+use Rattle.l4_jobs.specs.declared.words.WordsFault.TheVariants.{Help, Usage, NoMemory}
+
+-- A job by its texts.
+pub data Asked : Type 0 where
+  ToRun : (file : Text) (turns : ℕ) (report : Bool) → Asked
+  ToReplay : (file schedule : Text) (report : Bool) → Asked
+
+abbrev pub asked_by : Job → Asked
+asked_by (Run file turns report) = ToRun file.now turns report
+asked_by (Replay file schedule report) = ToReplay file.now schedule.now report
+
+-- The number of a text of digits, and the flag of a text.
+abbrev pub number_of : Text → ℕ
+number_of text = digits_value 10 (without_leading_plus text)
+
+abbrev pub flag_of : Text → Option Bool
+flag_of text = if bytes_eq text (codes "true") then Some true else if bytes_eq text (codes "false") then Some false else None
+
+-- The turns and the report of the matches of a subcommand's arguments.
+abbrev pub turns_in : List Row → Option ℕ
+turns_in rows = option_map number_of (one_of (codes "turns") rows)
+
+abbrev pub report_in : List Row → Option Bool
+report_in rows = option_and_then flag_of (one_of (codes "report") rows)
+
+-- The job of the matches of a subcommand's arguments.
+abbrev pub run_in : List Row → Option Asked
+run_in rows = do
+  file ← first_of (codes "file") rows
+  turns ← turns_in rows
+  report ← report_in rows
+  Some (ToRun file turns report)
+
+abbrev pub replay_in : List Row → Option Asked
+replay_in rows = do
+  file ← first_of (codes "file") rows
+  schedule ← first_of (codes "schedule") rows
+  report ← report_in rows
+  Some (ToReplay file schedule report)
+
+-- The job of the matches: of the subcommand that was named.
+abbrev pub asked_in : Text × List Row → Option Asked
+asked_in p = if bytes_eq p.0 (codes "run") then run_in p.1 else if bytes_eq p.0 (codes "replay") then replay_in p.1 else None
+
+-- The job of the matches that the words have.
+abbrev pub asked_of : (words : List Text) → Option Asked
+asked_of words = option_and_then asked_in (subcommand_of l4run_app words)
+
+-- Why there is no job, by what may be wrong with the words: help is answered only where they ask for it, and usage only where they are wrong.
+abbrev pub IsRefusal : Kinds → WordsFault → Type 0
+IsRefusal kinds (Help text) = (kind : ErrorKind) × IsAmong kind kinds × ((kind ≡ DisplayHelp) ⊎ (kind ≡ DisplayVersion))
+IsRefusal kinds (Usage text) = (kind : ErrorKind) × IsAmong kind kinds × (kind ≢ DisplayHelp) × (kind ≢ DisplayVersion)
+IsRefusal kinds NoMemory = ⊤
+
+-- What such words come to: the help is written to the output with status 0, unless that fails with status 1; the usage has status 2, and it and
+-- want of memory leave the output as it was.
+abbrev pub Refuses : WordsFault → (old new : Option (List ℕ)) → (status : ℕ) → Type 0
+Refuses (Help text) old new status = ((status ≡ 0) × Appends old new (string_bytes text)) ⊎ (status ≡ 1)
+Refuses (Usage text) old new status = (status ≡ 2) × (new ≡ old)
+Refuses NoMemory old new status = (status ≡ 1) × (new ≡ old)

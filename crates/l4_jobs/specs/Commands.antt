@@ -1,0 +1,39 @@
+-- The commands of the program, as a parse of words reads them.
+use Rattle.std.specs.Prelude.{◌≡◌, true, Some, List, [], ◌∷◌, codes}
+use Rattle.clap.specs.Words.{App, Rule, Text, new_app, new_rule, with_rule, with_subcommand, fault_of}
+use Rattle.clap.specs.Kinds.{Kinds}
+use Rattle.clap.specs.declared.builder.action.ArgAction.TheVariants.{SetTrue}
+use Rattle.clap.specs.declared.builder.value_parser.ValueParser.TheVariants.{Unsigned}
+
+-- FILE
+abbrev pub file_rule : Rule
+file_rule = record (new_rule (codes "file")) { value_names = 1; required = true }
+
+-- --turns N, a number below 2^64, and 100000 where it is not given
+abbrev pub turns_rule : Rule
+turns_rule = record (new_rule (codes "turns")) { long = Some (codes "turns"); value_names = 1; parser = Some (Unsigned 0 18446744073709551615); defaults = codes "100000" ∷ [] }
+
+-- --schedule LIST
+abbrev pub schedule_rule : Rule
+schedule_rule = record (new_rule (codes "schedule")) { long = Some (codes "schedule"); value_names = 1; required = true }
+
+-- --report
+abbrev pub report_rule : Rule
+report_rule = record (new_rule (codes "report")) { long = Some (codes "report"); action = Some SetTrue }
+
+abbrev pub run_app : App
+run_app = with_rule (with_rule (with_rule (new_app (codes "run")) file_rule) turns_rule) report_rule
+
+abbrev pub replay_app : App
+replay_app = with_rule (with_rule (with_rule (new_app (codes "replay")) file_rule) schedule_rule) report_rule
+
+abbrev pub top_app : App
+top_app = let a = new_app (codes "l4run") in record a { top = record a.top { subcommand_required = true } }
+
+-- One of the two has to be named.
+unfoldable pub l4run_app : App
+l4run_app = with_subcommand (with_subcommand top_app run_app.top) replay_app.top
+
+-- What may be wrong with words, or that help is asked for: none of it where they ask for a job.
+abbrev pub faults_of : (words : List Text) → Kinds
+faults_of words = fault_of l4run_app words

@@ -1,0 +1,52 @@
+-- The list of a schedule: its items, and the entries that they spell.
+use Rattle.std.specs.Prelude.{ℕ, ◌+◌, ◌-◌, ◌==◌, ◌&&◌, nat_lt, nat_le, if◌then◌else◌, Option, Some, None, Result, Ok, Err, List, [], ◌∷◌, ◌++◌, length, option_map, codes, decimal}
+use Rattle.std.specs.List.{slice_split}
+use Rattle.l4_model.specs.Machine.{Machine}
+use Rattle.l4_machine.specs.declared.outcome.RunFault.{RunFault}
+use Rattle.l4_machine.specs.declared.outcome.RunFault.TheVariants.{Turns, Schedule}
+use Rattle.l4_machine.specs.Entries.{is_entry}
+
+-- The items that are left of a list are what stands between its commas, byte 44.
+abbrev pub items_left : Option (List ℕ) → List (List ℕ)
+items_left None = []
+items_left (Some list) = slice_split (λ byte. byte == 44) list
+
+-- The empty list has no item.
+abbrev pub items_of : List ℕ → List (List ℕ)
+items_of list = if length list == 0 then [] else items_left (Some list)
+
+-- The number of a processor, 0 to 15, in decimal without a leading zero: the digits `0` to `9` are the bytes 48 to 57.
+abbrev pub processor_of : List ℕ → Option ℕ
+processor_of (digit ∷ []) = if nat_le 48 digit && nat_le digit 57 then Some (digit - 48) else None
+processor_of (ten ∷ digit ∷ []) = if ten == 49 && nat_le 48 digit && nat_le digit 53 then Some (10 + (digit - 48)) else None
+processor_of _ = None
+
+-- The number of a processor is a turn of it; a `t`, byte 116, before it makes it a tick, the entry 16 and more.
+abbrev pub entry_of : List ℕ → Option ℕ
+entry_of [] = None
+entry_of (first ∷ rest) = if first == 116 then option_map (λ cpu. 16 + cpu) (processor_of rest) else processor_of (first ∷ rest)
+
+-- The one item of an entry below 32.
+abbrev pub item_of : (entry : ℕ) → List ℕ
+item_of entry = if nat_lt entry 16 then decimal entry else codes "t" ++ decimal (entry - 16)
+
+-- The entry of an item that is one of the machine.
+abbrev pub if_entry : Machine → Option ℕ → Option ℕ
+if_entry m None = None
+if_entry m (Some entry) = if is_entry m entry then Some entry else None
+
+abbrev pub machine_entry : Machine → List ℕ → Option ℕ
+machine_entry m item = if_entry m (entry_of item)
+
+abbrev pub or_fault : (number : ℕ) → Option ℕ → (ℕ → Result (List ℕ) RunFault) → Result (List ℕ) RunFault
+or_fault number None rest = Err (Schedule number)
+or_fault number (Some entry) rest = rest entry
+
+-- The entries so far and those of the items that are left, or the first of these items that has none, by its number counted from 1.
+abbrev pub read_items : Machine → (entries : List ℕ) → List (List ℕ) → Result (List ℕ) RunFault
+read_items m entries [] = Ok entries
+read_items m entries (item ∷ items) = or_fault (length entries + 1) (machine_entry m item) (λ entry. read_items m (entries ++ entry ∷ []) items)
+
+-- The schedule that a list spells on a machine. A list with more than 1,000,000 items is judged by their number alone.
+abbrev pub schedule_of : Machine → (list : List ℕ) → Result (List ℕ) RunFault
+schedule_of m list = if nat_lt 1000000 (length (items_of list)) then Err Turns else read_items m [] (items_of list)

@@ -1,0 +1,158 @@
+//! The list of a schedule: its items, and the entries that they spell.
+ghost use Rattle.std.specs.Prelude.{◌≡◌, ◌<◌, ◌≤◌, ◌⊎◌, ◌==◌, ◌++◌, ◌∷◌, [], ℕ, List, IfOk, IfErr, MatchOption, OnOk, Ok, Err, Some, length, count_by, position};
+ghost use Rattle.l4_machine.specs.declared.outcome.RunFault.TheVariants.{NoMemory as OutOfMemory};
+ghost use Rattle.l4_jobs.specs.Items.{items_of, processor_of, entry_of, item_of, machine_entry, read_items, schedule_of};
+
+use l4_machine::{MOST_ENTRIES, RunFault};
+use l4_script::machine::Machine;
+use l4_types::errors::NoMemory;
+use std::alloc::Global;
+use std::marker::Model;
+
+/// The entries of a schedule, one for each item of its list.
+///
+/// `Turns`: the list has more than 1,000,000 items. `Schedule`: this item, counted from 1, is the first that spells no entry, or one of no
+/// processor of the machine.
+pub fn schedule_of(alloc: Global, machine: &Machine, list: &str) -> Result<Vec<u8>, RunFault>
+    ensures ok { IfOk result (λ entries. schedule_of machine.now list.now ≡ Ok entries.items) }
+    ensures err { IfErr result (λ fault. (fault ≡ OutOfMemory) ⊎ (schedule_of machine.now list.now ≡ Err fault)) }
+{
+    if item_count(list) > MOST_ENTRIES {
+        return Err(RunFault::Turns);
+    }
+    entries_of(alloc, machine, list)
+}
+
+// How many items a list has.
+#[tactic(auto, using(crate::proofs::Splits::items_by_commas))]
+fn item_count(list: &str) -> usize
+    ensures { result ≡ length (items_of list.now) }
+{
+    if list.is_empty() {
+        0
+    } else {
+        comma_count(list.as_bytes()) + 1
+    }
+}
+
+fn comma_count(list: &[u8]) -> usize
+    ensures value { result ≡ count_by (λ byte. byte == 44) list.now }
+    ensures limit { result ≤ length list.now }
+{
+    list.iter().filter(|byte| **byte == b',').count()
+}
+
+// The place of the first comma.
+fn first_comma(list: &[u8]) -> Option<usize>
+    ensures { result ≡ position (λ byte. byte == 44) list.now }
+{
+    list.iter().position(|byte| *byte == b',')
+}
+
+/// The items of a list that are still to be read.
+#[derive(Drop)]
+struct Items<'a> {
+    // What follows the items that were read, and the comma behind the last of them.
+    rest: Option<&'a [u8]>,
+}
+
+impl<'a> Model for Items<'a> {
+    ghost use Rattle.std.specs.Prelude.{List, ℕ};
+    ghost use Rattle.std.specs.Option.{option_copied};
+    ghost use Rattle.l4_jobs.specs.Items.{items_left};
+
+    ghost Value = { List (List ℕ) };
+
+    ghost view = { λ i. items_left (option_copied i.rest) };
+}
+
+impl<'a> Items<'a> {
+    // The items of a list. The empty list has none.
+    fn of(list: &'a str) -> Items<'a>
+        ensures { result ≡ items_of list.now }
+    {
+        let rest = if list.is_empty() {
+            None
+        } else {
+            Some(list.as_bytes())
+        };
+        Items { rest }
+    }
+
+    // The next item, or None where none is left.
+    fn next(&mut self) -> Option<&'a [u8]>
+        ensures { MatchOption result
+            ((self.old ≡ []) × (self.new ≡ []))
+            (λ item. self.old ≡ item.now ∷ self.new) }
+    {
+        let list = self.rest?;
+        match first_comma(list) {
+            Some(end) => {
+                self.rest = Some(&list[end + 1..]);
+                Some(&list[..end])
+            }
+            None => {
+                self.rest = None;
+                Some(list)
+            }
+        }
+    }
+}
+
+// The entries of a list that is not too long.
+fn entries_of(alloc: Global, machine: &Machine, list: &str) -> Result<Vec<u8>, RunFault>
+    requires { length (items_of list.now) ≤ 1000000 }
+    ensures ok { IfOk result (λ entries. read_items machine.now [] (items_of list.now) ≡ Ok entries.items) }
+    ensures err { IfErr result (λ fault. (fault ≡ OutOfMemory) ⊎ (read_items machine.now [] (items_of list.now) ≡ Err fault)) }
+{
+    let mut items = Items::of(list);
+    let mut entries = Vec::new(alloc);
+    while let Some(item) = items.next() {
+        match machine_entry(machine, item) {
+            Some(entry) => push(&mut entries, entry)?,
+            None => return Err(RunFault::Schedule(entries.len() + 1)),
+        }
+    }
+    Ok(entries)
+}
+
+fn push(entries: &mut Vec<u8>, entry: u8) -> Result<(), NoMemory>
+    ensures { OnOk result (entries.new.items ≡ entries.old.items ++ entry ∷ []) }
+{
+    entries.push(entry)?;
+    Ok(())
+}
+
+// The entry that an item spells, where the machine has its processor. Clocks do not go on yet, so no entry of 16 and more is one.
+fn machine_entry(machine: &Machine, item: &[u8]) -> Option<u8>
+    ensures { result ≡ machine_entry machine.now item.now }
+{
+    entry_of(item).filter(|entry| *entry < machine.cpus())
+}
+
+// The entry that an item spells: the number of a processor is a turn of it, with a `t` before it a tick of it, the entry 16 and more.
+fn entry_of(item: &[u8]) -> Option<u8>
+    ensures { result ≡ entry_of item.now }
+{
+    match item {
+        [b't', number @ ..] => Some(16 + processor_of(number)?),
+        number => processor_of(number),
+    }
+}
+
+// The number of a processor, 0 to 15, in decimal without a leading zero.
+fn processor_of(word: &[u8]) -> Option<u8>
+    ensures { result ≡ processor_of word.now }
+{
+    match word {
+        [digit @ b'0'..=b'9'] => Some(digit - b'0'),
+        [b'1', digit @ b'0'..=b'5'] => Some(10 + (digit - b'0')),
+        _ => None,
+    }
+}
+
+/// Each entry below 32 is spelled by one item, and no item spells another entry.
+pub fn law_one_item_of_an_entry()
+    ensures spelled { (entry : ℕ) → entry < 32 → entry_of (item_of entry) ≡ Some entry }
+    ensures alone { (item : List ℕ) (entry : ℕ) → entry_of item ≡ Some entry → (entry < 32) × (item ≡ item_of entry) }
+{}

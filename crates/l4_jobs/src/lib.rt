@@ -1,0 +1,11 @@
+//! The jobs of the program `l4run`: what the words of its command line ask for, and the doing of it over a reader and two writers.
+#![tactic(auto)]
+
+pub mod fault;
+pub mod items;
+pub mod job;
+pub mod lines;
+pub mod perform;
+pub mod refusal;
+pub mod report_lines;
+pub mod words;

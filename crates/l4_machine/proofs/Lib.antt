@@ -1,0 +1,5 @@
+pub mod Alone
+pub mod InRounds
+pub mod ByEntries
+pub mod SoFar
+pub mod Whole

@@ -1,0 +1,41 @@
+-- What the outcome of a run says.
+use Rattle.std.specs.Prelude.{◌≡◌, ◌↔◌, ℕ, true, Some, List, map, length}
+use Rattle.l4_model.specs.Machine.{Machine}
+use Rattle.l4_model.specs.World.{World}
+use Rattle.l4_model.specs.History.{IsHistory, reached, view, waiting as undecided_sends}
+use Rattle.l4_model.specs.Laws.{IsLawful}
+use Rattle.l4_model.specs.Still.{IsStill}
+use Rattle.l4_core_model.specs.Runs.{Run, told, at_rest}
+use Rattle.l4_core_model.specs.Schedules.{run, replay}
+use Rattle.l4_types.specs.declared.reports.Ending.TheVariants.{Quiet}
+use Rattle.l4_types.specs.StepView.{step_of}
+use Rattle.l4_types.specs.ReportView.{report_of_view}
+use Rattle.l4_machine.specs.declared.outcome.Outcome.{Outcome}
+
+-- The outcome of this core run of the machine.
+pub record IsOutcomeOf (m : Machine) (r : Run) (o : Outcome) : Type 0 where
+  -- the history is what the events of the run tell, in order
+  pub history : map step_of o.history.items ≡ told r.events
+  -- each of its steps is possible at the world that the earlier ones reach from the opening world
+  pub possible : IsHistory m (map step_of o.history.items)
+  -- each send is delivered at most once and unaltered, one sender's messages reach one receiver in sending order, a receive takes its
+  -- first acceptable waiting sender, a deleted thread receives nothing, and every other begun send is refused, dropped or waiting
+  pub lawful : IsLawful m (map step_of o.history.items)
+  -- the undecided sends are those of the world that the history reaches, in order of beginning
+  pub waiting : (w : World) → reached m (map step_of o.history.items) ≡ Some w → o.waiting.items ≡ undecided_sends m w (map step_of o.history.items)
+  -- the threads are those of that world, in order of declaration
+  pub threads : (w : World) → reached m (map step_of o.history.items) ≡ Some w → map report_of_view o.threads.items ≡ view m w
+  -- the turns are the events of the run
+  pub turns : o.turns ≡ length r.events
+  -- it is quiet exactly where the run ends at rest, and else spent
+  pub quiet : (o.ending ≡ Quiet) ↔ (at_rest m r.system ≡ true)
+  -- and then nothing but clocks can go on in that world
+  pub still : o.ending ≡ Quiet → (w : World) → reached m (map step_of o.history.items) ≡ Some w → IsStill m w
+
+-- The outcome of a run in rounds of this machine for at most so many turns.
+abbrev pub IsOutcome : Machine → (most : ℕ) → Outcome → Type 0
+IsOutcome m most o = IsOutcomeOf m (run m most) o
+
+-- The outcome of a run of this machine by a schedule.
+abbrev pub IsReplayed : Machine → (schedule : List ℕ) → Outcome → Type 0
+IsReplayed m schedule o = IsOutcomeOf m (replay m schedule) o

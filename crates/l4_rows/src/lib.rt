@@ -1,0 +1,13 @@
+//! Tests that go the program's whole way: from the words of a command line and a machine text to the exit status and to what is written.
+#![tactic(auto)]
+
+#[cfg(test)]
+mod faults;
+#[cfg(test)]
+mod program;
+#[cfg(test)]
+mod runs;
+#[cfg(test)]
+mod schedules;
+#[cfg(test)]
+mod words;

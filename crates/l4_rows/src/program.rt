@@ -1,0 +1,125 @@
+// The program over a reader and two writers in place of files and streams.
+use l4_jobs::perform::perform;
+use l4_jobs::refusal::refuse;
+use l4_jobs::words::job_of;
+use std::io;
+use std::io::{Read, Write};
+use std::process::Abort;
+
+/// The two header lines and the two threads of the first path.
+pub(crate) const PING: &str = "l4 1 64
+cpus 1
+thread 1.1 cpu 0 space 1
+set 1 10
+tag 0x70001
+ipc 2.1 nil never never
+thread 2.1 cpu 0 space 2
+ipc nil any never never
+";
+
+/// The trace of its run.
+pub(crate) const PING_TRACE: &str = "local 1.1
+wait 2.1
+local 1.1
+begin 1.1#1
+queue 1.1#1
+deliver 1.1#1 2.1 1.1 1.1 70001 a
+local 2.1
+local 1.1
+";
+
+/// Its report.
+pub(crate) const PING_REPORT: &str = "thread 1.1 ended 0 nil nil 0 a
+thread 2.1 ended 0 1.1 1.1 70001 a
+ending quiet
+";
+
+/// What comes of a command line: the exit status, and what is written to the output and to the faults.
+#[derive(Drop)]
+pub(crate) struct Done {
+    pub(crate) status: u8,
+    pub(crate) out: Vec<u8>,
+    pub(crate) faults: Vec<u8>,
+}
+
+/// Does what the words behind the program's name ask for, where the file that they name gives this text.
+pub(crate) fn does<R: AllocGlobal + Abort>(rt: &R, words: &[&str], text: &[u8]) -> Done {
+    let mut out = Vec::new(rt.alloc());
+    let mut machine = text;
+    let (status, faults) = does_into(rt, words, &mut machine, &mut out);
+    Done {
+        status,
+        out,
+        faults,
+    }
+}
+
+/// The same over another reader and writer. Answers the status, and what is written to the faults.
+pub(crate) fn does_into<R: AllocGlobal + Abort, M: Read, W: Write>(
+    rt: &R,
+    words: &[&str],
+    machine: &mut M,
+    out: &mut W,
+) -> (u8, Vec<u8>) {
+    let mut faults = Vec::new(rt.alloc());
+    let mut line = Vec::new(rt.alloc());
+    line.push("l4run").expect(rt, "memory");
+    line.extend_from_slice(words).expect(rt, "memory");
+    let status = match job_of(rt.alloc(), line.as_slice()) {
+        Ok(job) => perform(rt.alloc(), &job, machine, out, &mut faults),
+        Err(fault) => refuse(&fault, out, &mut faults),
+    };
+    (status, faults)
+}
+
+/// Tests what the words come to on a text: the status, and what is written to the output and to the faults.
+pub(crate) fn shows<R: AllocGlobal + Abort>(
+    rt: &R,
+    words: &[&str],
+    text: &str,
+    want: (u8, &str, &str),
+) {
+    let done = does(rt, words, text.as_bytes());
+    assert_eq!(rt; done.faults.as_slice(), want.2.as_bytes(), "{words:?}");
+    assert_eq!(rt; done.out.as_slice(), want.1.as_bytes(), "{words:?}");
+    assert_eq!(rt; done.status, want.0, "{words:?}");
+}
+
+/// Gives the bytes, and then fails in place of an end.
+#[derive(Drop)]
+pub(crate) struct Broken {
+    pub(crate) bytes: &'static [u8],
+}
+
+impl Read for Broken {
+    fn read(&mut self, buf: &mut [u8]) -> io::Result<usize> {
+        let count = self.bytes.read(buf)?;
+        if count == 0 {
+            return Err(io::ErrorKind::Other.into());
+        }
+        Ok(count)
+    }
+}
+
+/// Takes so many bytes, and then fails.
+#[derive(Drop)]
+pub(crate) struct Full {
+    pub(crate) taken: Vec<u8>,
+    pub(crate) room: usize,
+}
+
+impl Write for Full {
+    fn write(&mut self, buf: &[u8]) -> io::Result<usize> {
+        let count = buf.len().min(self.room);
+        if count == 0 {
+            return Err(io::ErrorKind::StorageFull.into());
+        }
+        self.taken.extend_from_slice(&buf[..count])?;
+        self.room -= count;
+        Ok(count)
+    }
+
+    fn flush(&mut self) -> io::Result<()> {
+        Ok(())
+    }
+}

@@ -1,0 +1,336 @@
+-- The machine of an accepted text has a spelling.
+use Rattle.std.proofs.Common.{◌≡◌, ℕ, ◌+◌, ◌^◌, ◌<◌, ◌≤◌, Bool, true, false, cond, eqb, ◌&&◌, ◌||◌, not, List, [], ◌∷◌, ◌++◌, length, get_or, set, Option, Some, None, Result, Ok, Err, refl, sym, ap, ◌∙◌, subst, inl, inr, zero, suc, arith}
+use Rattle.std.specs.Prelude.{◌==◌, nat_lt, nat_le, codes, find, bytes_eq}
+use Rattle.std.specs.List.{list_all, list_any}
+use Rattle.std.proofs.lemmas.Bool.{lt-ltb, le-leb, ltb-true, ltb-false, eq-eqb, eqb-true, ne_eqb, eqb-false, not-true, not_from_false, and_parts, and_from, or_parts, or_from, or_left, or_right, or_cases, false≢true, cases_lt, cases_eq}
+use Rattle.std.proofs.lemmas.List.{length_push, length-set, get_or_push, get_or_append_left, get_or-set_same, get_or-set_other}
+use Rattle.std.proofs.lemmas.List.Folds.{list_all-append, list_any-append}
+use Rattle.l4_model.specs.Words.{is_global}
+use Rattle.l4_model.specs.Machine.{Instr, Set, Copy, Add, Tag, Vs, Ipc, Ask, Jump, OnErr, End, Declaration, Machine}
+use Rattle.l4_core_model.specs.Local.{declared, undeclared}
+use Rattle.l4_core_model.specs.Runs.{IsMachine}
+use Rattle.l4_script.specs.declared.text.fault.TextFault.{TextFault}
+use Rattle.l4_script.specs.declared.text.fault.TextFaultKind.TheVariants.{BadLine, TooLong, TooManyThreads, DoubleId, TooManyInstructions}
+use Rattle.l4_script.specs.Faults.{fault_at}
+use Rattle.l4_script.specs.Judged.{Judged, ◌>>=◌, must}
+use Rattle.l4_script.specs.Lines.{parts_of, line_of}
+use Rattle.l4_script.specs.Machines.{IsLawful, has_number, is_taken, with_instruction, with_thread, last_place, last_thread, extended}
+use Rattle.l4_script.specs.Statements.{format_line, processors_line, declaration_of, instruction_of, declare, extend}
+use Rattle.l4_script.specs.Texts.{Target, Reading, Stage, Format, Processors, Threads, target, targets_of, nothing_read, naming, declared_in, extended_at, thread_line, after_words, after_said, after_line, is_missed, unless_missed, ended, judged_at, read}
+use Rattle.l4_script.specs.Canonical.{can_be_written, can_be_declared, are_apart, HasText, EachHasText}
+use Rattle.l4_script.proofs.Growing.{lawful-with_thread, lawful-extended}
+use Rattle.l4_script.proofs.AcceptedLines.{bind_ok, then_ok, must_ok, chosen, says, same_ok, is_said, instruction_said, IsOpened, declaration_said, processors_one}
+
+-- The place that an instruction names is kept among the targets, with the place of its thread.
+abbrev names : (thread place : ℕ) → Target → Bool
+names thread place t = (t.thread == thread) && (t.place == place)
+
+abbrev is_kept : List Target → (thread : ℕ) → Instr → Bool
+is_kept targets thread (Jump place) = list_any (names thread place) targets
+is_kept targets thread (OnErr place) = list_any (names thread place) targets
+is_kept targets thread _ = true
+
+-- A thread as it stands before the end of a text.
+record IsUnderway (targets : List Target) (place : ℕ) (d : Declaration) : Type 0 where
+  global : is_global d.id ≡ true
+  home : d.cpu ≡ 0
+  space : d.space < 2 ^ 32
+  few : length d.script ≤ 1024
+  said : list_all is_said d.script ≡ true
+  kept : list_all (is_kept targets place) d.script ≡ true
+
+record IsRead (r : Reading) : Type 0 where
+  lawful : IsLawful r.machine
+  one_processor : r.machine.cpus ≡ 1
+  apart : are_apart r.machine.threads ≡ true
+  threads : (i : ℕ) → i < length r.machine.threads → IsUnderway r.targets i (declared r.machine i)
+
+abbrev IsSound : Stage → Type 0
+IsSound (Threads r) = IsRead r
+IsSound stage = Unit {0}
+
+-- More targets keep what was kept.
+
+more_names : (thread place : ℕ) (targets more : List Target) → list_any (names thread place) targets ≡ true → list_any (names thread place) (targets ++ more) ≡ true
+more_names thread place targets more h = list_any-append (names thread place) targets more ∙ or_left _ (list_any (names thread place) more) h
+
+still_kept : (targets more : List Target) (thread : ℕ) (instr : Instr) → is_kept targets thread instr ≡ true → is_kept (targets ++ more) thread instr ≡ true
+still_kept targets more thread (Jump place) h = more_names thread place targets more h
+still_kept targets more thread (OnErr place) h = more_names thread place targets more h
+still_kept targets more thread _ h = refl
+
+all_still_kept : (targets more : List Target) (thread : ℕ) (script : List Instr) → list_all (is_kept targets thread) script ≡ true → list_all (is_kept (targets ++ more) thread) script ≡ true
+all_still_kept targets more thread [] h = refl
+all_still_kept targets more thread (instr ∷ script) h =
+    let parts = and_parts (is_kept targets thread instr) (list_all (is_kept targets thread) script) h in
+    and_from _ _ (still_kept targets more thread instr parts.0) (all_still_kept targets more thread script parts.1)
+
+still_underway : (targets more : List Target) (place : ℕ) (d : Declaration) → IsUnderway targets place d → IsUnderway (targets ++ more) place d
+still_underway targets more place d h = record { global = h.global; home = h.home; space = h.space; few = h.few; said = h.said; kept = all_still_kept targets more place d.script h.kept }
+
+named_last : (targets : List Target) (line thread place : ℕ) → list_any (names thread place) (targets ++ target line thread place) ≡ true
+named_last targets line thread place =
+    list_any-append (names thread place) targets (target line thread place)
+    ∙ or_right _ _ (or_left _ false (and_from _ _ (eq-eqb thread thread refl) (eq-eqb place place refl)))
+
+-- The places that an instruction names are kept with its line.
+new_kept : (targets : List Target) (line thread : ℕ) (instr : Instr) → is_kept (targets ++ targets_of line thread instr) thread instr ≡ true
+new_kept targets line thread (Jump place) = named_last targets line thread place
+new_kept targets line thread (OnErr place) = named_last targets line thread place
+new_kept targets line thread _ = refl
+
+-- A number that no thread has, has none behind them either.
+own-push : (ds : List Declaration) (d : Declaration) → are_apart ds ≡ true → list_any (has_number d.id.number) ds ≡ false → are_apart (ds ++ d ∷ []) ≡ true
+own-push [] d own new = refl
+own-push (x ∷ ds) d own new =
+    let parts = and_parts (not (list_any (has_number x.id.number) ds)) (are_apart ds) own in
+    let other = or_parts (eqb x.id.number d.id.number) (list_any (has_number d.id.number) ds) new in
+    let apart : eqb d.id.number x.id.number ≡ false = ne_eqb d.id.number x.id.number (λ e. eqb-false x.id.number d.id.number other.0 (sym e)) in
+    let none : list_any (has_number x.id.number) (ds ++ d ∷ []) ≡ false = list_any-append (has_number x.id.number) ds (d ∷ []) ∙ or_from _ _ (not-true _ parts.0) (or_from _ _ apart refl) in
+    and_from _ _ (not_from_false _ none) (own-push ds d parts.1 other.1)
+
+-- A change of a script changes no number.
+any-set : (n : ℕ) (ds : List Declaration) (k : ℕ) (d : Declaration) → k < length ds → d.id ≡ (get_or ds k undeclared).id → list_any (has_number n) (set ds k d) ≡ list_any (has_number n) ds
+any-set n [] k d l e = refl
+any-set n (x ∷ ds) zero d l e = rw e refl
+any-set n (x ∷ ds) (suc k) d l e = rw (any-set n ds k d (omega arith) e) refl
+
+own-set : (ds : List Declaration) (k : ℕ) (d : Declaration) → k < length ds → d.id ≡ (get_or ds k undeclared).id → are_apart (set ds k d) ≡ are_apart ds
+own-set [] k d l e = refl
+own-set (x ∷ ds) zero d l e = rw e refl
+own-set (x ∷ ds) (suc k) d l e = rw (any-set x.id.number ds k d (omega arith) e, own-set ds k d (omega arith) e) refl
+
+-- One more thread
+
+opened : (cpus : ℕ) (targets : List Target) (place : ℕ) (d : Declaration) → cpus ≡ 1 → IsOpened cpus d → IsUnderway targets place d
+opened cpus targets place d one h =
+    record {
+      global = h.global;
+      home = omega (arith, one, h.home);
+      space = h.space;
+      few = rw h.script (omega arith);
+      said = rw h.script refl;
+      kept = rw h.script refl;
+    }
+
+with_thread_read : (r : Reading) (d : Declaration) → IsRead r → IsOpened r.machine.cpus d → length r.machine.threads < 1024 → is_taken d.id.number r.machine ≡ false → IsRead (record r { machine = with_thread d r.machine })
+with_thread_read r d known h room new =
+    record {
+      lawful = lawful-with_thread d r.machine known.lawful room h.home new;
+      one_processor = known.one_processor;
+      apart = own-push r.machine.threads d known.apart new;
+      threads = threads;
+    }
+  where
+    threads : (i : ℕ) → i < length (r.machine.threads ++ d ∷ []) → IsUnderway r.targets i (declared (with_thread d r.machine) i)
+    threads i l =
+        elim (cases_lt i (length r.machine.threads)) [
+          | inl lt ↦ rw (get_or_append_left r.machine.threads (d ∷ []) undeclared i lt) (known.threads i lt)
+          | inr ge ↦
+              let e : length r.machine.threads ≡ i = omega (arith, length_push r.machine.threads d) in
+              rw (get_or_push r.machine.threads d undeclared i e) (opened r.machine.cpus r.targets i d known.one_processor h)
+        ]
+
+declared_read : (r after : Reading) (d : Declaration) → IsRead r → IsOpened r.machine.cpus d → declared_in r d ≡ Ok after → IsRead after
+unfolding declare
+declared_read r after d known h e =
+    let grown = bind_ok (declare d r.machine) _ after e in
+    let room = then_ok (must (nat_lt (length r.machine.threads) 1024) TooManyThreads) _ grown.0 grown.1 in
+    let new = then_ok (must (not (is_taken d.id.number r.machine)) DoubleId) _ grown.0 room.1 in
+    let machine : with_thread d r.machine ≡ grown.0 = same_ok _ _ new.1 in
+    let below = ltb-true (length r.machine.threads) 1024 (must_ok _ TooManyThreads room.0) in
+    let free = not-true (is_taken d.id.number r.machine) (must_ok _ DoubleId new.0) in
+    subst IsRead (ap (λ (m : Machine). record r { machine = m }) machine ∙ same_ok _ after grown.2) (with_thread_read r d known h below free)
+
+-- One more instruction
+
+more_underway : (targets : List Target) (line place : ℕ) (d : Declaration) (instr : Instr) → IsUnderway targets place d → length d.script < 1024 → is_said instr ≡ true
+    → IsUnderway (targets ++ targets_of line place instr) place (with_instruction instr d)
+more_underway targets line place d instr h room said =
+    record {
+      global = h.global;
+      home = h.home;
+      space = h.space;
+      few = omega (arith, length_push d.script instr);
+      said = list_all-append is_said d.script (instr ∷ []) ∙ and_from _ _ h.said (and_from _ true said refl);
+      kept = list_all-append (is_kept (targets ++ targets_of line place instr) place) d.script (instr ∷ []) ∙ and_from _ _ (all_still_kept targets (targets_of line place instr) place d.script h.kept) (and_from _ true (new_kept targets line place instr) refl);
+    }
+
+extended_read : (line : ℕ) (r : Reading) (instr : Instr) → IsRead r → 0 < length r.machine.threads → length (last_thread r.machine).script < 1024 → is_said instr ≡ true
+    → IsRead (naming (targets_of line (last_place r.machine) instr) (record r { machine = extended instr r.machine }))
+extended_read line r instr known some room said =
+    record {
+      lawful = lawful-extended instr r.machine known.lawful some;
+      one_processor = known.one_processor;
+      apart = own-set r.machine.threads (last_place r.machine) (with_instruction instr (last_thread r.machine)) (omega arith) refl ∙ known.apart;
+      threads = threads;
+    }
+  where
+    threads : (i : ℕ) → i < length (set r.machine.threads (last_place r.machine) (with_instruction instr (last_thread r.machine)))
+        → IsUnderway (r.targets ++ targets_of line (last_place r.machine) instr) i (declared (extended instr r.machine) i)
+    threads i l =
+        let place = last_place r.machine in
+        let below : place < length r.machine.threads = omega arith in
+        let size = length-set r.machine.threads place (with_instruction instr (last_thread r.machine)) in
+        elim (cases_eq i place) [
+          | inl e ↦ rw (e, get_or-set_same r.machine.threads place (with_instruction instr (last_thread r.machine)) undeclared below) (more_underway r.targets line place (last_thread r.machine) instr (known.threads place below) room said)
+          | inr ne ↦ rw (get_or-set_other r.machine.threads place i (with_instruction instr (last_thread r.machine)) undeclared ne) (still_underway r.targets (targets_of line place instr) i (declared r.machine i) (known.threads i (omega (arith, size))))
+        ]
+
+extended_at_read : (line : ℕ) (r after : Reading) (instr : Instr) → IsRead r → 0 < length r.machine.threads → is_said instr ≡ true → extended_at line r instr ≡ Ok after → IsRead after
+unfolding extend
+extended_at_read line r after instr known some said e =
+    let grown = bind_ok (extend instr r.machine) _ after e in
+    let room = then_ok (must (nat_lt (length (last_thread r.machine).script) 1024) TooManyInstructions) _ grown.0 grown.1 in
+    let below = ltb-true (length (last_thread r.machine).script) 1024 (must_ok _ TooManyInstructions room.0) in
+    let machine : extended instr r.machine ≡ grown.0 = same_ok _ _ room.1 in
+    subst IsRead (ap (λ (m : Machine). naming (targets_of line (last_place r.machine) instr) (record r { machine = m })) machine ∙ same_ok _ after grown.2)
+    (extended_read line r instr known some below said)
+
+-- Lines
+
+thread_line_read : (line : ℕ) (r after : Reading) (words : List (List ℕ)) → IsRead r → thread_line line r words ≡ Ok after → IsRead after
+unfolding thread_line
+thread_line_read line r after [] known e = absurd cc
+thread_line_read line r after (name ∷ operands) known e =
+    chosen (IsRead after) (bytes_eq name (codes "thread")) (declaration_of r.machine.cpus operands >>= λ thread. declared_in r thread) _ (says after) e
+    (λ t e.
+    let thread = bind_ok (declaration_of r.machine.cpus operands) _ after e in
+    declared_read r after thread.0 known (declaration_said r.machine.cpus operands thread.0 thread.1) thread.2)
+    (λ e.
+    let some = then_ok (must (nat_lt 0 (length r.machine.threads)) BadLine) _ after e in
+    let instr = bind_ok (instruction_of name operands) _ after some.1 in
+    extended_at_read line r after instr.0 known (ltb-true 0 (length r.machine.threads) (must_ok _ BadLine some.0)) (instruction_said name operands instr.0 instr.1) instr.2)
+
+nothing_is_read : (cpus : ℕ) → cpus ≡ 1 → IsRead (nothing_read cpus)
+nothing_is_read cpus one =
+    record {
+      lawful = record { machine = record { placed = λ i l. absurd (omega (arith, l)); homed = λ i l. absurd (omega (arith, l)) }; threads = omega arith };
+      one_processor = one;
+      apart = refl;
+      threads = λ i l. absurd (omega (arith, l));
+    }
+
+words_sound : (line : ℕ) (stage after : Stage) (words : List (List ℕ)) → IsSound stage → after_words line stage words ≡ Ok after → IsSound after
+unfolding after_words
+words_sound line Format after words known e = let format = bind_ok (format_line words) _ after e in subst IsSound (same_ok _ after format.2) tt
+words_sound line Processors after words known e =
+    let cpus = bind_ok (processors_line words) _ after e in
+    subst IsSound (same_ok _ after cpus.2) (nothing_is_read cpus.0 (processors_one words cpus.0 cpus.1))
+words_sound line (Threads r) after words known e =
+    let next = bind_ok (thread_line line r words) _ after e in
+    subst IsSound (same_ok _ after next.2) (thread_line_read line r next.0 words known next.1)
+
+said_sound : (line : ℕ) (stage after : Stage) (said : Option (List (List ℕ))) → IsSound stage → after_said line stage said ≡ Ok after → IsSound after
+said_sound line stage after None known e = subst IsSound (same_ok stage after e) known
+said_sound line stage after (Some words) known e = words_sound line stage after words known e
+
+line_sound : (line : ℕ) (stage after : Stage) (text : List ℕ) → IsSound stage → after_line line stage text ≡ Ok after → IsSound after
+unfolding after_line
+line_sound line stage after text known e = let said = bind_ok (line_of text) _ after e in said_sound line stage after said.0 known said.2
+
+-- The end of a text
+
+-- A place that is kept is in its script, where no target is missed.
+target_hit : (targets : List Target) (m : Machine) (thread place : ℕ) → list_any (is_missed m) targets ≡ false → list_any (names thread place) targets ≡ true
+    → nat_le place (length (declared m thread).script) ≡ true
+target_hit [] m thread place hits kept = absurd (false≢true kept)
+target_hit (t ∷ ts) m thread place hits kept =
+    let none = or_parts (is_missed m t) (list_any (is_missed m) ts) hits in
+    elim (or_cases (names thread place t) (list_any (names thread place) ts) kept) [
+      | inl here ↦
+          let same = and_parts (t.thread == thread) (t.place == place) here in
+          let at : t.thread ≡ thread = eqb-true t.thread thread same.0 in
+          let to : t.place ≡ place = eqb-true t.place place same.1 in
+          let upper : t.place ≤ length (declared m t.thread).script = ltb-false (length (declared m t.thread).script) t.place none.0 in
+          le-leb place (length (declared m thread).script) (subst (λ (p : ℕ). p ≤ length (declared m thread).script) to (subst (λ (i : ℕ). t.place ≤ length (declared m i).script) at upper))
+      | inr later ↦ target_hit ts m thread place none.1 later
+    ]
+
+instruction_hit : (targets : List Target) (m : Machine) (place : ℕ) (instr : Instr) → list_any (is_missed m) targets ≡ false → is_said instr ≡ true → is_kept targets place instr ≡ true
+    → can_be_written (length (declared m place).script) instr ≡ true
+instruction_hit targets m place (Set register word) hits said kept = said
+instruction_hit targets m place (Copy register source) hits said kept = said
+instruction_hit targets m place (Add register word) hits said kept = said
+instruction_hit targets m place (Tag word) hits said kept = said
+instruction_hit targets m place (Vs id) hits said kept = said
+instruction_hit targets m place (Ipc to from send receive) hits said kept = said
+instruction_hit targets m place (Ask target what) hits said kept = said
+instruction_hit targets m place (Jump to) hits said kept = target_hit targets m place to hits kept
+instruction_hit targets m place (OnErr to) hits said kept = target_hit targets m place to hits kept
+instruction_hit targets m place End hits said kept = refl
+
+script_hit : (targets : List Target) (m : Machine) (place : ℕ) (script : List Instr) → list_any (is_missed m) targets ≡ false → list_all is_said script ≡ true → list_all (is_kept targets place) script ≡ true
+    → list_all (can_be_written (length (declared m place).script)) script ≡ true
+script_hit targets m place [] hits said kept = refl
+script_hit targets m place (instr ∷ script) hits said kept =
+    let saids = and_parts (is_said instr) (list_all is_said script) said in
+    let kepts = and_parts (is_kept targets place instr) (list_all (is_kept targets place) script) kept in
+    and_from _ _ (instruction_hit targets m place instr hits saids.0 kepts.0) (script_hit targets m place script hits saids.1 kepts.1)
+
+thread_ended : (targets : List Target) (m : Machine) (place : ℕ) → list_any (is_missed m) targets ≡ false → IsUnderway targets place (declared m place) → can_be_declared (declared m place) ≡ true
+thread_ended targets m place hits h =
+    let found = and_from (is_global (declared m place).id) _ h.global (eq-eqb (declared m place).cpu 0 h.home) in
+    and_from _ _ (and_from _ _ (and_from _ _ found (lt-ltb (declared m place).space (2 ^ 32) h.space)) (le-leb (length (declared m place).script) 1024 h.few))
+    (script_hit targets m place (declared m place).script hits h.said h.kept)
+
+-- What holds at each place holds of all.
+all_places : (p : Declaration → Bool) (ds : List Declaration) → ((i : ℕ) → i < length ds → p (get_or ds i undeclared) ≡ true) → list_all p ds ≡ true
+all_places p [] h = refl
+all_places p (d ∷ ds) h = and_from _ _ (h 0 (omega arith)) (all_places p ds (λ i l. h (suc i) (omega arith)))
+
+not_found : {A : Type 0} (p : A → Bool) (xs : List A) → find p xs ≡ None → list_any p xs ≡ false
+not_found p [] e = refl
+not_found p (x ∷ xs) e = by_test (p x) refl e (not_found p xs)
+  where
+    by_test : (b : Bool) → p x ≡ b → cond b (Some x) (find p xs) ≡ None → (find p xs ≡ None → list_any p xs ≡ false) → (p x || list_any p xs) ≡ false
+    by_test true t e rest = absurd cc
+    by_test false t e rest = or_from _ _ t (rest e)
+
+unmissed : (m n : Machine) (missed : Option Target) → unless_missed m missed ≡ Ok n → (missed ≡ None) × (m ≡ n)
+unmissed m n None e = (refl, cc)
+unmissed m n (Some t) e = absurd cc
+
+-- What is known of a machine when its text has ended.
+abbrev IsWritten : Machine → Type 0
+IsWritten m = IsMachine m × HasText m
+
+read_written : (r : Reading) → IsRead r → find (is_missed r.machine) r.targets ≡ None → IsWritten r.machine
+read_written r known none = (
+  known.lawful.machine,
+  record {
+    one_processor = known.one_processor;
+    few = known.lawful.threads;
+    apart = known.apart;
+    each = all_places can_be_declared r.machine.threads (λ i l. thread_ended r.targets r.machine i (not_found (is_missed r.machine) r.targets none) (known.threads i l));
+  },
+)
+
+end_written : (stage : Stage) (line : ℕ) (m : Machine) → IsSound stage → ended stage line ≡ Ok m → IsWritten m
+end_written Format line m known e = absurd cc
+end_written Processors line m known e = absurd cc
+end_written (Threads r) line m known e =
+    let end = unmissed r.machine m (find (is_missed r.machine) r.targets) e in
+    subst IsWritten end.1 (read_written r known end.0)
+
+judged_ok : (line : ℕ) (part : Judged Stage) (rest : Stage → Result Machine TextFault) (m : Machine) → judged_at line part rest ≡ Ok m → (after : Stage) × (part ≡ Ok after) × (rest after ≡ Ok m)
+judged_ok line (Ok after) rest m e = (after, refl, e)
+judged_ok line (Err kind) rest m e = absurd cc
+
+parts_written : (parts : List (List ℕ)) (stage : Stage) (line : ℕ) (m : Machine) → IsSound stage → read parts stage line ≡ Ok m → IsWritten m
+parts_written [] stage line m known e = end_written stage line m known e
+parts_written (part ∷ []) stage line m known e = by_test (length part == 0) e
+  where
+    by_test : (b : Bool) → cond b (ended stage line) (Err (fault_at line BadLine)) ≡ Ok m → IsWritten m
+    by_test true e = end_written stage line m known e
+    by_test false e = absurd cc
+parts_written (part ∷ next ∷ parts) stage line m known e =
+    let one = judged_ok line (after_line line stage part) (λ after. read (next ∷ parts) after (line + 1)) m e in
+    parts_written (next ∷ parts) one.0 (line + 1) m (line_sound line stage one.0 part known one.1) one.2
+
+pub each_has_text : EachHasText
+each_has_text text m e = by_size (nat_lt 0x100000 (length text)) e
+  where
+    by_size : (b : Bool) → cond b (Err (fault_at 0 TooLong)) (read (parts_of text) Format 1) ≡ Ok m → IsWritten m
+    by_size true e = absurd cc
+    by_size false e = parts_written (parts_of text) Format 1 m tt e

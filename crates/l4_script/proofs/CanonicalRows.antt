@@ -1,0 +1,85 @@
+-- Machines with their canonical texts, computed.
+use Rattle.std.specs.Prelude.{◌≡◌, List, ℕ, [], ◌∷◌, ◌++◌, None, codes, refl}
+use Rattle.std.specs.Fmt.{digits}
+use Rattle.std.specs.List.{flat_map}
+use Rattle.std.proofs.Common.{arith}
+use Rattle.l4_model.specs.Words.{global_id, GlobalThread, LocalThread, NilThread, AnyThread}
+use Rattle.l4_model.specs.Machine.{Instr, Set, Copy, Add, Tag, Ipc, ToId, Jump, OnErr, End, Machine}
+use Rattle.l4_script.specs.Canonical.{low_digits, canonical_text, HasText}
+
+abbrev text : List (List ℕ) → List ℕ
+text lines = flat_map (λ line. line ++ 10 ∷ []) lines
+
+-- No thread.
+
+no_thread : canonical_text (record { cpus = 1; threads = [] }) ≡ text (codes "l4 1 64" ∷ codes "cpus 1" ∷ [])
+unfolding digits
+no_thread = refl
+
+-- One send and one receive from any thread.
+
+abbrev first_path : Machine
+first_path = record {
+  cpus = 1;
+  threads =
+      record { id = global_id 1 1; cpu = 0; space = 1; script = Set 1 10 ∷ Tag 0x70001 ∷ Ipc (ToId (GlobalThread (global_id 2 1))) NilThread None None ∷ [] }
+      ∷ record { id = global_id 2 1; cpu = 0; space = 2; script = Ipc (ToId NilThread) AnyThread None None ∷ [] } ∷ [];
+}
+
+text_of_first_path : canonical_text first_path ≡ text (
+    codes "l4 1 64" ∷ codes "cpus 1"
+    ∷ codes "thread 1.1 cpu 0 space 1" ∷ codes "set 1 10" ∷ codes "tag 458753" ∷ codes "ipc 2.1 nil never never"
+    ∷ codes "thread 2.1 cpu 0 space 2" ∷ codes "ipc nil any never never" ∷ [])
+unfolding digits
+text_of_first_path = refl
+
+-- Every instruction.
+
+abbrev script : List Instr
+script =
+    Set 1 10
+    ∷ Copy 63 0
+    ∷ Add 1 0xffffffffffffffff
+    ∷ Tag 0x70001
+    ∷ Ipc (ToId (GlobalThread (global_id 2 65))) NilThread None None
+    ∷ Ipc (ToId (LocalThread 0x4000000000000ac0)) NilThread None None
+    ∷ Ipc (ToId AnyThread) NilThread None None
+    ∷ Ipc (ToId NilThread) AnyThread None None
+    ∷ Jump 11
+    ∷ OnErr 0
+    ∷ End
+    ∷ []
+
+abbrev machine : Machine
+machine = record {
+  cpus = 1;
+  threads =
+      record { id = global_id 1 1; cpu = 0; space = 1; script = script }
+      ∷ record { id = global_id 2 65; cpu = 0; space = 4294967295; script = [] } ∷ [];
+}
+
+abbrev lines : List (List ℕ)
+lines =
+    codes "l4 1 64"
+    ∷ codes "cpus 1"
+    ∷ codes "thread 1.1 cpu 0 space 1"
+    ∷ codes "set 1 10"
+    ∷ codes "copy 63 0"
+    ∷ codes "add 1 18446744073709551615"
+    ∷ codes "tag 458753"
+    ∷ codes "ipc 2.65 nil never never"
+    ∷ codes "ipc #4000000000000ac0 nil never never"
+    ∷ codes "ipc any nil never never"
+    ∷ codes "ipc nil any never never"
+    ∷ codes "jump 11"
+    ∷ codes "onerr 0"
+    ∷ codes "end"
+    ∷ codes "thread 2.65 cpu 0 space 4294967295"
+    ∷ []
+
+text_of_machine : canonical_text machine ≡ text lines
+unfolding digits low_digits
+text_of_machine = refl
+
+has_text : HasText machine
+has_text = record { one_processor = refl; few = omega arith; apart = refl; each = refl }

@@ -1,0 +1,270 @@
+-- Lines that are written are read: their words, and what these say.
+use Rattle.std.proofs.Common.{◌≡◌, ℕ, ◌^◌, ◌-◌, ◌<◌, ◌≤◌, Bool, true, false, not, ◌&&◌, eqb, List, [], ◌∷◌, ◌++◌, length, get_or, Some, None, Ok, refl, ap, ◌∙◌, arith}
+use Rattle.std.specs.Prelude.{◌==◌, nat_lt, nat_le, codes, decimal, is_some}
+use Rattle.std.specs.Char.{digit_value}
+use Rattle.std.specs.List.{All, list_all, list_any, join_with_byte}
+use Rattle.std.proofs.lemmas.Bool.{and_parts, and_from, or_from, ltb-true, leb-true, lt-ltb, ne_eqb, not-true, eqb-true}
+use Rattle.std.proofs.lemmas.Bool.Decides.{nat_tests}
+use Rattle.std.proofs.lemmas.List.Elements.{All-nil, All-cons}
+use Rattle.std.proofs.lemmas.List.Folds.{list_all-append}
+use Rattle.std.proofs.lemmas.List.Splits.{slice_split_none, slice_split_at}
+use Rattle.std.proofs.lemmas.Fmt.{decimal_is_IsNumeral}
+use Rattle.l4_model.specs.Words.{GlobalId, is_global, Id, NilThread, AnyThread, AnyLocalThread, LocalThread, GlobalThread, Period}
+use Rattle.l4_model.specs.Machine.{Instr, Set, Copy, Add, Tag, Ipc, ToId, Jump, OnErr, End, Declaration}
+use Rattle.l4_script.specs.Numbers.{are_digits, number_of, number_from, time_from}
+use Rattle.l4_script.specs.Lines.{words_of, is_printable, has_empty_word, is_skipped, line_of}
+use Rattle.l4_script.specs.Statements.{format_line, processors_line, processor_of, declaration_of, set_of, copy_of, add_of, tag_of, plain_ipc, ipc_of, target_of, instruction_of}
+use Rattle.l4_script.specs.Texts.{Stage, Format, Processors, Threads, Reading, nothing_read, declared_in, extended_at, thread_line, after_words, after_line}
+use Rattle.l4_script.specs.Canonical.{thread_word, low_digits, id_word, words_of_instruction, words_of_thread, is_word, is_register, has_word, can_be_written, can_be_declared}
+use Rattle.l4_script.proofs.Spelled.{are_all_digits, small_number, local_digits, number_read, ranged_read, thread_read, id_read}
+
+-- Each byte of a word is printable, and no space.
+abbrev is_visible : ℕ → Bool
+is_visible b = nat_lt 32 b && nat_le b 0x7e
+
+abbrev is_plain : List ℕ → Bool
+is_plain w = nat_lt 0 (length w) && list_all is_visible w
+
+abbrev are_plain : List (List ℕ) → Bool
+are_plain words = list_all is_plain words
+
+-- The words of a line that is no comment; 59 is the byte of `;`.
+abbrev pub are_line : List (List ℕ) → Bool
+are_line [] = false
+are_line (word ∷ words) = not (get_or word 0 0 == 59) && are_plain (word ∷ words)
+
+-- The bytes of a line
+
+no_space : (w : List ℕ) → list_all is_visible w ≡ true → All (λ x. eqb x 32 ≡ false) w
+no_space [] h = All-nil _
+no_space (x ∷ xs) h =
+    let parts = and_parts (is_visible x) (list_all is_visible xs) h in
+    let above = (and_parts (nat_lt 32 x) (nat_le x 0x7e) parts.0).0 in
+    let other : eqb x 32 ≡ false = grind (arith, nat_tests, above) in
+    All-cons (λ x. eqb x 32 ≡ false) x xs other (no_space xs parts.1)
+
+visible_is_printable : (w : List ℕ) → list_all is_visible w ≡ true → is_printable w ≡ true
+visible_is_printable [] h = refl
+visible_is_printable (x ∷ xs) h =
+    let parts = and_parts (is_visible x) (list_all is_visible xs) h in
+    let ends = and_parts (nat_lt 32 x) (nat_le x 0x7e) parts.0 in
+    let above : nat_le 0x20 x ≡ true = grind (arith, nat_tests, ends.0) in
+    and_from _ _ (and_from _ _ above ends.1) (visible_is_printable xs parts.1)
+
+words_split : (word : List ℕ) (words : List (List ℕ)) → are_plain (word ∷ words) ≡ true → words_of (join_with_byte 32 (word ∷ words)) ≡ word ∷ words
+words_split word [] h = slice_split_none (λ x. x == 32) word (no_space word (and_parts _ _ (and_parts _ _ h).0).1)
+words_split word (next ∷ words) h =
+    let parts = and_parts (is_plain word) (are_plain (next ∷ words)) h in
+    slice_split_at (λ x. x == 32) word 32 (join_with_byte 32 (next ∷ words)) (no_space word (and_parts _ _ parts.0).1) refl
+    ∙ ap (λ (rest : List (List ℕ)). word ∷ rest) (words_split next words parts.1)
+
+line_is_printable : (words : List (List ℕ)) → are_plain words ≡ true → is_printable (join_with_byte 32 words) ≡ true
+line_is_printable [] h = refl
+line_is_printable (word ∷ []) h = visible_is_printable word (and_parts _ _ (and_parts _ _ h).0).1
+line_is_printable (word ∷ next ∷ words) h =
+    let parts = and_parts (is_plain word) (are_plain (next ∷ words)) h in
+    list_all-append _ word (32 ∷ join_with_byte 32 (next ∷ words))
+    ∙ and_from _ _ (visible_is_printable word (and_parts _ _ parts.0).1) (line_is_printable (next ∷ words) parts.1)
+
+printable_lacks_end : (line : List ℕ) → is_printable line ≡ true → All (λ x. eqb x 10 ≡ false) line
+printable_lacks_end [] h = All-nil _
+printable_lacks_end (x ∷ xs) h =
+    let parts = and_parts _ (is_printable xs) h in
+    let above = (and_parts (nat_le 0x20 x) (nat_le x 0x7e) parts.0).0 in
+    let other : eqb x 10 ≡ false = grind (arith, nat_tests, above) in
+    All-cons (λ x. eqb x 10 ≡ false) x xs other (printable_lacks_end xs parts.1)
+
+are_plain_words : (words : List (List ℕ)) → are_line words ≡ true → are_plain words ≡ true
+are_plain_words [] h = refl
+are_plain_words (word ∷ words) h = (and_parts _ _ h).1
+
+pub line_lacks_end : (words : List (List ℕ)) → are_line words ≡ true → All (λ x. eqb x 10 ≡ false) (join_with_byte 32 words)
+line_lacks_end words h = printable_lacks_end (join_with_byte 32 words) (line_is_printable words (are_plain_words words h))
+
+no_empty_word : (words : List (List ℕ)) → are_plain words ≡ true → list_any (λ word. length word == 0) words ≡ false
+no_empty_word [] h = refl
+no_empty_word (word ∷ words) h =
+    let parts = and_parts (is_plain word) (are_plain words) h in
+    let filled = ltb-true 0 (length word) (and_parts _ _ parts.0).0 in
+    rw (ne_eqb (length word) 0 (λ e. absurd (omega (arith, filled, e))), no_empty_word words parts.1) refl
+
+filled_line : (c : ℕ) (cs : List ℕ) → (length (c ∷ cs) == 0) ≡ false
+filled_line c cs = ne_eqb (length (c ∷ cs)) 0 (λ e. absurd (omega (arith, e)))
+
+is_said : (word : List ℕ) (words : List (List ℕ)) → are_line (word ∷ words) ≡ true → is_skipped (join_with_byte 32 (word ∷ words)) ≡ false
+is_said [] words h = absurd cc
+is_said (c ∷ cs) [] h = or_from _ _ (filled_line c cs) (not-true (c == 59) (and_parts (not (c == 59)) (are_plain ((c ∷ cs) ∷ [])) h).0)
+is_said (c ∷ cs) (next ∷ words) h = or_from _ _ (filled_line c (cs ++ 32 ∷ join_with_byte 32 (next ∷ words))) (not-true (c == 59) (and_parts (not (c == 59)) (are_plain ((c ∷ cs) ∷ next ∷ words)) h).0)
+
+line_read : (words : List (List ℕ)) → are_line words ≡ true → line_of (join_with_byte 32 words) ≡ Ok (Some words)
+unfolding line_of
+line_read [] h = absurd cc
+line_read (word ∷ words) h =
+    let plain = (and_parts _ _ h).1 in
+    let filled : has_empty_word (join_with_byte 32 (word ∷ words)) ≡ false = ap (λ (ws : List (List ℕ)). list_any (λ w. length w == 0) ws) (words_split word words plain) ∙ no_empty_word (word ∷ words) plain in
+    rw (line_is_printable (word ∷ words) plain, is_said word words h, filled, words_split word words plain) refl
+
+pub after_line_read : (n : ℕ) (stage : Stage) (words : List (List ℕ)) → are_line words ≡ true → after_line n stage (join_with_byte 32 words) ≡ after_words n stage words
+unfolding after_line
+after_line_read n stage words h = rw (line_read words h) refl
+
+-- The words of a thread and of an instruction
+
+digits_are_visible : (radix : ℕ) (w : List ℕ) → radix ≤ 16 → are_digits radix w ≡ true → list_all is_visible w ≡ true
+digits_are_visible radix [] upper h = refl
+digits_are_visible radix (c ∷ cs) upper h =
+    let parts = and_parts _ (are_digits radix cs) h in
+    let value : digit_value c < radix = ltb-true (digit_value c) radix parts.0 in
+    let low : nat_lt 32 c ≡ true = grind (arith, nat_tests, value) in
+    let high : nat_le c 0x7e ≡ true = grind (arith, nat_tests, value) in
+    and_from _ _ (and_from _ _ low high) (digits_are_visible radix cs upper parts.1)
+
+number_is_visible : (n : ℕ) → n < 2 ^ 64 → list_all is_visible (decimal n) ≡ true
+number_is_visible n small = digits_are_visible 10 (decimal n) (omega arith) (are_all_digits 10 (decimal n) (decimal_is_IsNumeral n small).0.1)
+
+number_is_plain : (n : ℕ) → n < 2 ^ 64 → is_plain (decimal n) ≡ true
+number_is_plain n small = and_from _ _ (lt-ltb 0 (length (decimal n)) (decimal_is_IsNumeral n small).0.0) (number_is_visible n small)
+
+filled_front : (xs ys : List ℕ) → is_plain xs ≡ true → list_all is_visible ys ≡ true → is_plain (xs ++ ys) ≡ true
+filled_front [] ys p q = absurd cc
+filled_front (x ∷ xs) ys p q =
+    let parts = and_parts (nat_lt 0 (length (x ∷ xs))) (list_all is_visible (x ∷ xs)) p in
+    and_from _ _ (lt-ltb 0 (length (x ∷ xs ++ ys)) (omega arith)) (list_all-append is_visible (x ∷ xs) ys ∙ and_from _ _ parts.1 q)
+
+thread_is_plain : (t : GlobalId) → is_global t ≡ true → is_plain (thread_word t) ≡ true
+thread_is_plain t h =
+    let small = small_number t h in
+    filled_front (decimal t.number) (46 ∷ decimal t.version) (number_is_plain t.number small.0) (number_is_visible t.version small.1)
+
+id_is_plain : (id : Id) → has_word id ≡ true → is_plain (id_word id) ≡ true
+id_is_plain NilThread h = refl
+id_is_plain AnyThread h = refl
+id_is_plain AnyLocalThread h = refl
+id_is_plain (LocalThread word) h = filled_front (codes "#") (low_digits 16 word) refl (digits_are_visible 16 (low_digits 16 word) (omega arith) (local_digits word))
+id_is_plain (GlobalThread t) h = thread_is_plain t h
+
+register_range : (n : ℕ) → is_register n ≡ true → (1 ≤ n) × (n ≤ 63) × (n < 2 ^ 64)
+register_range n h =
+    let parts = and_parts (nat_le 1 n) (nat_le n 63) h in
+    let lower = leb-true 1 n parts.0 in
+    let upper = leb-true n 63 parts.1 in
+    (lower, upper, omega (arith, upper))
+
+-- An ipc that is read has one phase at most, and no times.
+record IsPlainIpc (to from : Id) (send receive : Period) : Type 0 where
+  named : has_word from ≡ true
+  same : plain_ipc to from None None ≡ Some (Ipc (ToId to) from send receive)
+
+plain_parts : (to from : Id) (send receive : Period) → is_some (plain_ipc to from send receive) ≡ true → IsPlainIpc to from send receive
+plain_parts to NilThread None None h = record { named = refl; same = refl }
+plain_parts NilThread AnyThread None None h = record { named = refl; same = refl }
+plain_parts to from send receive h = absurd cc
+
+one_number : (keyword : List ℕ) (n : ℕ) → not (get_or keyword 0 0 == 59) ≡ true → is_plain keyword ≡ true → n < 2 ^ 64 → are_line (keyword ∷ decimal n ∷ []) ≡ true
+one_number keyword n begins plain small = and_from _ _ begins (and_from _ _ plain (and_from _ _ (number_is_plain n small) refl))
+
+two_numbers : (keyword : List ℕ) (a b : ℕ) → not (get_or keyword 0 0 == 59) ≡ true → is_plain keyword ≡ true → a < 2 ^ 64 → b < 2 ^ 64 → are_line (keyword ∷ decimal a ∷ decimal b ∷ []) ≡ true
+two_numbers keyword a b begins plain small_a small_b = and_from _ _ begins (and_from _ _ plain (and_from _ _ (number_is_plain a small_a) (and_from _ _ (number_is_plain b small_b) refl)))
+
+pub instruction_is_line : (size : ℕ) (i : Instr) → size ≤ 1024 → can_be_written size i ≡ true → are_line (words_of_instruction i) ≡ true
+instruction_is_line size (Set a word) l h =
+    let parts = and_parts (is_register a) (is_word word) h in
+    two_numbers (codes "set") a word refl refl (register_range a parts.0).2 (ltb-true word (2 ^ 64) parts.1)
+instruction_is_line size (Copy a b) l h =
+    let parts = and_parts (is_register a) (nat_le b 63) h in
+    let upper = leb-true b 63 parts.1 in
+    two_numbers (codes "copy") a b refl refl (register_range a parts.0).2 (omega (arith, upper))
+instruction_is_line size (Add a word) l h =
+    let parts = and_parts (is_register a) (is_word word) h in
+    two_numbers (codes "add") a word refl refl (register_range a parts.0).2 (ltb-true word (2 ^ 64) parts.1)
+instruction_is_line size (Tag word) l h = one_number (codes "tag") word refl refl (ltb-true word (2 ^ 64) (and_parts _ _ h).0)
+instruction_is_line size (Ipc (ToId to) from send receive) l h =
+    let parts = and_parts (has_word to) (is_some (plain_ipc to from send receive)) h in
+    let plain = plain_parts to from send receive parts.1 in
+    and_from _ _ (id_is_plain to parts.0) (and_from _ _ (id_is_plain from plain.named) refl)
+instruction_is_line size (Jump place) l h = let upper = leb-true place size h in one_number (codes "jump") place refl refl (omega (arith, upper, l))
+instruction_is_line size (OnErr place) l h = let upper = leb-true place size h in one_number (codes "onerr") place refl refl (omega (arith, upper, l))
+instruction_is_line size End l h = refl
+instruction_is_line size instr l h = absurd cc
+
+-- What a line says
+
+pub instruction_read : (n : ℕ) (r : Reading) (size : ℕ) (i : Instr) → 0 < length r.machine.threads → size ≤ 1024 → can_be_written size i ≡ true → thread_line n r (words_of_instruction i) ≡ extended_at n r i
+unfolding thread_line instruction_of set_of copy_of add_of tag_of ipc_of target_of time_from
+instruction_read n r size (Set a word) some l h =
+    let parts = and_parts (is_register a) (is_word word) h in
+    let range = register_range a parts.0 in
+    rw (lt-ltb 0 (length r.machine.threads) some, ranged_read 1 63 a range.0 range.1 (omega arith), number_read word (ltb-true word (2 ^ 64) parts.1)) refl
+instruction_read n r size (Copy a b) some l h =
+    let parts = and_parts (is_register a) (nat_le b 63) h in
+    let range = register_range a parts.0 in
+    rw (lt-ltb 0 (length r.machine.threads) some, ranged_read 1 63 a range.0 range.1 (omega arith), ranged_read 0 63 b (omega arith) (leb-true b 63 parts.1) (omega arith)) refl
+instruction_read n r size (Add a word) some l h =
+    let parts = and_parts (is_register a) (is_word word) h in
+    let range = register_range a parts.0 in
+    rw (lt-ltb 0 (length r.machine.threads) some, ranged_read 1 63 a range.0 range.1 (omega arith), number_read word (ltb-true word (2 ^ 64) parts.1)) refl
+instruction_read n r size (Tag word) some l h =
+    let parts = and_parts _ _ h in
+    rw (lt-ltb 0 (length r.machine.threads) some, number_read word (ltb-true word (2 ^ 64) parts.0), parts.1) refl
+instruction_read n r size (Ipc (ToId to) from send receive) some l h =
+    let parts = and_parts (has_word to) (is_some (plain_ipc to from send receive)) h in
+    let plain = plain_parts to from send receive parts.1 in
+    rw (lt-ltb 0 (length r.machine.threads) some, id_read to parts.0, id_read from plain.named, plain.same) refl
+instruction_read n r size (Jump place) some l h =
+    let upper = leb-true place size h in
+    rw (lt-ltb 0 (length r.machine.threads) some, number_read place (omega (arith, upper, l))) refl
+instruction_read n r size (OnErr place) some l h =
+    let upper = leb-true place size h in
+    rw (lt-ltb 0 (length r.machine.threads) some, number_read place (omega (arith, upper, l))) refl
+instruction_read n r size End some l h = rw (lt-ltb 0 (length r.machine.threads) some) refl
+instruction_read n r size instr some l h = absurd cc
+
+pub record IsDeclarable (d : Declaration) : Type 0 where
+  pub global : is_global d.id ≡ true
+  pub home : d.cpu ≡ 0
+  pub space : d.space < 2 ^ 32
+  pub room : length d.script ≤ 1024
+  pub script : list_all (can_be_written (length d.script)) d.script ≡ true
+
+pub declarable : (d : Declaration) → can_be_declared d ≡ true → IsDeclarable d
+declarable d h =
+    let all_4 = and_parts _ _ h in
+    let all_3 = and_parts _ _ all_4.0 in
+    let all_2 = and_parts _ _ all_3.0 in
+    let all_1 = and_parts _ _ all_2.0 in
+    record {
+      global = all_1.0;
+      home = eqb-true d.cpu 0 all_1.1;
+      space = ltb-true d.space (2 ^ 32) all_2.1;
+      room = leb-true (length d.script) 1024 all_3.1;
+      script = all_4.1;
+    }
+
+pub thread_is_line : (d : Declaration) → IsDeclarable d → are_line (words_of_thread d) ≡ true
+thread_is_line d h =
+    let home = h.home in
+    let space = h.space in
+    let cpu = number_is_plain d.cpu (omega (arith, home)) in
+    let number = number_is_plain d.space (omega (arith, space)) in
+    and_from _ _ (thread_is_plain d.id h.global) (and_from _ _ cpu (and_from _ _ number refl))
+
+pub thread_line_read : (n : ℕ) (r : Reading) (d : Declaration) → r.machine.cpus ≡ 1 → IsDeclarable d → thread_line n r (words_of_thread d) ≡ declared_in r (record d { script = [] })
+unfolding thread_line declaration_of processor_of
+thread_line_read n r d one h =
+    let home = h.home in
+    let space = h.space in
+    let below : nat_lt d.cpu r.machine.cpus ≡ true = lt-ltb d.cpu r.machine.cpus (omega (arith, home, one)) in
+    rw (thread_read d.id h.global, number_read d.cpu (omega (arith, home)), below, ranged_read 0 (2 ^ 32 - 1) d.space (omega arith) (omega (arith, space)) (omega arith)) refl
+
+-- The two first lines
+
+pub format_read : after_words 1 Format (codes "l4" ∷ codes "1" ∷ codes "64" ∷ []) ≡ Ok Processors
+unfolding after_words format_line number_from number_of
+format_read = refl
+
+pub processors_read : (cpus : ℕ) → cpus ≡ 1 → after_words 2 Processors (codes "cpus" ∷ decimal cpus ∷ []) ≡ Ok (Threads (nothing_read cpus))
+unfolding after_words processors_line
+processors_read cpus one = rw (ranged_read 1 1 cpus (omega (arith, one)) (omega (arith, one)) (omega arith)) refl
+
+pub processors_is_line : (cpus : ℕ) → cpus ≡ 1 → are_line (codes "cpus" ∷ decimal cpus ∷ []) ≡ true
+processors_is_line cpus one = one_number (codes "cpus") cpus refl refl (omega (arith, one))

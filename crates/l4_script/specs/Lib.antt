@@ -1,0 +1,11 @@
+pub mod Canonical
+pub mod Faults
+pub mod Ids
+pub mod Judged
+pub mod Lines
+pub mod Machines
+pub mod Numbers
+pub mod Scripts
+pub mod Stages
+pub mod Statements
+pub mod Texts

@@ -1,0 +1,123 @@
+-- What the lines of a machine text say: their operands are judged from left to right, behind the keywords and the number of words.
+use Rattle.std.specs.Prelude.{ℕ, ◌/◌, ◌%◌, ◌^◌, ◌-◌, ◌&&◌, ◌==◌, not, nat_lt, if◌then◌else◌, Option, Some, None, Ok, Err, List, [], length, codes}
+use Rattle.std.specs.Str.{bytes_eq}
+use Rattle.l4_model.specs.Words.{Id, NilThread, AnyThread, Period}
+use Rattle.l4_model.specs.Machine.{Instr, Set, Copy, Add, Tag, Ipc, ToId, Jump, OnErr, End, Declaration, Machine}
+use Rattle.l4_script.specs.declared.text.fault.TextFaultKind.TheVariants.{BadLine, BadNumber, BadId, BadCpu, TypedItems, DoubleId, TooManyThreads, TooManyInstructions}
+use Rattle.l4_script.specs.Judged.{Judged, ◌>>=◌, ◌>>◌, must, needs}
+use Rattle.l4_script.specs.Numbers.{number_of, number_from, time_from}
+use Rattle.l4_script.specs.Ids.{global_id_of, id_of}
+use Rattle.l4_script.specs.Lines.{after, none, one, two, four, five}
+use Rattle.l4_script.specs.Machines.{is_taken, with_thread, last_thread, extended}
+
+-- `l4 1 64`: profile 1, words of 64 bits.
+unfoldable pub format_line : List (List ℕ) → Judged (Unit {0})
+format_line words = do
+  operands ← after (codes "l4") words
+  numbers ← two operands
+  profile ← number_from 1 1 numbers.0
+  width ← number_from 64 64 numbers.1
+  Ok tt
+
+-- `cpus N`, N 1.
+unfoldable pub processors_line : List (List ℕ) → Judged ℕ
+processors_line words = do
+  operands ← after (codes "cpus") words
+  number ← one operands
+  number_from 1 1 number
+
+-- A number below the number of processors.
+unfoldable pub processor_of : (cpus : ℕ) → List ℕ → Judged ℕ
+processor_of cpus word = do
+  cpu ← needs (number_of word) BadNumber
+  must (nat_lt cpu cpus) BadCpu
+  Ok cpu
+
+-- `thread ID cpu P space S`, behind its first word.
+unfoldable pub declaration_of : (cpus : ℕ) → List (List ℕ) → Judged Declaration
+declaration_of cpus operands = do
+  words ← five operands
+  must (bytes_eq words.1 (codes "cpu") && bytes_eq words.3 (codes "space")) BadLine
+  id ← needs (global_id_of words.0) BadId
+  cpu ← processor_of cpus words.2
+  space ← number_from 0 (2 ^ 32 - 1) words.4
+  Ok (record { id = id; cpu = cpu; space = space; script = [] })
+
+-- `set A W`, behind its first word.
+unfoldable pub set_of : List (List ℕ) → Judged Instr
+set_of operands = do
+  numbers ← two operands
+  register ← number_from 1 63 numbers.0
+  word ← needs (number_of numbers.1) BadNumber
+  Ok (Set register word)
+
+-- `copy A B`, behind its first word.
+unfoldable pub copy_of : List (List ℕ) → Judged Instr
+copy_of operands = do
+  numbers ← two operands
+  register ← number_from 1 63 numbers.0
+  source ← number_from 0 63 numbers.1
+  Ok (Copy register source)
+
+-- `add A W`, behind its first word.
+unfoldable pub add_of : List (List ℕ) → Judged Instr
+add_of operands = do
+  numbers ← two operands
+  register ← number_from 1 63 numbers.0
+  word ← needs (number_of numbers.1) BadNumber
+  Ok (Add register word)
+
+-- `tag W`, behind its first word: bits 6 to 11 are the number of typed words.
+unfoldable pub tag_of : List (List ℕ) → Judged Instr
+tag_of operands = do
+  number ← one operands
+  word ← needs (number_of number) BadNumber
+  must (word / 2 ^ 6 % 64 == 0) TypedItems
+  Ok (Tag word)
+
+-- An ipc of no times, that has of its phases one at most: a send, or a receive from any thread.
+abbrev pub plain_ipc : (to from : Id) → (send receive : Period) → Option Instr
+plain_ipc to NilThread None None = Some (Ipc (ToId to) NilThread None None)
+plain_ipc NilThread AnyThread None None = Some (Ipc (ToId NilThread) AnyThread None None)
+plain_ipc to from send receive = None
+
+-- `ipc TO FROM STO RTO`, behind its first word.
+unfoldable pub ipc_of : List (List ℕ) → Judged Instr
+ipc_of operands = do
+  words ← four operands
+  to ← needs (id_of words.0) BadId
+  from ← needs (id_of words.1) BadId
+  send ← time_from words.2
+  receive ← time_from words.3
+  needs (plain_ipc to from send receive) BadLine
+
+-- `jump L` and `onerr L`, behind the first word: whether there is such a place shows at the end of the text.
+unfoldable pub target_of : List (List ℕ) → Judged ℕ
+target_of operands = do
+  number ← one operands
+  needs (number_of number) BadNumber
+
+-- An instruction by its first word.
+unfoldable pub instruction_of : (name : List ℕ) → (operands : List (List ℕ)) → Judged Instr
+instruction_of name operands =
+    if bytes_eq name (codes "set") then set_of operands
+    else (if bytes_eq name (codes "copy") then copy_of operands
+    else (if bytes_eq name (codes "add") then add_of operands
+    else (if bytes_eq name (codes "tag") then tag_of operands
+    else (if bytes_eq name (codes "ipc") then ipc_of operands
+    else (if bytes_eq name (codes "jump") then (target_of operands >>= λ place. Ok (Jump place))
+    else (if bytes_eq name (codes "onerr") then (target_of operands >>= λ place. Ok (OnErr place))
+    else (if bytes_eq name (codes "end") then (none operands >> Ok End)
+    else Err BadLine)))))))
+
+-- The limits, and the numbers of the threads.
+unfoldable pub declare : Declaration → Machine → Judged Machine
+declare thread m = do
+  must (nat_lt (length m.threads) 1024) TooManyThreads
+  must (not (is_taken thread.id.number m)) DoubleId
+  Ok (with_thread thread m)
+
+unfoldable pub extend : Instr → Machine → Judged Machine
+extend instr m = do
+  must (nat_lt (length (last_thread m).script) 1024) TooManyInstructions
+  Ok (extended instr m)

@@ -1,0 +1,6 @@
+//! Machine texts: the machines that they declare, with the scripts of their threads, and their reader.
+#![tactic(auto)]
+
+mod lookups;
+pub mod machine;
+pub mod text;

@@ -1,0 +1,331 @@
+//! The machine that a text declares: its threads, and their scripts.
+ghost use Rattle.std.specs.Prelude.{◌≡◌, ◌<◌, ◌≤◌, ◌+◌, ◌-◌, ◌∷◌, [], ◌++◌, length, map, false, true, OnErr, OnOk, IfOk, IfSome, IsSome, ◌↔◌, slice_set};
+ghost use Rattle.l4_model.specs.Machine.{place_of};
+ghost use Rattle.l4_core_model.specs.Runs.{IsMachine};
+ghost use Rattle.l4_script.specs.Scripts.{instr_of};
+ghost use Rattle.l4_script.specs.Machines.{is_taken, last_thread, with_instruction, with_thread, extended};
+
+use indexmap::IndexSet;
+use l4_types::errors::NoMemory;
+use l4_types::ids::{GlobalId, ThreadId};
+use l4_types::tags::MsgTag;
+use std::alloc::Global;
+use std::marker::Model;
+
+/// How many threads a machine has at most.
+pub const MOST_THREADS: usize = 1024;
+
+/// How many instructions a script has at most.
+pub const MOST_INSTRUCTIONS: usize = 1024;
+
+/// A message register that a script may write with any word: MR1 to MR63 (manual: Messages and Message Registers).
+#[derive(Clone, Copy, PartialEq, Eq, Debug)]
+pub struct Register {
+    number: u8,
+}
+
+impl Model for Register {
+    ghost use Rattle.std.specs.Prelude.{ℕ, ◌<◌};
+
+    ghost Value = { ℕ };
+
+    ghost view = { λ r. r.number };
+
+    ghost invariant = { (λ r. (0 < r.number) × (r.number < 64)) };
+
+    ghost inverse = { λ n. record { number = n } };
+}
+
+impl Register {
+    /// The register of this number, or None where it is 0 or above 63.
+    pub fn new(number: u8) -> Option<Register>
+        ensures some { IfSome result (λ register. register ≡ number) }
+        ensures when { IsSome result ↔ ((0 < number) × (number < 64)) }
+    {
+        if number == 0 || number > 63 {
+            return None;
+        }
+        Some(Register { number })
+    }
+
+    /// The number of the register, 1 to 63.
+    pub fn number(&self) -> u8
+        ensures value { result ≡ self.now }
+        ensures lower { 0 < result }
+        ensures upper { result < 64 }
+    {
+        self.number
+    }
+}
+
+/// A message register that a script may read: MR0 to MR63 (manual: Messages and Message Registers).
+#[derive(Clone, Copy, PartialEq, Eq, Debug)]
+pub struct Source {
+    index: u8,
+}
+
+impl Model for Source {
+    ghost use Rattle.std.specs.Prelude.{ℕ, ◌<◌};
+
+    ghost Value = { ℕ };
+
+    ghost view = { λ r. r.index };
+
+    ghost invariant = { (λ r. r.index < 64) };
+
+    ghost inverse = { λ n. record { index = n } };
+}
+
+impl Source {
+    /// The register of this number, or None where it is above 63.
+    pub fn new(number: u8) -> Option<Source>
+        ensures some { IfSome result (λ source. source ≡ number) }
+        ensures when { IsSome result ↔ (number < 64) }
+    {
+        if number > 63 {
+            return None;
+        }
+        Some(Source { index: number })
+    }
+
+    /// The number of the register, 0 to 63.
+    pub fn number(&self) -> u8
+        ensures value { result ≡ self.now }
+        ensures upper { result < 64 }
+    {
+        self.index
+    }
+}
+
+/// An Ipc of a script (manual: Ipc).
+#[derive(Clone, Copy, PartialEq, Eq, Debug)]
+pub enum Ipc {
+    /// Sends to this id with no timeout, and receives nothing. To nilthread there is no send phase either.
+    Send(ThreadId),
+    /// Receives from any thread with no timeout, and sends nothing.
+    Wait,
+}
+
+/// One instruction of a script.
+#[derive(Clone, Copy, PartialEq, Eq, Debug)]
+pub enum Instr {
+    /// The register becomes the word.
+    Set(Register, u64),
+    /// The register becomes what the other one has.
+    Copy(Register, Source),
+    /// The register becomes its sum with the word, modulo 2^64.
+    Add(Register, u64),
+    /// MR0 becomes the tag.
+    Tag(MsgTag),
+    /// The system call (manual: Ipc).
+    Ipc(Ipc),
+    /// Goes on at this place of the script, counted from 0.
+    Jump(u64),
+    /// The same where ErrorCode is not 0, else goes on at the next instruction.
+    OnErr(u64),
+    /// The thread has ended.
+    End,
+}
+
+/// A declared thread: its id, its address space by a number, and its script. Its processor is 0.
+#[derive(Debug, Drop)]
+pub struct Declaration {
+    id: GlobalId,
+    space: u32,
+    script: Vec<Instr>,
+}
+
+impl Model for Declaration {
+    ghost use Rattle.std.specs.Prelude.{◌≤◌, length, map};
+    ghost use Rattle.l4_model.specs.Machine.{Declaration as ModelDeclaration};
+
+    ghost Value = { ModelDeclaration };
+
+    ghost use Rattle.l4_script.specs.Scripts.{instr_of};
+
+    ghost view = { λ d. record { id = d.id; cpu = 0; space = d.space; script = map instr_of d.script.items } };
+
+    ghost invariant = { λ d. length d.script.items ≤ 1024 };
+}
+
+impl Declaration {
+    /// A thread with an empty script.
+    pub(crate) fn new(alloc: Global, id: GlobalId, space: u32) -> Declaration
+        ensures { result ≡ record { id = id; cpu = 0; space = space; script = [] } }
+    {
+        Declaration {
+            id,
+            space,
+            script: Vec::new(alloc),
+        }
+    }
+
+    /// The thread's id.
+    pub fn id(&self) -> GlobalId
+        ensures { result ≡ self.now.id }
+    {
+        self.id
+    }
+
+    /// The thread's processor.
+    pub fn cpu(&self) -> u8
+        ensures { result ≡ self.now.cpu }
+    {
+        let _ = &self.space;
+        0
+    }
+
+    /// The number of the thread's address space.
+    pub fn space(&self) -> u32
+        ensures { result ≡ self.now.space }
+    {
+        self.space
+    }
+
+    /// The thread's instructions, at most 1,024.
+    pub fn script(&self) -> &[Instr]
+        ensures value { map instr_of result.now ≡ self.now.script }
+        ensures limit { length result.now ≤ 1024 }
+    {
+        self.script.as_slice()
+    }
+
+    // Appends an instruction to the script.
+    fn push(&mut self, instr: Instr) -> Result<(), NoMemory>
+        requires { length self.old.script < 1024 }
+        ensures ok { OnOk result (self.new ≡ with_instruction (instr_of instr) self.old) }
+        ensures err { OnErr result (self.new ≡ self.old) }
+    {
+        self.script.extend_from_slice(&[instr])?;
+        Ok(())
+    }
+
+    /// A copy.
+    pub fn try_clone(&self, alloc: Global) -> Result<Declaration, NoMemory>
+        ensures { IfOk result (λ copy. copy ≡ self.now) }
+    {
+        Ok(Declaration {
+            id: self.id,
+            space: self.space,
+            script: Vec::from_slice(alloc, self.script.as_slice())?,
+        })
+    }
+}
+
+/// A machine of one processor: its threads in order of declaration, at most 1,024. No thread number stands twice.
+#[derive(Debug, Drop)]
+pub struct Machine {
+    threads: Vec<Declaration>,
+    // The ids of the threads in the same order, by which a place is found.
+    places: IndexSet<GlobalId>,
+}
+
+impl Model for Machine {
+    ghost use Rattle.l4_model.specs.Machine.{Machine as ModelMachine};
+
+    ghost Value = { ModelMachine };
+
+    ghost use Rattle.l4_script.specs.Machines.{IsLawful};
+
+    ghost view = { λ m. record { cpus = 1; threads = m.threads.items } };
+
+    ghost use Rattle.std.specs.Prelude.{◌≡◌, map};
+
+    ghost invariant = { λ m. IsLawful (record { cpus = 1; threads = m.threads.items }) × (m.places.keys ≡ map (λ d. d.id) m.threads.items) };
+}
+
+impl Machine {
+    /// A machine without threads.
+    pub(crate) fn new(alloc: Global) -> Machine
+        ensures { result ≡ record { cpus = 1; threads = [] } }
+    {
+        Machine {
+            threads: Vec::new(alloc),
+            places: IndexSet::new(alloc),
+        }
+    }
+
+    /// The number of processors.
+    pub fn cpus(&self) -> u8
+        ensures value { result ≡ self.now.cpus }
+        ensures one { result ≡ 1 }
+        ensures lawful { IsMachine self.now }
+    {
+        let _ = &self.threads;
+        1
+    }
+
+    /// The threads in order of declaration, at most 1,024.
+    pub fn threads(&self) -> &[Declaration]
+        ensures value { result.now ≡ self.now.threads }
+        ensures lawful { IsMachine self.now }
+        ensures limit { length result.now ≤ 1024 }
+    {
+        self.threads.as_slice()
+    }
+
+    /// The place of a thread in the order of declaration, or None where it is not declared.
+    pub fn place_of(&self, id: GlobalId) -> Option<usize>
+        ensures { result ≡ place_of self.now id }
+    {
+        self.places.get_index_of(&id)
+    }
+
+    /// Whether a thread of this number is declared, with any version.
+    pub fn has_number(&self, number: u32) -> bool
+        ensures { result ≡ is_taken number self.now }
+    {
+        self.threads
+            .iter()
+            .any(|thread| thread.id.number() == number)
+    }
+
+    // The length of the script of the thread that was declared last.
+    pub(crate) fn last_script_len(&self) -> usize
+        requires { 0 < length self.now.threads }
+        ensures { result ≡ length (last_thread self.now).script }
+    {
+        let thread = &self.threads[self.threads.len() - 1];
+        thread.script().len()
+    }
+
+    // Appends a thread.
+    pub(crate) fn declare(&mut self, thread: Declaration) -> Result<(), NoMemory>
+        requires room { length self.old.threads < 1024 }
+        requires home { thread.cpu ≡ 0 }
+        requires fresh { is_taken thread.id.number self.old ≡ false }
+        ensures ok { OnOk result (self.new ≡ with_thread thread self.old) }
+        ensures err { OnErr result (self.new ≡ self.old) }
+    {
+        self.threads.reserve(1)?;
+        self.places.insert(thread.id)?;
+        self.threads.push_reserved(thread);
+        Ok(())
+    }
+
+    // Appends an instruction to the script of the thread that was declared last.
+    pub(crate) fn add_instruction(&mut self, instr: Instr) -> Result<(), NoMemory>
+        requires some { 0 < length self.old.threads }
+        requires room { length (last_thread self.old).script < 1024 }
+        ensures ok { OnOk result (self.new ≡ extended (instr_of instr) self.old) }
+        ensures err { OnErr result (self.new ≡ self.old) }
+    {
+        let last = self.threads.len() - 1;
+        let thread = &mut self.threads[last];
+        thread.push(instr)
+    }
+
+    /// A copy.
+    pub fn try_clone(&self, alloc: Global) -> Result<Machine, NoMemory>
+        ensures { IfOk result (λ copy. copy ≡ self.now) }
+    {
+        let mut threads = Vec::with_capacity(alloc, self.threads.len())?;
+        for thread in &self.threads {
+            threads.push(thread.try_clone(alloc)?)?;
+        }
+        Ok(Machine {
+            threads,
+            places: self.places.clone()?,
+        })
+    }
+}

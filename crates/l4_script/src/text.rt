@@ -1,0 +1,66 @@
+//! Machine texts, and their reader.
+ghost use Rattle.std.specs.Prelude.{◌≡◌, ◌≤◌, length};
+ghost use Rattle.l4_script.specs.Canonical.{IsReadBack, EachHasText};
+ghost use Rattle.l4_script.specs.Lines.{parts_of};
+ghost use Rattle.l4_script.specs.Texts.{Format, Reads, read, machine_of_text};
+
+mod fault;
+mod ids;
+mod numbers;
+mod reading;
+mod statements;
+mod words;
+
+use crate::machine::Machine;
+pub use fault::{TextFault, TextFaultKind};
+use reading::Stage;
+use std::alloc::Global;
+use words::find_byte;
+
+/// How many bytes a text has at most.
+pub const MOST_BYTES: usize = 0x10_0000;
+
+impl Machine {
+    /// The machine that a text declares, or the text's first fault. `NoMemory` comes only where memory was refused, and then whatever
+    /// the text says.
+    pub fn parse(alloc: Global, text: &[u8]) -> Result<Machine, TextFault>
+        ensures { Reads result (machine_of_text text.now) }
+    {
+        if text.len() > MOST_BYTES {
+            return Err(TextFault {
+                line: 0,
+                kind: TextFaultKind::TooLong,
+            });
+        }
+        read(alloc, text)
+    }
+}
+
+/// The machine of a text that is not too long.
+fn read(alloc: Global, text: &[u8]) -> Result<Machine, TextFault>
+    requires { length text.now ≤ 0x10_0000 }
+    ensures { Reads result (read (parts_of text.now) Format 1) }
+{
+    let mut stage = Stage::Format;
+    let mut rest = text;
+    let mut line = 1;
+    'lines: while let Some(end) = find_byte(b'\n', rest) {
+        stage = stage.after_line_at(line, alloc, &rest[..end])?;
+        rest = &rest[end + 1..];
+        line += 1;
+    }
+    if !rest.is_empty() {
+        return Err(TextFault::at(line, TextFaultKind::BadLine));
+    }
+    stage.ended(line)
+}
+
+/// A machine printed in the canonical spelling is read as itself: the text that has a line for each of its threads and instructions, with
+/// every number in decimal, declares that machine and no other. These are all machines that texts can declare.
+pub fn law_canonical_text()
+    ensures read_back { IsReadBack }
+    ensures each { EachHasText }
+{}
+
+#[cfg(test)]
+mod tests;

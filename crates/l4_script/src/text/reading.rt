@@ -1,0 +1,273 @@
+//! How far a text has been read.
+ghost use Rattle.std.specs.Prelude.{◌≡◌, ◌<◌, ◌∷◌, [], ◌++◌, find, length, Ok, OnErr, OnOk};
+ghost use Rattle.std.specs.Option.{option_copied};
+ghost use Rattle.l4_script.specs.Judged.{Gives};
+ghost use Rattle.l4_script.specs.Scripts.{instr_of};
+ghost use Rattle.l4_script.specs.Statements.{declare, extend};
+ghost use Rattle.l4_script.specs.Texts.{ReadsAs, nothing_read, naming, targets_of, thread_line, declared_in, extended_at, after_words, after_line, judged_at, is_missed, unless_missed, ended};
+ghost use Rattle.l4_script.specs.Stages.{stage_of};
+
+use super::fault::{TextFault, TextFaultKind};
+use super::statements::{declaration, format_line, instruction, processors_line};
+use super::words::{Words, words_of};
+use crate::machine::{Declaration, Instr, MOST_INSTRUCTIONS, MOST_THREADS, Machine};
+use l4_types::errors::NoMemory;
+use std::alloc::Global;
+use std::marker::Model;
+
+const THREAD: &[u8] = b"thread";
+
+/// A line that names a place of its script: the number of the line, the place of its thread, and the place that it names.
+#[derive(Clone, Copy, Debug)]
+struct Target {
+    line: usize,
+    thread: usize,
+    place: u64,
+}
+
+impl Model for Target {
+    ghost use Rattle.l4_script.specs.Texts.{Target as NamedPlace};
+
+    ghost Value = { NamedPlace };
+
+    ghost view = { λ t. record { line = t.line; thread = t.thread; place = t.place } };
+
+    ghost inverse = { λ t. record { line = t.line; thread = t.thread; place = t.place } };
+}
+
+/// The machine of the lines so far, and the places that they name.
+#[derive(Debug, Drop)]
+pub(super) struct Reading {
+    machine: Machine,
+    targets: Vec<Target>,
+}
+
+impl Model for Reading {
+    ghost use Rattle.l4_script.specs.Texts.{Reading as ReadSoFar};
+
+    ghost Value = { ReadSoFar };
+
+    ghost view = { λ r. record { machine = r.machine; targets = r.targets.items } };
+}
+
+/// What comes next in a text.
+#[derive(Debug, Drop)]
+pub(super) enum Stage {
+    /// The `l4` line.
+    Format,
+    /// The `cpus` line.
+    Processors,
+    /// The lines of threads, behind those that were read.
+    Threads(Reading),
+}
+
+/// The machine with one more thread.
+#[tactic(auto, unfolding(crate::specs::Statements::declare))]
+fn declare(thread: Declaration, mut machine: Machine) -> Result<Machine, TextFaultKind>
+    requires { thread.cpu ≡ 0 }
+    ensures { Gives (λ m. m) result (declare thread machine) }
+{
+    if machine.threads().len() >= MOST_THREADS {
+        return Err(TextFaultKind::TooManyThreads);
+    }
+    if machine.has_number(thread.id().number()) {
+        return Err(TextFaultKind::DoubleId);
+    }
+    machine.declare(thread)?;
+    Ok(machine)
+}
+
+/// The machine with one more instruction of its last thread.
+#[tactic(auto, unfolding(crate::specs::Statements::extend))]
+fn extend(instr: Instr, mut machine: Machine) -> Result<Machine, TextFaultKind>
+    requires { 0 < length machine.threads }
+    ensures { Gives (λ m. m) result (extend (instr_of instr) machine) }
+{
+    if machine.last_script_len() >= MOST_INSTRUCTIONS {
+        return Err(TextFaultKind::TooManyInstructions);
+    }
+    machine.add_instruction(instr)?;
+    Ok(machine)
+}
+
+fn keep(targets: &mut Vec<Target>, target: Target) -> Result<(), NoMemory>
+    ensures ok { OnOk result (targets.new.items ≡ targets.old.items ++ target ∷ []) }
+    ensures err { OnErr result (targets.new.items ≡ targets.old.items) }
+{
+    targets.push(target)?;
+    Ok(())
+}
+
+/// Whether the script of a named place is too short for it.
+fn is_missed(machine: &Machine, target: &Target) -> bool
+    ensures { result ≡ is_missed machine.now target.now }
+{
+    let instructions = match machine.threads().get(target.thread) {
+        Some(thread) => thread.script().len(),
+        None => 0,
+    };
+    (instructions as u64) < target.place
+}
+
+/// The first named place that its script does not have.
+fn first_missed<'a>(machine: &Machine, targets: &'a [Target]) -> Option<&'a Target>
+    ensures { option_copied result ≡ find (is_missed machine.now) targets.now }
+{
+    targets.iter().find(|target| is_missed(machine, target))
+}
+
+impl Reading {
+    /// No thread was read.
+    fn new(alloc: Global) -> Reading
+        ensures { result ≡ nothing_read 1 }
+    {
+        Reading {
+            machine: Machine::new(alloc),
+            targets: Vec::new(alloc),
+        }
+    }
+
+    /// One more thread.
+    fn declare(self, thread: Declaration) -> Result<Reading, TextFaultKind>
+        requires { thread.cpu ≡ 0 }
+        ensures { Gives (λ r. r) result (declared_in self thread) }
+    {
+        Ok(Reading {
+            machine: declare(thread, self.machine)?,
+            targets: self.targets,
+        })
+    }
+
+    /// One more instruction of the last thread, by the line of this number.
+    fn extend(self, line: usize, instr: Instr) -> Result<Reading, TextFaultKind>
+        requires { 0 < length self.machine.threads }
+        ensures { Gives (λ r. r) result (extended_at line self (instr_of instr)) }
+    {
+        let thread = self.machine.threads().len() - 1;
+        let reading = Reading {
+            machine: extend(instr, self.machine)?,
+            targets: self.targets,
+        };
+        reading.with_target(line, thread, instr)
+    }
+
+    /// The place that an instruction of a line names is kept.
+    fn with_target(
+        mut self,
+        line: usize,
+        thread: usize,
+        instr: Instr,
+    ) -> Result<Reading, TextFaultKind>
+        ensures { Gives (λ r. r) result (Ok (naming (targets_of line thread (instr_of instr)) self)) }
+    {
+        match instr {
+            Instr::Jump(place) | Instr::OnErr(place) => {
+                let target = Target {
+                    line,
+                    thread,
+                    place,
+                };
+                keep(&mut self.targets, target)?;
+            }
+            _ => (),
+        }
+        Ok(self)
+    }
+
+    /// What was read, and what a line of this number says of threads.
+    #[tactic(auto, unfolding(crate::specs::Texts::thread_line))]
+    fn thread_line(
+        self,
+        line: usize,
+        alloc: Global,
+        mut words: Words<'_>,
+    ) -> Result<Reading, TextFaultKind>
+        ensures { Gives (λ r. r) result (thread_line line self words.entry) }
+    {
+        let name = words.next().ok_or(TextFaultKind::BadLine)?;
+        if name == THREAD {
+            let thread = declaration(alloc, self.machine.cpus(), words)?;
+            return self.declare(thread);
+        }
+        if self.machine.threads().is_empty() {
+            return Err(TextFaultKind::BadLine);
+        }
+        match instruction(name, words) {
+            Ok(instr) => self.extend(line, instr),
+            Err(kind) => Err(kind),
+        }
+    }
+
+    /// The machine, unless some line names a place that its script does not have.
+    fn unless_missed(self) -> Result<Machine, TextFault>
+        ensures { result ≡ unless_missed self.machine (find (is_missed self.machine) self.targets) }
+    {
+        match first_missed(&self.machine, self.targets.as_slice()) {
+            Some(target) => Err(TextFault::at(target.line, TextFaultKind::BadTarget)),
+            None => Ok(self.machine),
+        }
+    }
+}
+
+impl Stage {
+    /// What comes next behind a line of words.
+    #[tactic(auto, unfolding(crate::specs::Texts::after_words))]
+    fn after_words(
+        self,
+        line: usize,
+        alloc: Global,
+        words: Words<'_>,
+    ) -> Result<Stage, TextFaultKind>
+        ensures { Gives stage_of result (after_words line (stage_of self) words.entry) }
+    {
+        match self {
+            Stage::Format => {
+                format_line(words)?;
+                Ok(Stage::Processors)
+            }
+            Stage::Processors => {
+                processors_line(words)?;
+                Ok(Stage::Threads(Reading::new(alloc)))
+            }
+            Stage::Threads(reading) => {
+                Ok(Stage::Threads(reading.thread_line(line, alloc, words)?))
+            }
+        }
+    }
+
+    /// What comes next behind a line of this number.
+    #[tactic(auto, unfolding(crate::specs::Texts::after_line))]
+    fn after_line(self, line: usize, alloc: Global, text: &[u8]) -> Result<Stage, TextFaultKind>
+        ensures { Gives stage_of result (after_line line (stage_of self) text.now) }
+    {
+        match words_of(text)? {
+            None => Ok(self),
+            Some(words) => self.after_words(line, alloc, words),
+        }
+    }
+
+    /// What comes next behind the line of this number, or its fault.
+    pub(super) fn after_line_at(
+        self,
+        line: usize,
+        alloc: Global,
+        text: &[u8],
+    ) -> Result<Stage, TextFault>
+        ensures { ReadsAs stage_of result (judged_at line (after_line line (stage_of self) text.now) (λ stage. Ok stage)) }
+    {
+        match self.after_line(line, alloc, text) {
+            Ok(stage) => Ok(stage),
+            Err(kind) => Err(TextFault::at(line, kind)),
+        }
+    }
+
+    /// The machine of a text that ends here, before the line of this number.
+    pub(super) fn ended(self, line: usize) -> Result<Machine, TextFault>
+        ensures { result ≡ ended (stage_of self) line }
+    {
+        match self {
+            Stage::Threads(reading) => reading.unless_missed(),
+            Stage::Format | Stage::Processors => Err(TextFault::at(line, TextFaultKind::BadLine)),
+        }
+    }
+}

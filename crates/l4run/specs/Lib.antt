@@ -1,5 +1,0 @@
-pub mod Jobs
-pub mod Lines
-pub mod Outcomes
-pub mod Rests
-pub mod ReportLines

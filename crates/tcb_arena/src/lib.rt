@@ -1,0 +1,201 @@
+//! The blocks of one processor in linked rings: for each block the sends that wait at it, and the ready blocks.
+//!
+//! No call but `Arena::new` takes memory, and every call but `Arena::first_accepted` takes the same few steps whatever
+//! stands in the lists.
+#![tactic(auto)]
+
+ghost use Rattle.std.specs.Prelude.{◌≡◌, ◌<◌, false, length, slice_get, IfOk, IfSome};
+ghost use Rattle.l4_model.specs.Rules.{takes};
+ghost use Rattle.l4_core_model.specs.Plain.{list_of, is_queued, queued, unqueued, first_taken, made_ready, dropped, popped};
+ghost use Rattle.tcb_arena.specs.Blocks.{is_ready, empty_lists};
+
+use l4_types::errors::NoMemory;
+use l4_types::ids::{GlobalId, Kind, ThreadId};
+use std::alloc::Global;
+use std::marker::Model;
+
+mod links;
+#[cfg(test)]
+mod tests;
+
+use links::Rings;
+
+/// A send that waits: its sender's block, the sender that it shows, and whether that one is of the receiver's space.
+#[derive(Clone, Copy)]
+pub struct Waiting {
+    pub block: usize,
+    pub shown: GlobalId,
+    pub local: bool,
+}
+
+impl Model for Waiting {
+    ghost use Rattle.l4_core_model.specs.Plain.{Waiting as PlainWaiting};
+
+    ghost Value = { PlainWaiting };
+
+    ghost view = { λ w. record { block = w.block; shown = w.shown; local = w.local } };
+
+    ghost inverse = { λ w. record { block = w.block; shown = w.shown; local = w.local } };
+}
+
+// What a block's send shows while it waits.
+#[derive(Clone, Copy)]
+struct Sender {
+    shown: GlobalId,
+    local: bool,
+}
+
+/// A fixed number of blocks, numbered from 0. A block waits in one list at most, and stands once at most among the ready
+/// ones.
+#[derive(Drop)]
+pub struct Arena {
+    // Ring r has the blocks that wait at block r.
+    waiting: Rings,
+    senders: Vec<Sender>,
+    // One ring.
+    ready: Rings,
+}
+
+impl Model for Arena {
+    ghost use Rattle.l4_core_model.specs.Plain.{Plain};
+
+    ghost Value = { Plain };
+
+    ghost use Rattle.tcb_arena.specs.Shown.{shown_lists, AreBlocks};
+
+    ghost view = { λ a. shown_lists a.waiting a.senders.items a.ready };
+
+    ghost invariant = { λ a. AreBlocks a.waiting a.senders.items a.ready };
+}
+
+impl Arena {
+    /// Blocks of which none waits and none is ready.
+    pub fn new(alloc: Global, blocks: usize) -> Result<Arena, NoMemory>
+        ensures { IfOk result (λ arena. arena ≡ empty_lists blocks) }
+    {
+        let senders = unused_senders(alloc, blocks)?;
+        let waiting = Rings::new(alloc, blocks, blocks)?;
+        let ready = Rings::new(alloc, blocks, 1)?;
+        Ok(Arena {
+            waiting,
+            senders,
+            ready,
+        })
+    }
+
+    /// Whether a block waits in a list.
+    pub fn is_queued(&self, block: usize) -> bool
+        requires { block < length self.now.waiting }
+        ensures { result ≡ is_queued self.now block }
+    {
+        self.waiting.is_linked(block)
+    }
+
+    /// Puts a send at the end of those that wait at a receiver. The sender's block is not queued (`is_queued`).
+    pub fn queue_send(&mut self, receiver: usize, waiting: Waiting)
+        requires receiver { receiver < length self.old.waiting }
+        requires block { waiting.block < length self.old.waiting }
+        requires free { is_queued self.old waiting.block ≡ false }
+        ensures { self.new ≡ queued receiver waiting self.old }
+    {
+        self.senders[waiting.block] = Sender {
+            shown: waiting.shown,
+            local: waiting.local,
+        };
+        self.waiting.push_last(receiver, waiting.block);
+    }
+
+    /// Takes a block's send out of the list that it waits in, if it waits in one.
+    pub fn unqueue_send(&mut self, block: usize)
+        requires { block < length self.old.waiting }
+        ensures { self.new ≡ unqueued block self.old }
+    {
+        self.waiting.take_out(block);
+    }
+
+    /// The block of the first send at a receiver that a receive phase with this specifier takes (manual: Ipc,
+    /// `FromSpecifier`).
+    pub fn first_accepted(&self, receiver: usize, spec: &ThreadId) -> Option<usize>
+        requires { receiver < length self.now.waiting }
+        ensures { result ≡ first_taken spec.now (list_of self.now receiver) }
+    {
+        let mut next = self.waiting.first(receiver);
+        for _place in 0..self.senders.len() {
+            let block = next?;
+            if takes(spec, &self.senders[block]) {
+                return Some(block);
+            }
+            next = self.waiting.after(block);
+        }
+        None
+    }
+
+    /// Whether a block is among the ready ones.
+    pub fn is_ready(&self, block: usize) -> bool
+        requires { block < length self.now.waiting }
+        ensures { result ≡ is_ready self.now block }
+    {
+        self.ready.is_linked(block)
+    }
+
+    /// Puts a block at the end of the ready ones. It is not among them (`is_ready`).
+    pub fn push_ready(&mut self, block: usize)
+        requires block { block < length self.old.waiting }
+        requires free { is_ready self.old block ≡ false }
+        ensures { self.new ≡ made_ready block self.old }
+    {
+        self.ready.push_last(0, block);
+    }
+
+    /// The first ready block.
+    pub fn first_ready(&self) -> Option<usize>
+        ensures { result ≡ slice_get self.now.ready 0 }
+    {
+        self.ready.first(0)
+    }
+
+    /// Takes the first ready block out.
+    pub fn pop_ready(&mut self) -> Option<usize>
+        ensures first { result ≡ slice_get self.old.ready 0 }
+        ensures rest { self.new ≡ popped self.old }
+        ensures gone { IfSome result (λ block. is_ready self.new block ≡ false) }
+    {
+        self.ready.pop_first(0)
+    }
+
+    /// Takes a block out of the ready ones, if it is among them.
+    pub fn drop_ready(&mut self, block: usize)
+        requires { block < length self.old.waiting }
+        ensures { self.new ≡ dropped block self.old }
+    {
+        self.ready.take_out(block);
+    }
+}
+
+// Whether a receive phase with this specifier takes a sender.
+fn takes(spec: &ThreadId, sender: &Sender) -> bool
+    ensures { result ≡ takes spec.now sender.now.shown sender.now.local }
+{
+    match spec.kind() {
+        Kind::Any => true,
+        Kind::AnyLocal => sender.local,
+        Kind::Global { number, version } => {
+            number == sender.shown.number() && version == sender.shown.version()
+        }
+        Kind::Nil | Kind::Local => false,
+    }
+}
+
+// A sender for each block.
+fn unused_senders(alloc: Global, blocks: usize) -> Result<Vec<Sender>, NoMemory>
+    ensures { IfOk result (λ senders. length senders.items ≡ blocks) }
+{
+    let mut senders = Vec::with_capacity(alloc, blocks)?;
+    for _ in 0..blocks {
+        senders.push(Sender {
+            shown: GlobalId::default(),
+            local: false,
+        })?;
+    }
+    Ok(senders)
+}

@@ -19,4 +19,4 @@ echo 'arena_bench: l4_model l4_core_model l4_types tcb_arena' >>"$work/crates.tx
 cp "$here/../HANDLES" "$work/"
 cd "$work/crates/arena_bench"
 rt run -- 16 0 >"$work/log" 2>&1 || { cat "$work/log"; exit 1; }
-python3 "$here/arena.py" "$PWD/out/arena_bench"
+python3 -B "$here/arena.py" "$PWD/out/arena_bench"

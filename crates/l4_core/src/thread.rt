@@ -74,14 +74,6 @@ impl Thread {
         &self.context
     }
 
-    /// What it is about.
-    pub fn phase(&self) -> &Phase
-        ensures phase { phase_of result.now ≡ self.now.phase }
-        ensures send { send_of result.now ≡ self.now.send }
-    {
-        &self.phase
-    }
-
     /// Whether it waits for any sender.
     pub fn is_receiving(&self) -> bool
         ensures { (s : Plain) (place : ℕ) →

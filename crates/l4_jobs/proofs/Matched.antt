@@ -1,5 +1,5 @@
 -- From the getters of the matches to the job that they have.
-use Rattle.std.proofs.Common.{◌≡◌, ℕ, Bool, true, false, Option, Some, None, List, [], ◌∷◌, codes, refl, sym, ap, subst, inl, inr, ◌∙◌}
+use Rattle.std.proofs.Common.{◌≡◌, ℕ, Bool, true, false, Option, Some, None, [], ◌∷◌, codes, refl, sym, ap, subst, inl, inr, ◌∙◌}
 use Rattle.std.specs.Prelude.{◌⊎◌, IfSome, MatchBool, option_map, option_and_then}
 use Rattle.std.specs.Str.Parse.{ParsesBool}
 use Rattle.clap.specs.Matches.{ReadsOne}

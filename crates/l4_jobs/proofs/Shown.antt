@@ -3,6 +3,7 @@ use Rattle.std.proofs.Common.{◌≡◌, ℕ, ◌≤◌, Bool, true, false, Opti
 use Rattle.std.specs.Prelude.{◌⊎◌, IfSome, IfErr, nat_lt}
 use Rattle.std.specs.Option.{option_map}
 use Rattle.std.specs.Io.KnownBytes.{Appends}
+use Rattle.std.proofs.lemmas.Bool.{lt-ltb, ltb-true}
 use Rattle.std.proofs.lemmas.Bool.Decides.{nat_tests}
 use Rattle.std.proofs.lemmas.List.{length-take, take_all}
 use Rattle.l4_model.specs.Machine.{Machine}
@@ -14,8 +15,9 @@ use Rattle.l4_machine.specs.declared.outcome.Outcome.{Outcome}
 use Rattle.l4_machine.specs.declared.outcome.RunFault.{RunFault}
 use Rattle.l4_machine.specs.declared.outcome.RunFault.TheVariants.{NoMemory}
 use Rattle.l4_jobs.specs.Items.{schedule_of}
-use Rattle.l4_jobs.specs.Jobs.{IsShown, fault_of, fault_on, fault_of_result}
+use Rattle.l4_jobs.specs.Jobs.{IsGiven, IsUnread, file_of, IsShown, fault_of, fault_on, fault_of_result}
 use Rattle.l4_jobs.specs.declared.fault.Fault.{Fault}
+use Rattle.l4_jobs.specs.declared.fault.Fault.TheVariants as fault
 use Rattle.l4_jobs.specs.declared.job.Job.{Job}
 use Rattle.l4_jobs.proofs.Lawful.{lawful_schedule}
 
@@ -34,40 +36,48 @@ read_known known a b limit old new same is_limit empty h =
 not_below : (a b : ℕ) → nat_lt a b ≡ false → b ≤ a
 not_below a b h = grind (arith, nat_tests)
 
--- A text that declares a machine is not too long, so that it was read whole.
-whole : (bytes : List ℕ) (m : Machine) → machine_of_text (take 0x100001 bytes) ≡ Ok m → take 0x100001 bytes ≡ bytes
-whole bytes m h = by (nat_lt 0x100000 (length (take 0x100001 bytes))) refl
+-- A text that is too long is judged as its beginning is.
+same_judged : (bytes : List ℕ) → machine_of_text (take 0x100001 bytes) ≡ machine_of_text bytes
+same_judged bytes = by (nat_lt 0x100000 (length bytes)) refl
   where
-    by : (b : Bool) → nat_lt 0x100000 (length (take 0x100001 bytes)) ≡ b → take 0x100001 bytes ≡ bytes
-    by true long = let fault : machine_of_text (take 0x100001 bytes) ≡ Err (fault_at 0 TooLong) = rw long refl in cc
-    by false short =
-        let least : length (take 0x100001 bytes) ≤ 0x100000 = not_below _ _ short in
-        let taken = length-take 0x100001 bytes in
-        take_all 0x100001 bytes (omega arith)
+    by : (b : Bool) → nat_lt 0x100000 (length bytes) ≡ b → machine_of_text (take 0x100001 bytes) ≡ machine_of_text bytes
+    by true long =
+        let more = ltb-true 0x100000 (length bytes) long in
+        let too = lt-ltb 0x100000 (length (take 0x100001 bytes)) (omega (arith, more, length-take 0x100001 bytes)) in
+        rw (long, too) refl
+    by false short = ap machine_of_text (take_all 0x100001 bytes (let least = not_below _ _ short in omega (arith, least)))
 
--- What is shown for the text that was read is shown for the text of the reader.
-pub shown_whole : (job : Job) (known : Option (List ℕ)) (text slice lines : List ℕ) (status : ℕ) →
-    IfSome known (λ bytes. text ≡ take 0x100001 bytes) → slice ≡ text → IsShown job slice lines status → IfSome known (λ bytes. IsShown job bytes lines status)
-shown_whole job None text slice lines status read is s = tt
-shown_whole job (Some bytes) text slice lines status read is s =
-    let all = whole bytes s.machine (ap machine_of_text (sym (is ∙ read)) ∙ s.declares) in
-    subst (λ t. IsShown job t lines status) (is ∙ read ∙ all) s
+-- What is shown for the text that was read is shown for the text that the reader gives.
+pub shown_given : (job : Job) (known : Option (List ℕ)) (text slice lines : List ℕ) (status : ℕ) →
+    IfSome known (λ bytes. text ≡ take 0x100001 bytes) → slice ≡ text → IsShown job slice lines status → (t : List ℕ) × IsGiven known t × IsShown job t lines status
+shown_given job None text slice lines status read is s = (slice, tt, s)
+shown_given job (Some bytes) text slice lines status read is s =
+    let judged : machine_of_text slice ≡ machine_of_text bytes = ap machine_of_text (is ∙ read) ∙ same_judged bytes in
+    (bytes, refl, record { machine = s.machine; declares = sym judged ∙ s.declares; shown = s.shown })
 
--- And then these lines are appended.
-pub shown_written : (job : Job) (known : Option (List ℕ)) (lines written : List ℕ) (status : ℕ) (old new : Option (List ℕ)) →
-    IfSome known (λ bytes. IsShown job bytes lines status) → written ≡ lines → Appends old new written →
-    IfSome known (λ bytes. (xs : List ℕ) × IsShown job bytes xs status × Appends old new xs)
-shown_written job None lines written status old new s same appends = tt
-shown_written job (Some bytes) lines written status old new s same appends = (lines, s, subst (Appends old new) same appends)
+-- The same of its fault.
+pub fault_given : (job : Job) (known : Option (List ℕ)) (text slice : List ℕ) (f : Fault) →
+    IfSome known (λ bytes. text ≡ take 0x100001 bytes) → slice ≡ text → fault_of job slice ≡ Some f → (t : List ℕ) × IsGiven known t × (fault_of job t ≡ Some f)
+fault_given job None text slice f read is s = (slice, tt, s)
+fault_given job (Some bytes) text slice f read is s =
+    let judged : machine_of_text slice ≡ machine_of_text bytes = ap machine_of_text (is ∙ read) ∙ same_judged bytes in
+    (bytes, refl, ap (fault_on job) (sym judged) ∙ s)
+
+pub err_given : {X : Type 0} (job : Job) (known : Option (List ℕ)) (text slice : List ℕ) (r : Result X Fault) →
+    IfSome known (λ bytes. text ≡ take 0x100001 bytes) → slice ≡ text → IfErr r (λ f. (f ≡ fault.NoMemory) ⊎ (fault_of job slice ≡ Some f)) →
+    IfErr r (λ f. (f ≡ fault.NoMemory) ⊎ IsUnread (file_of job) f ⊎ ((t : List ℕ) × IsGiven known t × (fault_of job t ≡ Some f)))
+err_given job known text slice (Ok x) read is h = tt
+err_given job known text slice (Err f) read is (inl e) = inl e
+err_given job known text slice (Err f) read is (inr e) = inr (inr (fault_given job known text slice f read is e))
 
 -- What is shown has no fault.
 shown_right : (job : Job) (text lines : List ℕ) (status : ℕ) → IsShown job text lines status → fault_of job text ≡ None
 shown_right job text lines status s = ap (fault_on job) s.declares ∙ ap fault_of_result s.shown.runs
 
-pub right_known : (P : Type 0) (job : Job) (known : Option (List ℕ)) (lines : List ℕ) (status : ℕ) →
-    IfSome known (λ bytes. IsShown job bytes lines status) → IfSome known (λ bytes. (fault : Fault) → fault_of job bytes ≡ Some fault → P)
-right_known P job None lines status s = tt
-right_known P job (Some bytes) lines status s = λ fault is. absurd (let right = shown_right job bytes lines status s in cc)
+pub right_given : (P : Type 0) (job : Job) (known : Option (List ℕ)) (text lines : List ℕ) (status : ℕ) → IsGiven known text →
+    IsShown job text lines status → IfSome known (λ bytes. (f : Fault) → fault_of job bytes ≡ Some f → P)
+right_given P job None text lines status given s = tt
+right_given P job (Some bytes) text lines status given s = λ f is. absurd (let right = ap (fault_of job) (sym given) ∙ shown_right job text lines status s in cc)
 
 -- A schedule that was read has no fault when it is replayed.
 pub replay_fault : (m : Machine) (list entries : List ℕ) (r : Result Outcome RunFault) → schedule_of m list ≡ Ok entries →

@@ -1,5 +1,5 @@
 -- The commands of the program, as a parse of words reads them.
-use Rattle.std.specs.Prelude.{◌≡◌, true, Some, List, [], ◌∷◌, codes}
+use Rattle.std.specs.Prelude.{true, Some, List, [], ◌∷◌, codes}
 use Rattle.clap.specs.Words.{App, Rule, Text, new_app, new_rule, with_rule, with_subcommand, fault_of}
 use Rattle.clap.specs.Kinds.{Kinds}
 use Rattle.clap.specs.declared.builder.action.ArgAction.TheVariants.{SetTrue}

@@ -18,7 +18,7 @@ use Rattle.l4_machine.specs.declared.outcome.Outcome.{Outcome}
 use Rattle.l4_machine.specs.declared.outcome.RunFault.{RunFault}
 use Rattle.l4_machine.specs.declared.outcome.RunFault.TheVariants as run_fault
 use Rattle.l4_jobs.specs.Items.{schedule_of}
-use Rattle.l4_jobs.specs.Lines.{trace_of}
+use Rattle.l4_trace.specs.Lines.{trace_of}
 use Rattle.l4_jobs.specs.ReportLines.{report_text}
 use Rattle.l4_jobs.specs.declared.fault.Fault.{Fault}
 use Rattle.l4_jobs.specs.declared.fault.Fault.TheVariants as fault
@@ -29,6 +29,16 @@ use Rattle.l4_jobs.specs.declared.job.Job.TheVariants.{Run, Replay}
 abbrev pub file_of : Job → List ℕ
 file_of (Run file turns report) = file.now
 file_of (Replay file schedule report) = file.now
+
+-- The text that a reader gives: its bytes, where they are known.
+abbrev pub IsGiven : (known : Option (List ℕ)) → (text : List ℕ) → Type 0
+IsGiven None text = Unit {0}
+IsGiven (Some bytes) text = text ≡ bytes
+
+-- The fault that this file could not be read.
+abbrev pub IsUnread : (file : List ℕ) → Fault → Type 0
+IsUnread file (fault.Read name) = name.now ≡ file
+IsUnread file _ = ⊥
 
 -- The report is shown in place of the trace.
 abbrev pub has_report : Job → Bool

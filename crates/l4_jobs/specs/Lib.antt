@@ -2,5 +2,4 @@ pub mod Asked
 pub mod Commands
 pub mod Items
 pub mod Jobs
-pub mod Lines
 pub mod ReportLines

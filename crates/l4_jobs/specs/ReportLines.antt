@@ -5,7 +5,7 @@ use Rattle.l4_model.specs.World.{Name}
 use Rattle.l4_model.specs.History.{State, IsReady, IsSending, IsReceiving, IsOrdering, IsEnded, IsDeleted, Report}
 use Rattle.l4_types.specs.declared.reports.Ending.{Ending}
 use Rattle.l4_types.specs.declared.reports.Ending.TheVariants.{Quiet, Spent}
-use Rattle.l4_jobs.specs.Lines.{hexadecimal, thread_word, name_word, line_of_words}
+use Rattle.l4_trace.specs.Lines.{hexadecimal, thread_word, name_word, line_of_words}
 
 abbrev pub state_word : State → List ℕ
 state_word IsReady = codes "ready"

@@ -21,11 +21,13 @@ pub enum Fault<'a> {
     /// This item of the schedule, counted from 1, is none, or of no processor of the machine.
     #[error("l4run: schedule item {0}")]
     Schedule(usize),
+    /// Memory ran out.
     #[error("l4run: no memory")]
     NoMemory,
     /// This file can't be read.
     #[error("l4run: cannot read {0}")]
     Read(&'a str),
+    /// The output is closed or full.
     #[error("l4run: cannot write")]
     Write,
 }

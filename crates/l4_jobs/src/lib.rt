@@ -4,7 +4,6 @@
 pub mod fault;
 pub mod items;
 pub mod job;
-pub mod lines;
 pub mod perform;
 pub mod refusal;
 pub mod report_lines;

@@ -6,18 +6,18 @@ ghost use Rattle.l4_types.specs.StepView.{step_of};
 ghost use Rattle.l4_machine.specs.Outcomes.{IsOutcomeOf, IsReplayed};
 ghost use Rattle.l4_machine.specs.declared.outcome.RunFault.TheVariants.{NoMemory as RunOutOfMemory};
 ghost use Rattle.l4_jobs.specs.Items.{schedule_of};
-ghost use Rattle.l4_jobs.specs.Jobs.{IsShown, IsShownOn, run_of, fault_of, fault_of_result, lines_of_outcome, status_of_ending};
-ghost use Rattle.l4_jobs.specs.Lines.{trace_of};
+ghost use Rattle.l4_jobs.specs.Jobs.{IsGiven, IsUnread, file_of, IsShown, IsShownOn, run_of, fault_of, fault_of_result, lines_of_outcome, status_of_ending};
+ghost use Rattle.l4_trace.specs.Lines.{trace_of};
 ghost use Rattle.l4_jobs.specs.declared.fault.Fault.TheVariants.{NoMemory as OutOfMemory};
 
 use crate::fault::{Fault, report};
 use crate::items::schedule_of;
 use crate::job::Job;
-use crate::lines::write_event;
 use crate::report_lines::write_report;
 use l4_machine::{Outcome, RunFault, replay, run};
 use l4_script::machine::Machine;
 use l4_script::text::MOST_BYTES;
+use l4_trace::lines::write_event;
 use l4_types::errors::NoMemory;
 use l4_types::reports::Ending;
 use l4_types::steps::Step;
@@ -38,7 +38,8 @@ fn read_text<'a, M: Read>(
     name: &'a str,
     machine: &mut M,
 ) -> Result<Vec<u8>, Fault<'a>>
-    ensures { IfOk result (λ text. IfSome (M.remaining machine.old) (λ bytes. text.items ≡ take 0x100001 bytes)) }
+    ensures ok { IfOk result (λ text. IfSome (M.remaining machine.old) (λ bytes. text.items ≡ take 0x100001 bytes)) }
+    ensures err { IfErr result (λ fault. (fault ≡ OutOfMemory) ⊎ IsUnread name.now fault) }
 {
     let mut text = Vec::new(alloc);
     match machine.take(MOST_BYTES as u64 + 1).read_to_end(&mut text) {
@@ -142,7 +143,9 @@ fn job_output<'a, M: Read>(
     job: &Job<'a>,
     machine: &mut M,
 ) -> Result<Output, Fault<'a>>
-    ensures shown { IfOk result (λ output. IfSome (M.remaining machine.old) (λ text. IsShown job.now text output.lines.items output.status)) }
+    ensures shown { IfOk result (λ output. (text : List ℕ) × IsGiven (M.remaining machine.old) text × IsShown job.now text output.lines.items output.status) }
+    ensures err { IfErr result (λ fault. (fault ≡ OutOfMemory) ⊎ IsUnread (file_of job.now) fault
+        ⊎ ((text : List ℕ) × IsGiven (M.remaining machine.old) text × (fault_of job.now text ≡ Some fault))) }
     ensures statuses { IfOk result (λ output. (output.status ≡ 0) ⊎ (output.status ≡ 3)) }
 {
     let text = read_text(alloc, job.file(), machine)?;
@@ -158,8 +161,10 @@ pub fn perform<M: Read, W: Write, E: Write>(
     out: &mut W,
     faults: &mut E,
 ) -> u8
-    ensures shown { result ≢ 1 → IfSome (M.remaining machine.old) (λ text. (lines : List ℕ) ×
-        IsShown job.now text lines result × Appends (W.contents out.old) (W.contents out.new) lines) }
+    ensures shown { result ≢ 1 → (text : List ℕ) × (lines : List ℕ) × IsGiven (M.remaining machine.old) text ×
+        IsShown job.now text lines result × Appends (W.contents out.old) (W.contents out.new) lines }
+    ensures whole { result ≡ 1 → (out.new ≡ out.old) ⊎ ((text : List ℕ) × (lines : List ℕ) × (status : ℕ) ×
+        IsGiven (M.remaining machine.old) text × IsShown job.now text lines status) }
     ensures faulty { IfSome (M.remaining machine.old) (λ text. (fault : Fault) → fault_of job.now text ≡ Some fault →
         (result ≡ 1) × (out.new ≡ out.old)) }
     ensures statuses { (result ≡ 0) ⊎ (result ≡ 1) ⊎ (result ≡ 3) }

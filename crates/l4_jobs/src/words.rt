@@ -39,6 +39,7 @@ pub enum WordsFault {
     Help(String),
     /// The words are wrong: what is wrong, and how they are used.
     Usage(String),
+    /// Memory ran out.
     NoMemory,
 }
 

@@ -25,6 +25,7 @@ pub struct Outcome {
 /// Why there is no outcome.
 #[derive(Clone, Copy, PartialEq, Eq, Debug)]
 pub enum RunFault {
+    /// Memory ran out.
     NoMemory,
     /// The number of turns is 0 or above 1,000,000, or a schedule has more than 1,000,000 entries.
     Turns,

@@ -10,4 +10,6 @@ mod runs;
 #[cfg(test)]
 mod schedules;
 #[cfg(test)]
+mod texts;
+#[cfg(test)]
 mod words;

@@ -69,3 +69,22 @@ fn run_program<R: Files + Env + AllocGlobal, W: Write, E: Write>(
 fn main(rt: HostRuntime) -> ExitCode {
     ExitCode::from(run_program(&rt, &mut rt.stdout(), &mut rt.stderr()))
 }
+
+#[cfg(test)]
+mod tests {
+    use super::*;
+
+    #[test]
+    fn a_file_that_is_not_there_is_reported_by_its_name(rt: HostRuntime) {
+        let mut out = Vec::new(rt.alloc());
+        let mut faults = Vec::new(rt.alloc());
+        let words = ["l4run", "run", "no/such/file.l4"];
+        let status = on_words(&rt, &words, &mut out, &mut faults);
+        assert_eq!(rt; status, 1);
+        assert_eq!(rt; out.as_slice(), b"".as_slice());
+        assert_eq!(rt;
+            faults.as_slice(),
+            b"l4run: cannot read no/such/file.l4\n".as_slice()
+        );
+    }
+}

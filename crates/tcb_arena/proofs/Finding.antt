@@ -7,6 +7,7 @@ use Rattle.l4_model.specs.Words.{Id}
 use Rattle.l4_model.specs.Rules.{takes}
 use Rattle.l4_core_model.specs.Plain.{Waiting, Plain, first_taken, list_of}
 use Rattle.tcb_arena.specs.declared.Sender.{Sender}
+use Rattle.tcb_arena.specs.Due.{Due}
 use Rattle.tcb_arena.specs.Rings.{Lists}
 use Rattle.tcb_arena.specs.Shown.{waiting_at, shown_lists}
 use Rattle.tcb_arena.proofs.Showing.{list-shown}
@@ -43,8 +44,8 @@ found-later spec f xs k x e t =
 pub found-none : (spec : Id) (f : List Sender) (xs : List ℕ) (k : ℕ) → slice_get xs k ≡ None → found_from spec f xs k ≡ None
 found-none spec f xs k e = ap (λ ys. find (accepts spec) (map (waiting_at f) ys)) (drop_past xs k e)
 
-pub taken-shown : (waiting : Lists) (f : List Sender) (ready : Lists) (s : Plain) (h : ℕ) (spec : Id) (r : Option Waiting) → shown_lists waiting f ready ≡ s → found_from spec f (get_or waiting.lists h []) 0 ≡ r
+pub taken-shown : (waiting : Lists) (f : List Sender) (ready : Lists) (due : Due) (s : Plain) (h : ℕ) (spec : Id) (r : Option Waiting) → shown_lists waiting f ready due ≡ s → found_from spec f (get_or waiting.lists h []) 0 ≡ r
     → option_map (λ (w : Waiting). w.block) r ≡ first_taken spec (list_of s h)
-taken-shown waiting f ready s h spec r v e =
+taken-shown waiting f ready due s h spec r v e =
     ap (λ (o : Option Waiting). option_map (λ (w : Waiting). w.block) o) (sym e)
     ∙ ap (λ (ws : List Waiting). first_taken spec ws) (sym (list-shown f waiting.lists h) ∙ ap (λ (a : Plain). list_of a h) v)

@@ -1,6 +1,9 @@
 pub mod Changes
+pub mod Entries
 pub mod Finding
 pub mod Lists
+pub mod Once
 pub mod Showing
 pub mod Splices
 pub mod Walks
+pub mod Wheels

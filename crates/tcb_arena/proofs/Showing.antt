@@ -1,16 +1,19 @@
 -- The plain lists of an `Arena` beside the names in its rings.
-use Rattle.std.specs.Prelude.{replicate}
-use Rattle.std.proofs.Common.{◌≡◌, ℕ, ◌<◌, Bool, true, false, not, cond, eqb, ◌||◌, List, [], ◌∷◌, ◌++◌, length, map, filter, get_or, set, refl, sym, ◌∙◌, ap, get_or-set_same, get_or-set_other, zero, suc}
-use Rattle.std.proofs.lemmas.Bool.{eqb-false, or_parts}
+use Rattle.std.specs.Prelude.{replicate, slice_get, Some, None, Option, is_some}
+use Rattle.std.proofs.Common.{◌≡◌, ℕ, ◌<◌, ◌≤◌, Bool, true, false, not, cond, eqb, leb, ◌||◌, List, [], ◌∷◌, ◌++◌, length, map, filter, get_or, set, refl, sym, ◌∙◌, ap, get_or-set_same, get_or-set_other, zero, suc}
+use Rattle.std.proofs.lemmas.Bool.{eqb-false, or_parts, cond-true, le-leb}
 use Rattle.std.proofs.lemmas.List.{map-set, map_push}
 use Rattle.std.specs.List.{list_any}
 use Rattle.l4_model.specs.World.{changed}
-use Rattle.l4_core_model.specs.Plain.{Waiting, Plain, unqueued, queued, is_queued}
+use Rattle.l4_core_model.specs.Plain.{Waiting, Plain, unqueued, queued, is_queued, due_block, popped_due}
 use Rattle.tcb_arena.specs.declared.Sender.{Sender}
-use Rattle.tcb_arena.specs.Blocks.{empty_lists}
+use Rattle.tcb_arena.specs.Blocks.{empty_lists, without_due}
+use Rattle.tcb_arena.specs.Due.{Due, AreOnce, none_armed, without_entry}
 use Rattle.tcb_arena.specs.Rings.{Lists, list_at, no_names, taken_out, put_last, is_linked, without, is_in, is_in_any}
 use Rattle.tcb_arena.specs.Shown.{waiting_of, waiting_at, sender_at, no_sender, shown_lists}
 use Rattle.tcb_arena.proofs.Lists.{is_in-at}
+use Rattle.tcb_arena.proofs.Entries.{E}
+use Rattle.tcb_arena.proofs.Once.{first-out}
 
 abbrev is_of : ℕ → Waiting → Bool
 is_of x w = eqb x w.block
@@ -84,22 +87,39 @@ all_shown-put f h w ls lx free =
 
 -- The plain lists after each change of the rings
 
-abbrev with_waiting : Lists → List (List Waiting) → Plain
-with_waiting ready ws = record { waiting = ws; ready = list_at ready 0; armed = [] }
+abbrev with_waiting : Lists → Due → List (List Waiting) → Plain
+with_waiting ready due ws = record { waiting = ws; ready = list_at ready 0; armed = due.armed }
 
-pub shown-unqueued : (waiting waiting' : Lists) (f : List Sender) (ready : Lists) (s : Plain) (x : ℕ) → shown_lists waiting f ready ≡ s → waiting' ≡ taken_out waiting x → shown_lists waiting' f ready ≡ unqueued x s
-shown-unqueued waiting waiting' f ready s x v e =
-    ap (λ (l : Lists). shown_lists l f ready) e ∙ ap (with_waiting ready) (all_shown-without f x waiting.lists) ∙ ap (unqueued x) v
+pub shown-unqueued : (waiting waiting' : Lists) (f : List Sender) (ready : Lists) (due : Due) (s : Plain) (x : ℕ) → shown_lists waiting f ready due ≡ s → waiting' ≡ taken_out waiting x → shown_lists waiting' f ready due ≡ unqueued x s
+shown-unqueued waiting waiting' f ready due s x v e =
+    ap (λ (l : Lists). shown_lists l f ready due) e ∙ ap (with_waiting ready due) (all_shown-without f x waiting.lists) ∙ ap (unqueued x) v
 
-pub free-shown : (waiting : Lists) (f : List Sender) (ready : Lists) (s : Plain) (x : ℕ) → shown_lists waiting f ready ≡ s → is_linked waiting x ≡ is_queued s x
-free-shown waiting f ready s x v = sym (any_any-shown f x waiting.lists) ∙ ap (λ (a : Plain). is_queued a x) v
+pub free-shown : (waiting : Lists) (f : List Sender) (ready : Lists) (due : Due) (s : Plain) (x : ℕ) → shown_lists waiting f ready due ≡ s → is_linked waiting x ≡ is_queued s x
+free-shown waiting f ready due s x v = sym (any_any-shown f x waiting.lists) ∙ ap (λ (a : Plain). is_queued a x) v
 
-pub shown-queued : (waiting waiting' : Lists) (f : List Sender) (ready : Lists) (s : Plain) (h : ℕ) (w : Waiting) → shown_lists waiting f ready ≡ s → w.block < length f → is_queued s w.block ≡ false → waiting' ≡ put_last waiting h w.block
-    → shown_lists waiting' (set f w.block (sender_of w)) ready ≡ queued h w s
-shown-queued waiting waiting' f ready s h w v lx free e =
-    ap (λ (l : Lists). shown_lists l (set f w.block (sender_of w)) ready) e
-    ∙ ap (with_waiting ready) (all_shown-put f h w waiting.lists lx (free-shown waiting f ready s w.block v ∙ free))
+pub shown-queued : (waiting waiting' : Lists) (f : List Sender) (ready : Lists) (due : Due) (s : Plain) (h : ℕ) (w : Waiting) → shown_lists waiting f ready due ≡ s → w.block < length f → is_queued s w.block ≡ false → waiting' ≡ put_last waiting h w.block
+    → shown_lists waiting' (set f w.block (sender_of w)) ready due ≡ queued h w s
+shown-queued waiting waiting' f ready due s h w v lx free e =
+    ap (λ (l : Lists). shown_lists l (set f w.block (sender_of w)) ready due) e
+    ∙ ap (with_waiting ready due) (all_shown-put f h w waiting.lists lx (free-shown waiting f ready due s w.block v ∙ free))
     ∙ ap (queued h w) v
+
+-- The first armed block taken out where it is due
+
+due-first : (now : ℕ) (xs : List E) (e : E) → slice_get xs 0 ≡ Some e → e.0 ≤ now → due_block now xs ≡ Some e.1
+due-first now [] e h l = absurd (cc)
+due-first now (x ∷ xs) e h l =
+    let p : x ≡ e = cc in
+    ap (λ (z : E). due_block now (z ∷ xs)) p ∙ cond-true (leb e.0 now) (Some e.1) None (le-leb e.0 now l)
+
+pub shown-undue : (now : ℕ) (waiting : Lists) (f : List Sender) (ready : Lists) (due due' : Due) (s : Plain) (e : E) → shown_lists waiting f ready due ≡ s → AreOnce due → slice_get due.armed 0 ≡ Some e → e.0 ≤ now → due' ≡ without_entry e.1 due
+    → shown_lists waiting f ready due' ≡ without_due now s
+shown-undue now waiting f ready due due' s e v once h l out =
+    let old : Plain = shown_lists waiting f ready due in
+    ap (shown_lists waiting f ready) out
+    ∙ ap (λ (r : List E). let p : Plain = record { waiting = old.waiting; ready = old.ready; armed = r } in p) (first-out due.armed e h (once.once e.1))
+    ∙ sym (ap (λ (o : Option ℕ). cond (is_some o) (popped_due old) old) (due-first now due.armed e h l))
+    ∙ ap (without_due now) v
 
 -- No block in any list
 
@@ -107,6 +127,7 @@ map-nils : (f : List Sender) (n : ℕ) → map (map (waiting_at f)) (replicate n
 map-nils f zero = refl
 map-nils f (suc n) = ap (λ (r : List (List Waiting)). [] ∷ r) (map-nils f n)
 
-pub shown-empty : (n : ℕ) (waiting : Lists) (f : List Sender) (ready : Lists) → waiting ≡ no_names n n → ready ≡ no_names n 1 → shown_lists waiting f ready ≡ empty_lists n
-shown-empty n waiting f ready s r =
-    ap (λ (l : Lists). shown_lists l f ready) s ∙ ap (λ (l : Lists). shown_lists (no_names n n) f l) r ∙ ap (with_waiting (no_names n 1)) (map-nils f n)
+pub shown-empty : (n : ℕ) (waiting : Lists) (f : List Sender) (ready : Lists) (due : Due) → waiting ≡ no_names n n → ready ≡ no_names n 1 → due ≡ none_armed n → shown_lists waiting f ready due ≡ empty_lists n
+shown-empty n waiting f ready due s r d =
+    ap (λ (l : Lists). shown_lists l f ready due) s ∙ ap (λ (l : Lists). shown_lists (no_names n n) f l due) r ∙ ap (λ (e : Due). shown_lists (no_names n n) f (no_names n 1) e) d
+    ∙ ap (with_waiting (no_names n 1) (none_armed n)) (map-nils f n)

@@ -1,3 +1,4 @@
 pub mod Blocks
+pub mod Due
 pub mod Rings
 pub mod Shown

@@ -1,13 +1,15 @@
-//! The blocks of one processor in linked rings: for each block the sends that wait at it, and the ready blocks.
+//! The blocks of one processor in linked rings: for each block the sends that wait at it, the ready blocks, and those
+//! that are armed for a deadline.
 //!
-//! No call but `Arena::new` takes memory, and every call but `Arena::first_accepted` takes the same few steps whatever
-//! stands in the lists.
+//! No call but `Arena::new` takes memory. `Arena::first_accepted` looks at the sends before the one that it finds, and
+//! `Arena::least_deadline` and `Arena::pop_due` look at every armed block; every other call takes the same few steps
+//! whatever stands in the lists.
 #![tactic(auto)]
 
 ghost use Rattle.std.specs.Prelude.{◌≡◌, ◌<◌, false, length, slice_get, IfOk, IfSome};
 ghost use Rattle.l4_model.specs.Rules.{takes};
-ghost use Rattle.l4_core_model.specs.Plain.{list_of, is_queued, queued, unqueued, first_taken, made_ready, dropped, popped};
-ghost use Rattle.tcb_arena.specs.Blocks.{is_ready, empty_lists};
+ghost use Rattle.l4_core_model.specs.Plain.{list_of, is_queued, queued, unqueued, first_taken, made_ready, dropped, popped, armed, disarmed, due_block};
+ghost use Rattle.tcb_arena.specs.Blocks.{is_ready, is_armed, least_deadline, without_due, empty_lists};
 
 use l4_types::errors::NoMemory;
 use l4_types::ids::{GlobalId, Kind, ThreadId};
@@ -17,8 +19,10 @@ use std::marker::Model;
 mod links;
 #[cfg(test)]
 mod tests;
+mod wheel;
 
 use links::Rings;
+use wheel::Wheel;
 
 /// A send that waits: its sender's block, the sender that it shows, and whether that one is of the receiver's space.
 #[derive(Clone, Copy)]
@@ -46,7 +50,7 @@ struct Sender {
 }
 
 /// A fixed number of blocks, numbered from 0. A block waits in one list at most, and stands once at most among the ready
-/// ones.
+/// ones and among the armed ones.
 #[derive(Drop)]
 pub struct Arena {
     // Ring r has the blocks that wait at block r.
@@ -54,6 +58,7 @@ pub struct Arena {
     senders: Vec<Sender>,
     // One ring.
     ready: Rings,
+    wheel: Wheel,
 }
 
 impl Model for Arena {
@@ -63,23 +68,25 @@ impl Model for Arena {
 
     ghost use Rattle.tcb_arena.specs.Shown.{shown_lists, AreBlocks};
 
-    ghost view = { λ a. shown_lists a.waiting a.senders.items a.ready };
+    ghost view = { λ a. shown_lists a.waiting a.senders.items a.ready a.wheel };
 
-    ghost invariant = { λ a. AreBlocks a.waiting a.senders.items a.ready };
+    ghost invariant = { λ a. AreBlocks a.waiting a.senders.items a.ready a.wheel };
 }
 
 impl Arena {
-    /// Blocks of which none waits and none is ready.
+    /// Blocks of which none waits, none is ready and none is armed.
     pub fn new(alloc: Global, blocks: usize) -> Result<Arena, NoMemory>
         ensures { IfOk result (λ arena. arena ≡ empty_lists blocks) }
     {
         let senders = unused_senders(alloc, blocks)?;
         let waiting = Rings::new(alloc, blocks, blocks)?;
         let ready = Rings::new(alloc, blocks, 1)?;
+        let wheel = Wheel::new(alloc, blocks)?;
         Ok(Arena {
             waiting,
             senders,
             ready,
+            wheel,
         })
     }
 
@@ -169,6 +176,54 @@ impl Arena {
         ensures { self.new ≡ dropped block self.old }
     {
         self.ready.take_out(block);
+    }
+
+    /// Whether a block is armed.
+    pub fn is_armed(&self, block: usize) -> bool
+        requires { block < length self.now.waiting }
+        ensures { result ≡ is_armed self.now block }
+    {
+        self.wheel.is_armed(block)
+    }
+
+    /// Arms a block for a deadline, a tick of the caller's clock. The block is not armed (`is_armed`).
+    pub fn arm(&mut self, block: usize, deadline: u64)
+        requires block { block < length self.old.waiting }
+        requires free { is_armed self.old block ≡ false }
+        ensures { self.new ≡ armed deadline block self.old }
+    {
+        self.wheel.arm(block, deadline);
+    }
+
+    /// Disarms a block, if it is armed.
+    pub fn disarm(&mut self, block: usize)
+        requires { block < length self.old.waiting }
+        ensures { self.new ≡ disarmed block self.old }
+    {
+        self.wheel.disarm(block);
+    }
+
+    /// The least deadline that a block is armed for.
+    pub fn least_deadline(&self) -> Option<u64>
+        ensures { result ≡ least_deadline self.now }
+    {
+        let (deadline, _) = self.wheel.first()?;
+        Some(deadline)
+    }
+
+    /// Disarms the first armed block, of equal deadlines that which was armed first, where its deadline is not after
+    /// `now`.
+    pub fn pop_due(&mut self, now: u64) -> Option<usize>
+        ensures first { result ≡ due_block now self.old.armed }
+        ensures rest { self.new ≡ without_due now self.old }
+        ensures gone { IfSome result (λ block. is_armed self.new block ≡ false) }
+    {
+        let (deadline, first) = self.wheel.first()?;
+        if deadline > now {
+            return None;
+        }
+        self.wheel.disarm(first);
+        Some(first)
     }
 }
 

@@ -53,6 +53,14 @@ impl Rings {
         Ok(Rings { names, next, prev })
     }
 
+    /// How many names there are.
+    pub fn names(&self) -> usize
+        ensures value { result ≡ self.now.names }
+        ensures sound { AreSound self.now }
+    {
+        self.names
+    }
+
     /// Whether a name stands in a list.
     pub fn is_linked(&self, name: usize) -> bool
         requires { name < self.now.names }

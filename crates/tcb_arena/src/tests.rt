@@ -124,6 +124,54 @@ fn ready_blocks_come_first_in_first_out(rt: HostRuntime) -> Result<(), Fail> {
 }
 
 #[test]
+fn armed_blocks_come_by_deadline_and_then_by_arming(rt: HostRuntime) -> Result<(), Fail> {
+    let mut arena = Arena::new(rt.alloc(), 4)?;
+    assert_eq!(rt; arena.least_deadline(), None);
+    arena.arm(0, 70);
+    arena.arm(1, 6);
+    arena.arm(2, 70);
+    assert!(rt; arena.is_armed(1) && !arena.is_armed(3));
+    assert_eq!(rt; arena.least_deadline(), Some(6));
+    assert_eq!(rt; arena.pop_due(5), None);
+    assert_eq!(rt; arena.pop_due(70), Some(1));
+    assert!(rt; !arena.is_armed(1));
+    assert_eq!(rt; arena.pop_due(69), None);
+    assert_eq!(rt; arena.pop_due(70), Some(0));
+    assert_eq!(rt; arena.pop_due(70), Some(2));
+    assert_eq!(rt; arena.pop_due(70), None);
+    assert_eq!(rt; arena.least_deadline(), None);
+    Ok(())
+}
+
+#[test]
+fn the_earlier_deadline_is_due_first(rt: HostRuntime) -> Result<(), Fail> {
+    let mut arena = Arena::new(rt.alloc(), 2)?;
+    arena.arm(0, 128);
+    arena.arm(1, 65);
+    assert_eq!(rt; arena.pop_due(200), Some(1));
+    assert_eq!(rt; arena.pop_due(200), Some(0));
+    Ok(())
+}
+
+#[test]
+fn a_disarmed_block_can_be_armed_again(rt: HostRuntime) -> Result<(), Fail> {
+    let mut arena = Arena::new(rt.alloc(), 3)?;
+    arena.arm(2, 9);
+    arena.arm(0, 9);
+    arena.arm(1, 9);
+    arena.disarm(2);
+    arena.disarm(2);
+    assert!(rt; !arena.is_armed(2) && arena.is_armed(0) && arena.is_armed(1));
+    arena.arm(2, u64::MAX);
+    assert_eq!(rt; arena.pop_due(9), Some(0));
+    assert_eq!(rt; arena.pop_due(9), Some(1));
+    assert_eq!(rt; arena.pop_due(9), None);
+    assert_eq!(rt; arena.least_deadline(), Some(u64::MAX));
+    assert_eq!(rt; arena.pop_due(u64::MAX), Some(2));
+    Ok(())
+}
+
+#[test]
 fn refused_memory_is_said(rt: HostRuntime) {
     let refused = Arena::new(rt.alloc(), usize::MAX).map(|_arena| ());
     assert!(rt; refused == Err(NoMemory));

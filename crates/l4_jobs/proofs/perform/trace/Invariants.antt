@@ -1,6 +1,6 @@
 use Rattle.std.proofs.Common.{◌≡◌, map, take}
 use Rattle.l4_types.specs.StepView.{step_of}
-use Rattle.l4_jobs.specs.Lines.{trace_of}
+use Rattle.l4_trace.specs.Lines.{trace_of}
 use Rattle.l4_jobs.proofs.perform.trace.Given as goal
 
 abbrev pub invariant-loop-step : goal.invariant-loop-step

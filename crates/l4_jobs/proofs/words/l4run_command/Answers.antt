@@ -1,7 +1,7 @@
 use Rattle.std.proofs.Common.{rules, ◌≡◌, ap, ap₂, ◌∙◌}
 use Rattle.std.proofs.lemmas.Result.{IfOk-weaker}
 use Rattle.clap.specs.Words.{App, app_of, with_subcommand}
-use Rattle.l4_jobs.specs.Commands.{top_app, run_app, replay_app, l4run_app}
+use Rattle.l4_jobs.specs.Commands.{top_app, l4run_app}
 use Rattle.l4_jobs.proofs.words.l4run_command.Goals as goal
 
 pub returns : goal.returns

@@ -12,7 +12,7 @@ returns-in_err-block c =
     let f = c.self.inside in
     let ns : List ℕ = get_or f.waiting.lists c.args.receiver [] in
     let none : slice_get ns c.loop-place._place ≡ None = sym c.loop-place.invariant.next_is ∙ c.in_err-block.was in
-    c.from_residual.ensures ∙ taken-shown f.waiting f.senders.items f.ready c.args.self.now c.args.receiver c.args.spec.now None c.self.view_is
+    c.from_residual.ensures ∙ taken-shown f.waiting f.senders.items f.ready f.wheel c.args.self.now c.args.receiver c.args.spec.now None c.self.view_is
     (c.loop-place.invariant.not_before ∙ found-none c.args.spec.now f.senders.items ns c.loop-place._place none)
 
 pub returns-then-takes : goal.returns-then-takes
@@ -25,7 +25,7 @@ returns-then-takes c =
     let sender : c.index.result.now ≡ sender_at f.senders.items block = get_or_read f.senders.items block c.index.result.now lx c.index.ensures no_sender in
     let yes : accepts c.args.spec.now (waiting_at f.senders.items block) ≡ true =
     ap (λ (e : Sender). takes c.args.spec.now e.shown e.local) (sym sender) ∙ sym c.takes.ensures ∙ c.if-takes.true in
-    taken-shown f.waiting f.senders.items f.ready c.args.self.now c.args.receiver c.args.spec.now (Some (waiting_at f.senders.items block)) c.self.view_is
+    taken-shown f.waiting f.senders.items f.ready f.wheel c.args.self.now c.args.receiver c.args.spec.now (Some (waiting_at f.senders.items block)) c.self.view_is
     (c.loop-place.invariant.not_before ∙ found-here c.args.spec.now f.senders.items ns c.loop-place._place block here yes)
 
 pub loop-place-preserved : goal.loop-place-preserved

@@ -1,0 +1,44 @@
+"""What the benchmarks measure of a program: the time, the instructions and the memory of its runs.
+
+Words are the words of a command line, the program's name among them.
+"""
+
+import math
+import re
+import shutil
+import subprocess
+import time
+
+
+def run(words, status=0):
+    """Runs a program that ends with this status, and answers what it told on standard error."""
+    done = subprocess.run(words, stdout=subprocess.DEVNULL, stderr=subprocess.PIPE, text=True)
+    if done.returncode != status:
+        raise SystemExit(f"status {done.returncode} in place of {status}: {' '.join(words)}\n{done.stderr}")
+    return done.stderr
+
+
+def seconds(words, status=0):
+    start = time.perf_counter()
+    run(words, status)
+    return time.perf_counter() - start
+
+
+def least_seconds(several, runs, status=0):
+    """The least time of each of several commands, which are run in turn: what else the machine did can only add to it."""
+    rounds = [[seconds(words, status) for words in several] for _ in range(runs)]
+    return [min(times) for times in zip(*rounds)]
+
+
+def instructions(words, status=0):
+    """The instructions of one run, counted by valgrind's callgrind. No number where that is missing."""
+    if not shutil.which("valgrind"):
+        return math.nan
+    tool = ["valgrind", "--tool=callgrind", "--callgrind-out-file=/dev/null"]
+    return int(re.search(r"Collected : (\d+)", run(tool + words, status)).group(1))
+
+
+def peak_mebibytes(words, status=0):
+    """The most memory that a run held at once."""
+    told = run(["/usr/bin/time", "--quiet", "-f", "%M"] + words, status)
+    return int(told.splitlines()[-1]) / 1024

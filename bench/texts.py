@@ -1,0 +1,94 @@
+"""The machine texts of the benchmarks."""
+
+MOST_BYTES = 1_048_576
+MOST_THREADS = 1_024
+MOST_INSTRUCTIONS = 1_024
+
+HEAD = "l4 1 64\ncpus 1\n"
+
+# The last line of a text that is to be measured: its target is instruction 0, or one that no script has. Both have
+# one length. Targets are judged last, so the second text is read whole, and then nothing is run.
+LAWFUL_END = "jump 0x0000\n"
+FAULTY_END = "jump 0xffff\n"
+
+
+def thread(number, script=()):
+    return "".join([f"thread {number}.1 cpu 0 space 1\n"] + [line + "\n" for line in script])
+
+
+def machine(threads):
+    return HEAD + "".join(threads)
+
+
+def filled(text, size):
+    """The text with one line for readers alone and a last instruction, so that it has just this size."""
+    room = size - len(text) - len(LAWFUL_END)
+    assert room >= 2, "the text is too long"
+    return text + ";" * (room - 1) + "\n" + LAWFUL_END
+
+
+def faulty(text):
+    """The text of the same length with a fault that is found when all has been read."""
+    assert text.endswith(LAWFUL_END)
+    return text[: -len(LAWFUL_END)] + FAULTY_END
+
+
+# Long lines of each kind.
+LONG_LINES = [
+    "set 63 18446744073709551615",
+    "add 63 0xffffffffffffffff",
+    "copy 63 62",
+    "tag 0x123456789abc003f",
+    "ipc #0123456789abcdef nil 0x0000000000000000 never",
+    "ipc nil any never never",
+    "onerr 0x0000000000000000",
+    "jump 0x0000000000000000",
+]
+
+
+def long_scripts(size):
+    """Scripts of 1,024 instructions, but for the last one, with lines of each kind."""
+    script = [LONG_LINES[place % len(LONG_LINES)] for place in range(MOST_INSTRUCTIONS)]
+    whole = thread(10_000, script)
+    count = (size - len(HEAD)) // len(whole)
+    text = machine(thread(10_000 + number, script) for number in range(count))
+    last = thread(10_000 + count)
+    for line in script[:-1]:
+        if len(text) + len(last) + len(line) + 1 + len(LAWFUL_END) + 2 > size:
+            break
+        last += line + "\n"
+    return filled(text + last, size)
+
+
+def many_threads(size):
+    """As many threads as there may be in the largest text, with scripts that fill their shares with the shortest line."""
+    count = MOST_THREADS * size // MOST_BYTES
+    share = MOST_BYTES // MOST_THREADS
+    empty = len(thread(10_000))
+    script = ["end"] * ((share - empty - 1) // len("end\n"))
+    threads = [thread(10_000 + number, script) for number in range(count - 1)]
+    return filled(machine(threads + [thread(10_000 + count)]), size)
+
+
+def empty_lines(size):
+    """One thread, and nothing but empty lines."""
+    text = machine([thread(1)])
+    return text + "\n" * (size - len(text) - len(LAWFUL_END)) + LAWFUL_END
+
+
+def talking(first, second):
+    """Two threads that send to each other for ever."""
+    return [
+        thread(first, [f"ipc {second}.1 nil never never", "ipc nil any never never", "jump 0"]),
+        thread(second, ["ipc nil any never never", f"ipc {first}.1 nil never never", "jump 0"]),
+    ]
+
+
+def adding(first, second):
+    """Two threads that add for ever, and send nothing."""
+    return [thread(number, ["add 1 1", "jump 0"]) for number in (first, second)]
+
+
+def waiting(count):
+    """Threads that wait for ever."""
+    return [thread(10_000 + number, ["ipc nil any never never"]) for number in range(count)]

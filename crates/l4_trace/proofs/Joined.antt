@@ -1,0 +1,22 @@
+-- Words with a space before each of them but the first.
+use Rattle.std.proofs.Common.{◌≡◌, ℕ, List, [], ◌∷◌, ◌++◌, map, sym, ap, append-nil, append_assoc}
+use Rattle.std.specs.Prelude.{codes, flat_map}
+use Rattle.std.specs.List.{join_with_byte}
+use Rattle.l4_trace.specs.Lines.{hexadecimal, line_of_words}
+
+pub join_words : (first : List ℕ) (words : List ℕ) → join_with_byte 32 (first ∷ map hexadecimal words) ≡ first ++ flat_map (λ word. codes " " ++ hexadecimal word) words
+join_words first [] = sym (append-nil first)
+join_words first (word ∷ words) = ap (λ rest. first ++ (32 ∷ rest)) (join_words (hexadecimal word) words)
+
+-- The line of a delivery, put together piece by piece.
+pub delivery_line : (s name receiver shown actual tag : List ℕ) (words : List ℕ) →
+    s ++ codes "deliver" ++ codes " " ++ name ++ codes " " ++ receiver ++ codes " " ++ shown ++ codes " " ++ actual
+    ++ codes " " ++ tag ++ flat_map (λ word. codes " " ++ hexadecimal word) words ++ codes "\n"
+    ≡ s ++ line_of_words (codes "deliver" ∷ name ∷ receiver ∷ shown ∷ actual ∷ tag ∷ map hexadecimal words)
+delivery_line s name receiver shown actual tag words = simp (join_words, append_assoc)
+
+-- The line of an order.
+pub order_line : (s caller target what : List ℕ) →
+    s ++ codes "order" ++ codes " " ++ caller ++ codes " " ++ target ++ (codes " " ++ (what ++ codes "\n"))
+    ≡ s ++ line_of_words (codes "order" ∷ caller ∷ target ∷ what ∷ [])
+order_line s caller target what = simp append_assoc

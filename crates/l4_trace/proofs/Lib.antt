@@ -1,0 +1,11 @@
+pub mod LineRows
+pub mod Plain
+pub mod Joined
+pub mod Spelled
+pub mod Splits
+pub mod Between
+pub mod ReadingLines
+pub mod Numerals
+pub mod ReadWords
+pub mod ReadSteps
+pub mod ReadTexts

@@ -1,0 +1,10 @@
+use Rattle.std.proofs.Common.{◌≡◌, length, map}
+use Rattle.l4_types.specs.StepView.{step_of}
+use Rattle.l4_trace.specs.Reading.{parts_of, read_parts, steps_of}
+use Rattle.l4_trace.proofs.reading.read_events.Given as goal
+
+abbrev pub invariant-lines : goal.invariant-lines
+invariant-lines l = read_parts (map step_of l.steps.items) (parts_of l.rest) ≡ steps_of l.text
+
+abbrev pub decreases-lines : goal.decreases-lines
+decreases-lines l = length l.rest

@@ -1,0 +1,47 @@
+//! How the words of a line are spelled, each with the space before it.
+ghost use Rattle.std.specs.Prelude.{◌≡◌, true, ◌++◌, codes, flat_map, OnOk};
+ghost use Rattle.std.specs.List.{list_all};
+ghost use Rattle.std.specs.String.{string_bytes};
+ghost use Rattle.l4_model.specs.Words.{is_global};
+ghost use Rattle.l4_trace.specs.Lines.{hexadecimal, thread_word, name_word, is_word, is_name};
+
+use l4_types::ids::GlobalId;
+use l4_types::steps::Name;
+use std::alloc::AllocError;
+
+/// Appends a space and a word in hexadecimal: in lower case, with no prefix and no leading zero.
+pub fn push_word(line: &mut String, word: u64) -> Result<(), AllocError>
+    ensures word { OnOk result (string_bytes line.new ≡ string_bytes line.old ++ codes " " ++ hexadecimal word) }
+    ensures spelled { is_word word ≡ true }
+{
+    write!(line, " {word:x}")
+}
+
+/// Appends a space and each of these words, as `push_word` does it.
+pub fn push_words(line: &mut String, words: &[u64]) -> Result<(), AllocError>
+    ensures words { OnOk result (string_bytes line.new ≡ string_bytes line.old ++ flat_map (λ word. codes " " ++ hexadecimal word) words.now) }
+    ensures spelled { OnOk result (list_all is_word words.now ≡ true) }
+{
+    for word in words {
+        push_word(line, *word)?;
+    }
+    Ok(())
+}
+
+/// Appends a space and a thread, `N.V`: its number and its version in decimal.
+pub fn push_thread(line: &mut String, thread: GlobalId) -> Result<(), AllocError>
+    ensures word { OnOk result (string_bytes line.new ≡ string_bytes line.old ++ codes " " ++ thread_word thread) }
+    ensures spelled { is_global thread ≡ true }
+{
+    write!(line, " {}.{}", thread.number(), thread.version())
+}
+
+/// Appends a space and the name of a send, `N.V#K`.
+#[tactic(auto, using(crate::proofs::Spelled::spelled_name))]
+pub fn push_name(line: &mut String, name: Name) -> Result<(), AllocError>
+    ensures word { OnOk result (string_bytes line.new ≡ string_bytes line.old ++ codes " " ++ name_word name) }
+    ensures spelled { OnOk result (is_name name ≡ true) }
+{
+    push_thread(line, name.thread())?;
+    write!(line, "#{}", name.k())
+}

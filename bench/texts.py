@@ -92,3 +92,22 @@ def adding(first, second):
 def waiting(count):
     """Threads that wait for ever."""
     return [thread(10_000 + number, ["ipc nil any never never"]) for number in range(count)]
+
+
+def calling(client, server):
+    """Two threads of which one calls the other for ever, and the other answers."""
+    return [
+        thread(client, [f"ipc {server}.1 {server}.1 never never", "jump 0"]),
+        thread(server, ["ipc nil any never never", "ipc last any never never", "jump 1"]),
+    ]
+
+
+def crowd(count):
+    """Threads that send to one receiver for ever."""
+    senders = [thread(number, [f"ipc {count + 1}.1 nil never never", "jump 0"]) for number in range(1, count + 1)]
+    return senders + [thread(count + 1, ["ipc nil any never never", "jump 0"])]
+
+
+def sleepers(count):
+    """Threads that wait again and again, each for a time of its own of at most 1,023 ticks."""
+    return [thread(number, [f"ipc nil any never {number}", "jump 0"]) for number in range(1, count + 1)]

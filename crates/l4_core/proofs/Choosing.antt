@@ -1,77 +1,30 @@
--- What the next turn does, where nothing is cancelled, deleted or timed: a waiting thread gets what waits for it, or a ready one runs.
-use Rattle.std.proofs.Common.{◌≡◌, ℕ, zero, suc, ◌+◌, ◌-◌, ◌<◌, ◌≤◌, subst, Bool, true, false, Option, Some, None, List, [], ◌∷◌, length, filter, refl, sym, ap, ◌∙◌, arith}
-use Rattle.std.specs.Prelude.{find, slice_get}
+-- What the next turn is about: the first duty, a due timeout, or a ready thread.
+use Rattle.std.proofs.Common.{◌≡◌, ℕ, zero, suc, ◌+◌, ◌<◌, ◌≤◌, subst, Bool, true, false, cond, ◌&&◌, Option, Some, None, is_some, List, [], ◌∷◌, length, filter, refl, sym, ap, ◌∙◌, inl, inr, ◌⊎◌, arith}
+use Rattle.std.specs.Prelude.{find, slice_get, slice_index_or, ◌==◌, nat_lt}
 use Rattle.std.specs.Option.{option_map}
-use Rattle.std.specs.List.{range_with_len}
-use Rattle.l4_model.specs.Machine.{Machine}
+use Rattle.std.specs.List.{range_with_len, list_any}
+use Rattle.std.proofs.lemmas.Bool.{cases_eq, ne_eqb, le-ltb}
+use Rattle.l4_model.specs.Words.{Id, NilThread, AnyThread, AnyLocalThread, LocalThread, GlobalThread}
+use Rattle.l4_model.specs.Machine.{Machine, place_of}
 use Rattle.l4_model.specs.World.{Send, Phase, Ready, Sending, Receiving, Ordering, Ended, Deleted, is_deleted, receive_now}
-use Rattle.l4_model.specs.Conditions.{Found, is_nobody, ◌>>=◌, ◌>>◌}
+use Rattle.l4_model.specs.Conditions.{Found, is_nobody, is_gone, ◌>>=◌, ◌>>◌}
 use Rattle.l4_core_model.specs.Plain as plain
 use Rattle.l4_core_model.specs.Local.{Local, declared, is_own, own_places, thread, held, held_by}
-use Rattle.l4_core_model.specs.Acts.{first_acceptable, zero_refusable}
-use Rattle.l4_core_model.specs.Turns.{Duty, DeliversFirst, Choice, ByDuty, ByReady, duty_drops_own, duty_refuses_waiting, duty_tells_gone, duty_cancels_own, duty_cancels_receive, duty_delivers_first, duty_closes_receive, duty_refuses_zero, duty_of, first_some, first_duty, choice}
-use Rattle.l4_core.specs.Simple.{Suits, IsSimple, IsSettled}
+use Rattle.l4_core_model.specs.Acts.{first_of_list, zero_refusable}
+use Rattle.l4_core_model.specs.Turns.{Duty, DropsOwn, RefusesFirst, TellsGone, CancelsOwn, CancelsReceive, DeliversFirst, ClosesReceive, RefusesZero, Choice, ByDuty, ByDue, ByReady, next_untold, duty_tells_gone, duty_refuses_zero, duty_of, first_some, first_duty, choice}
+use Rattle.l4_core_model.proofs.Knows.{same_nat}
+use Rattle.l4_core.specs.Duties.{is_gone_at, names_nobody, deleted_duty, or_close, receive_duty, duty_at, HasNoDuty}
+use Rattle.l4_core.specs.Settled.{IsLasting, IsSettled}
+use Rattle.l4_core.specs.Processor.{IsCore}
+use Rattle.l4_core.proofs.Settling.{sooner, later}
 
-pub never_deleted : (p : Phase) (send : Option Send) → Suits p send → is_deleted p ≡ false
-never_deleted Ready send s = refl
-never_deleted Sending send s = refl
-never_deleted (Receiving receive since) send s = refl
-never_deleted Ordering send s = refl
-never_deleted Ended send s = refl
-never_deleted Deleted send s = absurd s
+-- All threads are of this processor.
 
-and_false : {A : Type 0} (b c : Bool) (o : Option A) → c ≡ false → (b >> (c >> o)) ≡ None
-and_false false c o e = refl
-and_false true c o e = rw e
+pub home : (m : Machine) (l : Local) (i : ℕ) → IsCore m l → i < length m.threads → (declared m i).cpu ≡ 0
+home m l i c lt = let h = c.machine.homed i lt in omega (arith, c.single)
 
-nobody : (m : Machine) (l : Local) (p : Phase) (send : Option Send) → Suits p send → {A : Type 0} (o : Option A) →
-    (receive_now p >>= λ receive. is_nobody receive.from (held_by m l receive.from) >> o) ≡ None
-nobody m l Ready send s o = refl
-nobody m l Sending send s o = refl
-nobody m l (Receiving receive since) send s o = let e = s.0 in rw e
-nobody m l Ordering send s o = refl
-nobody m l Ended send s o = refl
-nobody m l Deleted send s o = refl
-
-find_none : {A : Type 0} (p : A → Bool) → ((x : A) → p x ≡ false) → (xs : List A) → find p xs ≡ None
-find_none p f [] = refl
-find_none p f (x ∷ xs) = let e = f x in rw e (find_none p f xs)
-
-pub endless : (m : Machine) (r : Found) (p : Phase) (send : Option Send) → Suits p send → zero_refusable m r send ≡ false
-endless m r p None s = refl
-endless m r Ready (Some send) s = cc
-endless m r Sending (Some send) s = let e = s.period in rw e
-endless m r (Receiving receive since) (Some send) s = let e = s.2 in cc
-endless m r Ordering (Some send) s = absurd s
-endless m r Ended (Some send) s = cc
-endless m r Deleted (Some send) s = absurd s
-
-pub duty-simple : (m : Machine) (cpu : ℕ) (l : Local) (i : ℕ) → ((j : ℕ) → IsSimple (thread l j)) → duty_of m cpu l (held m l i) ≡ option_map DeliversFirst (first_acceptable l i)
-duty-simple m cpu l i simple =
-    let t = simple i in
-    let living = never_deleted (thread l i).phase (thread l i).send t.suits in
-    let send_stays = t.no_cancel_send in
-    let receive_stays = t.no_cancel_receive in
-    let a : duty_drops_own l (held m l i) ≡ None = rw living in
-    let b : duty_refuses_waiting l (held m l i) ≡ None = rw living in
-    let c : duty_tells_gone m cpu l (held m l i) ≡ None = rw living in
-    let d : duty_cancels_own l (held m l i) ≡ None = and_false _ _ _ send_stays in
-    let e : duty_cancels_receive (held m l i) ≡ None = and_false _ _ _ receive_stays in
-    let f : duty_delivers_first l (held m l i) ≡ option_map DeliversFirst (first_acceptable l i) = of_first (first_acceptable l i) in
-    let g : duty_closes_receive m l (held m l i) ≡ None = nobody m l (thread l i).phase (thread l i).send t.suits _ in
-    let h : duty_refuses_zero m l (held m l i) ≡ None = by_find _ _ (find_none _ (λ w. endless m (held m l i) _ _ (simple w.block).suits) (plain.list_of l.lists i)) in
-    rw (a, b, c, d, e, f, g, h) (last (option_map DeliversFirst (first_acceptable l i)))
-  where
-    of_first : (o : Option ℕ) → (o >>= λ first. Some (DeliversFirst first)) ≡ option_map DeliversFirst o
-    of_first None = refl
-    of_first (Some x) = refl
-
-    by_find : (o : Option plain.Waiting) (f : plain.Waiting → Option Duty) → o ≡ None → (o >>= f) ≡ None
-    by_find o f e = rw e
-
-    last : (o : Option Duty) → first_some (None ∷ None ∷ None ∷ None ∷ None ∷ o ∷ None ∷ None ∷ []) ≡ o
-    last None = refl
-    last (Some x) = refl
+pub own : (m : Machine) (l : Local) (i : ℕ) → IsCore m l → i < length m.threads → is_own m 0 i ≡ true
+own m l i c lt = let e = home m l i c lt in rw e
 
 filter-range : (p : ℕ → Bool) (a n : ℕ) → ((i : ℕ) → i < a + n → p i ≡ true) → filter p (range_with_len a n) ≡ range_with_len a n
 filter-range p a zero f = refl
@@ -85,125 +38,154 @@ places-all m home = filter-range (is_own m 0) 0 (length m.threads) (λ i lt. at 
     at : (i : ℕ) → (declared m i).cpu ≡ 0 → is_own m 0 i ≡ true
     at i e = rw e
 
--- The first thread of these that gets what waits for it.
-abbrev pub first_delivery : Local → List ℕ → Option Choice
-first_delivery l [] = None
-first_delivery l (i ∷ is) = first_some (option_map (λ j. ByDuty i (DeliversFirst j)) (first_acceptable l i) ∷ first_delivery l is ∷ [])
+-- No send of timeout zero waits.
 
-pub duties-simple : (m : Machine) (l : Local) → ((j : ℕ) → IsSimple (thread l j)) → (is : List ℕ) → first_duty m 0 l is ≡ first_delivery l is
-duties-simple m l simple [] = refl
-duties-simple m l simple (i ∷ is) =
-    let e = duty-simple m 0 l i simple in
-    rw (e, duties-simple m l simple is) (ap (λ o. first_some (o ∷ first_delivery l is ∷ [])) (twice (first_acceptable l i)))
+-- Of each entry of a list, that its block stands there.
+find_none : (p : plain.Waiting → Bool) (ws : List plain.Waiting) → ((w : plain.Waiting) → list_any (λ (v : plain.Waiting). w.block == v.block) ws ≡ true → p w ≡ false) → find p ws ≡ None
+find_none p [] f = refl
+find_none p (x ∷ xs) f =
+    let e = f x (sooner _ _ (same_nat x.block)) in
+    rw e (find_none p xs (λ w h. f w (later _ _ h)))
+
+pub is_somewhere : (p : plain.Waiting → Bool) (ess : List (List plain.Waiting)) (r : ℕ) → list_any p (slice_index_or ess r []) ≡ true → list_any (list_any p) ess ≡ true
+is_somewhere p [] r e = cc
+is_somewhere p (es ∷ ess) zero e = sooner _ _ e
+is_somewhere p (es ∷ ess) (suc r) e = later _ _ (is_somewhere p ess r e)
+
+lasts : (m : Machine) (r : Found) (send : Option Send) → IsLasting send → zero_refusable m r send ≡ false
+lasts m r None h = refl
+lasts m r (Some send) h = rw h
+
+none_zero : (m : Machine) (l : Local) (i : ℕ) → IsSettled m l → duty_refuses_zero m l (held m l i) ≡ None
+none_zero m l i s =
+    by _ (find_none (λ w. zero_refusable m (held m l i) (thread l w.block).send) (plain.list_of l.lists i)
+    (λ w h. lasts m (held m l i) (thread l w.block).send (s.queued w.block (is_somewhere (λ (v : plain.Waiting). w.block == v.block) l.lists.waiting i h)).lasting))
   where
-    twice : (o : Option ℕ) → option_map (ByDuty i) (option_map DeliversFirst o) ≡ option_map (λ j. ByDuty i (DeliversFirst j)) o
-    twice None = refl
-    twice (Some x) = refl
+    by : (o : Option plain.Waiting) → o ≡ None → (o >>= λ w. Some (RefusesZero w.block)) ≡ None
+    by o e = rw e
 
--- The turn's choice.
-pub choice-simple : (m : Machine) (l : Local) → ((i : ℕ) → i < length m.threads → (declared m i).cpu ≡ 0) → IsSettled m l →
-    choice m 0 l ≡ first_some (first_delivery l (range_with_len 0 (length m.threads)) ∷ option_map ByReady (slice_get l.lists.ready 0) ∷ [])
-choice-simple m l home s =
-    let places = places-all m home in
-    let duties = duties-simple m l s.simple (range_with_len 0 (length m.threads)) in
-    let armed = s.armed in
-    rw (places, duties, armed) (skips (first_delivery l (range_with_len 0 (length m.threads))) _)
+-- There is no other processor.
+untold : (m : Machine) (told : ℕ) → m.cpus ≡ 1 → next_untold m 0 told ≡ None
+untold m zero e = rw e
+untold m (suc n) e =
+    let no : (suc n == 0) ≡ false = ne_eqb (suc n) 0 (λ h. omega (arith, h)) in
+    let past : nat_lt (suc n) 1 ≡ false = le-ltb (suc n) 1 (omega arith) in
+    rw (e, no, past)
+
+none_gone : (m : Machine) (l : Local) (f : Found) → m.cpus ≡ 1 → duty_tells_gone m 0 l f ≡ None
+none_gone m l f e = by (is_deleted f.now.phase) (untold m (slice_index_or l.told f.at 0) e)
   where
-    skips : (o : Option Choice) (p : Option Choice) → first_some (o ∷ None ∷ p ∷ []) ≡ first_some (o ∷ p ∷ [])
-    skips None p = refl
-    skips (Some x) p = refl
+    by : (b : Bool) → next_untold m 0 (slice_index_or l.told f.at 0) ≡ None → (b >> (next_untold m 0 (slice_index_or l.told f.at 0) >>= λ to. Some (TellsGone to))) ≡ None
+    by true h = rw h
+    by false h = refl
 
--- The search over the receivers, one by one
+-- A duty of the core is the one that is looked for.
 
-abbrev pub choice_from : Local → (receiver count : ℕ) → Option Choice
-choice_from l r n = first_some (first_delivery l (range_with_len r (n - r)) ∷ option_map ByReady (slice_get l.lists.ready 0) ∷ [])
-
-next_receiver : (l : Local) (r n : ℕ) → r < n →
-    first_delivery l (range_with_len r (n - r)) ≡ first_some (option_map (λ j. ByDuty r (DeliversFirst j)) (first_acceptable l r) ∷ first_delivery l (range_with_len (r + 1) (n - (r + 1))) ∷ [])
-next_receiver l r n lt = let e : n - r ≡ suc (n - (r + 1)) = omega arith in rw e
-
-pub choice-passes : (l : Local) (r n : ℕ) → r < n → first_acceptable l r ≡ None → choice_from l r n ≡ choice_from l (r + 1) n
-choice-passes l r n lt e =
-    let passed : first_delivery l (range_with_len r (n - r)) ≡ first_delivery l (range_with_len (r + 1) (n - (r + 1))) =
-    next_receiver l r n lt ∙ ap (λ o. first_some (option_map (λ j. ByDuty r (DeliversFirst j)) o ∷ first_delivery l (range_with_len (r + 1) (n - (r + 1))) ∷ [])) e ∙ only (first_delivery l (range_with_len (r + 1) (n - (r + 1)))) in
-    ap (λ o. first_some (o ∷ option_map ByReady (slice_get l.lists.ready 0) ∷ [])) passed
+nobody_here : (m : Machine) (l : Local) (from : Id) → is_nobody from (held_by m l from) ≡ names_nobody m l.threads from
+nobody_here m l NilThread = refl
+nobody_here m l AnyThread = refl
+nobody_here m l AnyLocalThread = refl
+nobody_here m l (LocalThread word) = refl
+nobody_here m l (GlobalThread id) = by (place_of m id)
   where
-    only : (o : Option Choice) → first_some (None ∷ o ∷ []) ≡ o
-    only None = refl
-    only (Some x) = refl
+    by : (o : Option ℕ) → is_gone (option_map (held m l) o) ≡ is_gone_at l.threads o
+    by None = refl
+    by (Some p) = refl
 
-pub choice-finds : (l : Local) (r n i : ℕ) → r < n → first_acceptable l r ≡ Some i → choice_from l r n ≡ Some (ByDuty r (DeliversFirst i))
-choice-finds l r n i lt e =
-    let found : first_delivery l (range_with_len r (n - r)) ≡ Some (ByDuty r (DeliversFirst i)) = next_receiver l r n lt ∙ ap (λ o. first_some (option_map (λ j. ByDuty r (DeliversFirst j)) o ∷ first_delivery l (range_with_len (r + 1) (n - (r + 1))) ∷ [])) e in
-    ap (λ o. first_some (o ∷ option_map ByReady (slice_get l.lists.ready 0) ∷ [])) found
+first_waits : (ws : List plain.Waiting) → (slice_get ws 0 >>= λ first. Some (RefusesFirst first.block)) ≡ option_map RefusesFirst (plain.first_taken AnyThread ws)
+first_waits [] = refl
+first_waits (w ∷ ws) = refl
 
-pub choice-skips : (l : Local) (n k : ℕ) → k ≤ n → ((p : ℕ) → p < k → first_acceptable l p ≡ None) → choice_from l 0 n ≡ choice_from l k n
-choice-skips l n zero le free = refl
-choice-skips l n (suc k) le free =
-    let next : k + 1 ≡ suc k = omega arith in
-    choice-skips l n k (omega arith) (λ p lt. free p (omega arith)) ∙ choice-passes l k n (omega arith) (free k (omega arith)) ∙ ap (λ r. choice_from l r n) next
+-- The duties of a thread, where two of them can't come.
+abbrev six : (a b d e f g : Option Duty) → Option Duty
+six a b d e f g = first_some (a ∷ b ∷ None ∷ d ∷ e ∷ f ∷ g ∷ None ∷ [])
 
-pub choice-last : (l : Local) (r n : ℕ) → n ≤ r → choice_from l r n ≡ option_map ByReady (slice_get l.lists.ready 0)
-choice-last l r n le = let e : n - r ≡ 0 = omega arith in rw e (only (option_map ByReady (slice_get l.lists.ready 0)))
-  where
-    only : (o : Option Choice) → first_some (None ∷ o ∷ []) ≡ o
-    only None = refl
-    only (Some x) = refl
+dead : (q cs cr : Bool) (o : Option Duty) → six (q >> Some DropsOwn) o (q >> (cs >> Some CancelsOwn)) None None None ≡ cond q (Some DropsOwn) o
+dead true cs cr None = refl
+dead true cs cr (Some d) = refl
+dead false cs cr None = refl
+dead false cs cr (Some d) = refl
 
-pub choice-first : (m : Machine) (l : Local) → ((i : ℕ) → i < length m.threads → (declared m i).cpu ≡ 0) → IsSettled m l → choice m 0 l ≡ choice_from l 0 (length m.threads)
-choice-first m l home s =
-    let whole : length m.threads - 0 ≡ length m.threads = omega arith in
-    choice-simple m l home s ∙ ap (λ n. first_some (first_delivery l (range_with_len 0 n) ∷ option_map ByReady (slice_get l.lists.ready 0) ∷ [])) (sym whole)
+alive_idle : (q cs : Bool) → six None None (q >> (cs >> Some CancelsOwn)) None None None ≡ cond (cs && q) (Some CancelsOwn) None
+alive_idle true true = refl
+alive_idle true false = refl
+alive_idle false true = refl
+alive_idle false false = refl
 
--- What a choice tells
+alive_waits : (q cs cr nobody : Bool) (o : Option ℕ) → six None None (q >> (cs >> Some CancelsOwn)) (cr >> Some CancelsReceive) (o >>= λ first. Some (DeliversFirst first)) (nobody >> Some ClosesReceive) ≡
+    cond (cs && q) (Some CancelsOwn) (cond cr (Some CancelsReceive) (or_close o nobody))
+alive_waits true true cr nobody o = refl
+alive_waits true false true nobody o = refl
+alive_waits true false false nobody (Some s) = refl
+alive_waits true false false true None = refl
+alive_waits true false false false None = refl
+alive_waits false true true nobody o = refl
+alive_waits false true false nobody (Some s) = refl
+alive_waits false true false true None = refl
+alive_waits false true false false None = refl
+alive_waits false false true nobody o = refl
+alive_waits false false false nobody (Some s) = refl
+alive_waits false false false true None = refl
+alive_waits false false false false None = refl
+
+by_phase : (m : Machine) (l : Local) (p : Phase) (s : plain.Plain) (i : ℕ) (q cs cr : Bool) →
+    six (is_deleted p >> (q >> Some DropsOwn)) (is_deleted p >> (slice_get (plain.list_of s i) 0 >>= λ first. Some (RefusesFirst first.block))) (q >> (cs >> Some CancelsOwn)) (is_some (receive_now p) >> (cr >> Some CancelsReceive))
+    (first_of_list s i p >>= λ first. Some (DeliversFirst first)) (receive_now p >>= λ receive. is_nobody receive.from (held_by m l receive.from) >> Some ClosesReceive)
+    ≡ cond (is_deleted p) (deleted_duty q (plain.list_of s i)) (cond (cs && q) (Some CancelsOwn) (receive_duty m l.threads cr (plain.list_of s i) (receive_now p)))
+by_phase m l Ready s i q cs cr = alive_idle q cs
+by_phase m l Sending s i q cs cr = alive_idle q cs
+by_phase m l (Receiving receive since) s i q cs cr =
+    alive_waits q cs cr (is_nobody receive.from (held_by m l receive.from)) (plain.first_taken receive.from (plain.list_of s i))
+    ∙ ap (λ b. cond (cs && q) (Some CancelsOwn) (cond cr (Some CancelsReceive) (or_close (plain.first_taken receive.from (plain.list_of s i)) b))) (nobody_here m l receive.from)
+by_phase m l Ordering s i q cs cr = alive_idle q cs
+by_phase m l Ended s i q cs cr = alive_idle q cs
+by_phase m l Deleted s i q cs cr = ap (λ o. six (q >> Some DropsOwn) o (q >> (cs >> Some CancelsOwn)) None None None) (first_waits (plain.list_of s i)) ∙ dead q cs cr (option_map RefusesFirst (plain.first_taken AnyThread (plain.list_of s i)))
+
+pub duty_is : (m : Machine) (l : Local) (i : ℕ) → IsCore m l → duty_of m 0 l (held m l i) ≡ duty_at m l.threads l.lists i
+duty_is m l i c =
+    let gone = none_gone m l (held m l i) c.single in
+    let zeros = none_zero m l i c.settled in
+    rw (gone, zeros) (by_phase m l (thread l i).phase l.lists i (plain.is_queued l.lists i) (thread l i).cancel_send (thread l i).cancel_receive)
+
+-- The first duty
 
 only_second : (o : Option Choice) → first_some (None ∷ o ∷ []) ≡ o
 only_second None = refl
 only_second (Some x) = refl
 
-abbrev place_of_choice : Option Choice → ℕ
-place_of_choice (Some (ByDuty p d)) = p
-place_of_choice _ = 0
+none_first : (m : Machine) (l : Local) → ((i : ℕ) → duty_of m 0 l (held m l i) ≡ None) → (is : List ℕ) → first_duty m 0 l is ≡ None
+none_first m l f [] = refl
+none_first m l f (i ∷ is) = let e = f i in rw (e, none_first m l f is)
 
-abbrev sender_of_choice : Option Choice → ℕ
-sender_of_choice (Some (ByDuty p (DeliversFirst q))) = q
-sender_of_choice _ = 0
-
-delivery-found : (l : Local) (is : List ℕ) (r i : ℕ) → first_delivery l is ≡ Some (ByDuty r (DeliversFirst i)) → first_acceptable l r ≡ Some i
-delivery-found l [] r i e = cc
-delivery-found l (k ∷ ks) r i e = by (first_acceptable l k) refl e (delivery-found l ks r i)
+found_first : (m : Machine) (l : Local) (p : ℕ) (d : Duty) → duty_of m 0 l (held m l p) ≡ Some d → ((i : ℕ) → i < p → duty_of m 0 l (held m l i) ≡ None) → (n a : ℕ) → a ≤ p → p < a + n →
+    first_duty m 0 l (range_with_len a n) ≡ Some (ByDuty p d)
+found_first m l p d has before zero a le lt = absurd (omega arith)
+found_first m l p d has before (suc n) a le lt = by (cases_eq a p) (λ f g. found_first m l p d has before n (a + 1) f g)
   where
-    by : (o : Option ℕ) → first_acceptable l k ≡ o → first_some (option_map (λ j. ByDuty k (DeliversFirst j)) o ∷ first_delivery l ks ∷ []) ≡ Some (ByDuty r (DeliversFirst i)) →
-        (first_delivery l ks ≡ Some (ByDuty r (DeliversFirst i)) → first_acceptable l r ≡ Some i) → first_acceptable l r ≡ Some i
-    by None h e f = f (sym (only_second (first_delivery l ks)) ∙ e)
-    by (Some j) h e f =
-        let place : k ≡ r = ap place_of_choice e in
-        let sender : j ≡ i = ap sender_of_choice e in
-        subst (λ q. first_acceptable l q ≡ Some i) place (h ∙ ap Some sender)
+    by : (a ≡ p) ⊎ (a ≡ p → ⊥) → (a + 1 ≤ p → p < a + 1 + n → first_duty m 0 l (range_with_len (a + 1) n) ≡ Some (ByDuty p d)) → first_duty m 0 l (range_with_len a (suc n)) ≡ Some (ByDuty p d)
+    by (inl same) rest =
+        let here : duty_of m 0 l (held m l a) ≡ Some d = subst (λ k. duty_of m 0 l (held m l k) ≡ Some d) (sym same) has in
+        ap (λ o. first_some (option_map (ByDuty a) o ∷ first_duty m 0 l (range_with_len (a + 1) n) ∷ [])) here ∙ ap (λ k. Some (ByDuty k d)) same
+    by (inr ne) rest =
+        let less : a < p = omega (arith, ne) in
+        ap (λ o. first_some (option_map (ByDuty a) o ∷ first_duty m 0 l (range_with_len (a + 1) n) ∷ [])) (before a less) ∙ only_second (first_duty m 0 l (range_with_len (a + 1) n))
+        ∙ rest (omega (arith, less)) (omega (arith, less))
 
-pub duty-found : (m : Machine) (l : Local) (r i : ℕ) → ((k : ℕ) → k < length m.threads → (declared m k).cpu ≡ 0) → IsSettled m l → choice m 0 l ≡ Some (ByDuty r (DeliversFirst i)) → first_acceptable l r ≡ Some i
-duty-found m l r i home s e = by (first_delivery l (range_with_len 0 (length m.threads))) (slice_get l.lists.ready 0) (sym (choice-simple m l home s) ∙ e) (delivery-found l (range_with_len 0 (length m.threads)) r i)
-  where
-    by : (o : Option Choice) (p : Option ℕ) → first_some (o ∷ option_map ByReady p ∷ []) ≡ Some (ByDuty r (DeliversFirst i)) → (o ≡ Some (ByDuty r (DeliversFirst i)) → first_acceptable l r ≡ Some i) → first_acceptable l r ≡ Some i
-    by None None e f = cc
-    by None (Some x) e f = cc
-    by (Some c) p e f = f e
+-- The choice
 
-pub ready-found : (m : Machine) (l : Local) (i : ℕ) → ((k : ℕ) → k < length m.threads → (declared m k).cpu ≡ 0) → IsSettled m l → choice m 0 l ≡ Some (ByReady i) → slice_get l.lists.ready 0 ≡ Some i
-ready-found m l i home s e = by (range_with_len 0 (length m.threads)) (slice_get l.lists.ready 0) (sym (choice-simple m l home s) ∙ e)
-  where
-    no_ready : (is : List ℕ) → first_delivery l is ≡ Some (ByReady i) → ⊥
-    no_ready [] e = cc
-    no_ready (k ∷ ks) e = at (first_acceptable l k) e (no_ready ks)
-      where
-        at : (o : Option ℕ) → first_some (option_map (λ j. ByDuty k (DeliversFirst j)) o ∷ first_delivery l ks ∷ []) ≡ Some (ByReady i) → (first_delivery l ks ≡ Some (ByReady i) → ⊥) → ⊥
-        at None e f = f (sym (only_second (first_delivery l ks)) ∙ e)
-        at (Some j) e f = cc
+pub chooses_duty : (m : Machine) (l : Local) (p : ℕ) (d : Duty) → IsCore m l → p < length m.threads → duty_at m l.threads l.lists p ≡ Some d → ((i : ℕ) → i < p → duty_at m l.threads l.lists i ≡ None) → choice m 0 l ≡ Some (ByDuty p d)
+chooses_duty m l p d c lt has before =
+    let places = places-all m (λ i less. home m l i c less) in
+    let found = found_first m l p d (duty_is m l p c ∙ has) (λ i less. duty_is m l i c ∙ before i less) (length m.threads) 0 (omega arith) (omega arith) in
+    rw (places, found)
 
-    by : (is : List ℕ) (p : Option ℕ) → first_some (first_delivery l is ∷ option_map ByReady p ∷ []) ≡ Some (ByReady i) → p ≡ Some i
-    by is p e = split (first_delivery l is) p e (no_ready is)
-      where
-        split : (o : Option Choice) (q : Option ℕ) → first_some (o ∷ option_map ByReady q ∷ []) ≡ Some (ByReady i) → (o ≡ Some (ByReady i) → ⊥) → q ≡ Some i
-        split None None e f = cc
-        split None (Some x) e f = cc
-        split (Some c) q e f = absurd (f e)
+pub chooses_other : (m : Machine) (l : Local) → IsCore m l → HasNoDuty m l.threads l.lists → choice m 0 l ≡ first_some (option_map ByDue (plain.due_block l.clock l.lists.armed) ∷ option_map ByReady (slice_get l.lists.ready 0) ∷ [])
+chooses_other m l c none =
+    let nothing = none_first m l (λ i. duty_is m l i c ∙ none i) (own_places m 0) in
+    rw nothing
+
+pub due_first : (o : Option ℕ) (p : ℕ) (q : Option Choice) → o ≡ Some p → first_some (option_map ByDue o ∷ q ∷ []) ≡ Some (ByDue p)
+due_first o p q e = rw e
+
+pub ready_next : (o q : Option ℕ) → o ≡ None → first_some (option_map ByDue o ∷ option_map ByReady q ∷ []) ≡ option_map ByReady q
+ready_next o q e = rw e (only_second (option_map ByReady q))

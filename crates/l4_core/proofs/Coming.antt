@@ -1,232 +1,236 @@
--- A thread comes to a phase: what the program writes is what the core run does, and the state stays settled.
-use Rattle.std.proofs.Common.{◌≡◌, ℕ, ◌<◌, Bool, true, false, cond, Option, Some, None, List, length, get_or, set, refl, ap, sym, ◌∙◌, subst, arith}
-use Rattle.std.specs.Prelude.{◌==◌, unwrap_or}
-use Rattle.std.specs.Option.{option_map}
-use Rattle.std.proofs.lemmas.List.{get_or_read}
-use Rattle.l4_model.specs.Words.{Id}
+-- A thread that stands in no list changes: what it is then fits where it stands.
+use Rattle.std.proofs.Common.{◌≡◌, ℕ, ◌<◌, ◌≤◌, Bool, true, false, cond, not, ◌||◌, Option, Some, None, is_some, List, length, get_or, set, refl, ap, sym, ◌∙◌, subst, inl, inr, ◌⊎◌, arith}
+use Rattle.std.specs.Prelude.{◌==◌}
+use Rattle.std.proofs.lemmas.Bool.{eq-eqb}
+use Rattle.l4_model.specs.Words.{GlobalId, Id, NilThread, AnyThread, AnyLocalThread, LocalThread, GlobalThread, Period}
 use Rattle.l4_model.specs.Machine as model
-use Rattle.l4_model.specs.Machine.{Machine, End}
-use Rattle.l4_model.specs.World.{Context, Message, Send, Phase, Ready, Sending, Receiving, Ordering, Ended, Deleted, Thread, changed, opening_thread, is_ready}
-use Rattle.l4_model.specs.Rules.{sent, failed, advanced, ran}
-use Rattle.l4_model.specs.Effects.{runs, begins, waits, receives}
-use Rattle.l4_model.proofs.Chains.{set_changed}
+use Rattle.l4_model.specs.Machine.{Machine, Instr, What, CancelSend, CancelReceive, CancelBoth, Delete}
+use Rattle.l4_model.specs.World.{Context, Receive, Message, Send, Asked, Phase, Ready, Sending, Receiving, Ordering, Ended, Deleted, Thread, is_deleted, receive_now}
+use Rattle.l4_model.specs.Rules.{Sends, ipc_act, request, ran, advanced, failed}
+use Rattle.l4_model.specs.Effects.{runs, begins, waits, fails, decided, refused, receives, goes_on, delivered, orders, obeyed}
 use Rattle.l4_core_model.specs.Plain as plain
+use Rattle.l4_core_model.specs.Plain.{Plain}
 use Rattle.l4_core_model.specs.Letters.{Result, Delivered, Refused, TimedOut, Nobody, Cancelled, Dropped}
-use Rattle.l4_core_model.specs.Local.{Local, declared, thread, comes_to, relists, readied, armed_for, armed_period, ended}
-use Rattle.l4_script.specs.declared.machine.Instr.{Instr}
-use Rattle.l4_script.specs.declared.machine.Instr.TheVariants as instrs
-use Rattle.l4_script.specs.declared.machine.Ipc.TheVariants as ipcs
-use Rattle.l4_script.specs.Scripts.{instr_of}
-use Rattle.l4_core.specs.PhaseView.{endless_send, goes_on}
-use Rattle.l4_core.specs.Simple.{open_wait, Suits, IsSimple, IsOwn, IsSettled, is_ready_in}
-use Rattle.l4_core.proofs.Settling.{Comes, unarmed, queued-none}
-
--- What was written
-
-unarmed_lists : (m : Machine) (l : Local) (i : ℕ) (t : Thread) → IsSettled m l → IsSimple t → armed_for (armed_period t.phase t.send) l.clock i (plain.without_block i l.lists.armed) ≡ l.lists.armed
-unarmed_lists m l i t s simple =
-    let e = unarmed t.phase t.send simple.suits in
-    let none = s.armed in
-    rw (e, none)
-
-quiet : (p : Phase) (i : ℕ) (ready : List ℕ) → is_ready p ≡ false → readied p i ready ≡ ready
-quiet Ready i ready e = cc
-quiet Sending i ready e = refl
-quiet (Receiving receive since) i ready e = refl
-quiet Ordering i ready e = refl
-quiet Ended i ready e = refl
-quiet Deleted i ready e = refl
-
-written : (m : Machine) (l : Local) (i : ℕ) (f : Thread → Thread) (old new : Thread) → IsSettled m l → Comes m l i (f (thread l i)) → old ≡ get_or l.threads i old → new ≡ f old → set l.threads i new ≡ changed f l.threads i
-written m l i f old new s c at is =
-    let lt : i < length l.threads = omega (arith, s.threads, c.within) in
-    set_changed f l.threads i opening_thread new lt (is ∙ ap f (get_or_read l.threads i old lt at opening_thread))
-
-pub came : (m : Machine) (l : Local) (i : ℕ) (f : Thread → Thread) (old new : Thread) → IsSettled m l → Comes m l i (f (thread l i)) → is_ready (f (thread l i)).phase ≡ false → old ≡ get_or l.threads i old → new ≡ f old →
-    record l { threads = set l.threads i new } ≡ comes_to i f l
-came m l i f old new s c still at is =
-    let a = written m l i f old new s c at is in
-    let b = quiet (f (thread l i)).phase i l.lists.ready still in
-    let d = unarmed_lists m l i (f (thread l i)) s c.simple in
-    let put : List Thread → List ℕ → List (ℕ × ℕ) → Local = λ ts ready armed. record l { threads = ts; lists = record l.lists { ready = ready; armed = armed } } in
-    ap (λ ts. put ts l.lists.ready l.lists.armed) a ∙ ap (λ r. put (changed f l.threads i) r l.lists.armed) (sym b) ∙ ap (λ r. put (changed f l.threads i) (readied (f (thread l i)).phase i l.lists.ready) r) (sym d)
-
-pub came_ready : (m : Machine) (l : Local) (i : ℕ) (f : Thread → Thread) (old new : Thread) → IsSettled m l → Comes m l i (f (thread l i)) → (f (thread l i)).phase ≡ Ready → old ≡ get_or l.threads i old → new ≡ f old →
-    record l { threads = set l.threads i new; lists = plain.made_ready i l.lists } ≡ comes_to i f l
-came_ready m l i f old new s c readies at is =
-    let a = written m l i f old new s c at is in
-    let d = unarmed_lists m l i (f (thread l i)) s c.simple in
-    let put : List Thread → List ℕ → List (ℕ × ℕ) → Local = λ ts ready armed. record l { threads = ts; lists = record l.lists { ready = ready; armed = armed } } in
-    ap (λ ts. put ts (readied Ready i l.lists.ready) l.lists.armed) a ∙ ap (λ p. put (changed f l.threads i) (readied p i l.lists.ready) l.lists.armed) (sym readies) ∙ ap (λ r. put (changed f l.threads i) (readied (f (thread l i)).phase i l.lists.ready) r) (sym d)
+use Rattle.l4_core_model.specs.Local.{Local, declared, thread, settles, comes_to, ended, was_delivered, was_dropped}
+use Rattle.l4_thread.specs.Parts.{Block}
+use Rattle.l4_core.specs.Places.{has}
+use Rattle.l4_core.specs.Duties.{thread_at}
+use Rattle.l4_core.specs.Settled.{IsOwn, MaySend, IsLasting, IsSettled}
+use Rattle.tcb_arena.specs.Blocks.{is_ready as is_ready_in}
+use Rattle.l4_core.specs.Processor.{Processor, with_local, threads_of, local_of, IsKept}
+use Rattle.l4_core.proofs.Keeping.{Writes, fits_blocks, kept-put, kept-changed, comes_is}
+use Rattle.l4_core.proofs.Settling.{Fits}
 
 -- What stands in no list
 
-sends_none : (t : Thread) → IsSimple t → t.phase ≡ Ready → t.send ≡ None
-sends_none t s e = let P : Phase → Type 0 = λ p. Suits p t.send in subst P e s.suits
-
-pub unqueued : (m : Machine) (l : Local) (i : ℕ) (p : Phase) → IsSettled m l → (thread l i).phase ≡ p → (p ≡ Sending → ⊥) → plain.is_queued l.lists i ≡ false
-unqueued m l i p s e other = by (plain.is_queued l.lists i) (λ q. (s.queued i q).is)
-  where
-    by : (b : Bool) → (b ≡ true → (thread l i).phase ≡ Sending) → b ≡ false
-    by true f = absurd (other (sym e ∙ f refl))
-    by false f = refl
-
-pub unready : (m : Machine) (l : Local) (i : ℕ) (p : Phase) → IsSettled m l → (thread l i).phase ≡ p → (p ≡ Ready → ⊥) → is_ready_in l.lists i ≡ false
-unready m l i p s e other = by (is_ready_in l.lists i) (λ q. (s.ready i q).is)
+pub unready : (m : Machine) (l : Local) (i : ℕ) → IsSettled m l → ((thread l i).phase ≡ Ready → ⊥) → is_ready_in l.lists i ≡ false
+unready m l i s other = by (is_ready_in l.lists i) (λ q. (s.ready i q).phase)
   where
     by : (b : Bool) → (b ≡ true → (thread l i).phase ≡ Ready) → b ≡ false
-    by true f = absurd (other (sym e ∙ f refl))
+    by true f = absurd (other (f refl))
     by false f = refl
 
--- What the effects need
-
-pub comes-waits : (m : Machine) (l : Local) (i : ℕ) → IsSettled m l → i < length m.threads → (thread l i).phase ≡ Ready → is_ready_in l.lists i ≡ false → Comes m l i (waits open_wait 0 (thread l i))
-comes-waits m l i s lt ready free =
-    let t = s.simple i in
-    record {
-      within = lt;
-      simple = record { suits = (refl, refl, sends_none (thread l i) t ready); order = t.order; no_cancel_send = t.no_cancel_send; no_cancel_receive = t.no_cancel_receive };
-      own = s.own i;
-      begun = s.begun i;
-      queued = λ q. let none = unqueued m l i Ready s ready (λ e. cc) in cc;
-      free = free;
-    }
-
-pub comes-begins : (m : Machine) (l : Local) (i : ℕ) (to : Id) (message : Message) → IsSettled m l → i < length m.threads → (thread l i).phase ≡ Ready → is_ready_in l.lists i ≡ false →
-    (thread l i).context.begun < l.stamp → message.actual ≡ (declared m i).id → Comes m l i (begins (endless_send to message) (thread l i))
-comes-begins m l i to message s lt ready free count own =
-    let t = s.simple i in
-    record {
-      within = lt;
-      simple = record { suits = record { period = refl; receive = refl }; order = t.order; no_cancel_send = t.no_cancel_send; no_cancel_receive = t.no_cancel_receive };
-      own = (own, omega arith);
-      begun = omega arith;
-      queued = λ q. refl;
-      free = free;
-    }
-
-pub comes-receives : (m : Machine) (l : Local) (i : ℕ) (message : Message) (tag : ℕ) → IsSettled m l → i < length m.threads → (thread l i).phase ≡ Receiving open_wait 0 → Comes m l i (receives message tag (thread l i))
-comes-receives m l i message tag s lt waits =
-    let t = s.simple i in
-    let P : Phase → Type 0 = λ p. Suits p (thread l i).send in
-    let suits = subst P waits t.suits in
-    record {
-      within = lt;
-      simple = record { suits = suits.2; order = t.order; no_cancel_send = t.no_cancel_send; no_cancel_receive = refl };
-      own = s.own i;
-      begun = s.begun i;
-      queued = λ q. let none = unqueued m l i (Receiving open_wait 0) s waits (λ e. cc) in cc;
-      free = unready m l i (Receiving open_wait 0) s waits (λ e. cc);
-    }
-
--- The context of a thread whose send is decided.
-abbrev pub context_after : Result → Context → Context
-context_after Delivered c = sent c
-context_after (Refused TimedOut) c = failed 2 c
-context_after (Refused Nobody) c = failed 4 c
-context_after (Refused Cancelled) c = failed 6 c
-context_after (Refused Dropped) c = c
-
-ended_with : (d : Result) (now : ℕ) (t : Thread) (send : Send) → t.phase ≡ Sending → t.send ≡ Some send → send.receive ≡ None →
-    ended d now t ≡ record t { context = context_after d t.context; phase = Ready; send = None; cancel_send = false; cancel_receive = false }
-ended_with Delivered now t send p s r = rw (s, p, r)
-ended_with (Refused TimedOut) now t send p s r = rw p
-ended_with (Refused Nobody) now t send p s r = rw p
-ended_with (Refused Cancelled) now t send p s r = rw p
-ended_with (Refused Dropped) now t send p s r = rw p
-
-pub ended_is : (d : Result) (now : ℕ) (t : Thread) → IsSimple t → t.phase ≡ Sending → ended d now t ≡ record t { context = context_after d t.context; phase = Ready; send = None; cancel_send = false; cancel_receive = false }
-ended_is d now t s p = by t.send refl (let P : Phase → Type 0 = λ q. Suits q t.send in subst P p s.suits)
+pub unqueued : (m : Machine) (l : Local) (i : ℕ) → IsSettled m l → (MaySend (thread l i).phase → ⊥) → plain.is_queued l.lists i ≡ false
+unqueued m l i s other = by (plain.is_queued l.lists i) (λ q. (s.queued i q).phase)
   where
-    by : (o : Option Send) → t.send ≡ o → Suits Sending o → ended d now t ≡ record t { context = context_after d t.context; phase = Ready; send = None; cancel_send = false; cancel_receive = false }
-    by None e h = absurd h
-    by (Some send) e h = ended_with d now t send p e h.receive
+    by : (b : Bool) → (b ≡ true → MaySend (thread l i).phase) → b ≡ false
+    by true f = absurd (other (f refl))
+    by false f = refl
 
-begun_after : (d : Result) (c : Context) → (context_after d c).begun ≡ c.begun
-begun_after Delivered c = refl
-begun_after (Refused TimedOut) c = refl
-begun_after (Refused Nobody) c = refl
-begun_after (Refused Cancelled) c = refl
-begun_after (Refused Dropped) c = refl
+pub waits_not_ready : (p : Phase) → is_some (receive_now p) ≡ true → p ≡ Ready → ⊥
+waits_not_ready Ready e f = cc
+waits_not_ready Sending e f = cc
+waits_not_ready (Receiving receive since) e f = cc
+waits_not_ready Ordering e f = cc
+waits_not_ready Ended e f = cc
+waits_not_ready Deleted e f = cc
 
-pub comes-ended : (m : Machine) (l : Local) (i : ℕ) (d : Result) (now : ℕ) → IsSettled m l → i < length m.threads → (thread l i).phase ≡ Sending → Comes m (relists (plain.unqueued i) l) i (ended d now (thread l i))
-comes-ended m l i d now s lt sends =
-    let t = s.simple i in
-    let is = ended_is d now (thread l i) t sends in
-    let P : Thread → Type 0 = λ u. Comes m (relists (plain.unqueued i) l) i u in
-    subst P (sym is) (record {
-      within = lt;
-      simple = record { suits = refl; order = t.order; no_cancel_send = refl; no_cancel_receive = refl };
-      own = tt;
-      begun = omega (arith, begun_after d (thread l i).context, s.begun i);
-      queued = λ q. let none = queued-none i l.lists.waiting in cc;
-      free = unready m l i Sending s sends (λ e. cc);
-    })
+pub waits_not_sends : (p : Phase) → is_some (receive_now p) ≡ true → MaySend p → ⊥
+waits_not_sends Ready e h = h
+waits_not_sends Sending e h = cc
+waits_not_sends (Receiving receive since) e h = h
+waits_not_sends Ordering e h = h
+waits_not_sends Ended e h = h
+waits_not_sends Deleted e h = cc
 
-pub ready_after : (m : Machine) (l : Local) (i : ℕ) (d : Result) (now : ℕ) → IsSettled m l → (thread l i).phase ≡ Sending → (ended d now (thread l i)).phase ≡ Ready
-ready_after m l i d now s sends = ap (λ (t : Thread). t.phase) (ended_is d now (thread l i) (s.simple i) sends)
+pub waits_alive : (p : Phase) → is_some (receive_now p) ≡ true → is_deleted p ≡ false
+waits_alive Ready e = refl
+waits_alive Sending e = refl
+waits_alive (Receiving receive since) e = refl
+waits_alive Ordering e = refl
+waits_alive Ended e = refl
+waits_alive Deleted e = cc
 
--- An instruction that concerns nobody else
-abbrev pub runs_of : Option Instr → Thread → Thread
-runs_of instr = runs (unwrap_or (option_map instr_of instr) End)
+pub sends_not_ready : (p : Phase) → MaySend p → p ≡ Ready → ⊥
+sends_not_ready Ready h f = h
+sends_not_ready Sending h f = cc
+sends_not_ready (Receiving receive since) h f = h
+sends_not_ready Ordering h f = h
+sends_not_ready Ended h f = h
+sends_not_ready Deleted h f = cc
 
-pub comes-runs : (m : Machine) (l : Local) (i : ℕ) (instr : Option Instr) → IsSettled m l → i < length m.threads → (thread l i).phase ≡ Ready → is_ready_in l.lists i ≡ false → Comes m l i (runs_of instr (thread l i))
-comes-runs m l i instr s lt ready free = by instr
+pub ready_not_sends : (p : Phase) → p ≡ Ready → MaySend p → ⊥
+ready_not_sends p e h = sends_not_ready p h e
+
+-- What a change keeps of a thread
+
+pub record Keeps (t u : Thread) : Type 0 where
+  pub sends : (u.send ≡ t.send) ⊎ (u.send ≡ None)
+  pub begun : u.context.begun ≡ t.context.begun
+  pub dead : is_deleted u.phase ≡ is_deleted t.phase
+
+pub fits-keeps : (m : Machine) (l : Local) (i : ℕ) (u : Thread) → IsSettled m l → i < length m.threads → is_ready_in l.lists i ≡ false → plain.is_queued l.lists i ≡ false → Keeps (thread l i) u → Fits m l i u
+fits-keeps m l i u s lt unready unqueued k = record {
+  within = lt;
+  own = by k.sends;
+  begun = let b = s.begun i in omega (arith, k.begun, b);
+  phase = λ q. let wrong : true ≡ false = sym q ∙ unqueued in cc;
+  lasting = λ q. let wrong : true ≡ false = sym q ∙ unqueued in cc;
+  ready = λ q. let wrong : true ≡ false = sym q ∙ unready in cc;
+}
   where
-    keeps : (c : Context) (p : Phase) → (Suits p (thread l i).send) → c.begun ≡ (thread l i).context.begun → Comes m l i (record (thread l i) { context = c; phase = p })
-    keeps c p suits same =
-        let t = s.simple i in
-        let P : ℕ → Type 0 = λ n. IsOwn (declared m i).id (thread l i).send n in
-        record {
-          within = lt;
-          simple = record { suits = suits; order = t.order; no_cancel_send = t.no_cancel_send; no_cancel_receive = t.no_cancel_receive };
-          own = subst P (sym same) (s.own i);
-          begun = omega (arith, s.begun i);
-          queued = λ q. let none = unqueued m l i Ready s ready (λ e. cc) in cc;
-          free = free;
-        }
+    by : (u.send ≡ (thread l i).send) ⊎ (u.send ≡ None) → IsOwn (declared m i).id u.send u.context.begun
+    by (inl e) = subst (λ o. IsOwn (declared m i).id o u.context.begun) (sym e) (subst (λ n. IsOwn (declared m i).id (thread l i).send n) (sym k.begun) (s.own i))
+    by (inr e) = subst (λ o. IsOwn (declared m i).id o u.context.begun) (sym e) tt
 
-    free_of : (p : Phase) → Suits p None → Suits p (thread l i).send
-    free_of p h = let none = sends_none (thread l i) (s.simple i) ready in rw none h
+begun_on : (place : ℕ) (c : Context) → (ran (model.OnErr place) c).begun ≡ c.begun
+begun_on place c = either (c.error == 0)
+  where
+    either : (b : Bool) → (cond b (advanced c) (record c { place = place })).begun ≡ c.begun
+    either true = refl
+    either false = refl
 
-    begun_by : (place : ℕ) (c : Context) → (ran (model.OnErr place) c).begun ≡ c.begun
-    begun_by place c = either (c.error == 0)
-      where
-        either : (b : Bool) → (cond b (advanced c) (record c { place = place })).begun ≡ c.begun
-        either true = refl
-        either false = refl
+pub keeps-runs : (i : Instr) (t : Thread) → is_deleted t.phase ≡ false → Keeps t (runs i t)
+keeps-runs (model.Set a word) t e = record { sends = inl refl; begun = refl; dead = sym e }
+keeps-runs (model.Copy a b) t e = record { sends = inl refl; begun = refl; dead = sym e }
+keeps-runs (model.Add a word) t e = record { sends = inl refl; begun = refl; dead = sym e }
+keeps-runs (model.Tag word) t e = record { sends = inl refl; begun = refl; dead = sym e }
+keeps-runs (model.Vs id) t e = record { sends = inl refl; begun = refl; dead = sym e }
+keeps-runs (model.Ipc to from send receive) t e = record { sends = inl refl; begun = refl; dead = sym e }
+keeps-runs (model.Ask target what) t e = record { sends = inl refl; begun = refl; dead = sym e }
+keeps-runs (model.Jump place) t e = record { sends = inl refl; begun = refl; dead = sym e }
+keeps-runs (model.OnErr place) t e = record { sends = inl refl; begun = begun_on place t.context; dead = sym e }
+keeps-runs model.End t e = record { sends = inl refl; begun = refl; dead = sym e }
 
-    by : (o : Option Instr) → Comes m l i (runs_of o (thread l i))
-    by None = keeps _ Ended (free_of Ended refl) refl
-    by (Some (instrs.Set register word)) = keeps _ Ready (free_of Ready refl) refl
-    by (Some (instrs.Copy register source)) = keeps _ Ready (free_of Ready refl) refl
-    by (Some (instrs.Add register word)) = keeps _ Ready (free_of Ready refl) refl
-    by (Some (instrs.Tag tag)) = keeps _ Ready (free_of Ready refl) refl
-    by (Some (instrs.Ipc (ipcs.Send to))) = keeps _ Ready (free_of Ready refl) refl
-    by (Some (instrs.Ipc ipcs.Wait)) = keeps _ Ready (free_of Ready refl) refl
-    by (Some (instrs.Jump place)) = keeps _ Ready (free_of Ready refl) refl
-    by (Some (instrs.OnErr place)) = keeps _ Ready (free_of Ready refl) (begun_by place (thread l i).context)
-    by (Some instrs.End) = keeps _ Ended (free_of Ended refl) refl
+pub keeps-waits : (receive : Receive) (now : ℕ) (t : Thread) → is_deleted t.phase ≡ false → Keeps t (waits receive now t)
+keeps-waits receive now t e = record { sends = inl refl; begun = refl; dead = sym e }
 
-pub ready_on : (instr : Option Instr) (t : Thread) → goes_on instr ≡ true → (runs_of instr t).phase ≡ Ready
-ready_on None t e = cc
-ready_on (Some (instrs.Set register word)) t e = refl
-ready_on (Some (instrs.Copy register source)) t e = refl
-ready_on (Some (instrs.Add register word)) t e = refl
-ready_on (Some (instrs.Tag tag)) t e = refl
-ready_on (Some (instrs.Ipc (ipcs.Send to))) t e = refl
-ready_on (Some (instrs.Ipc ipcs.Wait)) t e = refl
-ready_on (Some (instrs.Jump place)) t e = refl
-ready_on (Some (instrs.OnErr place)) t e = refl
-ready_on (Some instrs.End) t e = cc
+pub keeps-receives : (message : Message) (tag : ℕ) (t : Thread) → is_deleted t.phase ≡ false → Keeps t (receives message tag t)
+keeps-receives message tag t e = record { sends = inl refl; begun = refl; dead = sym e }
 
-pub still_off : (instr : Option Instr) (t : Thread) → goes_on instr ≡ false → is_ready (runs_of instr t).phase ≡ false
-still_off None t e = refl
-still_off (Some (instrs.Set register word)) t e = cc
-still_off (Some (instrs.Copy register source)) t e = cc
-still_off (Some (instrs.Add register word)) t e = cc
-still_off (Some (instrs.Tag tag)) t e = cc
-still_off (Some (instrs.Ipc ipc)) t e = cc
-still_off (Some (instrs.Jump place)) t e = cc
-still_off (Some (instrs.OnErr place)) t e = cc
-still_off (Some instrs.End) t e = refl
+pub keeps-orders : (order : Asked) (t : Thread) → is_deleted t.phase ≡ false → Keeps t (orders order t)
+keeps-orders order t e = record { sends = inl refl; begun = refl; dead = sym e }
+
+pub keeps-fails : (code : ℕ) (t : Thread) → Keeps t (fails code t)
+keeps-fails code t = by (is_deleted t.phase) refl
+  where
+    by : (b : Bool) → is_deleted t.phase ≡ b → Keeps t (cond (not b) (record t { context = failed code t.context; phase = Ready; cancel_receive = false }) t)
+    by true e = record { sends = inl refl; begun = refl; dead = refl }
+    by false e = record { sends = inl refl; begun = refl; dead = sym e }
+
+pub keeps-obeyed : (t : Thread) → Keeps t (obeyed t)
+keeps-obeyed t = by (is_deleted t.phase) refl
+  where
+    by : (b : Bool) → is_deleted t.phase ≡ b → Keeps t (cond (not b) (obeyed (record t { phase = Ready })) (record t { order = None }))
+    by true e = record { sends = inl refl; begun = refl; dead = refl }
+    by false e = record { sends = inl refl; begun = refl; dead = sym e }
+
+keeps-refused : (code : ℕ) (t : Thread) → Keeps t (refused code t)
+keeps-refused code t = let k = keeps-fails code (decided t) in record { sends = inr (none k.sends); begun = k.begun; dead = k.dead }
+  where
+    none : ((refused code t).send ≡ None) ⊎ ((refused code t).send ≡ None) → (refused code t).send ≡ None
+    none (inl e) = e
+    none (inr e) = e
+
+keeps-on : (receive : Option Receive) (now : ℕ) (t : Thread) → is_deleted t.phase ≡ false → Keeps t (goes_on receive now t)
+keeps-on None now t e = record { sends = inr refl; begun = refl; dead = sym e }
+keeps-on (Some receive) now t e = record { sends = inr refl; begun = refl; dead = sym e }
+
+keeps-delivered : (send : Send) (now : ℕ) (t : Thread) → Keeps t (delivered send now t)
+keeps-delivered send now t = by (is_deleted t.phase) refl
+  where
+    by : (b : Bool) → is_deleted t.phase ≡ b → Keeps t (cond (not b) (goes_on send.receive now t) (decided t))
+    by true e = record { sends = inr refl; begun = refl; dead = refl }
+    by false e = keeps-on send.receive now t e
+
+keeps-was_delivered : (o : Option Send) (now : ℕ) (t : Thread) → Keeps t (was_delivered o now t)
+keeps-was_delivered None now t = record { sends = inl refl; begun = refl; dead = refl }
+keeps-was_delivered (Some send) now t = keeps-delivered send now t
+
+keeps-was_dropped : (t : Thread) → Keeps t (was_dropped t)
+keeps-was_dropped t = by (is_deleted t.phase) refl
+  where
+    by : (b : Bool) → is_deleted t.phase ≡ b → Keeps t (cond (not b) (record (decided t) { phase = Ready }) (decided t))
+    by true e = record { sends = inr refl; begun = refl; dead = refl }
+    by false e = record { sends = inr refl; begun = refl; dead = sym e }
+
+pub keeps-ended : (d : Result) (now : ℕ) (t : Thread) → Keeps t (ended d now t)
+keeps-ended Delivered now t = keeps-was_delivered t.send now t
+keeps-ended (Refused TimedOut) now t = keeps-refused 2 t
+keeps-ended (Refused Nobody) now t = keeps-refused 4 t
+keeps-ended (Refused Cancelled) now t = keeps-refused 6 t
+keeps-ended (Refused Dropped) now t = keeps-was_dropped t
+
+-- An ipc begins a phase.
+
+pub own_message : (m : Machine) (id : GlobalId) (now : ℕ) (c : Context) (to : Id) (period : Period) (receive : Option Receive) (send : Send) → ipc_act m id now c to period receive ≡ Sends send → send.message.actual ≡ id
+own_message m id now c NilThread period None send e = cc
+own_message m id now c NilThread period (Some receive) send e = cc
+own_message m id now c AnyThread period receive send e = let same : request m id now c AnyThread period receive ≡ send = cc in ap (λ (s : Send). s.message.actual) (sym same)
+own_message m id now c AnyLocalThread period receive send e = let same : request m id now c AnyLocalThread period receive ≡ send = cc in ap (λ (s : Send). s.message.actual) (sym same)
+own_message m id now c (LocalThread word) period receive send e = let same : request m id now c (LocalThread word) period receive ≡ send = cc in ap (λ (s : Send). s.message.actual) (sym same)
+own_message m id now c (GlobalThread t) period receive send e = let same : request m id now c (GlobalThread t) period receive ≡ send = cc in ap (λ (s : Send). s.message.actual) (sym same)
+
+pub fits-begins : (m : Machine) (l : Local) (i : ℕ) (send : Send) → IsSettled m l → i < length m.threads → is_ready_in l.lists i ≡ false → plain.is_queued l.lists i ≡ false → send.message.actual ≡ (declared m i).id →
+    (thread l i).context.begun < l.stamp → Fits m l i (begins send (thread l i))
+fits-begins m l i send s lt unready unqueued own count = record {
+  within = lt;
+  own = (own, omega arith);
+  begun = omega arith;
+  phase = λ q. let wrong : true ≡ false = sym q ∙ unqueued in cc;
+  lasting = λ q. let wrong : true ≡ false = sym q ∙ unqueued in cc;
+  ready = λ q. let wrong : true ≡ false = sym q ∙ unready in cc;
+}
+
+-- A thread is asked for a cancellation.
+
+pub fits-same : (m : Machine) (l : Local) (i : ℕ) (u : Thread) → IsSettled m l → i < length m.threads → u.phase ≡ (thread l i).phase → u.send ≡ (thread l i).send → u.context ≡ (thread l i).context → Fits m l i u
+fits-same m l i u s lt p o c = record {
+  within = lt;
+  own = subst (λ x. IsOwn (declared m i).id x u.context.begun) (sym o) (subst (λ x. IsOwn (declared m i).id (thread l i).send x.begun) (sym c) (s.own i));
+  begun = subst (λ x. x.begun ≤ l.stamp) (sym c) (s.begun i);
+  phase = λ q. subst MaySend (sym p) (s.queued i q).phase;
+  lasting = λ q. subst IsLasting (sym o) (s.queued i q).lasting;
+  ready = λ q. p ∙ (s.ready i q).phase;
+}
+
+-- A written block, as the program leaves it
+
+pub put_there : (d e : List ℕ) (i : ℕ) → ((o : ℕ) → has e o ≡ (has d o || o == i)) → has e i ≡ true
+put_there d e i puts = puts i ∙ ap (λ b. has d i || b) (eq-eqb i i refl) ∙ or_true (has d i)
+  where
+    or_true : (b : Bool) → (b || true) ≡ true
+    or_true true = refl
+    or_true false = refl
+
+pub writes : (bs : List Block) (i : ℕ) (f : Thread → Thread) (old new : Block) → old ≡ get_or bs i old → new ≡ record { id = old.id; thread = f old.thread } → Writes bs i f old new
+writes bs i f old new at is = record { at = at; thread = ap (λ (b : Block). b.thread) is; id = ap (λ (b : Block). b.id) is }
+
+pub change_kept : (m : Machine) (bs : List Block) (s : Plain) (d e : List ℕ) (clock stamp i : ℕ) (f : Thread → Thread) (old new : Block) → IsKept m bs s d clock stamp → ((o : ℕ) → has e o ≡ (has d o || o == i)) →
+    old ≡ get_or bs i old → new ≡ record { id = old.id; thread = f old.thread } → Fits m (local_of m bs s clock stamp) i (f (thread_at (threads_of bs) i)) → is_deleted (f (thread_at (threads_of bs) i)).phase ≡ is_deleted (thread_at (threads_of bs) i).phase →
+    IsKept m (set bs i new) s e clock stamp
+change_kept m bs s d e clock stamp i f old new k puts at is fits dead =
+    kept-changed m bs s e clock stamp i f old new (kept-put m bs s d e clock stamp i k fits.within puts) (put_there d e i puts) (writes bs i f old new at is) fits dead
+
+-- The same of a thread that stands in no list.
+pub free_kept : (m : Machine) (bs : List Block) (s : Plain) (d e : List ℕ) (clock stamp i : ℕ) (f : Thread → Thread) (old new : Block) → IsKept m bs s d clock stamp → ((o : ℕ) → has e o ≡ (has d o || o == i)) →
+    old ≡ get_or bs i old → new ≡ record { id = old.id; thread = f old.thread } → i < length m.threads → is_ready_in s i ≡ false → plain.is_queued s i ≡ false → Keeps (thread_at (threads_of bs) i) (f (thread_at (threads_of bs) i)) →
+    IsKept m (set bs i new) s e clock stamp
+free_kept m bs s d e clock stamp i f old new k puts at is lt unready unqueued keeps =
+    change_kept m bs s d e clock stamp i f old new k puts at is (fits-keeps m (local_of m bs s clock stamp) i (f (thread_at (threads_of bs) i)) k.core.settled lt unready unqueued keeps) keeps.dead
+
+pub change_is : (m : Machine) (bs : List Block) (s : Plain) (d : List ℕ) (clock stamp i : ℕ) (f : Thread → Thread) (old new : Block) (p r : Processor) → IsKept m bs s d clock stamp → i < length m.threads →
+    old ≡ get_or bs i old → new ≡ record { id = old.id; thread = f old.thread } → record { machine = m; cpu = 0; local = local_of m bs s clock stamp } ≡ p →
+    r ≡ with_local (record { machine = m; cpu = 0; local = local_of m (set bs i new) s clock stamp }) (settles i (local_of m (set bs i new) s clock stamp)) → r ≡ with_local p (comes_to i f p.local)
+change_is m bs s d clock stamp i f old new p r k lt at is view settled =
+    comes_is m bs s clock stamp i f old new p r (fits_blocks m bs s d clock stamp i k lt) (writes bs i f old new at is) view settled

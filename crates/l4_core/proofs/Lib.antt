@@ -1,10 +1,14 @@
+pub mod Asking
+pub mod Busy
 pub mod Choosing
 pub mod Coming
 pub mod Covering
-pub mod Effects
+pub mod Dues
+pub mod Keeping
 pub mod Opening
+pub mod Ordering
 pub mod Pieces
 pub mod PlaceSets
 pub mod Reporting
 pub mod Settling
-pub mod Turns
+pub mod Starting

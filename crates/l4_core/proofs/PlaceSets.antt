@@ -1,10 +1,10 @@
 -- Bits of words, as sets of places.
 use Rattle.std.proofs.Common.{◌≡◌, ℕ, zero, suc, ◌+◌, ◌-◌, ◌*◌, ◌/◌, ◌%◌, ◌^◌, ◌<◌, ◌≤◌, Bool, true, false, cond, ◌||◌, ◌&&◌, not, List, length, get_or, set, Some, None, refl, sym, ap, ◌∙◌, inl, inr, ◌⊎◌, arith, bit_or, bit_and, w64}
-use Rattle.std.specs.Prelude.{◌==◌, position}
+use Rattle.std.specs.Prelude.{◌==◌, position, nat_lt}
 use Rattle.std.specs.List.{position_or_len}
 use Rattle.std.specs.Int.{bit_at}
 use Rattle.std.specs.Int.Count.{count_trailing_zeros}
-use Rattle.std.proofs.lemmas.Bool.{cases_eq, cases_lt, eq-eqb, ne_eqb}
+use Rattle.std.proofs.lemmas.Bool.{cases_eq, cases_lt, eq-eqb, ne_eqb, lt-ltb, le-ltb}
 use Rattle.std.proofs.lemmas.List.{get_or-set_same, get_or-set_other, get_or_past}
 use Rattle.std.proofs.lemmas.Grind.{common_steps}
 use Rattle.std.proofs.lemmas.List.Quantifiers.{position-Some}
@@ -191,3 +191,28 @@ count_less new old (suc n) p sub lt out was = at (cases_eq p n) (λ within. coun
     at : (p ≡ n) ⊎ (p ≡ n → ⊥) → (p < n → count new n < count old n) → count new (suc n) < count old (suc n)
     at (inl e) rest = taken (has new n) (has old n) _ _ (ap (has new) (sym e) ∙ out) (ap (has old) (sym e) ∙ was) (count_le new old n sub)
     at (inr e) rest = step_lt (has new n) (has old n) _ _ (sub n) (rest (below p n lt e))
+
+-- All places below a number are put in, one after another.
+
+or_false : (b : Bool) → (b || false) ≡ b
+or_false true = refl
+or_false false = refl
+
+or_assoc : (a b c : Bool) → ((a || b) || c) ≡ (a || (b || c))
+or_assoc true b c = refl
+or_assoc false b c = refl
+
+lt_next : (o n : ℕ) → (nat_lt o n || o == n) ≡ nat_lt o (n + 1)
+lt_next o n = by (cases_lt o n) (cases_eq o n)
+  where
+    by : (o < n) ⊎ (n ≤ o) → (o ≡ n) ⊎ (o ≡ n → ⊥) → (nat_lt o n || o == n) ≡ nat_lt o (n + 1)
+    by (inl lt) q = let a = lt-ltb o n lt in let b = lt-ltb o (n + 1) (omega arith) in rw (a, b)
+    by (inr le) (inl same) = let a = le-ltb o n le in let b = lt-ltb o (n + 1) (omega arith) in let c = eq-eqb o n same in rw (a, b) c
+    by (inr le) (inr ne) = let a = le-ltb o n le in let b = le-ltb o (n + 1) (omega (arith, le, ne)) in let c = ne_eqb o n ne in rw (a, b) c
+
+pub fill-none : (words : List ℕ) (other : ℕ) → has words other ≡ (has words other || nat_lt other 0)
+fill-none words other = let e = le-ltb other 0 (omega arith) in sym (ap (λ b. has words other || b) e ∙ or_false (has words other))
+
+pub fill-more : (first before after : List ℕ) (place : ℕ) → ((o : ℕ) → has before o ≡ (has first o || nat_lt o place)) → ((o : ℕ) → has after o ≡ (has before o || o == place)) → (other : ℕ) → has after other ≡ (has first other || nat_lt other (place + 1))
+fill-more first before after place was puts other =
+    puts other ∙ ap (λ b. b || other == place) (was other) ∙ or_assoc (has first other) (nat_lt other place) (other == place) ∙ ap (λ b. has first other || b) (lt_next other place)

@@ -1,5 +1,5 @@
 -- The reports of the threads one by one, and the sends of a history that wait.
-use Rattle.std.proofs.Common.{◌≡◌, ℕ, zero, suc, ◌+◌, ◌<◌, Option, Some, None, List, [], ◌∷◌, ◌++◌, map, length, take, get_or, refl, ap, sym, ◌∙◌, arith}
+use Rattle.std.proofs.Common.{◌≡◌, ℕ, zero, suc, ◌+◌, ◌<◌, true, Option, Some, None, List, [], ◌∷◌, ◌++◌, map, length, take, get_or, refl, ap, sym, ◌∙◌, arith}
 use Rattle.std.specs.Prelude.{slice_index_or, zip, filter_map}
 use Rattle.std.specs.List.{range_with_len, cons_option}
 use Rattle.std.specs.Option.{option_to_list}
@@ -11,6 +11,12 @@ use Rattle.l4_core_model.specs.Local.{Local, declared, undeclared, thread}
 use Rattle.l4_core_model.specs.Known.{known_world}
 use Rattle.l4_types.specs.declared.reports.ThreadView.{ThreadView}
 use Rattle.l4_types.specs.ReportView.{report_of_view}
+use Rattle.std.specs.Prelude.{slice_get, slice_index, ◌==◌}
+use Rattle.std.specs.Option.{option_map}
+use Rattle.std.proofs.lemmas.Bool.{eq-eqb}
+use Rattle.l4_model.specs.Machine.{place_of}
+use Rattle.l4_model.specs.World.{Name, Send}
+use Rattle.l4_model.specs.Conditions.{Pending, undecided, ◌>>=◌}
 use Rattle.l4_core.proofs.Opening.{range-push}
 
 abbrev pub report_at : Machine → Local → ℕ → Report
@@ -76,3 +82,22 @@ append_nil (x ∷ xs) = ap (λ ys. x ∷ ys) (append_nil xs)
 pub passes : {A B C : Type 0} (f : B → Option C) (g : A → B) (xs : List A) (n : ℕ) (x : A) (old : List C) (o : Option C) → n < length xs → x ≡ get_or xs n x → old ≡ kept f g xs n → o ≡ f (g x) → o ≡ None → old ≡ kept f g xs (n + 1)
 passes f g xs n x old o lt at e is none =
     e ∙ sym (append_nil (kept f g xs n)) ∙ ap (λ p. kept f g xs n ++ option_to_list p) (sym none ∙ is) ∙ sym (kept-more f g xs n x lt at)
+
+-- An undecided send of a declared thread
+
+get-read : {A : Type 0} (xs : List A) (i : ℕ) (x : A) → i < length xs → slice_get xs i ≡ Some (slice_index_or xs i x)
+get-read [] i x lt = absurd (omega arith)
+get-read (y ∷ ys) zero x lt = refl
+get-read (y ∷ ys) (suc i) x lt = get-read ys i x (omega arith)
+
+pub waiting_is : (m : Machine) (l : Local) (name : Name) (i : ℕ) → length l.threads ≡ length m.threads → i < length m.threads → place_of m name.thread ≡ Some i → (thread l i).context.begun ≡ name.k →
+    option_map (λ send. send.to) (thread l i).send ≡ option_map (λ p. p.send.to) (undecided m (known_world l) name)
+waiting_is m l name i long lt at count =
+    let here = get-read m.threads i undeclared lt in
+    let now = get-read l.threads i opening_thread (omega (arith, long, lt)) in
+    let same : ((thread l i).context.begun == name.k) ≡ true = eq-eqb (thread l i).context.begun name.k count in
+    rw (at, here, now, same) (by (thread l i).send)
+  where
+    by : (o : Option Send) → option_map (λ send. send.to) o ≡ option_map (λ (p : Pending). p.send.to) (o >>= λ send. Some (record { sender = record { at = i; declared = declared m i; now = thread l i; clock = slice_index (known_world l).clocks (declared m i).cpu }; send = send }))
+    by None = refl
+    by (Some send) = refl

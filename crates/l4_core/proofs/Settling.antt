@@ -1,15 +1,16 @@
 -- A settled local state stays settled.
-use Rattle.std.proofs.Common.{◌≡◌, ℕ, zero, suc, ◌<◌, ◌≤◌, Bool, true, false, cond, Option, Some, None, List, [], ◌∷◌, ◌++◌, map, filter, drop, length, refl, ap, sym, ◌∙◌, subst, inl, inr, ⊎_elim, ◌⊎◌, arith}
-use Rattle.std.specs.Prelude.{slice_index_or, ◌==◌, not, ◌||◌}
+use Rattle.std.proofs.Common.{◌≡◌, ℕ, zero, suc, ◌+◌, ◌<◌, ◌≤◌, ◌^◌, Bool, true, false, cond, Option, Some, None, is_some, List, [], ◌∷◌, ◌++◌, map, filter, drop, length, refl, ap, sym, ◌∙◌, subst, inl, inr, ⊎_elim, ◌⊎◌, arith}
+use Rattle.std.specs.Prelude.{slice_index_or, ◌==◌, not, ◌||◌, nat_le}
 use Rattle.std.specs.List.{list_any}
 use Rattle.std.proofs.lemmas.Bool.{eqb-true}
 use Rattle.l4_model.specs.Machine.{Machine}
-use Rattle.l4_model.specs.World.{Send, Phase, Ready, Sending, Receiving, Ordering, Ended, Deleted, Thread, changed, opening_thread}
+use Rattle.l4_model.specs.World.{Phase, Ready, Sending, Receiving, Ordering, Ended, Deleted, Thread, changed, opening_thread, is_ready}
 use Rattle.l4_core_model.specs.Plain as plain
-use Rattle.l4_core_model.specs.Local.{Local, declared, thread, comes_to, relists, readied, armed_for, armed_period}
+use Rattle.l4_core_model.specs.Local.{Local, declared, thread, changes, settles, comes_to, relists, readied, armed_for, armed_period}
+use Rattle.tcb_arena.specs.Blocks.{without_due, is_ready as is_ready_in}
 use Rattle.l4_core_model.proofs.Fit.{get_cases}
-use Rattle.l4_core_model.proofs.Knows.{length-changed}
-use Rattle.l4_core.specs.Simple.{Suits, IsSimple, IsOwn, IsIn, IsSettled, is_ready_in}
+use Rattle.l4_core_model.proofs.Knows.{length-changed, get-changed}
+use Rattle.l4_core.specs.Settled.{IsOwn, MaySend, IsLasting, IsQueued, IsReadied, IsSettled}
 
 -- Lists
 
@@ -55,7 +56,7 @@ any-filter p q (x ∷ xs) e = by (q x) (any-filter p q xs) e
     by false f e = later (p x) (list_any p xs) (f e)
 
 -- What it takes out is in it no more.
-none-filter : {A : Type 0} (p : A → Bool) (xs : List A) → list_any p (filter (λ x. not (p x)) xs) ≡ false
+pub none-filter : {A : Type 0} (p : A → Bool) (xs : List A) → list_any p (filter (λ x. not (p x)) xs) ≡ false
 none-filter p [] = refl
 none-filter p (x ∷ xs) = by (p x) refl (none-filter p xs)
   where
@@ -88,33 +89,98 @@ queued-push (suc r) j w (es ∷ ess) e =
 same : (i j : ℕ) → (i == j) ≡ true → i ≡ j
 same i j e = eqb-true i j e
 
--- what stays of a thread at its place
-pub stays_in : (m : Machine) (l k : Local) (phase : Phase) (i : ℕ) → k.threads ≡ l.threads → IsIn m l phase i → IsIn m k phase i
-stays_in m l k phase i e h = record { within = h.within; is = ap (λ ts. (slice_index_or ts i opening_thread).phase) e ∙ h.is }
+-- What is said of a thread stays, where the threads do.
+pub stays_queued : (m : Machine) (l k : Local) (i : ℕ) → k.threads ≡ l.threads → IsQueued m l i → IsQueued m k i
+stays_queued m l k i e h = record {
+  within = h.within;
+  phase = subst (λ ts. MaySend (slice_index_or ts i opening_thread).phase) (sym e) h.phase;
+  lasting = subst (λ ts. IsLasting (slice_index_or ts i opening_thread).send) (sym e) h.lasting;
+}
+
+pub stays_readied : (m : Machine) (l k : Local) (i : ℕ) → k.threads ≡ l.threads → IsReadied m l i → IsReadied m k i
+stays_readied m l k i e h = record { within = h.within; phase = ap (λ ts. (slice_index_or ts i opening_thread).phase) e ∙ h.phase }
 
 pub settled-stamped : (m : Machine) (l : Local) (stamp : ℕ) → l.stamp ≤ stamp → IsSettled m l → IsSettled m (record l { stamp = stamp })
 settled-stamped m l stamp le s = record {
   threads = s.threads;
   lists = s.lists;
-  simple = s.simple;
   own = s.own;
   begun = λ i. let b = s.begun i in omega arith;
-  queued = λ i e. stays_in m l _ Sending i refl (s.queued i e);
-  ready = λ i e. stays_in m l _ Ready i refl (s.ready i e);
+  queued = λ i e. stays_queued m l _ i refl (s.queued i e);
+  ready = λ i e. stays_readied m l _ i refl (s.ready i e);
   armed = s.armed;
   clock = s.clock;
+}
+
+pub settled-clocked : (m : Machine) (l : Local) (clock : ℕ) → clock < 2 ^ 62 → IsSettled m l → IsSettled m (record l { clock = clock })
+settled-clocked m l clock lt s = record {
+  threads = s.threads;
+  lists = s.lists;
+  own = s.own;
+  begun = s.begun;
+  queued = λ i e. stays_queued m l _ i refl (s.queued i e);
+  ready = λ i e. stays_readied m l _ i refl (s.ready i e);
+  armed = s.armed;
+  clock = lt;
 }
 
 pub settled-popped : (m : Machine) (l : Local) → IsSettled m l → IsSettled m (relists plain.popped l)
 settled-popped m l s = record {
   threads = s.threads;
   lists = s.lists;
-  simple = s.simple;
   own = s.own;
   begun = s.begun;
-  queued = λ i e. stays_in m l _ Sending i refl (s.queued i e);
-  ready = λ i e. stays_in m l _ Ready i refl (s.ready i (any-drop (λ b. i == b) l.lists.ready e));
+  queued = λ i e. stays_queued m l _ i refl (s.queued i e);
+  ready = λ i e. stays_readied m l _ i refl (s.ready i (any-drop (λ b. i == b) l.lists.ready e));
   armed = s.armed;
+  clock = s.clock;
+}
+
+pub settled-dropped : (m : Machine) (l : Local) (block : ℕ) → IsSettled m l → IsSettled m (relists (plain.dropped block) l)
+settled-dropped m l block s = record {
+  threads = s.threads;
+  lists = s.lists;
+  own = s.own;
+  begun = s.begun;
+  queued = λ i e. stays_queued m l _ i refl (s.queued i e);
+  ready = λ i e. stays_readied m l _ i refl (s.ready i (any-filter (λ b. i == b) (λ b. not (block == b)) l.lists.ready e));
+  armed = s.armed;
+  clock = s.clock;
+}
+
+pub settled-readied : (m : Machine) (l : Local) (i : ℕ) → i < length m.threads → (thread l i).phase ≡ Ready → IsSettled m l → IsSettled m (relists (plain.made_ready i) l)
+settled-readied m l i lt ready s = record {
+  threads = s.threads;
+  lists = s.lists;
+  own = s.own;
+  begun = s.begun;
+  queued = λ j e. stays_queued m l _ j refl (s.queued j e);
+  ready = λ j e. ⊎_elim (λ h. stays_readied m l _ j refl (s.ready j h)) (λ h. let P : ℕ → Type 0 = λ k. IsReadied m (relists (plain.made_ready i) l) k in subst P (sym (same j i h)) (record { within = lt; phase = ready })) (any-push (λ b. j == b) l.lists.ready i e);
+  armed = s.armed;
+  clock = s.clock;
+}
+
+pub settled-disarmed : (m : Machine) (l : Local) (i : ℕ) → IsSettled m l → IsSettled m (relists (plain.disarmed i) l)
+settled-disarmed m l i s = record {
+  threads = s.threads;
+  lists = s.lists;
+  own = s.own;
+  begun = s.begun;
+  queued = λ j e. stays_queued m l _ j refl (s.queued j e);
+  ready = λ j e. stays_readied m l _ j refl (s.ready j e);
+  armed = λ j e. s.armed j (any-filter (λ (x : ℕ × ℕ). j == x.1) (λ (x : ℕ × ℕ). not (i == x.1)) l.lists.armed e);
+  clock = s.clock;
+}
+
+pub settled-popped_due : (m : Machine) (l : Local) → IsSettled m l → IsSettled m (relists plain.popped_due l)
+settled-popped_due m l s = record {
+  threads = s.threads;
+  lists = s.lists;
+  own = s.own;
+  begun = s.begun;
+  queued = λ i e. stays_queued m l _ i refl (s.queued i e);
+  ready = λ i e. stays_readied m l _ i refl (s.ready i e);
+  armed = λ i e. s.armed i (any-drop (λ (x : ℕ × ℕ). i == x.1) l.lists.armed e);
   clock = s.clock;
 }
 
@@ -122,11 +188,10 @@ pub settled-unqueued : (m : Machine) (l : Local) (i : ℕ) → IsSettled m l →
 settled-unqueued m l i s = record {
   threads = s.threads;
   lists = length_map _ l.lists.waiting ∙ s.lists;
-  simple = s.simple;
   own = s.own;
   begun = s.begun;
-  queued = λ j e. stays_in m l _ Sending j refl (s.queued j (queued-filter i j l.lists.waiting e));
-  ready = λ j e. stays_in m l _ Ready j refl (s.ready j e);
+  queued = λ j e. stays_queued m l _ j refl (s.queued j (queued-filter i j l.lists.waiting e));
+  ready = λ j e. stays_readied m l _ j refl (s.ready j e);
   armed = s.armed;
   clock = s.clock;
 }
@@ -135,28 +200,54 @@ settled-unqueued m l i s = record {
     length_map f [] = refl
     length_map f (es ∷ ess) = ap suc (length_map f ess)
 
-pub settled-queued : (m : Machine) (l : Local) (r : ℕ) (w : plain.Waiting) → IsIn m l Sending w.block → IsSettled m l → IsSettled m (relists (plain.queued r w) l)
+pub settled-queued : (m : Machine) (l : Local) (r : ℕ) (w : plain.Waiting) → IsQueued m l w.block → IsSettled m l → IsSettled m (relists (plain.queued r w) l)
 settled-queued m l r w sends s = record {
   threads = s.threads;
   lists = length-changed (λ ws. ws ++ w ∷ []) l.lists.waiting r ∙ s.lists;
-  simple = s.simple;
   own = s.own;
   begun = s.begun;
-  queued = λ j e. stays_in m l _ Sending j refl (⊎_elim (λ h. s.queued j h) (λ h. let P : ℕ → Type 0 = λ k. IsIn m l Sending k in subst P (sym (same j w.block h)) sends) (queued-push r j w l.lists.waiting e));
-  ready = λ j e. stays_in m l _ Ready j refl (s.ready j e);
+  queued = λ j e. stays_queued m l _ j refl (⊎_elim (λ h. s.queued j h) (λ h. let P : ℕ → Type 0 = λ k. IsQueued m l k in subst P (sym (same j w.block h)) sends) (queued-push r j w l.lists.waiting e));
+  ready = λ j e. stays_readied m l _ j refl (s.ready j e);
   armed = s.armed;
   clock = s.clock;
 }
 
--- A thread comes to a phase.
-pub unarmed : (p : Phase) (send : Option Send) → Suits p send → armed_period p send ≡ None
-unarmed Ready send s = refl
-unarmed Sending None s = absurd s
-unarmed Sending (Some send) s = let e = s.period in rw e
-unarmed (Receiving receive since) send s = let e = s.0 in rw e
-unarmed Ordering send s = refl
-unarmed Ended send s = refl
-unarmed Deleted send s = refl
+-- A thread changes.
+
+-- What a thread has to be like once it has changed.
+pub record Fits (m : Machine) (l : Local) (i : ℕ) (t : Thread) : Type 0 where
+  pub within : i < length m.threads
+  pub own : IsOwn (declared m i).id t.send t.context.begun
+  pub begun : t.context.begun ≤ l.stamp
+  pub phase : plain.is_queued l.lists i ≡ true → MaySend t.phase
+  pub lasting : plain.is_queued l.lists i ≡ true → IsLasting t.send
+  pub ready : is_ready_in l.lists i ≡ true → t.phase ≡ Ready
+
+pub at_changed : (P : Thread → Type 0) (f : Thread → Thread) (l : Local) (i j : ℕ) → i < length l.threads → P (f (thread l i)) → P (thread l j) → P (slice_index_or (changed f l.threads i) j opening_thread)
+at_changed P f l i j lt p q = get_cases P f l.threads i j lt (λ e. p) (λ ne. q)
+
+pub settled-changed : (m : Machine) (l : Local) (i : ℕ) (f : Thread → Thread) → IsSettled m l → Fits m l i (f (thread l i)) → IsSettled m (changes i f l)
+settled-changed m l i f s c =
+    let within : i < length l.threads = omega (arith, s.threads, c.within) in
+    record {
+      threads = length-changed f l.threads i ∙ s.threads;
+      lists = s.lists;
+      own = λ j. get_cases (λ t. IsOwn (declared m j).id t.send t.context.begun) f l.threads i j within (λ e. let P : ℕ → Type 0 = λ k. IsOwn (declared m k).id (f (thread l i)).send (f (thread l i)).context.begun in subst P e c.own) (λ ne. s.own j);
+      begun = λ j. at_changed (λ t. t.context.begun ≤ l.stamp) f l i j within c.begun (s.begun j);
+      queued = λ j e. record {
+        within = (s.queued j e).within;
+        phase = get_cases (λ t. MaySend t.phase) f l.threads i j within (λ q. let P : ℕ → Type 0 = λ k. plain.is_queued l.lists k ≡ true in c.phase (subst P (sym q) e)) (λ ne. (s.queued j e).phase);
+        lasting = get_cases (λ t. IsLasting t.send) f l.threads i j within (λ q. let P : ℕ → Type 0 = λ k. plain.is_queued l.lists k ≡ true in c.lasting (subst P (sym q) e)) (λ ne. (s.queued j e).lasting);
+      };
+      ready = λ j e. record {
+        within = (s.ready j e).within;
+        phase = get_cases (λ t. t.phase ≡ Ready) f l.threads i j within (λ q. let P : ℕ → Type 0 = λ k. is_ready_in l.lists k ≡ true in c.ready (subst P (sym q) e)) (λ ne. (s.ready j e).phase);
+      };
+      armed = s.armed;
+      clock = s.clock;
+    }
+
+-- A thread is settled in its phase.
 
 readied-cases : (p : Phase) (i j : ℕ) (ready : List ℕ) → list_any (λ b. j == b) (readied p i ready) ≡ true → (list_any (λ b. j == b) ready ≡ true) ⊎ ((j ≡ i) × (p ≡ Ready))
 readied-cases Ready i j ready e = ⊎_elim (λ h. inl h) (λ h. inr (same j i h, refl)) (any-push (λ b. j == b) ready i e)
@@ -166,48 +257,75 @@ readied-cases Ordering i j ready e = inl e
 readied-cases Ended i j ready e = inl e
 readied-cases Deleted i j ready e = inl e
 
--- What a thread has to be like once it has changed.
-pub record Comes (m : Machine) (l : Local) (i : ℕ) (t : Thread) : Type 0 where
-  pub within : i < length m.threads
-  pub simple : IsSimple t
-  pub own : IsOwn (declared m i).id t.send t.context.begun
-  pub begun : t.context.begun ≤ l.stamp
-  pub queued : plain.is_queued l.lists i ≡ true → t.phase ≡ Sending
-  pub free : is_ready_in l.lists i ≡ false
-
-pub at_changed : (P : Thread → Type 0) (f : Thread → Thread) (l : Local) (i j : ℕ) → i < length l.threads → P (f (thread l i)) → P (thread l j) → P (slice_index_or (changed f l.threads i) j opening_thread)
-at_changed P f l i j lt p q = get_cases P f l.threads i j lt (λ e. p) (λ ne. q)
-
-pub settled-comes_to : (m : Machine) (l : Local) (i : ℕ) (f : Thread → Thread) → IsSettled m l → Comes m l i (f (thread l i)) → IsSettled m (comes_to i f l)
-settled-comes_to m l i f s c =
-    let within : i < length l.threads = omega (arith, s.threads, c.within) in
-    record {
-      threads = length-changed f l.threads i ∙ s.threads;
-      lists = s.lists;
-      simple = λ j. at_changed IsSimple f l i j within c.simple (s.simple j);
-      own = λ j. get_cases (λ t. IsOwn (declared m j).id t.send t.context.begun) f l.threads i j within (λ e. let P : ℕ → Type 0 = λ k. IsOwn (declared m k).id (f (thread l i)).send (f (thread l i)).context.begun in subst P e c.own) (λ ne. s.own j);
-      begun = λ j. at_changed (λ t. t.context.begun ≤ l.stamp) f l i j within c.begun (s.begun j);
-      queued = λ j e. record {
-        within = (s.queued j e).within;
-        is = get_cases (λ t. t.phase ≡ Sending) f l.threads i j within (λ q. c.queued (let P : ℕ → Type 0 = λ k. plain.is_queued l.lists k ≡ true in subst P (sym q) e)) (λ ne. (s.queued j e).is);
-      };
-      ready = λ j e. by_ready j (readied-cases (f (thread l i)).phase i j l.lists.ready e) within;
-      armed = unarmed_now;
-      clock = s.clock;
-    }
+put-cases : (x : ℕ × ℕ) (j : ℕ) (es : List (ℕ × ℕ)) → list_any (λ (e : ℕ × ℕ). j == e.1) (plain.put_entry x es) ≡ true → (list_any (λ (e : ℕ × ℕ). j == e.1) es ≡ true) ⊎ ((j == x.1) ≡ true)
+put-cases x j [] h = by (j == x.1) h
   where
-    by_ready : (j : ℕ) → (is_ready_in l.lists j ≡ true) ⊎ ((j ≡ i) × ((f (thread l i)).phase ≡ Ready)) → i < length l.threads → IsIn m (comes_to i f l) Ready j
-    by_ready j (inl e) within = record {
-      within = (s.ready j e).within;
-      is = get_cases (λ t. t.phase ≡ Ready) f l.threads i j within (λ q. let P : ℕ → Type 0 = λ k. is_ready_in l.lists k ≡ true in let was = subst P (sym q) e in let free = c.free in cc) (λ ne. (s.ready j e).is);
-    }
-    by_ready j (inr h) within = record {
-      within = let same = h.0 in omega (arith, c.within);
-      is = get_cases (λ t. t.phase ≡ Ready) f l.threads i j within (λ q. h.1) (λ ne. absurd (ne (sym h.0)));
-    }
+    by : (b : Bool) → (b || false) ≡ true → (false ≡ true) ⊎ (b ≡ true)
+    by true e = inr refl
+    by false e = cc
+put-cases x j (e ∷ es) h = by (nat_le e.0 x.0) h (put-cases x j es)
+  where
+    by : (b : Bool) → list_any (λ (e : ℕ × ℕ). j == e.1) (cond b (e ∷ plain.put_entry x es) (x ∷ e ∷ es)) ≡ true →
+        (list_any (λ (e : ℕ × ℕ). j == e.1) (plain.put_entry x es) ≡ true → (list_any (λ (e : ℕ × ℕ). j == e.1) es ≡ true) ⊎ ((j == x.1) ≡ true)) →
+        (((j == e.1) || list_any (λ (e : ℕ × ℕ). j == e.1) es) ≡ true) ⊎ ((j == x.1) ≡ true)
+    by true h f = ⊎_elim (λ g. inl (sooner _ _ g)) (λ g. ⊎_elim (λ k. inl (later _ _ k)) (λ k. inr k) (f g)) (or_cases _ _ h)
+    by false h f = ⊎_elim (λ g. inr g) (λ g. inl g) (or_cases _ _ h)
 
-    unarmed_now : armed_for (armed_period (f (thread l i)).phase (f (thread l i)).send) l.clock i (plain.without_block i l.lists.armed) ≡ []
-    unarmed_now =
-        let e = unarmed (f (thread l i)).phase (f (thread l i)).send c.simple.suits in
-        let none = s.armed in
-        rw (e, none)
+pub settled-armed : (m : Machine) (l : Local) (i deadline : ℕ) → i < length m.threads → IsSettled m l → IsSettled m (relists (plain.armed deadline i) l)
+settled-armed m l i deadline lt s = record {
+  threads = s.threads;
+  lists = s.lists;
+  own = s.own;
+  begun = s.begun;
+  queued = λ j e. stays_queued m l _ j refl (s.queued j e);
+  ready = λ j e. stays_readied m l _ j refl (s.ready j e);
+  armed = λ j e. ⊎_elim (λ h. s.armed j h) (λ h. let P : ℕ → Type 0 = λ k. k < length m.threads in subst P (sym (same j i h)) lt) (put-cases (deadline, i) j l.lists.armed e);
+  clock = s.clock;
+}
+
+armed-cases : (o : Option ℕ) (clock i j : ℕ) (es : List (ℕ × ℕ)) → list_any (λ (e : ℕ × ℕ). j == e.1) (armed_for o clock i (plain.without_block i es)) ≡ true → (list_any (λ (e : ℕ × ℕ). j == e.1) es ≡ true) ⊎ (j ≡ i)
+armed-cases None clock i j es h = inl (any-filter (λ (e : ℕ × ℕ). j == e.1) (λ (e : ℕ × ℕ). not (i == e.1)) es h)
+armed-cases (Some n) clock i j es h = ⊎_elim (λ g. inl (any-filter (λ (e : ℕ × ℕ). j == e.1) (λ (e : ℕ × ℕ). not (i == e.1)) es g)) (λ g. inr (same j i g)) (put-cases (clock + n, i) j (plain.without_block i es) h)
+
+pub settled-settles : (m : Machine) (l : Local) (i : ℕ) → i < length m.threads → IsSettled m l → IsSettled m (settles i l)
+settled-settles m l i lt s = record {
+  threads = s.threads;
+  lists = s.lists;
+  own = s.own;
+  begun = s.begun;
+  queued = λ j e. stays_queued m l _ j refl (s.queued j e);
+  ready = λ j e. by j (readied-cases (thread l i).phase i j l.lists.ready e);
+  armed = λ j e. ⊎_elim (λ h. s.armed j h) (λ h. let P : ℕ → Type 0 = λ k. k < length m.threads in subst P (sym h) lt) (armed-cases (armed_period (thread l i).phase (thread l i).send) l.clock i j l.lists.armed e);
+  clock = s.clock;
+}
+  where
+    by : (j : ℕ) → (is_ready_in l.lists j ≡ true) ⊎ ((j ≡ i) × ((thread l i).phase ≡ Ready)) → IsReadied m (settles i l) j
+    by j (inl h) = stays_readied m l _ j refl (s.ready j h)
+    by j (inr h) = let P : ℕ → Type 0 = λ k. IsReadied m (settles i l) k in subst P (sym h.0) (record { within = lt; phase = h.1 })
+
+-- A thread that changes and is settled has come to its phase.
+pub comes : (i : ℕ) (f : Thread → Thread) (l : Local) → i < length l.threads → settles i (changes i f l) ≡ comes_to i f l
+comes i f l lt = let e = get-changed f l.threads i opening_thread lt in rw e
+
+pub ready_is : (p : Phase) → is_ready p ≡ true → p ≡ Ready
+ready_is Ready e = refl
+ready_is Sending e = cc
+ready_is (Receiving receive since) e = cc
+ready_is Ordering e = cc
+ready_is Ended e = cc
+ready_is Deleted e = cc
+
+-- The first armed one goes, where it is due.
+pub without_due_waiting : (now : ℕ) (s : plain.Plain) → (without_due now s).waiting ≡ s.waiting
+without_due_waiting now s = by (is_some (plain.due_block now s.armed))
+  where
+    by : (b : Bool) → (cond b (plain.popped_due s) s).waiting ≡ s.waiting
+    by true = refl
+    by false = refl
+
+pub settled-without_due : (m : Machine) (l : Local) → IsSettled m l → IsSettled m (relists (without_due l.clock) l)
+settled-without_due m l s = by (is_some (plain.due_block l.clock l.lists.armed))
+  where
+    by : (b : Bool) → IsSettled m (record l { lists = cond b (plain.popped_due l.lists) l.lists })
+    by true = settled-popped_due m l s
+    by false = s

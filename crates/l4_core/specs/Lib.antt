@@ -1,6 +1,10 @@
+pub mod Arriving
+pub mod Asking
 pub mod Duties
-pub mod PhaseView
+pub mod DutyView
+pub mod Opening
 pub mod Places
 pub mod Processor
-pub mod Simple
+pub mod Settled
+pub mod Settling
 pub mod Turning

@@ -1,5 +1,5 @@
 //! Sets of places of threads.
-ghost use Rattle.std.specs.Prelude.{◌≡◌, ◌<◌, ℕ, false, ◌&&◌, ◌||◌, ◌==◌, not, MatchOption, position};
+ghost use Rattle.std.specs.Prelude.{◌≡◌, ◌<◌, ◌≤◌, ℕ, false, ◌&&◌, ◌||◌, ◌==◌, not, nat_lt, MatchOption, position};
 ghost use Rattle.l4_core.specs.Places.{has, is_filled, IsFirst, IsLowest};
 
 use std::marker::Model;
@@ -35,6 +35,23 @@ impl Places {
         ensures { (other : ℕ) → has self.new other ≡ (has self.old other || other == place) }
     {
         self.words[place / WIDTH] |= 1 << (place % WIDTH);
+    }
+
+    /// Puts all places below a number in.
+    pub fn fill(&mut self, count: usize)
+        requires { count ≤ 1024 }
+        ensures { (other : ℕ) → has self.new other ≡ (has self.old other || nat_lt other count) }
+    {
+        for place in 0..count {
+            self.insert(place);
+        }
+    }
+
+    /// The same set again.
+    pub fn copy(&self) -> Places
+        ensures { result ≡ self.now }
+    {
+        Places { words: self.words }
     }
 
     /// Takes a place out, where it is in.

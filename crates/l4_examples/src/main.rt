@@ -1,46 +1,70 @@
-//! Runs the examples of this repository that its words name, one after the other, and prints their traces. The gate compares them.
+//! Runs the examples of this repository that its words name, one after the other, audits the trace of each, and prints the traces. The gate
+//! compares them.
 #![tactic(auto)]
 
 use l4_jobs::fault::{Fault, report};
+use l4_jobs::files::perform_on_files;
 use l4_jobs::job::Job;
-use l4_jobs::perform::perform;
-use l4_jobs::words::{WordsFault, job_of};
+use l4_jobs::perform::{perform, write_out};
 use std::io::Write;
 use std::process::ExitCode;
 use std::rt::{Env, Files};
 use std::{env, fs, io};
 
-// Opens the job's file and does the job.
-fn on_file<R: Files + AllocGlobal, W: Write, E: Write>(
+// Audits the trace of an example, and answers the status.
+fn audit_example<R: Files + AllocGlobal, E: Write>(
     rt: &R,
-    job: &Job<'_>,
-    out: &mut W,
+    name: &str,
+    trace: &[u8],
     faults: &mut E,
 ) -> u8 {
-    match fs::open(rt, job.file()) {
-        Ok(mut machine) => perform(rt.alloc(), job, &mut machine, out, faults),
-        Err(_) => report(faults, &Fault::Read(job.file())),
+    let audit = Job::Audit {
+        file: name,
+        trace: "its trace",
+    };
+    let mut passed = Vec::new(rt.alloc());
+    let mut told = trace;
+    match fs::open(rt, name) {
+        Ok(mut machine) => perform(
+            rt.alloc(),
+            &audit,
+            &mut machine,
+            &mut told,
+            &mut passed,
+            faults,
+        ),
+        Err(_) => report(faults, &Fault::Read(name)),
     }
 }
 
-// Runs an example, and answers its status.
+// Runs an example, audits its trace and prints it. Answers the first status that is not 0, or 0.
 fn run_example<R: Files + AllocGlobal, W: Write, E: Write>(
     rt: &R,
     name: &str,
     out: &mut W,
     faults: &mut E,
 ) -> u8 {
-    match job_of(rt.alloc(), &["l4_examples", "run", name]) {
-        Ok(job) => on_file(rt, &job, out, faults),
-        Err(WordsFault::NoMemory) => report(faults, &Fault::NoMemory),
-        Err(WordsFault::Help(text) | WordsFault::Usage(text)) => {
-            let _ = write!(faults, "{text}");
-            2
-        }
+    let run = Job::Run {
+        file: name,
+        turns: 100_000,
+        report: false,
+    };
+    let mut trace = Vec::new(rt.alloc());
+    let status = perform_on_files(rt, &run, &mut trace, faults);
+    if status != 0 {
+        return status;
+    }
+    let status = audit_example(rt, name, trace.as_slice(), faults);
+    if status != 0 {
+        return status;
+    }
+    match write_out(out, trace.as_slice()) {
+        Ok(()) => 0,
+        Err(_) => report(faults, &Fault::Write),
     }
 }
 
-// Runs the examples up to the first one that does not come to rest, and answers its status, or 0.
+// Runs the examples up to the first one that does not come to rest or whose trace does not pass, and answers its status, or 0.
 fn run_examples<R: Files + AllocGlobal, W: Write, E: Write>(
     rt: &R,
     names: &[String],

@@ -9,7 +9,7 @@ use Rattle.clap.specs.declared.error.kind.ErrorKind.{ErrorKind}
 use Rattle.clap.specs.declared.error.kind.ErrorKind.TheVariants.{OutOfMemory}
 use Rattle.clap.specs.declared.parser.matches.Found.{Found}
 use Rattle.clap.proofs.WalkLemmas.{first_value-rows, one_text-rows}
-use Rattle.l4_jobs.specs.Asked.{ToRun, ToReplay, number_of, flag_of, turns_in, report_in, run_in, replay_in, IsRefusal}
+use Rattle.l4_jobs.specs.Asked.{ToRun, ToReplay, ToAudit, number_of, flag_of, turns_in, report_in, run_in, replay_in, audit_in, IsRefusal}
 use Rattle.l4_jobs.specs.declared.words.WordsFault.{WordsFault}
 use Rattle.l4_jobs.specs.declared.words.WordsFault.TheVariants.{Help, Usage, NoMemory}
 
@@ -49,6 +49,13 @@ replay_is f file schedule report p q r =
     let here : first_of (codes "file") (rows_of f) ≡ Some file = sym (first_value-rows f (codes "file")) ∙ p in
     let list : first_of (codes "schedule") (rows_of f) ≡ Some schedule = sym (first_value-rows f (codes "schedule")) ∙ q in
     rw (here, list, r) refl
+
+pub audit_is : (f : Found) (file trace : Text) → first_value f (codes "file") ≡ Some file → first_value f (codes "trace") ≡ Some trace →
+    audit_in (rows_of f) ≡ Some (ToAudit file trace)
+audit_is f file trace p q =
+    let here : first_of (codes "file") (rows_of f) ≡ Some file = sym (first_value-rows f (codes "file")) ∙ p in
+    let told : first_of (codes "trace") (rows_of f) ≡ Some trace = sym (first_value-rows f (codes "trace")) ∙ q in
+    rw (here, told) refl
 
 -- What is answered of an error is answered of the words that it comes from.
 pub refusal_of : (kinds : Kinds) (kind : ErrorKind) (fault : WordsFault) → (kind ≡ OutOfMemory → fault ≡ NoMemory) → IsRefusal (kind ∷ []) fault →

@@ -11,7 +11,7 @@ use Rattle.clap.specs.declared.error.kind.ErrorKind.{ErrorKind}
 use Rattle.clap.specs.declared.error.kind.ErrorKind.TheVariants.{DisplayHelp, DisplayVersion}
 use Rattle.l4_jobs.specs.Commands.{l4run_app}
 use Rattle.l4_jobs.specs.declared.job.Job.{Job}
-use Rattle.l4_jobs.specs.declared.job.Job.TheVariants.{Run, Replay}
+use Rattle.l4_jobs.specs.declared.job.Job.TheVariants.{Run, Replay, Audit}
 use Rattle.l4_jobs.specs.declared.words.WordsFault.{WordsFault}
 use Rattle.l4_jobs.specs.declared.words.WordsFault.TheVariants.{Help, Usage, NoMemory}
 
@@ -19,10 +19,12 @@ use Rattle.l4_jobs.specs.declared.words.WordsFault.TheVariants.{Help, Usage, NoM
 pub data Asked : Type 0 where
   ToRun : (file : Text) (turns : ℕ) (report : Bool) → Asked
   ToReplay : (file schedule : Text) (report : Bool) → Asked
+  ToAudit : (file trace : Text) → Asked
 
 abbrev pub asked_by : Job → Asked
 asked_by (Run file turns report) = ToRun file.now turns report
 asked_by (Replay file schedule report) = ToReplay file.now schedule.now report
+asked_by (Audit file trace) = ToAudit file.now trace.now
 
 -- The number of a text of digits, and the flag of a text.
 abbrev pub number_of : Text → ℕ
@@ -53,9 +55,19 @@ replay_in rows = do
   report ← report_in rows
   Some (ToReplay file schedule report)
 
+abbrev pub audit_in : List Row → Option Asked
+audit_in rows = do
+  file ← first_of (codes "file") rows
+  trace ← first_of (codes "trace") rows
+  Some (ToAudit file trace)
+
 -- The job of the matches: of the subcommand that was named.
 abbrev pub asked_in : Text × List Row → Option Asked
-asked_in p = if bytes_eq p.0 (codes "run") then run_in p.1 else if bytes_eq p.0 (codes "replay") then replay_in p.1 else None
+asked_in p =
+    if bytes_eq p.0 (codes "run") then run_in p.1
+    else (if bytes_eq p.0 (codes "replay") then replay_in p.1
+    else (if bytes_eq p.0 (codes "audit") then audit_in p.1
+    else None))
 
 -- The job of the matches that the words have.
 abbrev pub asked_of : (words : List Text) → Option Asked

@@ -9,6 +9,10 @@ use Rattle.clap.specs.declared.builder.value_parser.ValueParser.TheVariants.{Uns
 abbrev pub file_rule : Rule
 file_rule = record (new_rule (codes "file")) { value_names = 1; required = true }
 
+-- TRACE
+abbrev pub trace_rule : Rule
+trace_rule = record (new_rule (codes "trace")) { value_names = 1; required = true }
+
 -- --turns N, a number below 2^64, and 100000 where it is not given
 abbrev pub turns_rule : Rule
 turns_rule = record (new_rule (codes "turns")) { long = Some (codes "turns"); value_names = 1; parser = Some (Unsigned 0 18446744073709551615); defaults = codes "100000" ∷ [] }
@@ -27,12 +31,15 @@ run_app = with_rule (with_rule (with_rule (new_app (codes "run")) file_rule) tur
 abbrev pub replay_app : App
 replay_app = with_rule (with_rule (with_rule (new_app (codes "replay")) file_rule) schedule_rule) report_rule
 
+abbrev pub audit_app : App
+audit_app = with_rule (with_rule (new_app (codes "audit")) file_rule) trace_rule
+
 abbrev pub top_app : App
 top_app = let a = new_app (codes "l4run") in record a { top = record a.top { subcommand_required = true } }
 
--- One of the two has to be named.
+-- One of the three has to be named.
 unfoldable pub l4run_app : App
-l4run_app = with_subcommand (with_subcommand top_app run_app.top) replay_app.top
+l4run_app = with_subcommand (with_subcommand (with_subcommand top_app run_app.top) replay_app.top) audit_app.top
 
 -- What may be wrong with words, or that help is asked for: none of it where they ask for a job.
 abbrev pub faults_of : (words : List Text) → Kinds

@@ -1,8 +1,11 @@
 -- What a job asks for, and what is shown for it.
-use Rattle.std.specs.Prelude.{◌≡◌, ℕ, Bool, true, false, Option, Some, None, Result, Ok, Err, List, map}
+use Rattle.std.specs.Prelude.{◌≡◌, ◌↔◌, ℕ, Bool, true, false, Option, Some, None, IsSomeAnd, Result, Ok, Err, List, length, map}
+use Rattle.std.specs.Option.{option_map}
 use Rattle.l4_model.specs.Machine.{Machine}
+use Rattle.l4_model.specs.Steps.{Step}
 use Rattle.l4_model.specs.World.{World}
-use Rattle.l4_model.specs.History.{reached, view, waiting as undecided_sends}
+use Rattle.l4_model.specs.History.{reached, refused_place, view, waiting as undecided_sends}
+use Rattle.l4_model.specs.Still.{IsStill}
 use Rattle.l4_core_model.specs.Runs.{Run as CoreRun, told, at_rest}
 use Rattle.l4_core_model.specs.Schedules.{run, replay}
 use Rattle.l4_script.specs.Texts.{machine_of_text}
@@ -13,22 +16,34 @@ use Rattle.l4_types.specs.declared.reports.Ending.{Ending}
 use Rattle.l4_types.specs.declared.reports.Ending.TheVariants.{Quiet, Spent}
 use Rattle.l4_types.specs.StepView.{step_of}
 use Rattle.l4_types.specs.ReportView.{report_of_view}
+use Rattle.l4_audit.specs.Audits.{is_quiet}
+use Rattle.l4_audit.specs.declared.audit.AuditFault.{AuditFault}
+use Rattle.l4_audit.specs.declared.audit.AuditFault.TheVariants as audit_fault
 use Rattle.l4_machine.specs.Entries.{turns_fault}
 use Rattle.l4_machine.specs.declared.outcome.Outcome.{Outcome}
 use Rattle.l4_machine.specs.declared.outcome.RunFault.{RunFault}
 use Rattle.l4_machine.specs.declared.outcome.RunFault.TheVariants as run_fault
-use Rattle.l4_jobs.specs.Items.{schedule_of}
 use Rattle.l4_trace.specs.Lines.{trace_of}
-use Rattle.l4_jobs.specs.ReportLines.{report_text}
+use Rattle.l4_trace.specs.Reading.{steps_of}
+use Rattle.l4_trace.specs.declared.fault.TraceFault.{TraceFault}
+use Rattle.l4_trace.specs.declared.fault.TraceFault.TheVariants as trace_fault
+use Rattle.l4_jobs.specs.Items.{schedule_of}
+use Rattle.l4_jobs.specs.ReportLines.{report_text, passed_line}
 use Rattle.l4_jobs.specs.declared.fault.Fault.{Fault}
 use Rattle.l4_jobs.specs.declared.fault.Fault.TheVariants as fault
 use Rattle.l4_jobs.specs.declared.job.Job.{Job}
-use Rattle.l4_jobs.specs.declared.job.Job.TheVariants.{Run, Replay}
+use Rattle.l4_jobs.specs.declared.job.Job.TheVariants.{Run, Replay, Audit}
 
--- The name of its file.
+-- The names of its files: the machine text's, and the trace's where it reads one.
 abbrev pub file_of : Job → List ℕ
 file_of (Run file turns report) = file.now
 file_of (Replay file schedule report) = file.now
+file_of (Audit file trace) = file.now
+
+abbrev pub trace_file_of : Job → Option (List ℕ)
+trace_file_of (Run file turns report) = None
+trace_file_of (Replay file schedule report) = None
+trace_file_of (Audit file trace) = Some trace.now
 
 -- The text that a reader gives: its bytes, where they are known.
 abbrev pub IsGiven : (known : Option (List ℕ)) → (text : List ℕ) → Type 0
@@ -40,23 +55,23 @@ abbrev pub IsUnread : (file : List ℕ) → Fault → Type 0
 IsUnread file (fault.Read name) = name.now ≡ file
 IsUnread file _ = ⊥
 
--- The report is shown in place of the trace.
-abbrev pub has_report : Job → Bool
-has_report (Run file turns report) = report
-has_report (Replay file schedule report) = report
+abbrev pub IsTraceUnread : Job → Fault → Type 0
+IsTraceUnread job fault = IsSomeAnd (trace_file_of job) (λ file. IsUnread file fault)
 
--- The core run that it asks for on a machine, or why there is none.
+-- The core run in rounds of a machine, and that by a list of items, or why there is none.
 abbrev pub unless : {X : Type 0} → Option RunFault → X → Result X RunFault
 unless None x = Ok x
 unless (Some fault) x = Err fault
+
+abbrev pub run_in_rounds : Machine → (turns : ℕ) → Result CoreRun RunFault
+run_in_rounds m turns = unless (turns_fault turns) (run m turns)
 
 abbrev pub replayed : Machine → Result (List ℕ) RunFault → Result CoreRun RunFault
 replayed m (Ok schedule) = Ok (replay m schedule)
 replayed m (Err fault) = Err fault
 
-abbrev pub run_of : Job → Machine → Result CoreRun RunFault
-run_of (Run file turns report) m = unless (turns_fault turns) (run m turns)
-run_of (Replay file schedule report) m = replayed m (schedule_of m schedule.now)
+abbrev pub run_by_list : Machine → (list : List ℕ) → Result CoreRun RunFault
+run_by_list m list = replayed m (schedule_of m list)
 
 -- Its fault on a text. The text is judged first.
 abbrev pub text_fault : (line : ℕ) → TextFaultKind → Fault
@@ -72,12 +87,33 @@ abbrev pub fault_of_result : Result CoreRun RunFault → Option Fault
 fault_of_result (Ok r) = None
 fault_of_result (Err f) = Some (fault_of_run f)
 
-abbrev pub fault_on : Job → Result Machine TextFault → Option Fault
-fault_on job (Err f) = Some (text_fault f.line f.kind)
-fault_on job (Ok m) = fault_of_result (run_of job m)
+abbrev pub fault_of_reading : TraceFault → Fault
+fault_of_reading trace_fault.NoMemory = fault.NoMemory
+fault_of_reading (trace_fault.Line line) = fault.Trace line
 
-abbrev pub fault_of : Job → (text : List ℕ) → Option Fault
-fault_of job text = fault_on job (machine_of_text text)
+abbrev pub fault_of_audit : AuditFault → Fault
+fault_of_audit audit_fault.NoMemory = fault.NoMemory
+fault_of_audit (audit_fault.Refused place) = fault.Refused place
+
+-- A trace has a line that is none, or a step that is not possible.
+abbrev pub fault_of_steps : Machine → Result (List Step) ℕ → Option Fault
+fault_of_steps m (Err line) = Some (fault.Trace line)
+fault_of_steps m (Ok steps) = option_map fault.Refused (refused_place m steps)
+
+abbrev pub fault_of_trace : Machine → (trace : List ℕ) → Option Fault
+fault_of_trace m trace = fault_of_steps m (steps_of trace)
+
+abbrev pub fault_of_job : Job → Machine → (trace : List ℕ) → Option Fault
+fault_of_job (Run file turns report) m trace = fault_of_result (run_in_rounds m turns)
+fault_of_job (Replay file schedule report) m trace = fault_of_result (run_by_list m schedule.now)
+fault_of_job (Audit file name) m trace = fault_of_trace m trace
+
+abbrev pub fault_on : Job → Result Machine TextFault → (trace : List ℕ) → Option Fault
+fault_on job (Err f) trace = Some (text_fault f.line f.kind)
+fault_on job (Ok m) trace = fault_of_job job m trace
+
+abbrev pub fault_of : Job → (text trace : List ℕ) → Option Fault
+fault_of job text trace = fault_on job (machine_of_text text) trace
 
 -- The exit status of a run that ends at rest, and of one that does not.
 abbrev pub status_at_rest : Bool → ℕ
@@ -99,18 +135,34 @@ abbrev pub Shows : (report : Bool) → Machine → CoreRun → (lines : List ℕ
 Shows true m r lines = IsReport m r lines
 Shows false m r lines = lines ≡ trace_of (told r.events)
 
--- These are what a job shows of its run on a machine, and the exit status.
-pub record IsShownOn (job : Job) (machine : Machine) (lines : List ℕ) (status : ℕ) : Type 0 where
+-- These are what is shown of a run on a machine, and the exit status.
+pub record IsRunShown (report : Bool) (machine : Machine) (asked : Result CoreRun RunFault) (lines : List ℕ) (status : ℕ) : Type 0 where
   pub run : CoreRun
-  pub runs : run_of job machine ≡ Ok run
-  pub shows : Shows (has_report job) machine run lines
+  pub runs : asked ≡ Ok run
+  pub shows : Shows report machine run lines
   pub status_is : status ≡ status_at_rest (at_rest machine run.system)
 
+-- This is what is shown of a trace that is a history: how many steps it has, and whether nothing but clocks can go on behind them.
+pub record IsPassed (machine : Machine) (trace lines : List ℕ) : Type 0 where
+  pub steps : List Step
+  pub reads : steps_of trace ≡ Ok steps
+  pub world : World
+  pub reaches : reached machine steps ≡ Some world
+  pub ending : Ending
+  pub quiet : (is_quiet ending ≡ true) ↔ IsStill machine world
+  pub lines_are : lines ≡ passed_line (length steps) ending
+
+-- These are what a job shows on a machine, and the exit status.
+abbrev pub IsShownOn : Job → Machine → (trace lines : List ℕ) → (status : ℕ) → Type 0
+IsShownOn (Run file turns report) m trace lines status = IsRunShown report m (run_in_rounds m turns) lines status
+IsShownOn (Replay file schedule report) m trace lines status = IsRunShown report m (run_by_list m schedule.now) lines status
+IsShownOn (Audit file name) m trace lines status = IsPassed m trace lines × (status ≡ 0)
+
 -- The text declares a machine, and these are what the job shows there.
-pub record IsShown (job : Job) (text lines : List ℕ) (status : ℕ) : Type 0 where
+pub record IsShown (job : Job) (text trace lines : List ℕ) (status : ℕ) : Type 0 where
   pub machine : Machine
   pub declares : machine_of_text text ≡ Ok machine
-  pub shown : IsShownOn job machine lines status
+  pub shown : IsShownOn job machine trace lines status
 
 -- What is written of an outcome.
 abbrev pub lines_of_outcome : (report : Bool) → Outcome → List ℕ

@@ -3,3 +3,4 @@ pub mod Commands
 pub mod Items
 pub mod Jobs
 pub mod ReportLines
+pub mod RoundTrips

@@ -1,4 +1,4 @@
--- The lines of a report.
+-- The lines of a report, and the line of an audit.
 use Rattle.std.specs.Prelude.{ℕ, ◌==◌, if◌then◌else◌, List, [], ◌∷◌, ◌++◌, map, flat_map, codes, decimal}
 use Rattle.l4_model.specs.Words.{Id, NilThread, AnyThread, AnyLocalThread, LocalThread, GlobalThread}
 use Rattle.l4_model.specs.World.{Name}
@@ -54,3 +54,7 @@ ending_line ending = line_of_words (codes "ending" ∷ ending_word ending ∷ []
 
 abbrev pub report_text : List Report → List (Name × Id) → Ending → List ℕ
 report_text threads waiting ending = flat_map thread_line threads ++ flat_map waiting_line waiting ++ ending_line ending
+
+-- A trace of so many steps has passed its audit.
+abbrev pub passed_line : (steps : ℕ) → Ending → List ℕ
+passed_line steps ending = line_of_words (codes "passed" ∷ decimal steps ∷ ending_word ending ∷ [])

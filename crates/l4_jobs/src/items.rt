@@ -1,11 +1,13 @@
 //! The list of a schedule: its items, and the entries that they spell.
-ghost use Rattle.std.specs.Prelude.{◌≡◌, ◌<◌, ◌≤◌, ◌⊎◌, ◌==◌, ◌++◌, ◌∷◌, [], ℕ, List, IfOk, IfErr, MatchOption, OnOk, Ok, Err, Some, length, count_by, position};
+ghost use Rattle.std.specs.Prelude.{◌≡◌, ◌<◌, ◌≤◌, ◌⊎◌, ◌==◌, ◌++◌, ◌∷◌, [], ℕ, List, IfOk, IfErr, MatchOption, OnOk, Ok, Err, Some, length, count_by};
 ghost use Rattle.l4_machine.specs.declared.outcome.RunFault.TheVariants.{NoMemory as OutOfMemory};
+ghost use Rattle.l4_machine.specs.Entries.{is_entry};
 ghost use Rattle.l4_jobs.specs.Items.{items_of, processor_of, entry_of, item_of, machine_entry, read_items, schedule_of};
 
 use l4_machine::{MOST_ENTRIES, RunFault};
 use l4_script::machine::Machine;
 use l4_types::errors::NoMemory;
+use l4_words::lines::split_once;
 use std::alloc::Global;
 use std::marker::Model;
 
@@ -40,13 +42,6 @@ fn comma_count(list: &[u8]) -> usize
     ensures limit { result ≤ length list.now }
 {
     list.iter().filter(|byte| **byte == b',').count()
-}
-
-// The place of the first comma.
-fn first_comma(list: &[u8]) -> Option<usize>
-    ensures { result ≡ position (λ byte. byte == 44) list.now }
-{
-    list.iter().position(|byte| *byte == b',')
 }
 
 /// The items of a list that are still to be read.
@@ -86,10 +81,10 @@ impl<'a> Items<'a> {
             (λ item. self.old ≡ item.now ∷ self.new) }
     {
         let list = self.rest?;
-        match first_comma(list) {
-            Some(end) => {
-                self.rest = Some(&list[end + 1..]);
-                Some(&list[..end])
+        match split_once(b',', list) {
+            Some((item, rest)) => {
+                self.rest = Some(rest);
+                Some(item)
             }
             None => {
                 self.rest = None;
@@ -123,11 +118,19 @@ fn push(entries: &mut Vec<u8>, entry: u8) -> Result<(), NoMemory>
     Ok(())
 }
 
-// The entry that an item spells, where the machine has its processor. Clocks do not go on yet, so no entry of 16 and more is one.
+// The entry that an item spells, where the machine has its processor.
 fn machine_entry(machine: &Machine, item: &[u8]) -> Option<u8>
     ensures { result ≡ machine_entry machine.now item.now }
 {
-    entry_of(item).filter(|entry| *entry < machine.cpus())
+    entry_of(item).filter(|entry| is_entry(machine, *entry))
+}
+
+// Whether an entry is a turn or a tick of a processor of the machine.
+fn is_entry(machine: &Machine, entry: u8) -> bool
+    ensures { result ≡ is_entry machine.now entry }
+{
+    let cpus = machine.cpus();
+    entry < cpus || (16 <= entry && entry - 16 < cpus)
 }
 
 // The entry that an item spells: the number of a processor is a turn of it, with a `t` before it a tick of it, the entry 16 and more.

@@ -1,6 +1,7 @@
 //! What is to be done.
 ghost use Rattle.std.specs.Prelude.{◌≡◌};
-ghost use Rattle.l4_jobs.specs.Jobs.{file_of, has_report};
+ghost use Rattle.std.specs.Option.{option_map};
+ghost use Rattle.l4_jobs.specs.Jobs.{file_of, trace_file_of};
 
 /// What is to be done.
 #[derive(Clone, Copy, Debug, PartialEq, Eq)]
@@ -17,6 +18,11 @@ pub enum Job<'a> {
         schedule: &'a str,
         report: bool,
     },
+    /// Audit the trace in a file against the machine text in another.
+    Audit {
+        file: &'a str,
+        trace: &'a str,
+    },
 }
 
 impl<'a> Job<'a> {
@@ -25,16 +31,17 @@ impl<'a> Job<'a> {
         ensures { result.now ≡ file_of self.now }
     {
         match *self {
-            Job::Run { file, .. } | Job::Replay { file, .. } => file,
+            Job::Run { file, .. } | Job::Replay { file, .. } | Job::Audit { file, .. } => file,
         }
     }
 
-    /// Whether the report is printed in place of the trace.
-    pub fn has_report(&self) -> bool
-        ensures { result ≡ has_report self.now }
+    /// The name of the file with the trace, where one is read.
+    pub fn trace_file(&self) -> Option<&'a str>
+        ensures { option_map (λ name. name.now) result ≡ trace_file_of self.now }
     {
         match *self {
-            Job::Run { report, .. } | Job::Replay { report, .. } => report,
+            Job::Run { .. } | Job::Replay { .. } => None,
+            Job::Audit { trace, .. } => Some(trace),
         }
     }
 }

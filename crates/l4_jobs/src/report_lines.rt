@@ -115,7 +115,7 @@ fn spelled_state(state: State) -> &'static str
     }
 }
 
-fn spelled_ending(ending: Ending) -> &'static str
+pub(crate) fn spelled_ending(ending: Ending) -> &'static str
     ensures { result.now ≡ ending_word ending }
 {
     match ending {

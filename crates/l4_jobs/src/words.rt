@@ -3,8 +3,8 @@ ghost use Rattle.std.specs.Prelude.{◌≡◌, ◌∷◌, [], false, IfOk, IfErr
 ghost use Rattle.clap.specs.Words.{app_of, rule_of, rows_of, found_of, subcommand_of, subcommand_rows_of, kind_of};
 ghost use Rattle.clap.specs.declared.builder.command.Command.TheViews.{out-Command};
 ghost use Rattle.clap.specs.declared.error.kind.ErrorKind.TheVariants.{OutOfMemory as MemoryKind};
-ghost use Rattle.l4_jobs.specs.Asked.{asked_by, asked_in, asked_of, report_in, run_in, replay_in, IsRefusal};
-ghost use Rattle.l4_jobs.specs.Commands.{file_rule, turns_rule, schedule_rule, report_rule, run_app, replay_app, l4run_app, faults_of};
+ghost use Rattle.l4_jobs.specs.Asked.{asked_by, asked_in, asked_of, report_in, run_in, replay_in, audit_in, IsRefusal};
+ghost use Rattle.l4_jobs.specs.Commands.{file_rule, trace_rule, turns_rule, schedule_rule, report_rule, run_app, replay_app, audit_app, l4run_app, faults_of};
 ghost use Rattle.l4_jobs.specs.declared.words.WordsFault.TheVariants.{NoMemory as OutOfMemory};
 
 use crate::job::Job;
@@ -30,7 +30,14 @@ const REPLAY_EXAMPLE: &str =
     "Example: `l4run replay ping.l4 --schedule 0,0,0`, with the machine text that `l4run help run` shows,
 prints the steps of three turns of processor 0.
 
-An item 0 to 15 is one turn of that processor. Where it has nothing to do, there is no step.";
+An item 0 to 15 is one turn of that processor, t0 to t15 one tick of its clock to its least deadline. Where
+there is nothing to do, there is no step.";
+
+const AUDIT_EXAMPLE: &str =
+    "Example: `l4run audit ping.l4 ping.trace`, with the machine text that `l4run help run` shows and what
+`l4run run ping.l4` printed, prints `passed 8 quiet`: these are 8 steps that the machine can take, and then nothing
+but its clock can go on; `spent` stands there where more can. A trace is refused at its first step that is not
+possible.";
 
 /// Why the words ask for no job.
 #[derive(Debug, Drop)]
@@ -61,6 +68,16 @@ fn file_arg<'a>(alloc: Global) -> Arg<'a>
         .required(true)
 }
 
+fn trace_arg<'a>(alloc: Global) -> Arg<'a>
+    ensures rule { rule_of result ≡ trace_rule }
+    ensures local { result.global ≡ false }
+{
+    Arg::new(alloc, "trace")
+        .value_name("TRACE")
+        .help("The trace, a line for each step")
+        .required(true)
+}
+
 fn turns_arg<'a>(alloc: Global) -> Arg<'a>
     ensures rule { rule_of result ≡ turns_rule }
     ensures local { result.global ≡ false }
@@ -80,7 +97,9 @@ fn schedule_arg<'a>(alloc: Global) -> Arg<'a>
     Arg::new(alloc, "schedule")
         .long("schedule")
         .value_name("LIST")
-        .help("The turns: numbers of processors joined by commas, or the empty text")
+        .help(
+            "Items joined by commas, or the empty text: 0 is a turn of processor 0, t0 a tick of its clock",
+        )
         .required(true)
 }
 
@@ -120,16 +139,29 @@ fn replay_command<'a>(alloc: Global) -> Result<Command<'a>, AllocError>
     replay.arg(file)?.arg(schedule)?.arg(report)
 }
 
+fn audit_command<'a>(alloc: Global) -> Result<Command<'a>, AllocError>
+    ensures app { IfOk result (λ command. app_of command ≡ audit_app) }
+    ensures local { IfOk result (λ command. (out-Command command).has_globals ≡ false) }
+{
+    let file = file_arg(alloc);
+    let trace = trace_arg(alloc);
+    let audit = Command::new(alloc, "audit")
+        .about("Tells whether a trace is one of a machine text")
+        .after_help(AUDIT_EXAMPLE);
+    audit.arg(file)?.arg(trace)
+}
+
 fn l4run_command<'a>(alloc: Global) -> Result<Command<'a>, AllocError>
     ensures { IfOk result (λ command. app_of command ≡ l4run_app) }
 {
     let run = run_command(alloc)?;
     let replay = replay_command(alloc)?;
+    let audit = audit_command(alloc)?;
     let l4run = Command::new(alloc, "l4run")
         .about("Emulates the Ipc system call of the L4 kernel, version X.2")
         .after_help(RUN_EXAMPLE)
         .subcommand_required(true);
-    l4run.subcommand(run)?.subcommand(replay)
+    l4run.subcommand(run)?.subcommand(replay)?.subcommand(audit)
 }
 
 // Whether the matches ask for a report.
@@ -161,6 +193,16 @@ fn replay_job<'a>(matches: &ArgMatches<'a>) -> Option<Job<'a>>
     })
 }
 
+// The job of the matches of `audit`.
+fn audit_job<'a>(matches: &ArgMatches<'a>) -> Option<Job<'a>>
+    ensures { IfSome result (λ job. audit_in (rows_of (found_of matches.now)) ≡ Some (asked_by job)) }
+{
+    Some(Job::Audit {
+        file: matches.get_str("file")?,
+        trace: matches.get_str("trace")?,
+    })
+}
+
 fn job_of_matches<'a>(matches: &ArgMatches<'a>) -> Option<Job<'a>>
     ensures { IfSome result (λ job. option_and_then asked_in (subcommand_rows_of matches.now) ≡ Some (asked_by job)) }
 {
@@ -168,6 +210,7 @@ fn job_of_matches<'a>(matches: &ArgMatches<'a>) -> Option<Job<'a>>
     match name {
         "run" => run_job(matches),
         "replay" => replay_job(matches),
+        "audit" => audit_job(matches),
         _ => None,
     }
 }

@@ -1,26 +1,22 @@
 -- A run that is over, and its outcome.
-use Rattle.std.proofs.Common.{◌≡◌, ◌↔◌, ℕ, true, Some, None, List, [], map, refl, ap, sym, subst, ◌∙◌}
-use Rattle.std.specs.Prelude.{slice_get, not}
+use Rattle.std.proofs.Common.{◌≡◌, ◌↔◌, ℕ, true, Some, List, map, ap, sym, subst, ◌∙◌}
+use Rattle.std.specs.Prelude.{slice_get}
 use Rattle.l4_model.specs.Machine.{Machine}
 use Rattle.l4_model.specs.World.{World}
 use Rattle.l4_model.specs.History.{IsHistory, reached, view, waiting as undecided_sends}
 use Rattle.l4_model.specs.Steps.{Step}
 use Rattle.l4_model.specs.Laws.{IsLawful}
-use Rattle.l4_core_model.specs.Local.{Local}
-use Rattle.l4_core_model.specs.Acts.{Work}
-use Rattle.l4_core_model.specs.Turns.{turn}
 use Rattle.l4_core_model.specs.Runs.{Run, at_rest}
 use Rattle.l4_core_model.specs.Known.{known_world}
 use Rattle.l4_model.specs.Still.{IsStill}
 use Rattle.l4_core.specs.Processor.{Processor}
-use Rattle.l4_types.specs.declared.reports.Ending.TheVariants.{Quiet, Spent}
+use Rattle.l4_types.specs.declared.reports.Ending.TheVariants.{Quiet}
 use Rattle.l4_types.specs.declared.steps.Step as told_steps
 use Rattle.l4_types.specs.StepView.{step_of}
 use Rattle.l4_types.specs.ReportView.{report_of_view}
 use Rattle.l4_machine.specs.declared.outcome.Outcome.{Outcome}
 use Rattle.l4_machine.specs.Outcomes.{IsOutcomeOf}
 use Rattle.l4_machine.specs.Turns.{alone, HasRun, IsSound}
-use Rattle.l4_machine.proofs.Alone.{at_rest-busy, at_rest-alone, busy-turn, busy-idle}
 
 some_is : {A : Type 0} (a b : A) → Some a ≡ Some b → a ≡ b
 some_is a b h = cc
@@ -56,17 +52,6 @@ is_outcome m now r o t sound laws waiting threads quiet = record {
 
     rest_is : at_rest m r.system ≡ at_rest now.machine (alone now.local)
     rest_is = ap (at_rest m) t.local ∙ ap (λ n. at_rest n (alone now.local)) (sym t.machine)
-
-is_spent : {P : Type 0} → Spent ≡ Quiet → P
-is_spent e = cc
-
--- Where a turn is left, the run is not at rest.
-pub ends_spent : (m : Machine) (l : Local) (x : Work) → m.cpus ≡ 1 → turn m 0 l ≡ Some x → (Spent ≡ Quiet) ↔ (at_rest m (alone l) ≡ true)
-ends_spent m l x one is_turn = (λ e. is_spent e, λ e. let busy = at_rest-busy m l one (busy-turn m l x is_turn) in cc)
-
--- Where there is none, it is.
-pub ends_quiet : (m : Machine) (l : Local) → m.cpus ≡ 1 → turn m 0 l ≡ None → l.lists.armed ≡ [] → (Quiet ≡ Quiet) ↔ (at_rest m (alone l) ≡ true)
-ends_quiet m l one idle armed = (λ e. at_rest-alone m l one armed ∙ ap not (busy-idle m l idle), λ e. refl)
 
 -- A machine by another name.
 pub has_run_at : (n m : Machine) (F : Machine → Run) (now : Processor) (history : List told_steps.Step) (taken : ℕ) → n ≡ m →

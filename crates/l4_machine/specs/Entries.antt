@@ -1,5 +1,5 @@
 -- How many turns a run has, and which schedules a machine has.
-use Rattle.std.specs.Prelude.{ℕ, ◌+◌, ◌==◌, ◌||◌, nat_lt, Bool, if◌then◌else◌, Option, Some, None, List, [], ◌∷◌, length}
+use Rattle.std.specs.Prelude.{ℕ, ◌+◌, ◌-◌, ◌==◌, ◌&&◌, ◌||◌, nat_lt, nat_le, Bool, if◌then◌else◌, Option, Some, None, List, [], ◌∷◌, length}
 use Rattle.std.specs.Option.{option_map}
 use Rattle.l4_model.specs.Machine.{Machine}
 use Rattle.l4_machine.specs.declared.outcome.RunFault.{RunFault}
@@ -9,9 +9,9 @@ use Rattle.l4_machine.specs.declared.outcome.RunFault.TheVariants.{Turns, Schedu
 abbrev pub turns_fault : (turns : ℕ) → Option RunFault
 turns_fault turns = if turns == 0 || nat_lt 1000000 turns then Some Turns else None
 
--- An entry is the number of a processor of the machine.
+-- An entry is the number of a processor of the machine for a turn of it, and 16 more for a tick of its clock.
 abbrev pub is_entry : Machine → ℕ → Bool
-is_entry m entry = nat_lt entry m.cpus
+is_entry m entry = nat_lt entry m.cpus || (nat_le 16 entry && nat_lt (entry - 16) m.cpus)
 
 -- The place of the first entry that is none, where the first of these entries has this place.
 abbrev pub first_stranger : Machine → (place : ℕ) → List ℕ → Option ℕ

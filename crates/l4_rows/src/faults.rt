@@ -120,7 +120,7 @@ fn a_text_that_cannot_be_read_is_reported_by_its_name(rt: HostRuntime) {
         let mut machine = Broken {
             bytes: PING.as_bytes(),
         };
-        let (status, faults) = does_into(&rt, words, &mut machine, &mut out);
+        let (status, faults) = does_into(&rt, words, &mut machine, &mut b"".as_slice(), &mut out);
         assert_eq!(rt; status, 1);
         assert_eq!(rt; out.as_slice(), b"".as_slice());
         assert_eq!(rt; faults.as_slice(), b"l4run: cannot read m.l4\n".as_slice());
@@ -135,7 +135,13 @@ fn a_write_that_fails_is_reported(rt: HostRuntime) {
             room,
         };
         let mut machine = PING.as_bytes();
-        let (status, faults) = does_into(&rt, &["run", "m.l4"], &mut machine, &mut out);
+        let (status, faults) = does_into(
+            &rt,
+            &["run", "m.l4"],
+            &mut machine,
+            &mut b"".as_slice(),
+            &mut out,
+        );
         assert_eq!(rt; status, 1);
         assert_eq!(rt; out.taken.as_slice(), &PING_TRACE.as_bytes()[..room]);
         assert_eq!(rt; faults.as_slice(), b"l4run: cannot write\n".as_slice());

@@ -2,14 +2,28 @@
 #![tactic(auto)]
 
 #[cfg(test)]
+mod audits;
+#[cfg(test)]
+mod calls;
+#[cfg(test)]
+mod codes;
+#[cfg(test)]
 mod faults;
 #[cfg(test)]
+mod orders;
+#[cfg(test)]
 mod program;
+#[cfg(test)]
+mod receives;
 #[cfg(test)]
 mod runs;
 #[cfg(test)]
 mod schedules;
 #[cfg(test)]
 mod texts;
+#[cfg(test)]
+mod ticks;
+#[cfg(test)]
+mod times;
 #[cfg(test)]
 mod words;

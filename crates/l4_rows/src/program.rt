@@ -1,4 +1,4 @@
-// The program over a reader and two writers in place of files and streams.
+// The program over two readers and two writers in place of files and streams.
 use l4_jobs::perform::perform;
 use l4_jobs::refusal::refuse;
 use l4_jobs::words::job_of;
@@ -44,9 +44,20 @@ pub(crate) struct Done {
 
 /// Does what the words behind the program's name ask for, where the file that they name gives this text.
 pub(crate) fn does<R: AllocGlobal + Abort>(rt: &R, words: &[&str], text: &[u8]) -> Done {
+    does_on(rt, words, text, b"")
+}
+
+/// The same where the file of a trace gives these bytes.
+pub(crate) fn does_on<R: AllocGlobal + Abort>(
+    rt: &R,
+    words: &[&str],
+    text: &[u8],
+    told: &[u8],
+) -> Done {
     let mut out = Vec::new(rt.alloc());
     let mut machine = text;
-    let (status, faults) = does_into(rt, words, &mut machine, &mut out);
+    let mut trace = told;
+    let (status, faults) = does_into(rt, words, &mut machine, &mut trace, &mut out);
     Done {
         status,
         out,
@@ -54,11 +65,12 @@ pub(crate) fn does<R: AllocGlobal + Abort>(rt: &R, words: &[&str], text: &[u8]) 
     }
 }
 
-/// The same over another reader and writer. Answers the status, and what is written to the faults.
-pub(crate) fn does_into<R: AllocGlobal + Abort, M: Read, W: Write>(
+/// The same over other readers and another writer. Answers the status, and what is written to the faults.
+pub(crate) fn does_into<R: AllocGlobal + Abort, M: Read, T: Read, W: Write>(
     rt: &R,
     words: &[&str],
     machine: &mut M,
+    trace: &mut T,
     out: &mut W,
 ) -> (u8, Vec<u8>) {
     let mut faults = Vec::new(rt.alloc());
@@ -66,7 +78,7 @@ pub(crate) fn does_into<R: AllocGlobal + Abort, M: Read, W: Write>(
     line.push("l4run").expect(rt, "memory");
     line.extend_from_slice(words).expect(rt, "memory");
     let status = match job_of(rt.alloc(), line.as_slice()) {
-        Ok(job) => perform(rt.alloc(), &job, machine, out, &mut faults),
+        Ok(job) => perform(rt.alloc(), &job, machine, trace, out, &mut faults),
         Err(fault) => refuse(&fault, out, &mut faults),
     };
     (status, faults)
@@ -83,6 +95,51 @@ pub(crate) fn shows<R: AllocGlobal + Abort>(
     assert_eq!(rt; done.faults.as_slice(), want.2.as_bytes(), "{words:?}");
     assert_eq!(rt; done.out.as_slice(), want.1.as_bytes(), "{words:?}");
     assert_eq!(rt; done.status, want.0, "{words:?}");
+    if is_trace(words) && done.status != 1 {
+        passes(rt, text, &done);
+    }
+}
+
+// Whether the words ask for the trace of a run or a replay.
+fn is_trace(words: &[&str]) -> bool {
+    matches!(words, ["run" | "replay", ..]) && !words.contains(&"--report")
+}
+
+// Tests that what was printed passes the audit: with each of its lines, and where the run came to rest, quiet.
+fn passes<R: AllocGlobal + Abort>(rt: &R, text: &str, printed: &Done) {
+    let words = ["audit", "m.l4", "m.trace"];
+    let audit = does_on(rt, &words, text.as_bytes(), printed.out.as_slice());
+    let lines = printed.out.iter().filter(|byte| **byte == b'\n').count();
+    let quiet = format!(in rt.alloc(); "passed {lines} quiet\n").expect(rt, "memory");
+    let spent = format!(in rt.alloc(); "passed {lines} spent\n").expect(rt, "memory");
+    let told = audit.out.as_slice();
+    assert_eq!(rt; audit.faults.as_slice(), b"".as_slice());
+    assert_eq!(rt; audit.status, 0);
+    if printed.status == 0 {
+        assert_eq!(rt; told, quiet.as_bytes());
+    } else {
+        assert!(rt; told == quiet.as_bytes() || told == spent.as_bytes());
+    }
+}
+
+/// Tests what a run of a text prints that comes to rest: its trace, and its report.
+pub(crate) fn runs<R: AllocGlobal + Abort>(rt: &R, text: &str, trace: &str, report: &str) {
+    shows(rt, &["run", "m.l4"], text, (0, trace, ""));
+    shows(rt, &["run", "m.l4", "--report"], text, (0, report, ""));
+}
+
+/// Tests what a replay of a list of items prints: its trace, and its report.
+pub(crate) fn replays<R: AllocGlobal + Abort>(
+    rt: &R,
+    text: &str,
+    list: &str,
+    want: (u8, &str, &str),
+) {
+    let (status, trace, report) = want;
+    let words = ["replay", "m.l4", "--schedule", list];
+    shows(rt, &words, text, (status, trace, ""));
+    let words = ["replay", "m.l4", "--schedule", list, "--report"];
+    shows(rt, &words, text, (status, report, ""));
 }
 
 /// Gives the bytes, and then fails in place of an end.

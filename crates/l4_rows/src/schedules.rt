@@ -81,7 +81,7 @@ fn the_first_faulty_item_is_named(rt: HostRuntime) {
 
 #[test]
 fn an_item_of_no_processor_of_the_machine_is_faulty(rt: HostRuntime) {
-    for list in ["1", "15", "t1", "t15"] {
+    for list in ["1", "15", "t1", "t15", "t10"] {
         shows(
             &rt,
             &["replay", "m.l4", "--schedule", list],
@@ -90,12 +90,14 @@ fn an_item_of_no_processor_of_the_machine_is_faulty(rt: HostRuntime) {
         );
     }
     // The first such item is named, also before one that is none at all.
-    shows(
-        &rt,
-        &["replay", "m.l4", "--schedule", "0,0,1,x"],
-        PING,
-        (1, "", "l4run: schedule item 3\n"),
-    );
+    for list in ["0,0,1,x", "0,t0,t1,x", "t0,0,t1"] {
+        shows(
+            &rt,
+            &["replay", "m.l4", "--schedule", list],
+            PING,
+            (1, "", "l4run: schedule item 3\n"),
+        );
+    }
 }
 
 #[test]

@@ -1,5 +1,5 @@
 // Machine texts in all their lines, and what their machines do.
-use crate::program::shows;
+use crate::program::{runs, shows};
 use std::process::Abort;
 use std::test::Fail;
 
@@ -7,12 +7,6 @@ const HEADERS: &str = "l4 1 64\ncpus 1\n";
 
 // The header lines and the first thread.
 const ONE_THREAD: &str = "l4 1 64\ncpus 1\nthread 1.1 cpu 0 space 1\n";
-
-// Tests what a run of the text prints: its trace, and its report.
-fn runs<R: AllocGlobal + Abort>(rt: &R, text: &str, trace: &str, report: &str) {
-    shows(rt, &["run", "m.l4"], text, (0, trace, ""));
-    shows(rt, &["run", "m.l4", "--report"], text, (0, report, ""));
-}
 
 // Tests that the text behind a beginning has this first fault.
 fn is_faulty<R: AllocGlobal + Abort>(
@@ -61,31 +55,6 @@ thread 2.1 ended 0 1.1 1.1 70000 5
 ending quiet
 ";
     shows(&rt, &["run", "m.l4", "--report"], text, (0, report, ""));
-}
-
-#[test]
-fn a_send_to_nobody_is_refused(rt: HostRuntime) {
-    let text = "l4 1 64
-cpus 1
-thread 1.1 cpu 0 space 1
-ipc any nil never never
-ipc #0000000000000040 nil never never
-ipc 9.1 nil never never
-";
-    let trace = "begin 1.1#1
-snobody 1.1#1
-begin 1.1#2
-snobody 1.1#2
-begin 1.1#3
-snobody 1.1#3
-local 1.1
-";
-    runs(
-        &rt,
-        text,
-        trace,
-        "thread 1.1 ended 4 nil nil 8000\nending quiet\n",
-    );
 }
 
 #[test]
@@ -192,10 +161,29 @@ fn each_kind_of_fault_is_named_with_its_line(rt: HostRuntime) -> Result<(), Fail
         ("set  1 1\n", "4: BadLine"),
         ("set 1 01\n", "4: BadNumber"),
         ("set 1 0xA\n", "4: BadNumber"),
-        ("vs 1.1\n", "4: BadLine"),
-        ("ipc last nil never never\n", "4: BadId"),
-        ("ipc 2.1 any never never\n", "4: BadLine"),
+    ] {
+        is_faulty(&rt, ONE_THREAD, script, line)?;
+    }
+    Ok(())
+}
+
+#[test]
+fn each_operand_of_an_ipc_and_an_order_has_its_fault(rt: HostRuntime) -> Result<(), Fail> {
+    for (script, line) in [
         ("ipc 2.1 any never soon\n", "4: BadNumber"),
+        ("ipc 2.1 any never 0x8000\n", "4: BadNumber"),
+        ("ipc 2.1 any last never\n", "4: BadNumber"),
+        ("ipc 2.1 last never never\n", "4: BadId"),
+        ("ipc soon any never soon\n", "4: BadId"),
+        ("ipc 2.1 any never\n", "4: BadLine"),
+        ("vs last\n", "4: BadId"),
+        ("vs\n", "4: BadLine"),
+        ("exregs 1.64 S\n", "4: BadId"),
+        ("exregs last S\n", "4: BadId"),
+        ("exregs 1.64 RS\n", "4: BadLine"),
+        ("exregs 1.1\n", "4: BadLine"),
+        ("delete last\n", "4: BadId"),
+        ("delete 1.1 S\n", "4: BadLine"),
     ] {
         is_faulty(&rt, ONE_THREAD, script, line)?;
     }

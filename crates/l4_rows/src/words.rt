@@ -27,6 +27,16 @@ fn help_shows_the_usage_and_an_example(rt: HostRuntime) {
             "Usage: l4run replay ",
             "l4run replay ping.l4",
         ),
+        (
+            ["audit", "--help"].as_slice(),
+            "Usage: l4run audit <FILE> <TRACE>",
+            "l4run audit ping.l4 ping.trace",
+        ),
+        (
+            ["help", "audit"].as_slice(),
+            "Usage: l4run audit <FILE> <TRACE>",
+            "l4run audit ping.l4 ping.trace",
+        ),
     ] {
         let done = does(&rt, words, PING.as_bytes());
         assert_eq!(rt; done.status, 0, "{words:?}");
@@ -38,12 +48,13 @@ fn help_shows_the_usage_and_an_example(rt: HostRuntime) {
 }
 
 #[test]
-fn the_help_names_both_commands_in_a_line_each(rt: HostRuntime) {
+fn the_help_names_each_command_in_a_line(rt: HostRuntime) {
     let done = does(&rt, &["--help"], b"");
     let text = str::from_utf8(done.out.as_slice()).unwrap_or("");
     for line in [
         "  run     Runs a machine text and prints a line for each step\n",
         "  replay  Replays a schedule on a machine text and prints a line for each step\n",
+        "  audit   Tells whether a trace is one of a machine text\n",
     ] {
         assert!(rt; text.contains(line), "{line}");
     }
@@ -63,6 +74,12 @@ fn wrong_words_are_told_how_to_find_help(rt: HostRuntime) -> Result<(), Fail> {
         "replay m.l4 --schedule",
         "replay --schedule 0",
         "replay m.l4 --schedule 0 --turns 1",
+        "audit",
+        "audit m.l4",
+        "audit m.l4 m.trace n.trace",
+        "audit m.l4 m.trace --report",
+        "audit m.l4 m.trace --turns 1",
+        "audit m.l4 m.trace --schedule 0",
         "--version",
     ] {
         let words: Vec<&str> = line.split(' ').collect(rt.alloc())?;
@@ -82,6 +99,10 @@ fn a_missing_word_is_answered_with_the_usage(rt: HostRuntime) {
         (
             ["replay", "m.l4"].as_slice(),
             "Usage: l4run replay --schedule <LIST> <FILE>\n",
+        ),
+        (
+            ["audit", "m.l4"].as_slice(),
+            "Usage: l4run audit <FILE> <TRACE>\n",
         ),
     ] {
         let done = does(&rt, words, b"");
@@ -111,7 +132,13 @@ fn help_that_cannot_be_written_is_a_fault(rt: HostRuntime) -> Result<(), Fail> {
         taken: Vec::new(rt.alloc()),
         room: 5,
     };
-    let (status, faults) = does_into(&rt, &["--help"], &mut b"".as_slice(), &mut out);
+    let (status, faults) = does_into(
+        &rt,
+        &["--help"],
+        &mut b"".as_slice(),
+        &mut b"".as_slice(),
+        &mut out,
+    );
     assert_eq!(rt; status, 1);
     assert_eq!(rt; faults.as_slice(), b"l4run: cannot write\n".as_slice());
     Ok(())

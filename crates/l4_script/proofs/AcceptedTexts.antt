@@ -13,13 +13,15 @@ use Rattle.l4_script.specs.declared.text.fault.TextFault.{TextFault}
 use Rattle.l4_script.specs.declared.text.fault.TextFaultKind.TheVariants.{BadLine, TooLong, TooManyThreads, DoubleId, TooManyInstructions}
 use Rattle.l4_script.specs.Faults.{fault_at}
 use Rattle.l4_script.specs.Judged.{Judged, ◌>>=◌, must}
-use Rattle.l4_script.specs.Lines.{parts_of, line_of}
+use Rattle.l4_words.specs.Lines.{parts_of}
+use Rattle.l4_script.specs.Lines.{line_of}
 use Rattle.l4_script.specs.Machines.{IsLawful, has_number, is_taken, with_instruction, with_thread, last_place, last_thread, extended}
 use Rattle.l4_script.specs.Statements.{format_line, processors_line, declaration_of, instruction_of, declare, extend}
 use Rattle.l4_script.specs.Texts.{Target, Reading, Stage, Format, Processors, Threads, target, targets_of, nothing_read, naming, declared_in, extended_at, thread_line, after_words, after_said, after_line, is_missed, unless_missed, ended, judged_at, read}
 use Rattle.l4_script.specs.Canonical.{can_be_written, can_be_declared, are_apart, HasText, EachHasText}
 use Rattle.l4_script.proofs.Growing.{lawful-with_thread, lawful-extended}
-use Rattle.l4_script.proofs.AcceptedLines.{bind_ok, then_ok, must_ok, chosen, says, same_ok, is_said, instruction_said, IsOpened, declaration_said, processors_one}
+use Rattle.l4_script.proofs.Judging.{bind_ok, then_ok, must_ok, chosen, says, same_ok}
+use Rattle.l4_script.proofs.AcceptedLines.{is_said, instruction_said, IsOpened, declaration_said, processors_one}
 
 -- The place that an instruction names is kept among the targets, with the place of its thread.
 abbrev names : (thread place : ℕ) → Target → Bool

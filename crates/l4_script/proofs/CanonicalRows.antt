@@ -1,11 +1,11 @@
 -- Machines with their canonical texts, computed.
-use Rattle.std.specs.Prelude.{◌≡◌, List, ℕ, [], ◌∷◌, ◌++◌, None, codes, refl}
+use Rattle.std.specs.Prelude.{◌≡◌, List, ℕ, [], ◌∷◌, ◌++◌, Some, None, codes, refl}
 use Rattle.std.specs.Fmt.{digits}
 use Rattle.std.specs.List.{flat_map}
 use Rattle.std.proofs.Common.{arith}
-use Rattle.l4_model.specs.Words.{global_id, GlobalThread, LocalThread, NilThread, AnyThread}
-use Rattle.l4_model.specs.Machine.{Instr, Set, Copy, Add, Tag, Ipc, ToId, Jump, OnErr, End, Machine}
-use Rattle.l4_script.specs.Canonical.{low_digits, canonical_text, HasText}
+use Rattle.l4_model.specs.Words.{global_id, GlobalThread, LocalThread, NilThread, AnyThread, AnyLocalThread}
+use Rattle.l4_model.specs.Machine.{Instr, Set, Copy, Add, Tag, Vs, Ipc, ToId, ToLast, Ask, CancelSend, CancelReceive, CancelBoth, Delete, Jump, OnErr, End, Machine}
+use Rattle.l4_script.specs.Canonical.{low_digits, exponent_of, canonical_text, HasText}
 
 abbrev text : List (List ℕ) → List ℕ
 text lines = flat_map (λ line. line ++ 10 ∷ []) lines
@@ -45,7 +45,14 @@ script =
     ∷ Ipc (ToId (LocalThread 0x4000000000000ac0)) NilThread None None
     ∷ Ipc (ToId AnyThread) NilThread None None
     ∷ Ipc (ToId NilThread) AnyThread None None
-    ∷ Jump 11
+    ∷ Ipc ToLast AnyLocalThread (Some 0) (Some 5)
+    ∷ Ipc (ToId (GlobalThread (global_id 2 65))) (GlobalThread (global_id 2 65)) (Some 1024) (Some 2196875771904)
+    ∷ Vs (GlobalThread (global_id 3 1))
+    ∷ Ask (GlobalThread (global_id 2 65)) CancelSend
+    ∷ Ask NilThread CancelReceive
+    ∷ Ask (GlobalThread (global_id 2 65)) CancelBoth
+    ∷ Ask (GlobalThread (global_id 2 65)) Delete
+    ∷ Jump 18
     ∷ OnErr 0
     ∷ End
     ∷ []
@@ -71,15 +78,23 @@ lines =
     ∷ codes "ipc #4000000000000ac0 nil never never"
     ∷ codes "ipc any nil never never"
     ∷ codes "ipc nil any never never"
-    ∷ codes "jump 11"
+    ∷ codes "ipc last anylocal zero 5"
+    ∷ codes "ipc 2.65 2.65 1536 32767"
+    ∷ codes "vs 3.1"
+    ∷ codes "exregs 2.65 S"
+    ∷ codes "exregs nil R"
+    ∷ codes "exregs 2.65 SR"
+    ∷ codes "delete 2.65"
+    ∷ codes "jump 18"
     ∷ codes "onerr 0"
     ∷ codes "end"
     ∷ codes "thread 2.65 cpu 0 space 4294967295"
     ∷ []
 
 text_of_machine : canonical_text machine ≡ text lines
-unfolding digits low_digits
+unfolding digits low_digits exponent_of
 text_of_machine = refl
 
 has_text : HasText machine
+unfolding exponent_of
 has_text = record { one_processor = refl; few = omega arith; apart = refl; each = refl }

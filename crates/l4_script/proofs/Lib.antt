@@ -1,13 +1,12 @@
 pub mod AcceptedLines
 pub mod AcceptedTexts
 pub mod CanonicalRows
-pub mod Digits
 pub mod Finding
-pub mod GlobalIds
 pub mod Growing
+pub mod Judging
 pub mod ReadBack
 pub mod ReadingLines
 pub mod Spelled
-pub mod Splits
 pub mod TextRows
+pub mod Times
 pub mod Written

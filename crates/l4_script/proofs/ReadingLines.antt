@@ -1,46 +1,28 @@
 -- Reading a text line by line.
-use Rattle.std.proofs.Common.{◌≡◌, ℕ, ◌+◌, ◌==◌, Bool, true, false, cond, List, [], ◌∷◌, length, take, drop, Option, Some, None, Result, Ok, Err, refl, sym, ap, ◌∙◌, inl, inr}
-use Rattle.std.specs.List.{onto_first, position}
+use Rattle.std.proofs.Common.{◌≡◌, ℕ, ◌+◌, ◌==◌, cond, List, [], ◌∷◌, length, Result, Ok, Err, sym, ap, ◌∙◌, inl, inr}
 use Rattle.l4_model.specs.Machine.{Machine}
 use Rattle.l4_script.specs.declared.text.fault.TextFault.{TextFault}
 use Rattle.l4_script.specs.declared.text.fault.TextFaultKind.TheVariants.{BadLine}
 use Rattle.l4_script.specs.Judged.{Judged}
 use Rattle.l4_script.specs.Faults.{fault_at}
-use Rattle.l4_script.specs.Lines.{parts_of}
+use Rattle.l4_words.specs.Lines.{parts_of}
+use Rattle.l4_words.proofs.Parts.{has_part}
 use Rattle.l4_script.specs.Texts.{Stage, Reads, after_line, judged_at, ended, read}
-use Rattle.l4_script.proofs.Splits.{split_some, split_none}
-
-abbrev IsEnd : ℕ → Bool
-IsEnd byte = byte == 10
-
--- A text has a part.
-has_part : (text : List ℕ) → (first : List ℕ) × (others : List (List ℕ)) × (parts_of text ≡ first ∷ others)
-has_part [] = ([], [], refl)
-has_part (byte ∷ text) = by_test (byte == 10) (has_part text)
-  where
-    by_test : (b : Bool) → (first : List ℕ) × (others : List (List ℕ)) × (parts_of text ≡ first ∷ others) →
-        (first : List ℕ) × (others : List (List ℕ)) × (cond b ([] ∷ parts_of text) (onto_first byte (parts_of text)) ≡ first ∷ others)
-    by_test true part = ([], parts_of text, refl)
-    by_test false part = (byte ∷ part.0, part.1, ap (onto_first byte) part.2)
 
 read_first : (part : List ℕ) (parts : List (List ℕ)) (first : List ℕ) (others : List (List ℕ)) (stage : Stage) (line : ℕ) → parts ≡ first ∷ others
     → read (part ∷ parts) stage line ≡ judged_at line (after_line line stage part) (λ next. read parts next (line + 1))
 read_first part parts first others stage line e =
     ap (λ (ps : List (List ℕ)). read (part ∷ ps) stage line) e ∙ ap (λ (ps : List (List ℕ)). judged_at line (after_line line stage part) (λ next. read ps next (line + 1))) (sym e)
 
-pub read_line : (rest : List ℕ) (end : ℕ) (stage : Stage) (line : ℕ) → position IsEnd rest ≡ Some end
-    → read (parts_of rest) stage line ≡ judged_at line (after_line line stage (take end rest)) (λ next. read (parts_of (drop (end + 1) rest)) next (line + 1))
-read_line rest end stage line e =
-    let more = has_part (drop (end + 1) rest) in
-    ap (λ (ps : List (List ℕ)). read ps stage line) (split_some IsEnd rest end e) ∙ read_first (take end rest) (parts_of (drop (end + 1) rest)) more.0 more.1 stage line more.2
+pub read_line : (line rest : List ℕ) (parts : List (List ℕ)) (stage : Stage) (number : ℕ) → parts ≡ line ∷ parts_of rest
+    → read parts stage number ≡ judged_at number (after_line number stage line) (λ next. read (parts_of rest) next (number + 1))
+read_line line rest parts stage number e =
+    let more = has_part rest in
+    ap (λ (ps : List (List ℕ)). read ps stage number) e ∙ read_first line (parts_of rest) more.0 more.1 stage number more.2
 
-none_of : {A : Type 0} (o : Option A) → ((x : A) → o ≡ Some x → ⊥) → o ≡ None
-none_of None none' = refl
-none_of (Some x) none' = absurd (none' x refl)
-
-pub read_end : (rest : List ℕ) (stage : Stage) (line : ℕ) → ((end : ℕ) → position IsEnd rest ≡ Some end → ⊥)
-    → read (parts_of rest) stage line ≡ cond (length rest == 0) (ended stage line) (Err (fault_at line BadLine))
-read_end rest stage line none = ap (λ (ps : List (List ℕ)). read ps stage line) (split_none IsEnd rest (none_of (position IsEnd rest) none))
+pub read_end : (rest : List ℕ) (stage : Stage) (number : ℕ) → parts_of rest ≡ rest ∷ []
+    → read (parts_of rest) stage number ≡ cond (length rest == 0) (ended stage number) (Err (fault_at number BadLine))
+read_end rest stage number e = ap (λ (ps : List (List ℕ)). read ps stage number) e
 
 judged_ok : (line : ℕ) (part : Judged Stage) (next : Stage) → judged_at {X = Stage} line part (λ s. Ok s) ≡ Ok next → part ≡ Ok next
 judged_ok line (Ok s) next e = let same : s ≡ next = cc in ap (λ (x : Stage). Ok x) same
@@ -50,13 +32,13 @@ judged_err : {X : Type 0} (line : ℕ) (part : Judged Stage) (rest : Stage → R
 judged_err line (Ok s) rest fault e = absurd cc
 judged_err line (Err kind) rest fault e = let same : fault_at line kind ≡ fault = cc in ap (λ (f : TextFault). Err f) same
 
-module _ (rest : List ℕ) (end : ℕ) (stage : Stage) (line : ℕ) (total : Result Machine TextFault) (found : position IsEnd rest ≡ Some end) (so_far : read (parts_of rest) stage line ≡ total) where
-  pub goes_on : (next : Stage) → judged_at {X = Stage} line (after_line line stage (take end rest)) (λ s. Ok s) ≡ Ok next → read (parts_of (drop (end + 1) rest)) next (line + 1) ≡ total
+module _ (line rest : List ℕ) (parts : List (List ℕ)) (stage : Stage) (number : ℕ) (total : Result Machine TextFault) (cut : parts ≡ line ∷ parts_of rest) (so_far : read parts stage number ≡ total) where
+  pub goes_on : (next : Stage) → judged_at {X = Stage} number (after_line number stage line) (λ s. Ok s) ≡ Ok next → read (parts_of rest) next (number + 1) ≡ total
   goes_on next e =
-      let good = judged_ok line (after_line line stage (take end rest)) next e in
-      let one = read_line rest end stage line found ∙ ap (λ (part : Judged Stage). judged_at line part (λ s. read (parts_of (drop (end + 1) rest)) s (line + 1))) good in
+      let good = judged_ok number (after_line number stage line) next e in
+      let one = read_line line rest parts stage number cut ∙ ap (λ (part : Judged Stage). judged_at number part (λ s. read (parts_of rest) s (number + 1))) good in
       sym one ∙ so_far
 
-  pub stops : (fault : TextFault) → Reads {X = Stage} (Err fault) (judged_at line (after_line line stage (take end rest)) (λ s. Ok s)) → Reads (Err fault) total
+  pub stops : (fault : TextFault) → Reads {X = Stage} (Err fault) (judged_at number (after_line number stage line) (λ s. Ok s)) → Reads (Err fault) total
   stops fault (inl e) = inl e
-  stops fault (inr e) = inr (sym so_far ∙ read_line rest end stage line found ∙ judged_err line (after_line line stage (take end rest)) (λ s. read (parts_of (drop (end + 1) rest)) s (line + 1)) fault e)
+  stops fault (inr e) = inr (sym so_far ∙ read_line line rest parts stage number cut ∙ judged_err number (after_line number stage line) (λ s. read (parts_of rest) s (number + 1)) fault e)

@@ -2,16 +2,17 @@
 use Rattle.std.specs.Prelude.{◌≡◌, ℕ, Bool, List, [], ◌∷◌, ◌++◌, map, length, filter, take, is_ok, Option, Some, None, Result, Ok, Err, codes, refl}
 use Rattle.std.specs.List.{flat_map, range_with_len}
 use Rattle.l4_model.specs.Words.{global_id, Id, GlobalThread, LocalThread, NilThread, AnyThread, AnyLocalThread, Period}
-use Rattle.l4_model.specs.Machine.{Instr, Set, Copy, Add, Tag, Ipc, ToId, Jump, OnErr, End, Declaration, Machine}
+use Rattle.l4_model.specs.Machine.{Instr, Set, Copy, Add, Tag, Vs, Ipc, ToId, ToLast, Ask, CancelSend, CancelReceive, CancelBoth, Delete, Jump, OnErr, End, Declaration, Machine}
 use Rattle.l4_script.specs.declared.text.fault.TextFault.{TextFault}
 use Rattle.l4_script.specs.declared.text.fault.TextFaultKind.{TextFaultKind}
 use Rattle.l4_script.specs.declared.text.fault.TextFaultKind.TheVariants.{BadLine, BadNumber, BadId, BadCpu, TypedItems, DoubleId, BadTarget}
 use Rattle.l4_script.specs.Faults.{fault_at}
 use Rattle.l4_script.specs.Judged.{Judged}
 use Rattle.l4_script.specs.Numbers.{number_of, number_from, period_number, time_from}
-use Rattle.l4_script.specs.Ids.{global_id_of, spelled_id_of, id_of}
+use Rattle.l4_words.specs.Threads.{thread_of}
+use Rattle.l4_script.specs.Ids.{spelled_id_of, id_of}
 use Rattle.l4_script.specs.Lines.{line_of}
-use Rattle.l4_script.specs.Statements.{format_line, processors_line, processor_of, declaration_of, set_of, copy_of, add_of, tag_of, ipc_of, target_of, instruction_of, declare, extend}
+use Rattle.l4_script.specs.Statements.{format_line, processors_line, processor_of, declaration_of, set_of, copy_of, add_of, tag_of, vs_of, destination_of, ipc_of, bits_of, exregs_of, delete_of, target_of, instruction_of, declare, extend}
 use Rattle.l4_script.specs.Texts.{thread_line, after_words, after_line, machine_of_text}
 
 -- Words
@@ -79,7 +80,7 @@ ids =
     ∷ []
 
 ids_read : map (λ row. id_of row.0) ids ≡ map (λ row. row.1) ids
-unfolding global_id_of spelled_id_of id_of
+unfolding thread_of spelled_id_of id_of
 ids_read = refl
 
 -- `never` is the time 0 and `zero` the time 0x400.
@@ -116,6 +117,15 @@ first_path_text = text (
     ∷ codes "thread 1.1 cpu 0 space 1" ∷ codes "set 1 10" ∷ codes "tag 0x70001" ∷ codes "ipc 2.1 nil never never"
     ∷ codes "thread 2.1 cpu 0 space 2" ∷ codes "ipc nil any never never" ∷ [])
 
+abbrev t_1_1 : Id
+t_1_1 = GlobalThread (global_id 1 1)
+
+abbrev t_2_1 : Id
+t_2_1 = GlobalThread (global_id 2 1)
+
+abbrev t_2_65 : Id
+t_2_65 = GlobalThread (global_id 2 65)
+
 abbrev send_to : Id → Instr
 send_to to = Ipc (ToId to) NilThread None None
 
@@ -132,7 +142,7 @@ first_path = record {
 }
 
 first_path_read : machine_of_text first_path_text ≡ Ok first_path
-unfolding number_of number_from period_number time_from global_id_of spelled_id_of id_of line_of format_line processors_line processor_of declaration_of set_of copy_of add_of tag_of ipc_of target_of instruction_of declare extend thread_line after_words after_line
+unfolding number_of number_from period_number time_from thread_of spelled_id_of id_of line_of format_line processors_line processor_of declaration_of set_of copy_of add_of tag_of vs_of destination_of ipc_of bits_of exregs_of delete_of target_of instruction_of declare extend thread_line after_words after_line
 first_path_read = refl
 
 first_path_size : length first_path_text ≡ 134
@@ -143,7 +153,7 @@ abbrev is_read : ℕ → Bool
 is_read size = is_ok (machine_of_text (take size first_path_text))
 
 beginnings_read : filter is_read (range_with_len 0 135) ≡ 15 ∷ 40 ∷ 49 ∷ 61 ∷ 85 ∷ 110 ∷ 134 ∷ []
-unfolding number_of number_from period_number time_from global_id_of spelled_id_of id_of line_of format_line processors_line processor_of declaration_of set_of copy_of add_of tag_of ipc_of target_of instruction_of declare extend thread_line after_words after_line
+unfolding number_of number_from period_number time_from thread_of spelled_id_of id_of line_of format_line processors_line processor_of declaration_of set_of copy_of add_of tag_of vs_of destination_of ipc_of bits_of exregs_of delete_of target_of instruction_of declare extend thread_line after_words after_line
 beginnings_read = refl
 
 abbrev behind_headers : List (List ℕ) → List ℕ
@@ -165,15 +175,46 @@ instructions =
     ∷ (codes "tag 0", Tag 0)
     ∷ (codes "tag 0x70001", Tag 0x70001)
     ∷ (codes "tag 0xfffffffffffff03f", Tag 0xfffffffffffff03f)
-    ∷ (codes "ipc 2.65 nil never never", send_to (GlobalThread (global_id 2 65)))
-    ∷ (codes "ipc #0000000200000041 nil 0 0x0", send_to (GlobalThread (global_id 2 65)))
+    ∷ (codes "ipc 2.65 nil never never", send_to t_2_65)
+    ∷ (codes "ipc #0000000200000041 nil 0 0x0", send_to t_2_65)
     ∷ (codes "ipc any nil never never", send_to AnyThread)
     ∷ (codes "ipc anylocal nil never never", send_to AnyLocalThread)
     ∷ (codes "ipc #0000000000000040 nil never never", send_to (LocalThread 64))
     ∷ (codes "ipc nil nil never never", send_to NilThread)
-    ∷ (codes "ipc 1.1 #0000000000000000 never never", send_to (GlobalThread (global_id 1 1)))
+    ∷ (codes "ipc 1.1 #0000000000000000 never never", send_to t_1_1)
     ∷ (codes "ipc nil any never never", receive_from_any)
     ∷ (codes "ipc #0000000000000000 #ffffffffffffffff 0x0000 never", receive_from_any)
+    -- both phases, one, or none
+    ∷ (codes "ipc 2.1 2.1 never never", Ipc (ToId t_2_1) t_2_1 None None)
+    ∷ (codes "ipc 2.1 any never never", Ipc (ToId t_2_1) AnyThread None None)
+    ∷ (codes "ipc nil 2.1 never never", Ipc (ToId NilThread) t_2_1 None None)
+    ∷ (codes "ipc nil anylocal never never", Ipc (ToId NilThread) AnyLocalThread None None)
+    ∷ (codes "ipc any anylocal zero zero", Ipc (ToId AnyThread) AnyLocalThread (Some 0) (Some 0))
+    ∷ (codes "ipc #0000000000000040 #0000000000000080 never never", Ipc (ToId (LocalThread 64)) (LocalThread 128) None None)
+    ∷ (codes "ipc last nil never never", Ipc ToLast NilThread None None)
+    ∷ (codes "ipc last any 5 0x400", Ipc ToLast AnyThread (Some 5) (Some 0))
+    -- every time, of the send phase and of the receive phase
+    ∷ (codes "ipc 2.1 2.1 zero never", Ipc (ToId t_2_1) t_2_1 (Some 0) None)
+    ∷ (codes "ipc 2.1 2.1 never zero", Ipc (ToId t_2_1) t_2_1 None (Some 0))
+    ∷ (codes "ipc 2.1 2.1 1024 0x7c00", Ipc (ToId t_2_1) t_2_1 (Some 0) (Some 0))
+    ∷ (codes "ipc 2.1 2.1 5 0xc03", Ipc (ToId t_2_1) t_2_1 (Some 5) (Some 24))
+    ∷ (codes "ipc 2.1 2.1 0x7fff 1", Ipc (ToId t_2_1) t_2_1 (Some 2196875771904) (Some 1))
+    -- every id of the VirtualSender
+    ∷ (codes "vs 2.65", Vs t_2_65)
+    ∷ (codes "vs #0000000200000041", Vs t_2_65)
+    ∷ (codes "vs nil", Vs NilThread)
+    ∷ (codes "vs any", Vs AnyThread)
+    ∷ (codes "vs anylocal", Vs AnyLocalThread)
+    ∷ (codes "vs #0000000000000040", Vs (LocalThread 64))
+    -- orders, of whatever id
+    ∷ (codes "exregs 1.1 S", Ask t_1_1 CancelSend)
+    ∷ (codes "exregs 2.1 R", Ask t_2_1 CancelReceive)
+    ∷ (codes "exregs 2.1 SR", Ask t_2_1 CancelBoth)
+    ∷ (codes "exregs nil S", Ask NilThread CancelSend)
+    ∷ (codes "exregs #0000000200000041 SR", Ask t_2_65 CancelBoth)
+    ∷ (codes "delete 2.1", Ask t_2_1 Delete)
+    ∷ (codes "delete any", Ask AnyThread Delete)
+    ∷ (codes "delete #0000000000000040", Ask (LocalThread 64) Delete)
     ∷ (codes "jump 0", Jump 0)
     ∷ (codes "jump 1", Jump 1)
     ∷ (codes "onerr 0x1", OnErr 1)
@@ -181,7 +222,7 @@ instructions =
     ∷ []
 
 instructions_read : map (λ row. machine_of_text (behind_thread (row.0 ∷ []))) instructions ≡ map (λ row. Ok (record { cpus = 1; threads = thread 1 1 (row.1 ∷ []) ∷ [] })) instructions
-unfolding number_of number_from period_number time_from global_id_of spelled_id_of id_of line_of format_line processors_line processor_of declaration_of set_of copy_of add_of tag_of ipc_of target_of instruction_of declare extend thread_line after_words after_line
+unfolding number_of number_from period_number time_from thread_of spelled_id_of id_of line_of format_line processors_line processor_of declaration_of set_of copy_of add_of tag_of vs_of destination_of ipc_of bits_of exregs_of delete_of target_of instruction_of declare extend thread_line after_words after_line
 instructions_read = refl
 
 -- A line that is all of a script, and its fault.
@@ -200,14 +241,19 @@ no_instructions =
     ∷ (codes "tag", BadLine)
     ∷ (codes "ipc nil any never", BadLine)
     ∷ (codes "ipc nil any never never never", BadLine)
+    ∷ (codes "vs", BadLine)
+    ∷ (codes "vs 1.1 1.1", BadLine)
+    ∷ (codes "exregs 1.1", BadLine)
+    ∷ (codes "exregs 1.1 S R", BadLine)
+    ∷ (codes "delete", BadLine)
+    ∷ (codes "delete 1.1 S", BadLine)
     ∷ (codes "jump", BadLine)
     ∷ (codes "onerr 1 1", BadLine)
     ∷ (codes "end 0", BadLine)
     -- unknown words, and lines of another place
     ∷ (codes "Set 1 1", BadLine)
-    ∷ (codes "vs 1.1", BadLine)
-    ∷ (codes "exregs 1.1 S", BadLine)
-    ∷ (codes "delete 1.1", BadLine)
+    ∷ (codes "Vs 1.1", BadLine)
+    ∷ (codes "order 1.1 S", BadLine)
     ∷ (codes "cpus 1", BadLine)
     -- numbers and their ranges
     ∷ (codes "set 0 1", BadNumber)
@@ -229,23 +275,32 @@ no_instructions =
     -- typed items
     ∷ (codes "tag 0x41", TypedItems)
     ∷ (codes "tag 0x800", TypedItems)
+    -- ids
+    ∷ (codes "vs last", BadId)
+    ∷ (codes "vs 1.64", BadId)
+    ∷ (codes "vs 1", BadId)
+    ∷ (codes "delete last", BadId)
+    ∷ (codes "delete 1.64", BadId)
+    ∷ (codes "exregs last S", BadId)
+    ∷ (codes "exregs 1.64 SR", BadId)
+    -- the bits of exregs, which are judged before its id
+    ∷ (codes "exregs 1.1 RS", BadLine)
+    ∷ (codes "exregs 1.1 s", BadLine)
+    ∷ (codes "exregs 1.1 delete", BadLine)
+    ∷ (codes "exregs 1.64 SS", BadLine)
+    ∷ (codes "exregs S 1.1", BadLine)
     -- the operands of an ipc, from left to right
-    ∷ (codes "ipc last nil never never", BadId)
     ∷ (codes "ipc nil last never never", BadId)
+    ∷ (codes "ipc last last never never", BadId)
+    ∷ (codes "ipc Last nil never never", BadId)
     ∷ (codes "ipc 1.64 any never never", BadId)
     ∷ (codes "ipc 01.1 nil x x", BadId)
     ∷ (codes "ipc 2.1 #1 x x", BadId)
     ∷ (codes "ipc nil any 0x8000 never", BadNumber)
     ∷ (codes "ipc nil any never 0x8000", BadNumber)
     ∷ (codes "ipc 2.1 any never x", BadNumber)
-    -- and then what is not read yet: a call, a closed receive, and times
-    ∷ (codes "ipc 2.1 any never never", BadLine)
-    ∷ (codes "ipc nil 2.1 never never", BadLine)
-    ∷ (codes "ipc nil anylocal never never", BadLine)
-    ∷ (codes "ipc 2.1 nil 5 never", BadLine)
-    ∷ (codes "ipc 2.1 nil never 5", BadLine)
-    ∷ (codes "ipc 2.1 nil zero never", BadLine)
-    ∷ (codes "ipc nil any never 1024", BadLine)
+    ∷ (codes "ipc last any last never", BadNumber)
+    ∷ (codes "ipc last any never last", BadNumber)
     -- a place above the number of instructions
     ∷ (codes "jump 2", BadTarget)
     ∷ (codes "onerr 2", BadTarget)
@@ -253,7 +308,7 @@ no_instructions =
     ∷ []
 
 no_instructions_read : map (λ row. machine_of_text (behind_thread (row.0 ∷ []))) no_instructions ≡ map (λ row. Err (fault_at 4 row.1)) no_instructions
-unfolding number_of number_from period_number time_from global_id_of spelled_id_of id_of line_of format_line processors_line processor_of declaration_of set_of copy_of add_of tag_of ipc_of target_of instruction_of declare extend thread_line after_words after_line
+unfolding number_of number_from period_number time_from thread_of spelled_id_of id_of line_of format_line processors_line processor_of declaration_of set_of copy_of add_of tag_of vs_of destination_of ipc_of bits_of exregs_of delete_of target_of instruction_of declare extend thread_line after_words after_line
 no_instructions_read = refl
 
 -- A third line, and its fault.
@@ -282,7 +337,7 @@ no_threads =
     ∷ []
 
 no_threads_read : map (λ row. machine_of_text (behind_headers (row.0 ∷ []))) no_threads ≡ map (λ row. Err (fault_at 3 row.1)) no_threads
-unfolding number_of number_from period_number time_from global_id_of spelled_id_of id_of line_of format_line processors_line processor_of declaration_of set_of copy_of add_of tag_of ipc_of target_of instruction_of declare extend thread_line after_words after_line
+unfolding number_of number_from period_number time_from thread_of spelled_id_of id_of line_of format_line processors_line processor_of declaration_of set_of copy_of add_of tag_of vs_of destination_of ipc_of bits_of exregs_of delete_of target_of instruction_of declare extend thread_line after_words after_line
 no_threads_read = refl
 
 -- Whole texts
@@ -341,5 +396,5 @@ texts =
     ∷ []
 
 texts_read : map (λ row. machine_of_text row.0) texts ≡ map (λ row. row.1) texts
-unfolding number_of number_from period_number time_from global_id_of spelled_id_of id_of line_of format_line processors_line processor_of declaration_of set_of copy_of add_of tag_of ipc_of target_of instruction_of declare extend thread_line after_words after_line
+unfolding number_of number_from period_number time_from thread_of spelled_id_of id_of line_of format_line processors_line processor_of declaration_of set_of copy_of add_of tag_of vs_of destination_of ipc_of bits_of exregs_of delete_of target_of instruction_of declare extend thread_line after_words after_line
 texts_read = refl

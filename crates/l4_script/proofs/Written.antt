@@ -1,22 +1,29 @@
 -- Lines that are written are read: their words, and what these say.
-use Rattle.std.proofs.Common.{◌≡◌, ℕ, ◌^◌, ◌-◌, ◌<◌, ◌≤◌, Bool, true, false, not, ◌&&◌, eqb, List, [], ◌∷◌, ◌++◌, length, get_or, Some, None, Ok, refl, ap, ◌∙◌, arith}
-use Rattle.std.specs.Prelude.{◌==◌, nat_lt, nat_le, codes, decimal, is_some}
+use Rattle.std.proofs.Common.{◌≡◌, ℕ, zero, suc, ◌/◌, ◌%◌, ◌^◌, ◌-◌, ◌<◌, ◌≤◌, Bool, true, false, not, ◌&&◌, eqb, List, [], ◌∷◌, ◌++◌, length, get_or, cond, Some, None, Ok, refl, ap, ◌∙◌, arith}
+use Rattle.std.specs.Prelude.{◌==◌, nat_lt, nat_le, codes, decimal}
 use Rattle.std.specs.Char.{digit_value}
+use Rattle.std.specs.Fmt.{digit_glyph}
+use Rattle.std.specs.Str.Parse.{AllDigits}
 use Rattle.std.specs.List.{All, list_all, list_any, join_with_byte}
-use Rattle.std.proofs.lemmas.Bool.{and_parts, and_from, or_from, ltb-true, leb-true, lt-ltb, ne_eqb, not-true, eqb-true}
+use Rattle.std.proofs.lemmas.Bool.{agree_below_at, and_parts, and_from, or_from, ltb-true, leb-true, lt-ltb, ne_eqb, not-true, eqb-true, eqb-false}
 use Rattle.std.proofs.lemmas.Bool.Decides.{nat_tests}
 use Rattle.std.proofs.lemmas.List.Elements.{All-nil, All-cons}
 use Rattle.std.proofs.lemmas.List.Folds.{list_all-append}
 use Rattle.std.proofs.lemmas.List.Splits.{slice_split_none, slice_split_at}
 use Rattle.std.proofs.lemmas.Fmt.{decimal_is_IsNumeral}
 use Rattle.l4_model.specs.Words.{GlobalId, is_global, Id, NilThread, AnyThread, AnyLocalThread, LocalThread, GlobalThread, Period}
-use Rattle.l4_model.specs.Machine.{Instr, Set, Copy, Add, Tag, Ipc, ToId, Jump, OnErr, End, Declaration}
-use Rattle.l4_script.specs.Numbers.{are_digits, number_of, number_from, time_from}
-use Rattle.l4_script.specs.Lines.{words_of, is_printable, has_empty_word, is_skipped, line_of}
-use Rattle.l4_script.specs.Statements.{format_line, processors_line, processor_of, declaration_of, set_of, copy_of, add_of, tag_of, plain_ipc, ipc_of, target_of, instruction_of}
+use Rattle.l4_model.specs.Machine.{To, ToId, ToLast, CancelSend, CancelReceive, CancelBoth, Delete, Instr, Set, Copy, Add, Tag, Vs, Ipc, Ask, Jump, OnErr, End, Declaration}
+use Rattle.l4_words.specs.Numbers.{is_word}
+use Rattle.l4_words.specs.Threads.{thread_word}
+use Rattle.l4_words.specs.Words.{words_in}
+use Rattle.l4_words.proofs.Spelled.{fits, thread_is_read}
+use Rattle.l4_script.specs.Numbers.{number_of, number_from}
+use Rattle.l4_script.specs.Lines.{is_printable, has_empty_word, is_skipped, line_of}
+use Rattle.l4_script.specs.Statements.{format_line, processors_line, processor_of, declaration_of, set_of, copy_of, add_of, tag_of, vs_of, ipc_of, bits_of, exregs_of, delete_of, target_of, instruction_of}
 use Rattle.l4_script.specs.Texts.{Stage, Format, Processors, Threads, Reading, nothing_read, declared_in, extended_at, thread_line, after_words, after_line}
-use Rattle.l4_script.specs.Canonical.{thread_word, low_digits, id_word, words_of_instruction, words_of_thread, is_word, is_register, has_word, can_be_written, can_be_declared}
-use Rattle.l4_script.proofs.Spelled.{are_all_digits, small_number, local_digits, number_read, ranged_read, thread_read, id_read}
+use Rattle.l4_script.specs.Canonical.{low_digits, id_word, to_word, exponent_of, ticks_word, time_word, words_of_instruction, words_of_thread, is_register, has_word, has_destination, has_time, can_be_written, can_be_declared}
+use Rattle.l4_script.proofs.Spelled.{number_read, ranged_read, id_read, destination_read}
+use Rattle.l4_script.proofs.Times.{IsTimeOf, spelled_time, time_read}
 
 -- Each byte of a word is printable, and no space.
 abbrev is_visible : ℕ → Bool
@@ -51,7 +58,7 @@ visible_is_printable (x ∷ xs) h =
     let above : nat_le 0x20 x ≡ true = grind (arith, nat_tests, ends.0) in
     and_from _ _ (and_from _ _ above ends.1) (visible_is_printable xs parts.1)
 
-words_split : (word : List ℕ) (words : List (List ℕ)) → are_plain (word ∷ words) ≡ true → words_of (join_with_byte 32 (word ∷ words)) ≡ word ∷ words
+words_split : (word : List ℕ) (words : List (List ℕ)) → are_plain (word ∷ words) ≡ true → words_in (join_with_byte 32 (word ∷ words)) ≡ word ∷ words
 words_split word [] h = slice_split_none (λ x. x == 32) word (no_space word (and_parts _ _ (and_parts _ _ h).0).1)
 words_split word (next ∷ words) h =
     let parts = and_parts (is_plain word) (are_plain (next ∷ words)) h in
@@ -110,17 +117,26 @@ after_line_read n stage words h = rw (line_read words h) refl
 
 -- The words of a thread and of an instruction
 
-digits_are_visible : (radix : ℕ) (w : List ℕ) → radix ≤ 16 → are_digits radix w ≡ true → list_all is_visible w ≡ true
+digits_are_visible : (radix : ℕ) (w : List ℕ) → radix ≤ 16 → AllDigits radix w → list_all is_visible w ≡ true
 digits_are_visible radix [] upper h = refl
 digits_are_visible radix (c ∷ cs) upper h =
-    let parts = and_parts _ (are_digits radix cs) h in
-    let value : digit_value c < radix = ltb-true (digit_value c) radix parts.0 in
+    let value : digit_value c < radix = h.0 in
     let low : nat_lt 32 c ≡ true = grind (arith, nat_tests, value) in
     let high : nat_le c 0x7e ≡ true = grind (arith, nat_tests, value) in
-    and_from _ _ (and_from _ _ low high) (digits_are_visible radix cs upper parts.1)
+    and_from _ _ (and_from _ _ low high) (digits_are_visible radix cs upper h.1)
 
 number_is_visible : (n : ℕ) → n < 2 ^ 64 → list_all is_visible (decimal n) ≡ true
-number_is_visible n small = digits_are_visible 10 (decimal n) (omega arith) (are_all_digits 10 (decimal n) (decimal_is_IsNumeral n small).0.1)
+number_is_visible n small = digits_are_visible 10 (decimal n) (omega arith) (decimal_is_IsNumeral n small).0.1
+
+glyph_is_visible : (d : ℕ) → d < 16 → is_visible (digit_glyph false d) ≡ true
+glyph_is_visible d l = agree_below_at (λ d. is_visible (digit_glyph false d)) (λ d. true) 16 d refl l
+
+low_digits_are_visible : (k n : ℕ) → list_all is_visible (low_digits k n) ≡ true
+unfolding low_digits
+low_digits_are_visible zero n = refl
+low_digits_are_visible (suc k) n =
+    list_all-append is_visible (low_digits k (n / 16)) (digit_glyph false (n % 16) ∷ [])
+    ∙ and_from _ _ (low_digits_are_visible k (n / 16)) (and_from _ true (glyph_is_visible (n % 16) (omega arith)) refl)
 
 number_is_plain : (n : ℕ) → n < 2 ^ 64 → is_plain (decimal n) ≡ true
 number_is_plain n small = and_from _ _ (lt-ltb 0 (length (decimal n)) (decimal_is_IsNumeral n small).0.0) (number_is_visible n small)
@@ -133,14 +149,14 @@ filled_front (x ∷ xs) ys p q =
 
 thread_is_plain : (t : GlobalId) → is_global t ≡ true → is_plain (thread_word t) ≡ true
 thread_is_plain t h =
-    let small = small_number t h in
-    filled_front (decimal t.number) (46 ∷ decimal t.version) (number_is_plain t.number small.0) (number_is_visible t.version small.1)
+    let f = fits t h in
+    filled_front (decimal t.number ++ codes ".") (decimal t.version) (filled_front (decimal t.number) (codes ".") (number_is_plain t.number f.number) refl) (number_is_visible t.version f.version)
 
 id_is_plain : (id : Id) → has_word id ≡ true → is_plain (id_word id) ≡ true
 id_is_plain NilThread h = refl
 id_is_plain AnyThread h = refl
 id_is_plain AnyLocalThread h = refl
-id_is_plain (LocalThread word) h = filled_front (codes "#") (low_digits 16 word) refl (digits_are_visible 16 (low_digits 16 word) (omega arith) (local_digits word))
+id_is_plain (LocalThread word) h = filled_front (codes "#") (low_digits 16 word) refl (low_digits_are_visible 16 word)
 id_is_plain (GlobalThread t) h = thread_is_plain t h
 
 register_range : (n : ℕ) → is_register n ≡ true → (1 ≤ n) × (n ≤ 63) × (n < 2 ^ 64)
@@ -150,15 +166,34 @@ register_range n h =
     let upper = leb-true n 63 parts.1 in
     (lower, upper, omega (arith, upper))
 
--- An ipc that is read has one phase at most, and no times.
-record IsPlainIpc (to from : Id) (send receive : Period) : Type 0 where
-  named : has_word from ≡ true
-  same : plain_ipc to from None None ≡ Some (Ipc (ToId to) from send receive)
+destination_is_plain : (to : To) → has_destination to ≡ true → is_plain (to_word to) ≡ true
+destination_is_plain (ToId id) h = id_is_plain id h
+destination_is_plain ToLast h = refl
 
-plain_parts : (to from : Id) (send receive : Period) → is_some (plain_ipc to from send receive) ≡ true → IsPlainIpc to from send receive
-plain_parts to NilThread None None h = record { named = refl; same = refl }
-plain_parts NilThread AnyThread None None h = record { named = refl; same = refl }
-plain_parts to from send receive h = absurd cc
+time_is_plain : (p : Period) → has_time p ≡ true → is_plain (time_word p) ≡ true
+time_is_plain None h = refl
+time_is_plain (Some ticks) h = by_test (eqb ticks 0) refl
+  where
+    by_number : (word : List ℕ) → IsTimeOf word ticks → is_plain word ≡ true
+    by_number word t = let upper = t.upper in rw t.spelled (number_is_plain t.number (omega (arith, upper)))
+
+    by_test : (b : Bool) → eqb ticks 0 ≡ b → is_plain (cond b (codes "zero") (ticks_word ticks (exponent_of ticks))) ≡ true
+    by_test true t = refl
+    by_test false t = by_number (ticks_word ticks (exponent_of ticks)) (spelled_time ticks (eqb-false ticks 0 t) h)
+
+-- The operands of an ipc.
+record AreOperands (to : To) (from : Id) (send receive : Period) : Type 0 where
+  destination : has_destination to ≡ true
+  specifier : has_word from ≡ true
+  send_time : has_time send ≡ true
+  receive_time : has_time receive ≡ true
+
+operands : (size : ℕ) (to : To) (from : Id) (send receive : Period) → can_be_written size (Ipc to from send receive) ≡ true → AreOperands to from send receive
+operands size to from send receive h =
+    let all_3 = and_parts (has_destination to && has_word from && has_time send) (has_time receive) h in
+    let all_2 = and_parts (has_destination to && has_word from) (has_time send) all_3.0 in
+    let all_1 = and_parts (has_destination to) (has_word from) all_2.0 in
+    record { destination = all_1.0; specifier = all_1.1; send_time = all_2.1; receive_time = all_3.1 }
 
 one_number : (keyword : List ℕ) (n : ℕ) → not (get_or keyword 0 0 == 59) ≡ true → is_plain keyword ≡ true → n < 2 ^ 64 → are_line (keyword ∷ decimal n ∷ []) ≡ true
 one_number keyword n begins plain small = and_from _ _ begins (and_from _ _ plain (and_from _ _ (number_is_plain n small) refl))
@@ -178,19 +213,22 @@ instruction_is_line size (Add a word) l h =
     let parts = and_parts (is_register a) (is_word word) h in
     two_numbers (codes "add") a word refl refl (register_range a parts.0).2 (ltb-true word (2 ^ 64) parts.1)
 instruction_is_line size (Tag word) l h = one_number (codes "tag") word refl refl (ltb-true word (2 ^ 64) (and_parts _ _ h).0)
-instruction_is_line size (Ipc (ToId to) from send receive) l h =
-    let parts = and_parts (has_word to) (is_some (plain_ipc to from send receive)) h in
-    let plain = plain_parts to from send receive parts.1 in
-    and_from _ _ (id_is_plain to parts.0) (and_from _ _ (id_is_plain from plain.named) refl)
+instruction_is_line size (Vs id) l h = and_from _ true (id_is_plain id h) refl
+instruction_is_line size (Ipc to from send receive) l h =
+    let o = operands size to from send receive h in
+    and_from _ _ (destination_is_plain to o.destination) (and_from _ _ (id_is_plain from o.specifier) (and_from _ _ (time_is_plain send o.send_time) (and_from _ true (time_is_plain receive o.receive_time) refl)))
+instruction_is_line size (Ask target CancelSend) l h = and_from _ true (id_is_plain target h) refl
+instruction_is_line size (Ask target CancelReceive) l h = and_from _ true (id_is_plain target h) refl
+instruction_is_line size (Ask target CancelBoth) l h = and_from _ true (id_is_plain target h) refl
+instruction_is_line size (Ask target Delete) l h = and_from _ true (id_is_plain target h) refl
 instruction_is_line size (Jump place) l h = let upper = leb-true place size h in one_number (codes "jump") place refl refl (omega (arith, upper, l))
 instruction_is_line size (OnErr place) l h = let upper = leb-true place size h in one_number (codes "onerr") place refl refl (omega (arith, upper, l))
 instruction_is_line size End l h = refl
-instruction_is_line size instr l h = absurd cc
 
 -- What a line says
 
 pub instruction_read : (n : ℕ) (r : Reading) (size : ℕ) (i : Instr) → 0 < length r.machine.threads → size ≤ 1024 → can_be_written size i ≡ true → thread_line n r (words_of_instruction i) ≡ extended_at n r i
-unfolding thread_line instruction_of set_of copy_of add_of tag_of ipc_of target_of time_from
+unfolding thread_line instruction_of set_of copy_of add_of tag_of vs_of ipc_of bits_of exregs_of delete_of target_of
 instruction_read n r size (Set a word) some l h =
     let parts = and_parts (is_register a) (is_word word) h in
     let range = register_range a parts.0 in
@@ -206,10 +244,14 @@ instruction_read n r size (Add a word) some l h =
 instruction_read n r size (Tag word) some l h =
     let parts = and_parts _ _ h in
     rw (lt-ltb 0 (length r.machine.threads) some, number_read word (ltb-true word (2 ^ 64) parts.0), parts.1) refl
-instruction_read n r size (Ipc (ToId to) from send receive) some l h =
-    let parts = and_parts (has_word to) (is_some (plain_ipc to from send receive)) h in
-    let plain = plain_parts to from send receive parts.1 in
-    rw (lt-ltb 0 (length r.machine.threads) some, id_read to parts.0, id_read from plain.named, plain.same) refl
+instruction_read n r size (Vs id) some l h = rw (lt-ltb 0 (length r.machine.threads) some, id_read id h) refl
+instruction_read n r size (Ipc to from send receive) some l h =
+    let o = operands size to from send receive h in
+    rw (lt-ltb 0 (length r.machine.threads) some, destination_read to o.destination, id_read from o.specifier, time_read send o.send_time, time_read receive o.receive_time) refl
+instruction_read n r size (Ask target CancelSend) some l h = rw (lt-ltb 0 (length r.machine.threads) some, id_read target h) refl
+instruction_read n r size (Ask target CancelReceive) some l h = rw (lt-ltb 0 (length r.machine.threads) some, id_read target h) refl
+instruction_read n r size (Ask target CancelBoth) some l h = rw (lt-ltb 0 (length r.machine.threads) some, id_read target h) refl
+instruction_read n r size (Ask target Delete) some l h = rw (lt-ltb 0 (length r.machine.threads) some, id_read target h) refl
 instruction_read n r size (Jump place) some l h =
     let upper = leb-true place size h in
     rw (lt-ltb 0 (length r.machine.threads) some, number_read place (omega (arith, upper, l))) refl
@@ -217,7 +259,6 @@ instruction_read n r size (OnErr place) some l h =
     let upper = leb-true place size h in
     rw (lt-ltb 0 (length r.machine.threads) some, number_read place (omega (arith, upper, l))) refl
 instruction_read n r size End some l h = rw (lt-ltb 0 (length r.machine.threads) some) refl
-instruction_read n r size instr some l h = absurd cc
 
 pub record IsDeclarable (d : Declaration) : Type 0 where
   pub global : is_global d.id ≡ true
@@ -254,7 +295,7 @@ thread_line_read n r d one h =
     let home = h.home in
     let space = h.space in
     let below : nat_lt d.cpu r.machine.cpus ≡ true = lt-ltb d.cpu r.machine.cpus (omega (arith, home, one)) in
-    rw (thread_read d.id h.global, number_read d.cpu (omega (arith, home)), below, ranged_read 0 (2 ^ 32 - 1) d.space (omega arith) (omega (arith, space)) (omega arith)) refl
+    rw (thread_is_read d.id h.global, number_read d.cpu (omega (arith, home)), below, ranged_read 0 (2 ^ 32 - 1) d.space (omega arith) (omega (arith, space)) (omega arith)) refl
 
 -- The two first lines
 

@@ -1,18 +1,18 @@
--- A machine as one text of it: all numbers in decimal, ids by their names or numbers, and no line or space more than are needed.
-use Rattle.std.specs.Prelude.{ℕ, zero, suc, ◌≡◌, ◌≤◌, ◌/◌, ◌%◌, ◌^◌, ◌-◌, Bool, true, false, not, ◌&&◌, ◌==◌, nat_lt, nat_le, is_some, Ok, List, [], ◌∷◌, ◌++◌, length, map, flat_map, codes, decimal}
+-- A machine as one text of it: all numbers in decimal, ids by their names or numbers, periods by their least time, and no line or space
+-- more than are needed.
+use Rattle.std.specs.Prelude.{ℕ, zero, suc, ◌≡◌, ◌≤◌, ◌+◌, ◌*◌, ◌/◌, ◌%◌, ◌^◌, ◌-◌, Bool, true, false, not, ◌&&◌, ◌==◌, nat_lt, nat_le, if◌then◌else◌, is_some, Ok, Option, Some, None, List, [], ◌∷◌, ◌++◌, length, map, flat_map, find, codes, decimal}
 use Rattle.std.specs.Fmt.{digit_glyph}
-use Rattle.std.specs.List.{join_with_byte, list_all, list_any}
-use Rattle.l4_model.specs.Words.{GlobalId, is_global, Id, NilThread, AnyThread, AnyLocalThread, LocalThread, GlobalThread}
-use Rattle.l4_model.specs.Machine.{Instr, Set, Copy, Add, Tag, Ipc, ToId, Jump, OnErr, End, Declaration, Machine}
+use Rattle.std.specs.List.{list_all, list_any, range_with_len}
+use Rattle.l4_model.specs.Words.{is_global, Id, NilThread, AnyThread, AnyLocalThread, LocalThread, GlobalThread, Period}
+use Rattle.l4_model.specs.Machine.{Instr, Set, Copy, Add, Tag, Vs, Ipc, To, ToId, ToLast, Ask, CancelSend, CancelReceive, CancelBoth, Delete, Jump, OnErr, End, Declaration, Machine}
 use Rattle.l4_core_model.specs.Runs.{IsMachine}
+use Rattle.l4_words.specs.Lines.{line_of_words}
+use Rattle.l4_words.specs.Numbers.{is_word}
+use Rattle.l4_words.specs.Threads.{thread_word}
 use Rattle.l4_script.specs.Machines.{has_number}
-use Rattle.l4_script.specs.Statements.{plain_ipc}
 use Rattle.l4_script.specs.Texts.{machine_of_text}
 
 -- Words
-
-abbrev pub thread_word : GlobalId → List ℕ
-thread_word t = decimal t.number ++ (codes "." ++ decimal t.version)
 
 -- So many hexadecimal digits: the lowest ones of a number.
 unfoldable pub low_digits : (count n : ℕ) → List ℕ
@@ -27,6 +27,27 @@ id_word AnyLocalThread = codes "anylocal"
 id_word (LocalThread word) = codes "#" ++ low_digits 16 word
 id_word (GlobalThread t) = thread_word t
 
+abbrev pub to_word : To → List ℕ
+to_word (ToId id) = id_word id
+to_word ToLast = codes "last"
+
+-- These ticks are a mantissa of 10 bits times two to the power of the exponent.
+abbrev pub is_exponent : (ticks exponent : ℕ) → Bool
+is_exponent ticks exponent = nat_lt (ticks / 2 ^ exponent) (2 ^ 10) && ticks / 2 ^ exponent * 2 ^ exponent == ticks
+
+-- The least such exponent of 5 bits.
+unfoldable pub exponent_of : (ticks : ℕ) → Option ℕ
+exponent_of ticks = find (is_exponent ticks) (range_with_len 0 32)
+
+-- The least time of these ticks: an exponent in bits 10 to 14, the mantissa in bits 0 to 9.
+abbrev pub ticks_word : (ticks : ℕ) → (exponent : Option ℕ) → List ℕ
+ticks_word ticks None = []
+ticks_word ticks (Some exponent) = decimal (exponent * 2 ^ 10 + ticks / 2 ^ exponent)
+
+abbrev pub time_word : Period → List ℕ
+time_word None = codes "never"
+time_word (Some ticks) = if ticks == 0 then codes "zero" else ticks_word ticks (exponent_of ticks)
+
 -- Lines, as the lists of their words
 
 abbrev pub words_of_instruction : Instr → List (List ℕ)
@@ -34,10 +55,15 @@ words_of_instruction (Set a word) = codes "set" ∷ decimal a ∷ decimal word �
 words_of_instruction (Copy a b) = codes "copy" ∷ decimal a ∷ decimal b ∷ []
 words_of_instruction (Add a word) = codes "add" ∷ decimal a ∷ decimal word ∷ []
 words_of_instruction (Tag word) = codes "tag" ∷ decimal word ∷ []
-words_of_instruction (Ipc (ToId to) from send receive) = codes "ipc" ∷ id_word to ∷ id_word from ∷ codes "never" ∷ codes "never" ∷ []
+words_of_instruction (Vs id) = codes "vs" ∷ id_word id ∷ []
+words_of_instruction (Ipc to from send receive) = codes "ipc" ∷ to_word to ∷ id_word from ∷ time_word send ∷ time_word receive ∷ []
+words_of_instruction (Ask target CancelSend) = codes "exregs" ∷ id_word target ∷ codes "S" ∷ []
+words_of_instruction (Ask target CancelReceive) = codes "exregs" ∷ id_word target ∷ codes "R" ∷ []
+words_of_instruction (Ask target CancelBoth) = codes "exregs" ∷ id_word target ∷ codes "SR" ∷ []
+words_of_instruction (Ask target Delete) = codes "delete" ∷ id_word target ∷ []
 words_of_instruction (Jump place) = codes "jump" ∷ decimal place ∷ []
 words_of_instruction (OnErr place) = codes "onerr" ∷ decimal place ∷ []
-words_of_instruction instr = codes "end" ∷ []
+words_of_instruction End = codes "end" ∷ []
 
 abbrev pub words_of_thread : Declaration → List (List ℕ)
 words_of_thread d = codes "thread" ∷ thread_word d.id ∷ codes "cpu" ∷ decimal d.cpu ∷ codes "space" ∷ decimal d.space ∷ []
@@ -48,17 +74,10 @@ lines_of_thread d = words_of_thread d ∷ map words_of_instruction d.script
 abbrev pub lines_of : Machine → List (List (List ℕ))
 lines_of m = (codes "l4" ∷ codes "1" ∷ codes "64" ∷ []) ∷ (codes "cpus" ∷ decimal m.cpus ∷ []) ∷ flat_map lines_of_thread m.threads
 
--- One space, byte 32, stands between two words, and a line ends with byte 10.
-abbrev pub line_of_words : List (List ℕ) → List ℕ
-line_of_words words = join_with_byte 32 words ++ 10 ∷ []
-
 abbrev pub canonical_text : Machine → List ℕ
 canonical_text m = flat_map line_of_words (lines_of m)
 
 -- Which machines a text can declare
-
-abbrev pub is_word : ℕ → Bool
-is_word n = nat_lt n (2 ^ 64)
 
 abbrev pub is_register : ℕ → Bool
 is_register n = nat_le 1 n && nat_le n 63
@@ -69,17 +88,27 @@ has_word (LocalThread word) = is_word word && not (word == 0) && not (word == 2 
 has_word (GlobalThread t) = is_global t
 has_word id = true
 
+abbrev pub has_destination : To → Bool
+has_destination (ToId id) = has_word id
+has_destination ToLast = true
+
+-- A period that some time means.
+abbrev pub has_time : Period → Bool
+has_time None = true
+has_time (Some ticks) = is_some (exponent_of ticks)
+
 -- An instruction of a script of this size.
 abbrev pub can_be_written : (size : ℕ) → Instr → Bool
 can_be_written size (Set a word) = is_register a && is_word word
 can_be_written size (Copy a b) = is_register a && nat_le b 63
 can_be_written size (Add a word) = is_register a && is_word word
 can_be_written size (Tag word) = is_word word && word / 2 ^ 6 % 64 == 0
-can_be_written size (Ipc (ToId to) from send receive) = has_word to && is_some (plain_ipc to from send receive)
+can_be_written size (Vs id) = has_word id
+can_be_written size (Ipc to from send receive) = has_destination to && has_word from && has_time send && has_time receive
+can_be_written size (Ask target what) = has_word target
 can_be_written size (Jump place) = nat_le place size
 can_be_written size (OnErr place) = nat_le place size
 can_be_written size End = true
-can_be_written size instr = false
 
 abbrev pub can_be_declared : Declaration → Bool
 can_be_declared d =

@@ -1,33 +1,18 @@
 -- Thread ids as machine texts spell them.
-use Rattle.std.specs.Prelude.{ℕ, Bool, ◌==◌, if◌then◌else◌, Option, Some, None, List, length, take, drop, codes}
+use Rattle.std.specs.Prelude.{ℕ, ◌==◌, if◌then◌else◌, Option, Some, None, List, length, take, drop, codes}
 use Rattle.std.specs.Option.{option_map}
-use Rattle.std.specs.List.{before_first, after_first}
 use Rattle.std.specs.Str.{bytes_eq}
-use Rattle.l4_model.specs.Words.{GlobalId, is_global, global_id, Id, NilThread, AnyThread, AnyLocalThread, GlobalThread, id_of_word}
-use Rattle.l4_model.specs.Conditions.{◌>>=◌, ◌>>◌}
-use Rattle.l4_script.specs.Numbers.{decimal_of, hexadecimal_of}
-
-abbrev pub global_id_between : (number version : List ℕ) → Option GlobalId
-global_id_between first second = do
-  number ← decimal_of first
-  version ← decimal_of second
-  is_global (global_id number version)
-  Some (global_id number version)
-
-abbrev pub is_dot : ℕ → Bool
-is_dot byte = byte == 46
-
--- `N.V`: two decimal numbers that make a global id.
-unfoldable pub global_id_of : List ℕ → Option GlobalId
-global_id_of word = global_id_between (before_first is_dot word) (after_first is_dot word)
+use Rattle.l4_model.specs.Words.{Id, NilThread, AnyThread, AnyLocalThread, GlobalThread, id_of_word}
+use Rattle.l4_words.specs.Numbers.{padded_of}
+use Rattle.l4_words.specs.Threads.{thread_of}
 
 -- Exactly 16 hexadecimal digits: the word of any id.
 abbrev pub raw_id_of : List ℕ → Option Id
-raw_id_of digits = if length digits == 16 then option_map id_of_word (hexadecimal_of digits) else None
+raw_id_of digits = if length digits == 16 then option_map id_of_word (padded_of digits) else None
 
 -- `#` and the word of an id, or `N.V`.
 unfoldable pub spelled_id_of : List ℕ → Option Id
-spelled_id_of word = if bytes_eq (take 1 word) (codes "#") then raw_id_of (drop 1 word) else option_map GlobalThread (global_id_of word)
+spelled_id_of word = if bytes_eq (take 1 word) (codes "#") then raw_id_of (drop 1 word) else option_map GlobalThread (thread_of word)
 
 -- An id: one of three names, or spelled by numbers.
 unfoldable pub id_of : List ℕ → Option Id

@@ -1,3 +1,4 @@
+pub mod Calls
 pub mod Canonical
 pub mod Faults
 pub mod Ids

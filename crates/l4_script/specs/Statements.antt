@@ -1,20 +1,21 @@
 -- What the lines of a machine text say: their operands are judged from left to right, behind the keywords and the number of words.
 use Rattle.std.specs.Prelude.{ℕ, ◌/◌, ◌%◌, ◌^◌, ◌-◌, ◌&&◌, ◌==◌, not, nat_lt, if◌then◌else◌, Option, Some, None, Ok, Err, List, [], length, codes}
 use Rattle.std.specs.Str.{bytes_eq}
-use Rattle.l4_model.specs.Words.{Id, NilThread, AnyThread, Period}
-use Rattle.l4_model.specs.Machine.{Instr, Set, Copy, Add, Tag, Ipc, ToId, Jump, OnErr, End, Declaration, Machine}
+use Rattle.l4_model.specs.Machine.{Instr, Set, Copy, Add, Tag, Vs, Ipc, To, ToId, ToLast, Ask, What, CancelSend, CancelReceive, CancelBoth, Delete, Jump, OnErr, End, Declaration, Machine}
 use Rattle.l4_script.specs.declared.text.fault.TextFaultKind.TheVariants.{BadLine, BadNumber, BadId, BadCpu, TypedItems, DoubleId, TooManyThreads, TooManyInstructions}
 use Rattle.l4_script.specs.Judged.{Judged, ◌>>=◌, ◌>>◌, must, needs}
 use Rattle.l4_script.specs.Numbers.{number_of, number_from, time_from}
-use Rattle.l4_script.specs.Ids.{global_id_of, id_of}
-use Rattle.l4_script.specs.Lines.{after, none, one, two, four, five}
+use Rattle.l4_words.specs.Threads.{thread_of}
+use Rattle.l4_words.specs.Words.{one, two, four, five}
+use Rattle.l4_script.specs.Ids.{id_of}
+use Rattle.l4_script.specs.Lines.{after}
 use Rattle.l4_script.specs.Machines.{is_taken, with_thread, last_thread, extended}
 
 -- `l4 1 64`: profile 1, words of 64 bits.
 unfoldable pub format_line : List (List ℕ) → Judged (Unit {0})
 format_line words = do
   operands ← after (codes "l4") words
-  numbers ← two operands
+  numbers ← needs (two operands) BadLine
   profile ← number_from 1 1 numbers.0
   width ← number_from 64 64 numbers.1
   Ok tt
@@ -23,7 +24,7 @@ format_line words = do
 unfoldable pub processors_line : List (List ℕ) → Judged ℕ
 processors_line words = do
   operands ← after (codes "cpus") words
-  number ← one operands
+  number ← needs (one operands) BadLine
   number_from 1 1 number
 
 -- A number below the number of processors.
@@ -36,9 +37,9 @@ processor_of cpus word = do
 -- `thread ID cpu P space S`, behind its first word.
 unfoldable pub declaration_of : (cpus : ℕ) → List (List ℕ) → Judged Declaration
 declaration_of cpus operands = do
-  words ← five operands
+  words ← needs (five operands) BadLine
   must (bytes_eq words.1 (codes "cpu") && bytes_eq words.3 (codes "space")) BadLine
-  id ← needs (global_id_of words.0) BadId
+  id ← needs (thread_of words.0) BadId
   cpu ← processor_of cpus words.2
   space ← number_from 0 (2 ^ 32 - 1) words.4
   Ok (record { id = id; cpu = cpu; space = space; script = [] })
@@ -46,7 +47,7 @@ declaration_of cpus operands = do
 -- `set A W`, behind its first word.
 unfoldable pub set_of : List (List ℕ) → Judged Instr
 set_of operands = do
-  numbers ← two operands
+  numbers ← needs (two operands) BadLine
   register ← number_from 1 63 numbers.0
   word ← needs (number_of numbers.1) BadNumber
   Ok (Set register word)
@@ -54,7 +55,7 @@ set_of operands = do
 -- `copy A B`, behind its first word.
 unfoldable pub copy_of : List (List ℕ) → Judged Instr
 copy_of operands = do
-  numbers ← two operands
+  numbers ← needs (two operands) BadLine
   register ← number_from 1 63 numbers.0
   source ← number_from 0 63 numbers.1
   Ok (Copy register source)
@@ -62,7 +63,7 @@ copy_of operands = do
 -- `add A W`, behind its first word.
 unfoldable pub add_of : List (List ℕ) → Judged Instr
 add_of operands = do
-  numbers ← two operands
+  numbers ← needs (two operands) BadLine
   register ← number_from 1 63 numbers.0
   word ← needs (number_of numbers.1) BadNumber
   Ok (Add register word)
@@ -70,32 +71,65 @@ add_of operands = do
 -- `tag W`, behind its first word: bits 6 to 11 are the number of typed words.
 unfoldable pub tag_of : List (List ℕ) → Judged Instr
 tag_of operands = do
-  number ← one operands
+  number ← needs (one operands) BadLine
   word ← needs (number_of number) BadNumber
   must (word / 2 ^ 6 % 64 == 0) TypedItems
   Ok (Tag word)
 
--- An ipc of no times, that has of its phases one at most: a send, or a receive from any thread.
-abbrev pub plain_ipc : (to from : Id) → (send receive : Period) → Option Instr
-plain_ipc to NilThread None None = Some (Ipc (ToId to) NilThread None None)
-plain_ipc NilThread AnyThread None None = Some (Ipc (ToId NilThread) AnyThread None None)
-plain_ipc to from send receive = None
+-- `vs ID`, behind its first word.
+unfoldable pub vs_of : List (List ℕ) → Judged Instr
+vs_of operands = do
+  word ← needs (one operands) BadLine
+  id ← needs (id_of word) BadId
+  Ok (Vs id)
+
+-- Where an ipc sends to: an id, or `last`.
+unfoldable pub destination_of : List ℕ → Judged To
+destination_of word = if bytes_eq word (codes "last") then Ok ToLast else (needs (id_of word) BadId >>= λ id. Ok (ToId id))
 
 -- `ipc TO FROM STO RTO`, behind its first word.
 unfoldable pub ipc_of : List (List ℕ) → Judged Instr
 ipc_of operands = do
-  words ← four operands
-  to ← needs (id_of words.0) BadId
+  words ← needs (four operands) BadLine
+  to ← destination_of words.0
   from ← needs (id_of words.1) BadId
   send ← time_from words.2
   receive ← time_from words.3
-  needs (plain_ipc to from send receive) BadLine
+  Ok (Ipc to from send receive)
+
+-- The bits of the control word, S and R in this order (manual: ExchangeRegisters).
+unfoldable pub bits_of : List ℕ → Option What
+bits_of word =
+    if bytes_eq word (codes "S") then Some CancelSend
+    else (if bytes_eq word (codes "R") then Some CancelReceive
+    else (if bytes_eq word (codes "SR") then Some CancelBoth
+    else None))
+
+-- `exregs ID S`, `exregs ID R` and `exregs ID SR`, behind the first word: the last one is a keyword.
+unfoldable pub exregs_of : List (List ℕ) → Judged Instr
+exregs_of operands = do
+  words ← needs (two operands) BadLine
+  what ← needs (bits_of words.1) BadLine
+  target ← needs (id_of words.0) BadId
+  Ok (Ask target what)
+
+-- `delete ID`, behind its first word.
+unfoldable pub delete_of : List (List ℕ) → Judged Instr
+delete_of operands = do
+  word ← needs (one operands) BadLine
+  target ← needs (id_of word) BadId
+  Ok (Ask target Delete)
 
 -- `jump L` and `onerr L`, behind the first word: whether there is such a place shows at the end of the text.
 unfoldable pub target_of : List (List ℕ) → Judged ℕ
 target_of operands = do
-  number ← one operands
+  number ← needs (one operands) BadLine
   needs (number_of number) BadNumber
+
+-- `end`, behind its first word: nothing.
+abbrev pub end_of : List (List ℕ) → Judged Instr
+end_of [] = Ok End
+end_of _ = Err BadLine
 
 -- An instruction by its first word.
 unfoldable pub instruction_of : (name : List ℕ) → (operands : List (List ℕ)) → Judged Instr
@@ -104,11 +138,14 @@ instruction_of name operands =
     else (if bytes_eq name (codes "copy") then copy_of operands
     else (if bytes_eq name (codes "add") then add_of operands
     else (if bytes_eq name (codes "tag") then tag_of operands
+    else (if bytes_eq name (codes "vs") then vs_of operands
     else (if bytes_eq name (codes "ipc") then ipc_of operands
+    else (if bytes_eq name (codes "exregs") then exregs_of operands
+    else (if bytes_eq name (codes "delete") then delete_of operands
     else (if bytes_eq name (codes "jump") then (target_of operands >>= λ place. Ok (Jump place))
     else (if bytes_eq name (codes "onerr") then (target_of operands >>= λ place. Ok (OnErr place))
-    else (if bytes_eq name (codes "end") then (none operands >> Ok End)
-    else Err BadLine)))))))
+    else (if bytes_eq name (codes "end") then end_of operands
+    else Err BadLine))))))))))
 
 -- The limits, and the numbers of the threads.
 unfoldable pub declare : Declaration → Machine → Judged Machine

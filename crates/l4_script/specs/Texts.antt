@@ -7,7 +7,8 @@ use Rattle.l4_script.specs.declared.text.fault.TextFault.{TextFault}
 use Rattle.l4_script.specs.declared.text.fault.TextFaultKind.TheVariants.{BadLine, BadTarget, TooLong}
 use Rattle.l4_script.specs.Faults.{fault_at, no_memory}
 use Rattle.l4_script.specs.Judged.{Judged, ◌>>=◌, ◌>>◌, must}
-use Rattle.l4_script.specs.Lines.{parts_of, line_of}
+use Rattle.l4_words.specs.Lines.{parts_of}
+use Rattle.l4_script.specs.Lines.{line_of}
 use Rattle.l4_script.specs.Machines.{last_place}
 use Rattle.l4_script.specs.Statements.{format_line, processors_line, declaration_of, instruction_of, declare, extend}
 

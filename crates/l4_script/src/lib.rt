@@ -1,6 +1,7 @@
 //! Machine texts: the machines that they declare, with the scripts of their threads, and their reader.
 #![tactic(auto)]
 
+pub mod instructions;
 mod lookups;
 pub mod machine;
 pub mod text;

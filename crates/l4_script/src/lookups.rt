@@ -1,11 +1,15 @@
 //! Looking declared threads up.
-ghost use Rattle.std.specs.Prelude.{◌≡◌, ◌<◌, unwrap_or, IsSome, slice_get};
+ghost use Rattle.std.specs.Prelude.{◌≡◌, ◌<◌, is_some, unwrap_or, IsSome, slice_get};
 ghost use Rattle.std.specs.Option.{option_copied, option_map};
 ghost use Rattle.l4_model.specs.Machine.{End, declaration_of, instruction_at, same_space};
+ghost use Rattle.l4_model.specs.Rules.{is_admitted, permitted};
+ghost use Rattle.l4_types.specs.StepView.{what_of};
 ghost use Rattle.l4_script.specs.Scripts.{instr_of};
 
-use crate::machine::{Declaration, Instr, Machine};
-use l4_types::ids::GlobalId;
+use crate::instructions::Instr;
+use crate::machine::{Declaration, Machine};
+use l4_types::ids::{GlobalId, ThreadId};
+use l4_types::steps::What;
 
 impl Declaration {
     /// The instruction at a place of the script, counted from 0. None past its end, which is an `end`.
@@ -40,6 +44,27 @@ impl Machine {
         match (self.declaration_of(a), self.declaration_of(b)) {
             (Some(a), Some(b)) => a.space() == b.space(),
             _ => false,
+        }
+    }
+
+    /// Whether a sender may show this originator: a declared thread of its address space (manual: Ipc, `VirtualSender`).
+    pub fn may_show(&self, sender: GlobalId, originator: ThreadId) -> bool
+        ensures { result ≡ is_some (permitted self.now sender originator) }
+    {
+        match originator.as_global() {
+            Some(originator) => self.same_space(originator, sender),
+            None => false,
+        }
+    }
+
+    /// Whether a thread may ask this of another: the deletion of any declared thread, and a cancellation of one of its address space
+    /// (manual: ThreadControl, ExchangeRegisters).
+    pub fn admits(&self, caller: GlobalId, target: GlobalId, what: What) -> bool
+        ensures { result ≡ is_admitted self.now caller target (what_of what) }
+    {
+        match what {
+            What::Delete => self.place_of(target).is_some(),
+            _ => self.same_space(caller, target),
         }
     }
 }

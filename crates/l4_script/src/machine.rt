@@ -5,10 +5,10 @@ ghost use Rattle.l4_core_model.specs.Runs.{IsMachine};
 ghost use Rattle.l4_script.specs.Scripts.{instr_of};
 ghost use Rattle.l4_script.specs.Machines.{is_taken, last_thread, with_instruction, with_thread, extended};
 
+use crate::instructions::Instr;
 use indexmap::IndexSet;
 use l4_types::errors::NoMemory;
-use l4_types::ids::{GlobalId, ThreadId};
-use l4_types::tags::MsgTag;
+use l4_types::ids::GlobalId;
 use std::alloc::Global;
 use std::marker::Model;
 
@@ -17,115 +17,6 @@ pub const MOST_THREADS: usize = 1024;
 
 /// How many instructions a script has at most.
 pub const MOST_INSTRUCTIONS: usize = 1024;
-
-/// A message register that a script may write with any word: MR1 to MR63 (manual: Messages and Message Registers).
-#[derive(Clone, Copy, PartialEq, Eq, Debug)]
-pub struct Register {
-    number: u8,
-}
-
-impl Model for Register {
-    ghost use Rattle.std.specs.Prelude.{ℕ, ◌<◌};
-
-    ghost Value = { ℕ };
-
-    ghost view = { λ r. r.number };
-
-    ghost invariant = { (λ r. (0 < r.number) × (r.number < 64)) };
-
-    ghost inverse = { λ n. record { number = n } };
-}
-
-impl Register {
-    /// The register of this number, or None where it is 0 or above 63.
-    pub fn new(number: u8) -> Option<Register>
-        ensures some { IfSome result (λ register. register ≡ number) }
-        ensures when { IsSome result ↔ ((0 < number) × (number < 64)) }
-    {
-        if number == 0 || number > 63 {
-            return None;
-        }
-        Some(Register { number })
-    }
-
-    /// The number of the register, 1 to 63.
-    pub fn number(&self) -> u8
-        ensures value { result ≡ self.now }
-        ensures lower { 0 < result }
-        ensures upper { result < 64 }
-    {
-        self.number
-    }
-}
-
-/// A message register that a script may read: MR0 to MR63 (manual: Messages and Message Registers).
-#[derive(Clone, Copy, PartialEq, Eq, Debug)]
-pub struct Source {
-    index: u8,
-}
-
-impl Model for Source {
-    ghost use Rattle.std.specs.Prelude.{ℕ, ◌<◌};
-
-    ghost Value = { ℕ };
-
-    ghost view = { λ r. r.index };
-
-    ghost invariant = { (λ r. r.index < 64) };
-
-    ghost inverse = { λ n. record { index = n } };
-}
-
-impl Source {
-    /// The register of this number, or None where it is above 63.
-    pub fn new(number: u8) -> Option<Source>
-        ensures some { IfSome result (λ source. source ≡ number) }
-        ensures when { IsSome result ↔ (number < 64) }
-    {
-        if number > 63 {
-            return None;
-        }
-        Some(Source { index: number })
-    }
-
-    /// The number of the register, 0 to 63.
-    pub fn number(&self) -> u8
-        ensures value { result ≡ self.now }
-        ensures upper { result < 64 }
-    {
-        self.index
-    }
-}
-
-/// An Ipc of a script (manual: Ipc).
-#[derive(Clone, Copy, PartialEq, Eq, Debug)]
-pub enum Ipc {
-    /// Sends to this id with no timeout, and receives nothing. To nilthread there is no send phase either.
-    Send(ThreadId),
-    /// Receives from any thread with no timeout, and sends nothing.
-    Wait,
-}
-
-/// One instruction of a script.
-#[derive(Clone, Copy, PartialEq, Eq, Debug)]
-pub enum Instr {
-    /// The register becomes the word.
-    Set(Register, u64),
-    /// The register becomes what the other one has.
-    Copy(Register, Source),
-    /// The register becomes its sum with the word, modulo 2^64.
-    Add(Register, u64),
-    /// MR0 becomes the tag.
-    Tag(MsgTag),
-    /// The system call (manual: Ipc).
-    Ipc(Ipc),
-    /// Goes on at this place of the script, counted from 0.
-    Jump(u64),
-    /// The same where ErrorCode is not 0, else goes on at the next instruction.
-    OnErr(u64),
-    /// The thread has ended.
-    End,
-}
 
 /// A declared thread: its id, its address space by a number, and its script. Its processor is 0.
 #[derive(Debug, Drop)]

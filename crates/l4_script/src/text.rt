@@ -1,21 +1,21 @@
 //! Machine texts, and their reader.
 ghost use Rattle.std.specs.Prelude.{◌≡◌, ◌≤◌, length};
 ghost use Rattle.l4_script.specs.Canonical.{IsReadBack, EachHasText};
-ghost use Rattle.l4_script.specs.Lines.{parts_of};
+ghost use Rattle.l4_words.specs.Lines.{parts_of};
 ghost use Rattle.l4_script.specs.Texts.{Format, Reads, read, machine_of_text};
 
 mod fault;
 mod ids;
+mod lines;
 mod numbers;
 mod reading;
 mod statements;
-mod words;
 
 use crate::machine::Machine;
 pub use fault::{TextFault, TextFaultKind};
+use l4_words::lines::split_line;
 use reading::Stage;
 use std::alloc::Global;
-use words::find_byte;
 
 /// How many bytes a text has at most.
 pub const MOST_BYTES: usize = 0x10_0000;
@@ -43,16 +43,16 @@ fn read(alloc: Global, text: &[u8]) -> Result<Machine, TextFault>
 {
     let mut stage = Stage::Format;
     let mut rest = text;
-    let mut line = 1;
-    'lines: while let Some(end) = find_byte(b'\n', rest) {
-        stage = stage.after_line_at(line, alloc, &rest[..end])?;
-        rest = &rest[end + 1..];
-        line += 1;
+    let mut number = 1;
+    'lines: while let Some((line, others)) = split_line(rest) {
+        stage = stage.after_line_at(number, alloc, line)?;
+        rest = others;
+        number += 1;
     }
     if !rest.is_empty() {
-        return Err(TextFault::at(line, TextFaultKind::BadLine));
+        return Err(TextFault::at(number, TextFaultKind::BadLine));
     }
-    stage.ended(line)
+    stage.ended(number)
 }
 
 /// A machine printed in the canonical spelling is read as itself: the text that has a line for each of its threads and instructions, with

@@ -1,11 +1,9 @@
+pub mod Hashes
+pub mod Joined
 pub mod LineRows
 pub mod Plain
-pub mod Joined
-pub mod Spelled
-pub mod Splits
-pub mod Between
-pub mod ReadingLines
-pub mod Numerals
-pub mod ReadWords
+pub mod ReadNames
 pub mod ReadSteps
 pub mod ReadTexts
+pub mod ReadingLines
+pub mod Spelled

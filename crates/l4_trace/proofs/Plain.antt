@@ -1,82 +1,21 @@
 -- Which bytes do not stand in the words of a line, and in a line.
-use Rattle.std.proofs.Common.{◌≡◌, ℕ, ◌<◌, ◌≤◌, ◌^◌, Bool, true, false, eqb, List, [], ◌∷◌, ◌++◌, map, refl, ap, ◌∙◌, arith}
-use Rattle.std.specs.Prelude.{◌==◌, nat_lt, codes, decimal}
-use Rattle.std.specs.Char.{digit_value}
-use Rattle.std.specs.Str.Parse.{AllDigits}
-use Rattle.std.specs.List.{All, list_all, slice_split, join_with_byte}
+use Rattle.std.proofs.Common.{◌≡◌, ℕ, ◌<◌, ◌^◌, Bool, true, List, [], ◌∷◌, ◌++◌, map, refl, ap, ◌∙◌, arith}
+use Rattle.std.specs.Prelude.{◌==◌, codes, decimal}
+use Rattle.std.specs.List.{list_all, slice_split, join_with_byte}
 use Rattle.std.proofs.lemmas.Bool.{and_parts, and_from, ltb-true}
-use Rattle.std.proofs.lemmas.Bool.Decides.{nat_tests}
-use Rattle.std.proofs.lemmas.List.Elements.{All-nil, All-cons}
-use Rattle.std.proofs.lemmas.List.Folds.{list_all-append}
 use Rattle.std.proofs.lemmas.List.Splits.{slice_split_none, slice_split_at}
-use Rattle.std.proofs.lemmas.Fmt.{digits_is_IsNumeral}
 use Rattle.l4_model.specs.Words.{GlobalId, is_global}
 use Rattle.l4_model.specs.Machine.{What, CancelSend, CancelReceive, CancelBoth, Delete}
 use Rattle.l4_model.specs.World.{Name}
 use Rattle.l4_model.specs.Steps.{Step, Local, Begin, Queue, Deliver, Wait, SendTimeout, ReceiveTimeout, SendNobody, ReceiveNobody, SendCancel, ReceiveCancel, Drop, Order, Obey, Tick}
+use Rattle.l4_words.proofs.Above.{is_above, above_parts, above_lower, lacks, decimal_is_above, hexadecimal_is_above}
+use Rattle.l4_words.proofs.Spelled.{thread_is_above}
 use Rattle.l4_trace.specs.Lines.{hexadecimal, thread_word, name_word, what_word, words_of, is_word, is_name, has_line}
-
--- Each byte is above another one, as a byte of a word is above the space and a digit above the dot.
-abbrev pub is_above : ℕ → List ℕ → Bool
-is_above b w = list_all (nat_lt b) w
-
-above_parts : (b : ℕ) (xs ys : List ℕ) → is_above b xs ≡ true → is_above b ys ≡ true → is_above b (xs ++ ys) ≡ true
-above_parts b xs ys p q = list_all-append (nat_lt b) xs ys ∙ and_from _ _ p q
-
-pub above_lower : (a b : ℕ) → a ≤ b → (xs : List ℕ) → is_above b xs ≡ true → is_above a xs ≡ true
-above_lower a b l [] h = refl
-above_lower a b l (x ∷ xs) h =
-    let parts = and_parts (nat_lt b x) (is_above b xs) h in
-    let head : nat_lt a x ≡ true = grind (arith, nat_tests, parts.0) in
-    and_from _ _ head (above_lower a b l xs parts.1)
-
--- A byte does not stand in a list whose bytes are above it.
-pub lacks : (b : ℕ) (xs : List ℕ) → is_above b xs ≡ true → All (λ x. eqb x b ≡ false) xs
-lacks b [] h = All-nil _
-lacks b (x ∷ xs) h =
-    let parts = and_parts (nat_lt b x) (is_above b xs) h in
-    let other : eqb x b ≡ false = grind (arith, nat_tests, parts.0) in
-    All-cons (λ x. eqb x b ≡ false) x xs other (lacks b xs parts.1)
-
--- Numbers
-
-digits_are_above : (base : ℕ) → base ≤ 16 → (xs : List ℕ) → AllDigits base xs → is_above 46 xs ≡ true
-digits_are_above base l [] h = refl
-digits_are_above base l (x ∷ xs) h =
-    let value : digit_value x < base = h.0 in
-    let head : nat_lt 46 x ≡ true = grind (arith, nat_tests, value) in
-    and_from _ _ head (digits_are_above base l xs h.1)
-
-pub decimal_is_above : (n : ℕ) → n < 2 ^ 64 → is_above 46 (decimal n) ≡ true
-decimal_is_above n h = digits_are_above 10 (omega arith) (decimal n) (digits_is_IsNumeral 10 false (omega arith) (omega arith) n (omega arith)).0.1
-
-pub hexadecimal_is_above : (n : ℕ) → n < 2 ^ 64 → is_above 46 (hexadecimal n) ≡ true
-hexadecimal_is_above n h = digits_are_above 16 (omega arith) (hexadecimal n) (digits_is_IsNumeral 16 false (omega arith) (omega arith) n (omega arith)).0.1
 
 -- Words
 
 abbrev pub parts_at : ℕ → List ℕ → List (List ℕ)
 parts_at b w = slice_split (λ x. x == b) w
-
-pub record Fits (t : GlobalId) : Type 0 where
-  pub number : t.number < 2 ^ 64
-  pub version : t.version < 2 ^ 64
-
-pub fits : (t : GlobalId) → is_global t ≡ true → Fits t
-fits t h =
-    let front = (and_parts _ _ h).0 in
-    let fronts = and_parts _ _ front in
-    let parts = and_parts _ _ fronts.0 in
-    let small_number = ltb-true t.number (2 ^ 32) parts.0 in
-    let small_version = ltb-true t.version (2 ^ 32) parts.1 in
-    record { number = omega (arith, small_number); version = omega (arith, small_version) }
-
-pub thread_is_above : (t : GlobalId) → is_global t ≡ true → is_above 35 (thread_word t) ≡ true
-thread_is_above t h =
-    let f = fits t h in
-    let number = above_lower 35 46 (omega arith) (decimal t.number) (decimal_is_above t.number f.number) in
-    let version = above_lower 35 46 (omega arith) (decimal t.version) (decimal_is_above t.version f.version) in
-    above_parts 35 (decimal t.number ++ codes ".") (decimal t.version) (above_parts 35 (decimal t.number) (codes ".") number refl) version
 
 -- What a delivery that has a line is made of.
 pub record IsDelivery (s : Name) (r shown actual : GlobalId) (tag : ℕ) (words : List ℕ) : Type 0 where

@@ -14,12 +14,16 @@ use Rattle.l4_model.specs.World.{Name}
 use Rattle.l4_model.specs.Steps.{Step, Local, Begin, Queue, Deliver, Wait, SendTimeout, ReceiveTimeout, SendNobody, ReceiveNobody, SendCancel, ReceiveCancel, Drop, Order, Obey, Tick}
 use Rattle.l4_model.specs.Conditions.{◌>>=◌}
 use Rattle.l4_trace.specs.Lines.{hexadecimal, thread_word, name_word, what_word, words_of, is_word, is_name, is_tag_of, has_line}
-use Rattle.l4_trace.specs.Numbers.{number_of}
-use Rattle.l4_trace.specs.Words.{words_in, one, two, three, five, thread_of, name_of}
+use Rattle.l4_words.specs.Numbers.{number_of}
+use Rattle.l4_words.specs.Threads.{thread_of}
+use Rattle.l4_words.specs.Words.{words_in, one, two, three, first_five}
+use Rattle.l4_trace.specs.Names.{name_of}
 use Rattle.l4_trace.specs.Reading.{message_words, delivery_of, what_of_word, order_of, tick_of, of_thread, of_name, step_behind, step_of_words, step_of_line}
-use Rattle.l4_trace.proofs.Numerals.{decimal_is_read, decimal_is_written, hexadecimal_is_read, hexadecimal_is_written}
+use Rattle.l4_words.proofs.Numerals.{decimal_is_read, decimal_is_written, hexadecimal_is_read, hexadecimal_is_written}
 use Rattle.l4_trace.proofs.Plain.{are_plain, delivery, line_is_split, step_is_plain}
-use Rattle.l4_trace.proofs.ReadWords.{some_same, some_bind, some_then, mapped, thread_is_read, thread_is_written, name_is_read, name_is_written}
+use Rattle.l4_words.proofs.Found.{some_same, some_bind, some_then, mapped}
+use Rattle.l4_words.proofs.Spelled.{thread_is_read, thread_is_written}
+use Rattle.l4_trace.proofs.ReadNames.{name_is_read, name_is_written}
 
 -- What is written is read
 
@@ -157,7 +161,7 @@ three_is : (operands : List (List ℕ)) (a : List ℕ × List ℕ × List ℕ) �
 three_is (x ∷ y ∷ z ∷ []) a e = let same : (x, y, z) ≡ a = some_same (x, y, z) a e in ap (λ (w : List ℕ × List ℕ × List ℕ). w.0 ∷ w.1 ∷ w.2 ∷ []) same
 three_is _ a e = cc
 
-five_is : (operands : List (List ℕ)) (a : List ℕ × List ℕ × List ℕ × List ℕ × List ℕ × List (List ℕ)) → five operands ≡ Some a → operands ≡ a.0 ∷ a.1 ∷ a.2 ∷ a.3 ∷ a.4 ∷ a.5
+five_is : (operands : List (List ℕ)) (a : List ℕ × List ℕ × List ℕ × List ℕ × List ℕ × List (List ℕ)) → first_five operands ≡ Some a → operands ≡ a.0 ∷ a.1 ∷ a.2 ∷ a.3 ∷ a.4 ∷ a.5
 five_is (v ∷ w ∷ x ∷ y ∷ z ∷ rest) a e =
     let same : (v, w, x, y, z, rest) ≡ a = some_same (v, w, x, y, z, rest) a e in
     ap (λ (w : List ℕ × List ℕ × List ℕ × List ℕ × List ℕ × List (List ℕ)). w.0 ∷ w.1 ∷ w.2 ∷ w.3 ∷ w.4 ∷ w.5) same
@@ -252,7 +256,7 @@ message_is_written read out (word ∷ others) e =
 delivery_is_written : (first : List ℕ) (operands : List (List ℕ)) (step : Step) → bytes_eq first (codes "deliver") ≡ true → delivery_of operands ≡ Some step → AreWordsOf (first ∷ operands) step
 unfolding delivery_of
 delivery_is_written first operands step is e =
-    let w = some_bind (five operands) _ step e in
+    let w = some_bind (first_five operands) _ step e in
     let s = some_bind (name_of w.0.0) _ step w.2 in
     let r = some_bind (thread_of w.0.1) _ step s.2 in
     let h = some_bind (thread_of w.0.2) _ step r.2 in

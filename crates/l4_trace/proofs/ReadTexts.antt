@@ -8,12 +8,14 @@ use Rattle.std.proofs.lemmas.List.{length-append}
 use Rattle.std.proofs.lemmas.List.Splits.{join_with_byte-slice_split, slice_split_at}
 use Rattle.l4_model.specs.Steps.{Step}
 use Rattle.l4_trace.specs.Lines.{words_of, line_of, trace_of, has_line}
-use Rattle.l4_trace.specs.Reading.{step_of_line, parts_of, or_line, read_parts, steps_of, IsReadBack, IsWritten, HasFaultAt, IsFirstFault}
-use Rattle.l4_trace.proofs.Plain.{lacks, line_is_above, step_is_plain}
-use Rattle.l4_trace.proofs.ReadWords.{joined_at}
+use Rattle.l4_trace.specs.Reading.{step_of_line, or_line, read_parts, steps_of, IsReadBack, IsWritten, HasFaultAt, IsFirstFault}
+use Rattle.l4_words.specs.Lines.{parts_of}
+use Rattle.l4_words.proofs.Above.{lacks, joined_at}
+use Rattle.l4_words.proofs.Splits.{split_some, split_none}
+use Rattle.l4_trace.proofs.Plain.{line_is_above, step_is_plain}
 use Rattle.l4_trace.proofs.ReadSteps.{body_of, line_is_read, line_is_written}
-use Rattle.l4_trace.proofs.ReadingLines.{has_part, read_line}
-use Rattle.l4_trace.proofs.Splits.{split_some, split_none}
+use Rattle.l4_words.proofs.Parts.{has_part}
+use Rattle.l4_trace.proofs.ReadingLines.{read_line}
 
 -- A text that begins with the line of a step.
 parts_behind : (step : Step) (others : List ℕ) → has_line step ≡ true → parts_of (line_of step ++ others) ≡ body_of step ∷ parts_of others

@@ -1,18 +1,9 @@
 -- Reading a text line by line.
-use Rattle.std.proofs.Common.{◌≡◌, ℕ, ◌+◌, ◌==◌, Bool, true, false, cond, List, [], ◌∷◌, ◌++◌, length, Some, None, Result, Err, refl, sym, ap, ◌∙◌}
-use Rattle.std.specs.List.{onto_first}
+use Rattle.std.proofs.Common.{◌≡◌, ℕ, ◌+◌, List, [], ◌∷◌, ◌++◌, length, Some, None, Result, Err, sym, ap, ◌∙◌}
 use Rattle.l4_model.specs.Steps.{Step}
-use Rattle.l4_trace.specs.Reading.{step_of_line, parts_of, or_line, read_parts}
-
--- A text has a part.
-pub has_part : (text : List ℕ) → (first : List ℕ) × (others : List (List ℕ)) × (parts_of text ≡ first ∷ others)
-has_part [] = ([], [], refl)
-has_part (byte ∷ text) = by_test (byte == 10) (has_part text)
-  where
-    by_test : (b : Bool) → (first : List ℕ) × (others : List (List ℕ)) × (parts_of text ≡ first ∷ others) →
-        (first : List ℕ) × (others : List (List ℕ)) × (cond b ([] ∷ parts_of text) (onto_first byte (parts_of text)) ≡ first ∷ others)
-    by_test true part = ([], parts_of text, refl)
-    by_test false part = (byte ∷ part.0, part.1, ap (onto_first byte) part.2)
+use Rattle.l4_trace.specs.Reading.{step_of_line, or_line, read_parts}
+use Rattle.l4_words.specs.Lines.{parts_of}
+use Rattle.l4_words.proofs.Parts.{has_part}
 
 read_first : (part : List ℕ) (parts : List (List ℕ)) (first : List ℕ) (others : List (List ℕ)) (steps : List Step) → parts ≡ first ∷ others
     → read_parts steps (part ∷ parts) ≡ or_line (length steps + 1) (step_of_line part) (λ step. read_parts (steps ++ step ∷ []) parts)

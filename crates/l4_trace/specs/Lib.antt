@@ -1,4 +1,4 @@
+pub mod Kinds
 pub mod Lines
-pub mod Numbers
+pub mod Names
 pub mod Reading
-pub mod Words

@@ -1,19 +1,13 @@
 -- The line of a step in a trace.
-use Rattle.std.specs.Prelude.{ℕ, ◌/◌, ◌%◌, ◌^◌, Bool, false, ◌==◌, ◌&&◌, nat_lt, List, [], ◌∷◌, ◌++◌, length, map, flat_map, codes, decimal}
-use Rattle.std.specs.Fmt.{digits}
-use Rattle.std.specs.List.{join_with_byte, list_all}
-use Rattle.l4_model.specs.Words.{GlobalId, is_global}
+use Rattle.std.specs.Prelude.{ℕ, ◌/◌, ◌%◌, ◌^◌, Bool, ◌==◌, ◌&&◌, nat_lt, List, [], ◌∷◌, ◌++◌, length, map, flat_map, codes, decimal}
+use Rattle.std.specs.List.{list_all}
+use Rattle.l4_model.specs.Words.{is_global}
 use Rattle.l4_model.specs.Machine.{What, CancelSend, CancelReceive, CancelBoth, Delete}
 use Rattle.l4_model.specs.World.{Name}
 use Rattle.l4_model.specs.Steps.{Step, Local, Begin, Queue, Deliver, Wait, SendTimeout, ReceiveTimeout, SendNobody, ReceiveNobody, SendCancel, ReceiveCancel, Drop, Order, Obey, Tick}
-
--- In lower case, with no prefix and no leading zero, as `decimal` has none: 0 is `0`.
-abbrev pub hexadecimal : ℕ → List ℕ
-hexadecimal n = digits 16 false n
-
--- A thread is spelled by its number and its version, in decimal.
-abbrev pub thread_word : GlobalId → List ℕ
-thread_word t = decimal t.number ++ codes "." ++ decimal t.version
+pub use Rattle.l4_words.specs.Lines.{line_of_words}
+pub use Rattle.l4_words.specs.Numbers.{hexadecimal, is_word}
+pub use Rattle.l4_words.specs.Threads.{thread_word}
 
 abbrev pub name_word : Name → List ℕ
 name_word s = thread_word s.thread ++ codes "#" ++ decimal s.k
@@ -45,10 +39,6 @@ words_of (Order caller target what) =
 words_of (Obey caller) = codes "obey" ∷ thread_word caller ∷ []
 words_of (Tick cpu clock) = codes "tick" ∷ decimal cpu ∷ decimal clock ∷ []
 
--- The words of a line are separated by one space, the byte 32, and a line ends with a line feed.
-abbrev pub line_of_words : List (List ℕ) → List ℕ
-line_of_words words = join_with_byte 32 words ++ codes "\n"
-
 abbrev pub line_of : Step → List ℕ
 line_of step = line_of_words (words_of step)
 
@@ -57,9 +47,6 @@ abbrev pub trace_of : List Step → List ℕ
 trace_of steps = flat_map line_of steps
 
 -- Which steps a trace can spell
-
-abbrev pub is_word : ℕ → Bool
-is_word n = nat_lt n (2 ^ 64)
 
 -- The sends of a thread are counted from 1.
 abbrev pub is_name : Name → Bool

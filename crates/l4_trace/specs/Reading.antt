@@ -1,7 +1,7 @@
 -- The step that a line spells, and the steps of a text.
 use Rattle.std.specs.Prelude.{ℕ, ◌≡◌, ◌↔◌, ◌+◌, ◌<◌, ◌^◌, true, ◌==◌, ◌&&◌, nat_lt, if◌then◌else◌, Option, Some, None, Result, Ok, Err, List, [], ◌∷◌, ◌++◌, length, codes}
 use Rattle.std.specs.Option.{option_map}
-use Rattle.std.specs.List.{list_all, slice_split}
+use Rattle.std.specs.List.{list_all}
 use Rattle.std.specs.Str.{bytes_eq}
 use Rattle.l4_model.specs.Words.{GlobalId}
 use Rattle.l4_model.specs.World.{Name}
@@ -11,8 +11,11 @@ use Rattle.l4_model.specs.Conditions.{◌>>=◌, ◌>>◌}
 use Rattle.l4_trace.specs.declared.fault.TraceFault.{TraceFault}
 use Rattle.l4_trace.specs.declared.fault.TraceFault.TheVariants.{NoMemory, Line}
 use Rattle.l4_trace.specs.Lines.{line_of, trace_of, has_line, is_tag_of}
-use Rattle.l4_trace.specs.Numbers.{number_of}
-use Rattle.l4_trace.specs.Words.{words_in, one, two, three, five, thread_of, name_of}
+use Rattle.l4_words.specs.Lines.{parts_of}
+use Rattle.l4_words.specs.Numbers.{number_of}
+use Rattle.l4_words.specs.Threads.{thread_of}
+use Rattle.l4_words.specs.Words.{words_in, one, two, three, first_five}
+use Rattle.l4_trace.specs.Names.{name_of}
 
 -- What stands behind the first word of a line
 
@@ -33,7 +36,7 @@ delivered name receiver shown actual tag words = do
 -- `T#K R S A TAG W..`
 unfoldable pub delivery_of : List (List ℕ) → Option Step
 delivery_of operands = do
-  words ← five operands
+  words ← first_five operands
   name ← name_of words.0
   receiver ← thread_of words.1
   shown ← thread_of words.2
@@ -104,10 +107,6 @@ unfoldable pub step_of_line : List ℕ → Option Step
 step_of_line line = step_of_words (words_in line)
 
 -- A text
-
--- What stands between the line ends of a text, byte 10: its lines, and behind the last line end what has none.
-abbrev pub parts_of : List ℕ → List (List ℕ)
-parts_of text = slice_split (λ byte. byte == 10) text
 
 -- A line that spells a step leads on; one that spells none is named by its number.
 abbrev pub or_line : (number : ℕ) → Option Step → (Step → Result (List Step) ℕ) → Result (List Step) ℕ

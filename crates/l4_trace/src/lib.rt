@@ -2,9 +2,9 @@
 #![tactic(auto)]
 
 pub mod fault;
+mod kinds;
 pub mod lines;
-mod numbers;
+mod names;
 pub mod reading;
 pub mod spelling;
 mod steps;
-mod words;

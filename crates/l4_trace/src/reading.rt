@@ -1,14 +1,14 @@
 //! The text of a trace, read line by line.
-ghost use Rattle.std.specs.Prelude.{◌≡◌, ◌+◌, ◌++◌, ◌∷◌, [], ◌<◌, length, map, OnOk, IfSome, MatchOption};
+ghost use Rattle.std.specs.Prelude.{◌≡◌, ◌+◌, ◌++◌, ◌∷◌, [], length, map, OnOk};
 ghost use Rattle.l4_types.specs.StepView.{step_of};
 ghost use Rattle.l4_trace.specs.declared.fault.TraceFault.TheVariants.{Line};
-ghost use Rattle.l4_trace.specs.Reading.{Reads, IsReadBack, IsWritten, IsFirstFault, parts_of, steps_of};
+ghost use Rattle.l4_trace.specs.Reading.{Reads, IsReadBack, IsWritten, IsFirstFault, steps_of};
 
 use crate::fault::TraceFault;
 use crate::steps::step;
-use crate::words::find_byte;
 use l4_types::errors::NoMemory;
 use l4_types::steps::Step;
+use l4_words::lines::split_line;
 use std::alloc::Global;
 
 /// The steps whose trace a text is.
@@ -32,17 +32,6 @@ pub fn read_events(alloc: Global, text: &[u8]) -> Result<Vec<Step>, TraceFault>
     } else {
         Err(fault_behind(steps.as_slice()))
     }
-}
-
-/// The first line of a text, without its end, and what follows. None where no line is ended.
-fn split_line(text: &[u8]) -> Option<(&[u8], &[u8])>
-    ensures parts { MatchOption result
-        (parts_of text.now ≡ text.now ∷ [])
-        (λ split. parts_of text.now ≡ split.0.now ∷ parts_of split.1.now) }
-    ensures shorter { IfSome result (λ split. length split.1.now < length text.now) }
-{
-    let end = find_byte(b'\n', text)?;
-    Some((&text[..end], &text[end + 1..]))
 }
 
 /// The fault of the line behind those of these steps.

@@ -2,45 +2,18 @@
 ghost use Rattle.std.specs.Prelude.{◌≡◌, ◌++◌, ◌∷◌, [], ◌≤◌, ◌<◌, ◌/◌, ◌%◌, ◌^◌, ◌==◌, length};
 ghost use Rattle.std.specs.Option.{option_map};
 ghost use Rattle.l4_types.specs.StepView.{step_of, what_of};
-ghost use Rattle.l4_trace.specs.Words.{Finds};
+ghost use Rattle.l4_words.specs.Words.{Finds};
 ghost use Rattle.l4_trace.specs.Reading.{message_words, delivered, delivery_of, what_of_word, order_of, tick_of, of_thread, of_name, step_behind, step_of_line};
 
-use crate::numbers::{decimal, hexadecimal};
-use crate::words::{Words, name, thread};
+use crate::kinds::{Kind, kind_of};
+use crate::names::name;
 use arrayvec::ArrayVec;
 use l4_types::ids::GlobalId;
 use l4_types::messages::Message;
 use l4_types::steps::{Delivery, Name, Step, Tick, What};
-
-const LOCAL: &[u8] = b"local";
-
-const BEGIN: &[u8] = b"begin";
-
-const QUEUE: &[u8] = b"queue";
-
-const DELIVER: &[u8] = b"deliver";
-
-const WAIT: &[u8] = b"wait";
-
-const SEND_TIMEOUT: &[u8] = b"stimeout";
-
-const RECEIVE_TIMEOUT: &[u8] = b"rtimeout";
-
-const SEND_NOBODY: &[u8] = b"snobody";
-
-const RECEIVE_NOBODY: &[u8] = b"rnobody";
-
-const SEND_CANCEL: &[u8] = b"scancel";
-
-const RECEIVE_CANCEL: &[u8] = b"rcancel";
-
-const DROP: &[u8] = b"drop";
-
-const ORDER: &[u8] = b"order";
-
-const OBEY: &[u8] = b"obey";
-
-const TICK: &[u8] = b"tick";
+use l4_words::numbers::{decimal, hexadecimal};
+use l4_words::threads::thread;
+use l4_words::words::Words;
 
 const CANCEL_SEND: &[u8] = b"S";
 
@@ -157,7 +130,7 @@ fn is_set(word: u64, bit: u32) -> bool
 fn delivery(operands: Words<'_>) -> Option<Step>
     ensures { Finds step_of result (delivery_of operands.entry) }
 {
-    let (first, second, third, fourth, fifth, others) = operands.five()?;
+    let (first, second, third, fourth, fifth, others) = operands.first_five()?;
     let name = name(first)?;
     let receiver = thread(second)?;
     let shown = thread(third)?;
@@ -168,42 +141,15 @@ fn delivery(operands: Words<'_>) -> Option<Step>
 }
 
 /// The step of a line that begins with this word.
-#[tactic(auto, unfolding(crate::specs::Reading::step_behind))]
 fn step_behind(word: &[u8], operands: Words<'_>) -> Option<Step>
     ensures { Finds step_of result (step_behind word.now operands.entry) }
 {
-    if word == LOCAL {
-        of_thread(operands).map(Step::Local)
-    } else if word == BEGIN {
-        of_name(operands).map(Step::Begin)
-    } else if word == QUEUE {
-        of_name(operands).map(Step::Queue)
-    } else if word == DELIVER {
-        delivery(operands)
-    } else if word == WAIT {
-        of_thread(operands).map(Step::Wait)
-    } else if word == SEND_TIMEOUT {
-        of_name(operands).map(Step::SendTimeout)
-    } else if word == RECEIVE_TIMEOUT {
-        of_thread(operands).map(Step::ReceiveTimeout)
-    } else if word == SEND_NOBODY {
-        of_name(operands).map(Step::SendNobody)
-    } else if word == RECEIVE_NOBODY {
-        of_thread(operands).map(Step::ReceiveNobody)
-    } else if word == SEND_CANCEL {
-        of_name(operands).map(Step::SendCancel)
-    } else if word == RECEIVE_CANCEL {
-        of_thread(operands).map(Step::ReceiveCancel)
-    } else if word == DROP {
-        of_name(operands).map(Step::Drop)
-    } else if word == ORDER {
-        order(operands)
-    } else if word == OBEY {
-        of_thread(operands).map(Step::Obey)
-    } else if word == TICK {
-        tick(operands)
-    } else {
-        None
+    match kind_of(word)? {
+        Kind::OfThread(kind) => Some(kind.step(of_thread(operands)?)),
+        Kind::OfName(kind) => Some(kind.step(of_name(operands)?)),
+        Kind::Delivery => delivery(operands),
+        Kind::Order => order(operands),
+        Kind::Tick => tick(operands),
     }
 }
 

@@ -1,1 +1,2 @@
+pub mod Products
 mod Values

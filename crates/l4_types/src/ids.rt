@@ -1,6 +1,7 @@
 //! Thread ids (manual: ThreadId).
 ghost use Rattle.std.specs.Prelude.{◌≡◌, ◌/◌, ◌%◌, ◌^◌, ◌↔◌, true, IsSome, IfSome};
 ghost use Rattle.l4_model.specs.Words.{GlobalThread, word_of, id_of_word, is_global, global_id};
+ghost use Rattle.l4_model.specs.Rules.{takes};
 ghost use Rattle.l4_types.specs.Ids.{kind_of, global_of};
 
 use std::marker::Model;
@@ -175,6 +176,21 @@ impl ThreadId {
                 let (number, version) = halves(raw);
                 Kind::Global { number, version }
             }
+        }
+    }
+
+    /// Whether a receive phase with this specifier takes a message that shows this sender (manual: Ipc, `FromSpecifier`). `local` says
+    /// whether the sender is of the receiver's address space.
+    pub fn takes(&self, shown: GlobalId, local: bool) -> bool
+        ensures { result ≡ takes self.now shown local }
+    {
+        match self.kind() {
+            Kind::Any => true,
+            Kind::AnyLocal => local,
+            Kind::Global { number, version } => {
+                number == shown.number() && version == shown.version()
+            }
+            Kind::Nil | Kind::Local => false,
         }
     }
 

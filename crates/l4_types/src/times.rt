@@ -1,8 +1,8 @@
 //! Times of an Ipc (manual: Time).
-ghost use Rattle.std.specs.Prelude.{◌≡◌, ◌<◌};
+ghost use Rattle.std.specs.Prelude.{◌≡◌, ◌<◌, IfSome};
 ghost use Rattle.std.specs.Option.{option_map};
 ghost use Rattle.l4_model.specs.Words.{period_of, time_of, timeouts_of};
-ghost use Rattle.l4_types.specs.PeriodView.{period_from, periods_from};
+ghost use Rattle.l4_types.specs.PeriodView.{period_from, periods_from, IsTimely};
 
 /// How long a phase of an Ipc may wait, in ticks of a processor's clock. One tick is one microsecond.
 #[derive(Clone, Copy, PartialEq, Eq, Debug)]
@@ -18,7 +18,8 @@ pub enum Period {
 /// The period of a time (manual: Time): 0 is never, else it is the mantissa, bits 0 to 9, times the power of two of the
 /// exponent, bits 10 to 14. None exactly where bit 15 is set, which would be a point in time.
 pub fn time_of(time: u16) -> Option<Period>
-    ensures { result ≡ option_map period_from (time_of time) }
+    ensures value { result ≡ option_map period_from (time_of time) }
+    ensures timely { IfSome result (λ period. IsTimely period) }
 {
     if time < 0x8000 {
         Some(period_of(time))
@@ -28,9 +29,11 @@ pub fn time_of(time: u16) -> Option<Period>
 }
 
 // The period of a time without bit 15.
+#[tactic(auto, using(crate::proofs::Products::product_positive, crate::proofs::Products::product_below))]
 fn period_of(time: u16) -> Period
     requires { time < 0x8000 }
-    ensures { result ≡ period_from (period_of time) }
+    ensures value { result ≡ period_from (period_of time) }
+    ensures timely { IsTimely result }
 {
     let mantissa = u64::from(time % 1024);
     if time == 0 {

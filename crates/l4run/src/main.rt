@@ -1,29 +1,15 @@
-//! The program `l4run`: runs machine texts and prints what happened.
+//! The program `l4run`: runs machine texts and prints what happened, and audits what is said to have happened.
 #![tactic(auto)]
 
 use l4_jobs::fault::{Fault, report};
-use l4_jobs::job::Job;
-use l4_jobs::perform::perform;
+use l4_jobs::files::perform_on_files;
 use l4_jobs::refusal::refuse;
 use l4_jobs::words::job_of;
 use std::alloc::{AllocError, Global};
 use std::io::Write;
 use std::process::ExitCode;
 use std::rt::{Env, Files};
-use std::{env, fs, io};
-
-// Opens the job's file and does the job.
-fn on_file<R: Files + AllocGlobal, W: Write, E: Write>(
-    rt: &R,
-    job: &Job<'_>,
-    out: &mut W,
-    faults: &mut E,
-) -> u8 {
-    match fs::open(rt, job.file()) {
-        Ok(mut machine) => perform(rt.alloc(), job, &mut machine, out, faults),
-        Err(_) => report(faults, &Fault::Read(job.file())),
-    }
-}
+use std::{env, io};
 
 // Does what the words ask for.
 fn on_words<R: Files + AllocGlobal, W: Write, E: Write>(
@@ -33,7 +19,7 @@ fn on_words<R: Files + AllocGlobal, W: Write, E: Write>(
     faults: &mut E,
 ) -> u8 {
     match job_of(rt.alloc(), words) {
-        Ok(job) => on_file(rt, &job, out, faults),
+        Ok(job) => perform_on_files(rt, &job, out, faults),
         Err(fault) => refuse(&fault, out, faults),
     }
 }
@@ -73,18 +59,24 @@ fn main(rt: HostRuntime) -> ExitCode {
 #[cfg(test)]
 mod tests {
     use super::*;
+    use std::process::Abort;
+
+    // Tests that what the words ask for is refused with this line.
+    fn is_refused<R: Files + AllocGlobal + Abort>(rt: &R, words: &[&str], line: &str) {
+        let mut out = Vec::new(rt.alloc());
+        let mut faults = Vec::new(rt.alloc());
+        let status = on_words(rt, words, &mut out, &mut faults);
+        assert_eq!(rt; status, 1);
+        assert_eq!(rt; out.as_slice(), b"".as_slice());
+        assert_eq!(rt; faults.as_slice(), line.as_bytes());
+    }
 
     #[test]
     fn a_file_that_is_not_there_is_reported_by_its_name(rt: HostRuntime) {
-        let mut out = Vec::new(rt.alloc());
-        let mut faults = Vec::new(rt.alloc());
-        let words = ["l4run", "run", "no/such/file.l4"];
-        let status = on_words(&rt, &words, &mut out, &mut faults);
-        assert_eq!(rt; status, 1);
-        assert_eq!(rt; out.as_slice(), b"".as_slice());
-        assert_eq!(rt;
-            faults.as_slice(),
-            b"l4run: cannot read no/such/file.l4\n".as_slice()
-        );
+        let line = "l4run: cannot read no/such/file.l4\n";
+        is_refused(&rt, &["l4run", "run", "no/such/file.l4"], line);
+        // The machine text is opened before the trace.
+        let words = ["l4run", "audit", "no/such/file.l4", "no/such/trace"];
+        is_refused(&rt, &words, line);
     }
 }

@@ -3,6 +3,7 @@ pub mod Entries
 pub mod Finding
 pub mod Lists
 pub mod Once
+pub mod Rising
 pub mod Showing
 pub mod Splices
 pub mod Walks

@@ -1,5 +1,6 @@
 -- What a contract sees of a `Wheel`: the armed blocks by rising deadline; and the rings that they stand in.
-use Rattle.std.specs.Prelude.{◌≡◌, ℕ, ◌+◌, ◌<◌, ◌%◌, ◌==◌, nat_le, List, [], ◌∷◌, length, slice_index, slice_get, Some, None, Option, ◌≤◌, map, if◌then◌else◌, refl}
+use Rattle.std.specs.Prelude.{◌≡◌, ℕ, ◌+◌, ◌<◌, ◌%◌, ◌==◌, ◌&&◌, nat_le, Bool, true, List, [], ◌∷◌, length, slice_index, slice_get, Some, None, Option, ◌≤◌, map, if◌then◌else◌, refl}
+use Rattle.std.specs.List.{list_all}
 use Rattle.std.specs.Coded.{Coded, code_by, coded×, coded_ℕ, coded_list}
 use Rattle.l4_core_model.specs.Plain.{put_entry, without_block}
 use Rattle.tcb_arena.specs.Rings.{Lists, list_at}
@@ -37,6 +38,15 @@ times_armed block (e ∷ es) = (if block == e.1 then 1 else 0) + times_armed blo
 pub record AreOnce (s : Due) : Type 0 where
   pub once : (block : ℕ) → times_armed block s.armed ≤ 1
   pub below : (k : ℕ) (e : ℕ × ℕ) → slice_get s.armed k ≡ Some e → e.1 < s.blocks
+
+-- No deadline is before this one.
+abbrev pub are_from : (deadline : ℕ) → List (ℕ × ℕ) → Bool
+are_from deadline es = list_all (λ e. nat_le deadline e.0) es
+
+-- The deadlines rise.
+abbrev pub are_rising : List (ℕ × ℕ) → Bool
+are_rising [] = true
+are_rising (e ∷ es) = are_from e.0 es && are_rising es
 
 -- The rings
 

@@ -2,17 +2,16 @@
 //! that are armed for a deadline.
 //!
 //! No call but `Arena::new` takes memory. `Arena::first_accepted` looks at the sends before the one that it finds, and
-//! `Arena::least_deadline` and `Arena::pop_due` look at every armed block; every other call takes the same few steps
-//! whatever stands in the lists.
+//! `Arena::least_deadline`, `Arena::pop_due`, and, once a deadline that was the least is past,
+//! `Arena::first_due` look at every armed block; every other call takes the same few steps whatever stands in the lists.
 #![tactic(auto)]
 
 ghost use Rattle.std.specs.Prelude.{◌≡◌, ◌<◌, false, length, slice_get, IfOk, IfSome};
-ghost use Rattle.l4_model.specs.Rules.{takes};
 ghost use Rattle.l4_core_model.specs.Plain.{list_of, is_queued, queued, unqueued, first_taken, made_ready, dropped, popped, armed, disarmed, due_block};
 ghost use Rattle.tcb_arena.specs.Blocks.{is_ready, is_armed, least_deadline, without_due, empty_lists};
 
 use l4_types::errors::NoMemory;
-use l4_types::ids::{GlobalId, Kind, ThreadId};
+use l4_types::ids::{GlobalId, ThreadId};
 use std::alloc::Global;
 use std::marker::Model;
 
@@ -59,6 +58,8 @@ pub struct Arena {
     // One ring.
     ready: Rings,
     wheel: Wheel,
+    // No armed deadline is before it.
+    floor: u64,
 }
 
 impl Model for Arena {
@@ -70,7 +71,7 @@ impl Model for Arena {
 
     ghost view = { λ a. shown_lists a.waiting a.senders.items a.ready a.wheel };
 
-    ghost invariant = { λ a. AreBlocks a.waiting a.senders.items a.ready a.wheel };
+    ghost invariant = { λ a. AreBlocks a.waiting a.senders.items a.ready a.wheel a.floor };
 }
 
 impl Arena {
@@ -87,6 +88,7 @@ impl Arena {
             senders,
             ready,
             wheel,
+            floor: u64::MAX,
         })
     }
 
@@ -129,7 +131,8 @@ impl Arena {
         let mut next = self.waiting.first(receiver);
         for _place in 0..self.senders.len() {
             let block = next?;
-            if takes(spec, &self.senders[block]) {
+            let sender = self.senders[block];
+            if spec.takes(sender.shown, sender.local) {
                 return Some(block);
             }
             next = self.waiting.after(block);
@@ -192,6 +195,7 @@ impl Arena {
         requires free { is_armed self.old block ≡ false }
         ensures { self.new ≡ armed deadline block self.old }
     {
+        self.floor = self.floor.min(deadline);
         self.wheel.arm(block, deadline);
     }
 
@@ -211,6 +215,19 @@ impl Arena {
         Some(deadline)
     }
 
+    /// The first armed block, of equal deadlines that which was armed first, where its deadline is not after `now`.
+    pub fn first_due(&mut self, now: u64) -> Option<usize>
+        ensures due { result ≡ due_block now self.old.armed }
+        ensures same { self.new ≡ self.old }
+    {
+        if now < self.floor {
+            return None;
+        }
+        let (deadline, block) = self.wheel.first()?;
+        self.floor = deadline;
+        if deadline <= now { Some(block) } else { None }
+    }
+
     /// Disarms the first armed block, of equal deadlines that which was armed first, where its deadline is not after
     /// `now`.
     pub fn pop_due(&mut self, now: u64) -> Option<usize>
@@ -224,20 +241,6 @@ impl Arena {
         }
         self.wheel.disarm(first);
         Some(first)
-    }
-}
-
-// Whether a receive phase with this specifier takes a sender.
-fn takes(spec: &ThreadId, sender: &Sender) -> bool
-    ensures { result ≡ takes spec.now sender.now.shown sender.now.local }
-{
-    match spec.kind() {
-        Kind::Any => true,
-        Kind::AnyLocal => sender.local,
-        Kind::Global { number, version } => {
-            number == sender.shown.number() && version == sender.shown.version()
-        }
-        Kind::Nil | Kind::Local => false,
     }
 }
 

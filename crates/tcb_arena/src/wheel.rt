@@ -1,9 +1,9 @@
 //! Armed blocks in linked rings, each with its deadline.
 
-ghost use Rattle.std.specs.Prelude.{◌≡◌, ℕ, ◌<◌, false, List, IfOk, length, slice_get, map};
+ghost use Rattle.std.specs.Prelude.{◌≡◌, ℕ, ◌<◌, true, false, List, IfOk, length, slice_get, map};
 ghost use Rattle.tcb_arena.specs.Blocks.{has_entry};
 ghost use Rattle.tcb_arena.specs.Rings.{list_at, head_count};
-ghost use Rattle.tcb_arena.specs.Due.{none_armed, with_entry, without_entry, earlier_of, put_all, entry, AreOnce};
+ghost use Rattle.tcb_arena.specs.Due.{none_armed, with_entry, without_entry, earlier_of, put_all, entry, are_rising, AreOnce};
 
 use crate::links::Rings;
 use l4_types::errors::NoMemory;
@@ -74,6 +74,7 @@ impl Wheel {
     pub fn first(&self) -> Option<(u64, usize)>
         ensures first { result ≡ slice_get self.now.armed 0 }
         ensures once { AreOnce self.now }
+        ensures rising { are_rising self.now.armed ≡ true }
     {
         let blocks = self.rings.names();
         let mut best = None;

@@ -8,7 +8,7 @@ ghost use Rattle.l4_core_model.specs.Known.{known_world};
 ghost use Rattle.l4_types.specs.ReportView.{report_of_view};
 ghost use Rattle.l4_types.specs.StepView.{step_of};
 
-use crate::processor::Core;
+use crate::processor::{Core, State};
 use l4_types::errors::NoMemory;
 use l4_types::ids::ThreadId;
 use l4_types::reports::ThreadView;
@@ -19,8 +19,25 @@ impl Core {
     pub fn threads(&self) -> Result<Vec<ThreadView>, NoMemory>
         ensures { IfOk result (λ views. map report_of_view views.items ≡ view self.now.machine (known_world self.now.local)) }
     {
-        let mut views = Vec::with_capacity(*self.threads.allocator(), self.threads.len())?;
-        for place in 0..self.threads.len() {
+        self.state.threads()
+    }
+
+    /// The begun sends of a told history that are undecided here, in order of beginning, with their destinations.
+    pub fn waiting(&self, history: &[Step]) -> Result<Vec<(Name, ThreadId)>, NoMemory>
+        ensures { IfOk result (λ sends. sends.items ≡ waiting self.now.machine (known_world self.now.local) (map step_of history.now)) }
+    {
+        self.state.waiting(history)
+    }
+}
+
+impl State {
+    // The report of each thread, in order of declaration.
+    fn threads(&self) -> Result<Vec<ThreadView>, NoMemory>
+        ensures { IfOk result (λ views. map report_of_view views.items ≡ view self.now.machine (known_world self.now.local)) }
+    {
+        let count = self.machine.threads().len();
+        let mut views = Vec::with_capacity(*self.threads.allocator(), count)?;
+        for place in 0..count {
             views.push(self.thread_view(place))?;
         }
         Ok(views)
@@ -35,12 +52,12 @@ impl Core {
         ThreadView {
             id: self.id(place),
             state: thread.state(),
-            regs: *thread.context().regs(),
+            regs: *thread.thread().regs(),
         }
     }
 
-    /// The begun sends of a told history that are undecided here, in order of beginning, with their destinations.
-    pub fn waiting(&self, history: &[Step]) -> Result<Vec<(Name, ThreadId)>, NoMemory>
+    // The begun sends of a told history that are undecided here, in order of beginning, with their destinations.
+    fn waiting(&self, history: &[Step]) -> Result<Vec<(Name, ThreadId)>, NoMemory>
         ensures { IfOk result (λ sends. sends.items ≡ waiting self.now.machine (known_world self.now.local) (map step_of history.now)) }
     {
         let mut sends = Vec::new(*self.threads.allocator());
@@ -57,20 +74,37 @@ impl Core {
         ensures { result ≡ waiting_name self.now.machine (known_world self.now.local) (step_of step.now) }
     {
         match step {
-            Step::Begin(name) => Some((*name, self.destination(*name)?)),
+            Step::Begin(name) => Some((*name, self.waiting_destination(*name)?)),
             _ => None,
         }
     }
 
     // Where an undecided send goes to. None where it is decided, or never began.
-    fn destination(&self, name: Name) -> Option<ThreadId>
+    fn waiting_destination(&self, name: Name) -> Option<ThreadId>
         ensures { result ≡ option_map (λ p. p.send.to) (undecided self.now.machine (known_world self.now.local) name) }
     {
+        let _ = &self.machine;
         let place = self.place_of(name.thread())?;
-        let thread = &self.threads[place];
-        if thread.context().begun() != name.k() {
+        if self.begun(place) != name.k() {
             return None;
         }
-        thread.destination()
+        self.send_destination(place)
+    }
+
+    // How many sends a thread began.
+    fn begun(&self, place: usize) -> u64
+        requires { place < length self.now.machine.threads }
+        ensures { result ≡ (thread self.now.local place).context.begun }
+    {
+        self.threads[place].thread().begun()
+    }
+
+    // Where the undecided send of a thread goes to.
+    fn send_destination(&self, place: usize) -> Option<ThreadId>
+        requires { place < length self.now.machine.threads }
+        ensures { result ≡ option_map (λ send. send.to) (thread self.now.local place).send }
+    {
+        let send = self.threads[place].send()?;
+        Some(send.to())
     }
 }

@@ -27,15 +27,15 @@ impl TextFault {
 }
 
 /// The kinds of faults. Within a line they are judged in the order: what stands there at all (`BadLine`), the operands from left to
-/// right, then whether an ipc is one that is read so far (`BadLine`), and then the limits and the numbers of the threads.
+/// right, and then the limits and the numbers of the threads.
 #[derive(Clone, Copy, Debug, PartialEq, Eq)]
 pub enum TextFaultKind {
     /// The text has more bytes than a text may have. Its line is 0.
     TooLong,
     /// Memory ran out. Its line is 0.
     NoMemory,
-    /// A byte that is not printable ASCII, a missing line end, a wrong number of words, an empty or an unknown word, a line that may
-    /// not stand in its place, or an ipc that is not read yet.
+    /// A byte that is not printable ASCII, a missing line end, a wrong number of words, an empty or an unknown word, or a line that may
+    /// not stand in its place.
     BadLine,
     /// No number, or one out of its range.
     BadNumber,

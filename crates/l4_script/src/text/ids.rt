@@ -1,11 +1,11 @@
 //! Thread ids as machine texts spell them.
 ghost use Rattle.std.specs.Prelude.{◌≡◌};
 ghost use Rattle.l4_model.specs.Words.{GlobalThread};
-ghost use Rattle.l4_script.specs.Ids.{global_id_of, global_id_between, raw_id_of, spelled_id_of, id_of};
+ghost use Rattle.l4_script.specs.Ids.{raw_id_of, spelled_id_of, id_of};
 
-use super::numbers::{decimal, hexadecimal};
-use super::words::find_byte;
-use l4_types::ids::{GlobalId, ThreadId};
+use l4_types::ids::ThreadId;
+use l4_words::numbers::padded_hexadecimal;
+use l4_words::threads::thread;
 
 const NIL: &[u8] = b"nil";
 
@@ -13,29 +13,12 @@ const ANY: &[u8] = b"any";
 
 const ANY_LOCAL: &[u8] = b"anylocal";
 
-/// The global id of a decimal thread number and a decimal version.
-fn global_id_between(number: &[u8], version: &[u8]) -> Option<GlobalId>
-    ensures { result ≡ global_id_between number.now version.now }
-{
-    let number = decimal(number)?;
-    let version = decimal(version)?;
-    GlobalId::new(u32::try_from(number).ok()?, u32::try_from(version).ok()?)
-}
-
-/// A global id, `N.V`.
-pub(super) fn global_id(word: &[u8]) -> Option<GlobalId>
-    ensures { result ≡ global_id_of word.now }
-{
-    let dot = find_byte(b'.', word)?;
-    global_id_between(&word[..dot], &word[dot + 1..])
-}
-
 /// The id whose word exactly 16 hexadecimal digits spell.
 fn raw_id(digits: &[u8]) -> Option<ThreadId>
     ensures { result ≡ raw_id_of digits.now }
 {
     if digits.len() == 16 {
-        hexadecimal(digits).map(ThreadId::from_raw)
+        padded_hexadecimal(digits).map(ThreadId::from_raw)
     } else {
         None
     }
@@ -48,7 +31,7 @@ fn spelled_id(word: &[u8]) -> Option<ThreadId>
 {
     match word.strip_prefix(b"#") {
         Some(digits) => raw_id(digits),
-        None => global_id(word).map(ThreadId::from),
+        None => thread(word).map(ThreadId::from),
     }
 }
 

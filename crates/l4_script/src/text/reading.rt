@@ -8,10 +8,12 @@ ghost use Rattle.l4_script.specs.Texts.{ReadsAs, nothing_read, naming, targets_o
 ghost use Rattle.l4_script.specs.Stages.{stage_of};
 
 use super::fault::{TextFault, TextFaultKind};
+use super::lines::words_of;
 use super::statements::{declaration, format_line, instruction, processors_line};
-use super::words::{Words, words_of};
-use crate::machine::{Declaration, Instr, MOST_INSTRUCTIONS, MOST_THREADS, Machine};
+use crate::instructions::Instr;
+use crate::machine::{Declaration, MOST_INSTRUCTIONS, MOST_THREADS, Machine};
 use l4_types::errors::NoMemory;
+use l4_words::words::Words;
 use std::alloc::Global;
 use std::marker::Model;
 

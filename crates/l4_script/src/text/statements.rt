@@ -1,20 +1,26 @@
 //! What the lines of a machine text say.
 ghost use Rattle.std.specs.Prelude.{◌≡◌, ◌<◌, IfOk};
 ghost use Rattle.std.specs.Option.{option_map};
-ghost use Rattle.l4_types.specs.PeriodView.{period_of};
-ghost use Rattle.l4_script.specs.Judged.{Returns};
-ghost use Rattle.l4_script.specs.Scripts.{instr_of, ipc_of as model_ipc_of};
+ghost use Rattle.l4_types.specs.StepView.{what_of};
+ghost use Rattle.l4_script.specs.declared.text.fault.TextFaultKind.TheVariants.{BadId, BadLine};
+ghost use Rattle.l4_words.specs.Words.{one};
+ghost use Rattle.l4_script.specs.Ids.{id_of};
+ghost use Rattle.l4_script.specs.Judged.{Returns, needs};
+ghost use Rattle.l4_script.specs.Scripts.{instr_of, to_of};
 ghost use Rattle.l4_script.specs.Numbers.{number_from};
-ghost use Rattle.l4_script.specs.Statements.{format_line, processors_line, processor_of, declaration_of, set_of, copy_of, add_of, tag_of, plain_ipc, ipc_of, target_of, instruction_of};
+ghost use Rattle.l4_script.specs.Statements.{format_line, processors_line, processor_of, declaration_of, set_of, copy_of, add_of, tag_of, vs_of, destination_of, ipc_of, bits_of, exregs_of, delete_of, target_of, end_of, instruction_of};
 
 use super::fault::TextFaultKind;
-use super::ids::{global_id, id};
+use super::ids::id;
+use super::lines::after;
 use super::numbers::{number, number_from, time};
-use super::words::Words;
-use crate::machine::{Declaration, Instr, Ipc, Register, Source};
-use l4_types::ids::{Kind, ThreadId};
+use crate::instructions::{Instr, Ipc, Register, Source, To};
+use crate::machine::Declaration;
+use l4_types::ids::ThreadId;
+use l4_types::steps::What;
 use l4_types::tags::MsgTag;
-use l4_types::times::Period;
+use l4_words::threads::thread;
+use l4_words::words::Words;
 use std::alloc::Global;
 
 const CPU: &[u8] = b"cpu";
@@ -29,7 +35,13 @@ const ADD: &[u8] = b"add";
 
 const TAG: &[u8] = b"tag";
 
+const VIRTUAL_SENDER: &[u8] = b"vs";
+
 const IPC: &[u8] = b"ipc";
+
+const EXCHANGE_REGISTERS: &[u8] = b"exregs";
+
+const DELETE: &[u8] = b"delete";
 
 const JUMP: &[u8] = b"jump";
 
@@ -37,12 +49,19 @@ const ON_ERROR: &[u8] = b"onerr";
 
 const END: &[u8] = b"end";
 
+/// The one word of these.
+fn only<'a>(words: Words<'a>) -> Result<&'a [u8], TextFaultKind>
+    ensures { Returns (λ word. word.now) result (needs (one words.entry) BadLine) }
+{
+    words.one().ok_or(TextFaultKind::BadLine)
+}
+
 /// The line `l4 1 64`.
 #[tactic(auto, unfolding(crate::specs::Statements::format_line))]
 pub(super) fn format_line(words: Words<'_>) -> Result<(), TextFaultKind>
     ensures { result ≡ format_line words.entry }
 {
-    let (profile, width) = words.after(b"l4")?.two()?;
+    let (profile, width) = after(b"l4", words)?.two().ok_or(TextFaultKind::BadLine)?;
     number_from(1, 1, profile)?;
     number_from(64, 64, width)?;
     Ok(())
@@ -54,7 +73,7 @@ pub(super) fn processors_line(words: Words<'_>) -> Result<u64, TextFaultKind>
     ensures value { result ≡ processors_line words.entry }
     ensures one { IfOk result (λ cpus. cpus ≡ 1) }
 {
-    number_from(1, 1, words.after(b"cpus")?.one()?)
+    number_from(1, 1, only(after(b"cpus", words)?)?)
 }
 
 /// A processor below their number.
@@ -82,11 +101,13 @@ pub(super) fn declaration(
     ensures value { result ≡ declaration_of cpus operands.entry }
     ensures home { IfOk result (λ thread. thread.cpu ≡ 0) }
 {
-    let (id, cpu_keyword, cpu, space_keyword, space) = operands.five()?;
+    let (id, cpu_keyword, cpu, space_keyword, space) = operands
+        .five()
+        .ok_or(TextFaultKind::BadLine)?;
     if cpu_keyword != CPU || space_keyword != SPACE {
         return Err(TextFaultKind::BadLine);
     }
-    let id = global_id(id).ok_or(TextFaultKind::BadId)?;
+    let id = thread(id).ok_or(TextFaultKind::BadId)?;
     // With one processor it is 0, which a declaration does not store.
     processor(cpus, cpu)?;
     let space = number_from(0, u64::from(u32::MAX), space)?;
@@ -112,7 +133,7 @@ fn source(word: &[u8]) -> Result<Source, TextFaultKind>
 fn set(operands: Words<'_>) -> Result<Instr, TextFaultKind>
     ensures { Returns instr_of result (set_of operands.entry) }
 {
-    let (first, second) = operands.two()?;
+    let (first, second) = operands.two().ok_or(TextFaultKind::BadLine)?;
     let register = register(first)?;
     let word = number(second).ok_or(TextFaultKind::BadNumber)?;
     Ok(Instr::Set(register, word))
@@ -123,7 +144,7 @@ fn set(operands: Words<'_>) -> Result<Instr, TextFaultKind>
 fn copy(operands: Words<'_>) -> Result<Instr, TextFaultKind>
     ensures { Returns instr_of result (copy_of operands.entry) }
 {
-    let (first, second) = operands.two()?;
+    let (first, second) = operands.two().ok_or(TextFaultKind::BadLine)?;
     let register = register(first)?;
     let source = source(second)?;
     Ok(Instr::Copy(register, source))
@@ -134,7 +155,7 @@ fn copy(operands: Words<'_>) -> Result<Instr, TextFaultKind>
 fn add(operands: Words<'_>) -> Result<Instr, TextFaultKind>
     ensures { Returns instr_of result (add_of operands.entry) }
 {
-    let (first, second) = operands.two()?;
+    let (first, second) = operands.two().ok_or(TextFaultKind::BadLine)?;
     let register = register(first)?;
     let word = number(second).ok_or(TextFaultKind::BadNumber)?;
     Ok(Instr::Add(register, word))
@@ -145,24 +166,35 @@ fn add(operands: Words<'_>) -> Result<Instr, TextFaultKind>
 fn tag(operands: Words<'_>) -> Result<Instr, TextFaultKind>
     ensures { Returns instr_of result (tag_of operands.entry) }
 {
-    let word = number(operands.one()?).ok_or(TextFaultKind::BadNumber)?;
+    let word = number(only(operands)?).ok_or(TextFaultKind::BadNumber)?;
     match MsgTag::from_raw(word) {
         Ok(tag) => Ok(Instr::Tag(tag)),
         Err(_) => Err(TextFaultKind::TypedItems),
     }
 }
 
-/// The Ipc of these operands, where it has no times and of its phases one at most.
-fn plain_ipc(to: ThreadId, from: ThreadId, send: Period, receive: Period) -> Option<Ipc>
-    ensures { option_map model_ipc_of result ≡ plain_ipc to from (period_of send) (period_of receive) }
+fn thread_id(word: &[u8]) -> Result<ThreadId, TextFaultKind>
+    ensures { result ≡ needs (id_of word.now) BadId }
 {
-    match (send, receive) {
-        (Period::Never, Period::Never) => match (to.kind(), from.kind()) {
-            (_, Kind::Nil) => Some(Ipc::Send(to)),
-            (Kind::Nil, Kind::Any) => Some(Ipc::Wait),
-            _ => None,
-        },
-        _ => None,
+    id(word).ok_or(TextFaultKind::BadId)
+}
+
+/// What stands behind `vs`.
+#[tactic(auto, unfolding(crate::specs::Statements::vs_of))]
+fn vs(operands: Words<'_>) -> Result<Instr, TextFaultKind>
+    ensures { Returns instr_of result (vs_of operands.entry) }
+{
+    Ok(Instr::Vs(thread_id(only(operands)?)?))
+}
+
+/// Where an ipc sends to: an id, or `last`.
+#[tactic(auto, unfolding(crate::specs::Statements::destination_of))]
+fn destination(word: &[u8]) -> Result<To, TextFaultKind>
+    ensures { Returns to_of result (destination_of word.now) }
+{
+    match word {
+        b"last" => Ok(To::Last),
+        _ => Ok(To::Id(thread_id(word)?)),
     }
 }
 
@@ -171,13 +203,44 @@ fn plain_ipc(to: ThreadId, from: ThreadId, send: Period, receive: Period) -> Opt
 fn ipc(operands: Words<'_>) -> Result<Instr, TextFaultKind>
     ensures { Returns instr_of result (ipc_of operands.entry) }
 {
-    let (to, from, send, receive) = operands.four()?;
-    let to = id(to).ok_or(TextFaultKind::BadId)?;
-    let from = id(from).ok_or(TextFaultKind::BadId)?;
+    let (to, from, send, receive) = operands.four().ok_or(TextFaultKind::BadLine)?;
+    let to = destination(to)?;
+    let from = thread_id(from)?;
     let send = time(send)?;
     let receive = time(receive)?;
-    let ipc = plain_ipc(to, from, send, receive).ok_or(TextFaultKind::BadLine)?;
-    Ok(Instr::Ipc(ipc))
+    Ok(Instr::Ipc(Ipc::new(to, from, send, receive)))
+}
+
+/// The bits `S`, `R` or `SR` (manual: ExchangeRegisters).
+#[tactic(auto, unfolding(crate::specs::Statements::bits_of))]
+fn bits(word: &[u8]) -> Option<What>
+    ensures { option_map what_of result ≡ bits_of word.now }
+{
+    match word {
+        b"S" => Some(What::CancelSend),
+        b"R" => Some(What::CancelReceive),
+        b"SR" => Some(What::CancelBoth),
+        _ => None,
+    }
+}
+
+/// What stands behind `exregs`.
+#[tactic(auto, unfolding(crate::specs::Statements::exregs_of))]
+fn exregs(operands: Words<'_>) -> Result<Instr, TextFaultKind>
+    ensures { Returns instr_of result (exregs_of operands.entry) }
+{
+    let (target, bits_keyword) = operands.two().ok_or(TextFaultKind::BadLine)?;
+    let what = bits(bits_keyword).ok_or(TextFaultKind::BadLine)?;
+    Ok(Instr::Order(thread_id(target)?, what))
+}
+
+/// What stands behind `delete`.
+#[tactic(auto, unfolding(crate::specs::Statements::delete_of))]
+fn delete(operands: Words<'_>) -> Result<Instr, TextFaultKind>
+    ensures { Returns instr_of result (delete_of operands.entry) }
+{
+    let target = thread_id(only(operands)?)?;
+    Ok(Instr::Order(target, What::Delete))
 }
 
 /// The place that stands behind `jump` or `onerr`.
@@ -185,7 +248,17 @@ fn ipc(operands: Words<'_>) -> Result<Instr, TextFaultKind>
 fn target(operands: Words<'_>) -> Result<u64, TextFaultKind>
     ensures { result ≡ target_of operands.entry }
 {
-    number(operands.one()?).ok_or(TextFaultKind::BadNumber)
+    number(only(operands)?).ok_or(TextFaultKind::BadNumber)
+}
+
+/// What stands behind `end`: nothing.
+fn end(mut operands: Words<'_>) -> Result<Instr, TextFaultKind>
+    ensures { Returns instr_of result (end_of operands.entry) }
+{
+    match operands.next() {
+        None => Ok(Instr::End),
+        Some(_) => Err(TextFaultKind::BadLine),
+    }
 }
 
 /// An instruction of this name.
@@ -201,15 +274,20 @@ pub(super) fn instruction(name: &[u8], operands: Words<'_>) -> Result<Instr, Tex
         add(operands)
     } else if name == TAG {
         tag(operands)
+    } else if name == VIRTUAL_SENDER {
+        vs(operands)
     } else if name == IPC {
         ipc(operands)
+    } else if name == EXCHANGE_REGISTERS {
+        exregs(operands)
+    } else if name == DELETE {
+        delete(operands)
     } else if name == JUMP {
         Ok(Instr::Jump(target(operands)?))
     } else if name == ON_ERROR {
         Ok(Instr::OnErr(target(operands)?))
     } else if name == END {
-        operands.none()?;
-        Ok(Instr::End)
+        end(operands)
     } else {
         Err(TextFaultKind::BadLine)
     }

@@ -1,7 +1,8 @@
-use Rattle.std.proofs.Common.{◌≡◌, ◌+◌, get_or, refl, arith}
-use Rattle.l4_machine.proofs.SoFar.{so_far-turn, so_far-idle}
-use Rattle.l4_machine.proofs.ByEntries.{GoesOn, goes_on-turn, goes_on-idle, lawful-next}
-use Rattle.l4_machine.proofs.schedules.take_entries.Goals.{in-Did+in_ok-tell-in-Did, in-Idle}
+use Rattle.std.proofs.Common.{◌+◌, get_or, refl, arith, rules}
+use Rattle.l4_machine.specs.Turns.{entry_work}
+use Rattle.l4_machine.proofs.SoFar.{is_done, is_undone, so_far-some, so_far-none}
+use Rattle.l4_machine.proofs.ByEntries.{GoesOn, IsOwn, goes_on-some, goes_on-none, lawful-next}
+use Rattle.l4_machine.proofs.schedules.take_entries.Goals.{then-branch, else-branch}
 use Rattle.l4_machine.proofs.schedules.take_entries.Goals as goal
 
 pub loop-place-preserved : goal.loop-place-preserved
@@ -11,24 +12,25 @@ loop-place-preserved c =
     let next = c.loop-place.place + 1 in
     let i = c.loop-place.invariant in
     let s = i.so_far in
-    let is : get_or schedule c.loop-place.place 0 ≡ 0 = c.if-not-is_turn.ensures.0 refl in
-    let lawful = lawful-next m schedule _ s.single c.loop-place-test.true is i.lawful in
-    elim c.match-turn.branch [
-      | in-Did+in_ok-tell-in-Did w ↦
-          let t = w.in-Did.ensures.turned in
-          let after = so_far-turn m _ _ _ _ _ _ (GoesOn m schedule next) s c.turn.ensures.machine c.turn.ensures.cpu t.turn t.next
-          (λ events x has_turn quiet count so_far. goes_on-turn m schedule _ _ s.single c.loop-place-test.true is events x has_turn quiet so_far) in
+    let entry = get_or schedule c.loop-place.place 0 in
+    let own : IsOwn entry = c.is_entry.ensures.0 (search rules) in
+    let lawful = lawful-next m schedule _ entry s.single c.loop-place-test.true refl own i.lawful in
+    elim c.if-branch.branch [
+      | then-branch w ↦
+          let d = is_done _ _ _ _ _ _ c.in_ok-take_entry.ensures (search rules) in
+          let after = so_far-some m _ _ _ _ _ (λ n cpu l. entry_work n cpu entry l) _ (GoesOn m schedule next) s d
+          (λ events x has quiet count so_far. goes_on-some m schedule _ entry _ s.single c.loop-place-test.true refl own events x has quiet so_far) in
           record {
-            so_far = rw (w.turns-is, w.history-is, w.in_ok-tell-in-Did.ensures) after;
+            so_far = rw w.turns-is after;
             few = omega (arith, w.turns-is, i.few);
             lawful = lawful;
           }
-      | in-Idle w ↦
-          let t = w.in-Idle.ensures.turned in
-          let after = so_far-idle m _ _ _ _ _ (GoesOn m schedule next) s t.same t.turn
-          (goes_on-idle m schedule _ _ s.single c.loop-place-test.true is) in
+      | else-branch w ↦
+          let u = is_undone _ _ _ _ _ _ c.in_ok-take_entry.ensures (search rules) in
+          let after = so_far-none m _ _ _ _ _ (λ n cpu l. entry_work n cpu entry l) _ (GoesOn m schedule next) s u
+          (goes_on-none m schedule _ entry _ s.single c.loop-place-test.true refl own) in
           record {
-            so_far = rw (w.turns-is, w.history-is) after;
+            so_far = rw w.turns-is after;
             few = omega (arith, w.turns-is, i.few);
             lawful = lawful;
           }

@@ -1,7 +1,8 @@
 use Rattle.std.proofs.Common.{◌≡◌, ◌∷◌, [], length, map, ◌+◌, ◌∙◌, ap, ℕ, Err, rules}
 use Rattle.std.proofs.lemmas.List.{map-append, length-map}
 use Rattle.l4_types.specs.StepView.{step_of}
-use Rattle.l4_trace.specs.Reading.{parts_of, steps_of}
+use Rattle.l4_trace.specs.Reading.{steps_of}
+use Rattle.l4_words.specs.Lines.{parts_of}
 use Rattle.l4_trace.proofs.ReadingLines.{goes_on, stops}
 use Rattle.l4_trace.proofs.reading.read_events.Goals as goal
 

@@ -1,6 +1,7 @@
 use Rattle.std.proofs.Common.{◌≡◌, length, map}
 use Rattle.l4_types.specs.StepView.{step_of}
-use Rattle.l4_trace.specs.Reading.{parts_of, read_parts, steps_of}
+use Rattle.l4_trace.specs.Reading.{read_parts, steps_of}
+use Rattle.l4_words.specs.Lines.{parts_of}
 use Rattle.l4_trace.proofs.reading.read_events.Given as goal
 
 abbrev pub invariant-lines : goal.invariant-lines

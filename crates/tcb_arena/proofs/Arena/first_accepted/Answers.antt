@@ -22,7 +22,7 @@ returns-then-takes c =
     let ns : List ℕ = get_or f.waiting.lists c.args.receiver [] in
     let here : slice_get ns c.loop-place._place ≡ Some block = sym c.loop-place.invariant.next_is ∙ c.in_ok-block.was in
     let lx : block < length f.senders.items = omega (arith, c.loop-place.invariant.sound.below c.args.receiver c.loop-place._place block here, c.self.invariant.names) in
-    let sender : c.index.result.now ≡ sender_at f.senders.items block = get_or_read f.senders.items block c.index.result.now lx c.index.ensures no_sender in
+    let sender : c.index-sender.result.now ≡ sender_at f.senders.items block = get_or_read f.senders.items block c.index-sender.result.now lx c.index-sender.ensures no_sender in
     let yes : accepts c.args.spec.now (waiting_at f.senders.items block) ≡ true =
     ap (λ (e : Sender). takes c.args.spec.now e.shown e.local) (sym sender) ∙ sym c.takes.ensures ∙ c.if-takes.true in
     taken-shown f.waiting f.senders.items f.ready f.wheel c.args.self.now c.args.receiver c.args.spec.now (Some (waiting_at f.senders.items block)) c.self.view_is
@@ -35,7 +35,7 @@ loop-place-preserved c =
     let ns : List ℕ = get_or f.waiting.lists c.args.receiver [] in
     let here : slice_get ns c.loop-place._place ≡ Some block = sym c.loop-place.invariant.next_is ∙ c.in_ok-block.was in
     let lx : block < length f.senders.items = omega (arith, c.loop-place.invariant.sound.below c.args.receiver c.loop-place._place block here, c.self.invariant.names) in
-    let sender : c.index.result.now ≡ sender_at f.senders.items block = get_or_read f.senders.items block c.index.result.now lx c.index.ensures no_sender in
+    let sender : c.index-sender.result.now ≡ sender_at f.senders.items block = get_or_read f.senders.items block c.index-sender.result.now lx c.index-sender.ensures no_sender in
     let not_taken : accepts c.args.spec.now (waiting_at f.senders.items block) ≡ false =
     ap (λ (e : Sender). takes c.args.spec.now e.shown e.local) (sym sender) ∙ sym c.takes.ensures ∙ c.if-takes.false in
     record {

@@ -3,6 +3,7 @@ use Rattle.std.proofs.Common.{◌<◌, List, length, ap, ◌∙◌, sym, arith}
 use Rattle.tcb_arena.specs.Due.{ring_count}
 use Rattle.tcb_arena.proofs.Entries.{E, rings-more, rings_upto}
 use Rattle.tcb_arena.proofs.Once.{once-shown}
+use Rattle.tcb_arena.proofs.Rising.{rising-shown}
 use Rattle.tcb_arena.proofs.wheel.Wheel.first.Goals as goal
 
 pub loop-ring-preserved : goal.loop-ring-preserved
@@ -16,3 +17,8 @@ pub returns-clause-once : goal.returns-clause-once
 returns-clause-once c =
     let f = c.self.inside in
     once-shown ring_count f.deadlines.items f.rings c.args.self.now c.self.invariant c.names-blocks.ensures.sound c.self.view_is
+
+pub returns-clause-rising : goal.returns-clause-rising
+returns-clause-rising c =
+    let f = c.self.inside in
+    rising-shown f.deadlines.items f.rings c.args.self.now c.self.view_is

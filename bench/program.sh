@@ -1,0 +1,10 @@
+#!/bin/sh
+# Times the program: the reading of machine texts (text), the turns of runs (turns), or the audit of traces (audits). It is proved and
+# built as it stands, its files are made in a folder that goes away, and all is measured from outside.
+set -eu
+what=${1:?text, turns or audits}
+here=$(cd "$(dirname "$0")" && pwd)
+work=$(mktemp -d)
+trap 'rm -rf "$work"' EXIT
+(cd "$here/../crates/l4run" && rt run -- run ../../examples/first.l4) >"$work/log" 2>&1 || { cat "$work/log"; exit 1; }
+python3 -B "$here/$what.py" "$here/../crates/l4run/out/l4run" "$work"

@@ -1,0 +1,10 @@
+pub mod Deciding
+pub mod Delivering
+pub mod Lists
+pub mod Obeying
+pub mod Placing
+pub mod Replaying
+pub mod Reporting
+pub mod Starting
+pub mod Stilling
+pub mod Writing

@@ -1,0 +1,130 @@
+-- A thread begins the first phase of its Ipc.
+use Rattle.std.proofs.Common.{◌≡◌, ℕ, ◌<◌, ◌+◌, ◌^◌, zero, suc, length, get_or, set, map, Bool, true, false, Option, Some, List, [], ◌∷◌, refl, ap, sym, ◌∙◌, arith, subst}
+use Rattle.std.specs.Prelude.{slice_get, ◌==◌, IsSomeAnd, slice_index_or, is_some, not}
+use Rattle.std.specs.Option.{option_map}
+use Rattle.std.proofs.lemmas.List.{length-map}
+use Rattle.std.proofs.lemmas.Option.{slice_get-map, get_or_from_slice_get}
+use Rattle.l4_model.specs.Words.{Id, NilThread, AnyThread, AnyLocalThread, LocalThread, GlobalThread, GlobalId, global_id, Period}
+use Rattle.l4_model.specs.Machine.{Machine, Declaration, Instr, Set, Copy, Add, Tag, Vs, Ipc, Ask, Jump, OnErr, End}
+use Rattle.l4_model.specs.World.{Thread, Send, Receive, World, Name, change, changed, is_ready}
+use Rattle.l4_model.specs.Rules.{Act, RunsAlone, Sends, Receives, Orders, act, ipc_act, destination, receive_phase}
+use Rattle.l4_model.specs.Effects.{begins, waits}
+use Rattle.l4_model.specs.Conditions.{Found, found, act_of, instruction}
+use Rattle.l4_model.specs.Steps.{send_of, receive_of, after_begin, after_wait}
+use Rattle.l4_model.proofs.Chains.{some_is}
+use Rattle.l4_model.proofs.Places.{known}
+use Rattle.l4_thread.specs.Parts.{Block}
+use Rattle.l4_thread.specs.Ipcs.{may_show, starts}
+use Rattle.l4_thread.specs.Requests.{asks_to_send, is_end}
+use Rattle.l4_audit.specs.Phases.{is_nil}
+use Rattle.l4_audit.specs.Audited.{Audited, IsOf, with_world, id_at}
+use Rattle.l4_audit.specs.Starting.{starts_at, IsStarting, CanStart}
+use Rattle.l4_audit.proofs.Writing.{audited, written, is_within}
+
+id_there : (bs : List Block) (i : ℕ) (b : Block) (d : GlobalId) → i < length bs → b ≡ get_or bs i b → slice_index_or (map (λ (x : Block). x.id) bs) i d ≡ b.id
+id_there [] i b d lt at = absurd (omega arith)
+id_there (x ∷ bs) zero b d lt at = ap (λ (y : Block). y.id) (sym at)
+id_there (x ∷ bs) (suc i) b d lt at = id_there bs i b d (omega arith) at
+
+thread_there : (bs : List Block) (i : ℕ) (b : Block) → i < length bs → b ≡ get_or bs i b → slice_get (map (λ (x : Block). x.thread) bs) i ≡ Some b.thread
+thread_there [] i b lt at = absurd (omega arith)
+thread_there (x ∷ bs) zero b lt at = ap (λ (y : Block). Some y.thread) (sym at)
+thread_there (x ∷ bs) (suc i) b lt at = thread_there bs i b (omega arith) at
+
+pub started : (m : Machine) (bs : List Block) (ws : List (List ℕ)) (cs : List ℕ) (a : Audited) (place : ℕ) (i : Instr) (permitted : Bool) (now : ℕ) (old new : Block) → audited bs ws cs ≡ a →
+    CanStart m a place i permitted → old ≡ get_or bs place old →
+    ((n : Machine) → permitted ≡ may_show n old.id old.thread.context.actual → new ≡ record old { thread = starts (act n old.id now old.thread.context i) now old.thread }) →
+    audited (set bs place new) ws cs ≡ with_world a (change a.world place (starts_at m (id_at a place) now i))
+started m bs ws cs a place i permitted now old new is can at gives =
+    let lt : place < length a.world.threads = is_within (IsStarting m (id_at a place) i permitted) a.world.threads place can in
+    let size : length bs ≡ length a.world.threads = sym (length-map bs (λ (b : Block). b.thread)) ∙ ap (λ (x : Audited). length x.world.threads) is in
+    let there : slice_get a.world.threads place ≡ Some old.thread = ap (λ (x : Audited). slice_get x.world.threads place) (sym is) ∙ thread_there bs place old (omega (arith, size)) at in
+    let here : IsStarting m (id_at a place) i permitted old.thread = subst (λ o. IsSomeAnd o (IsStarting m (id_at a place) i permitted)) there can in
+    let ids : id_at a place ≡ old.id = ap (λ (x : Audited). id_at x place) (sym is) ∙ id_there bs place old (global_id 0 1) (omega (arith, size)) at in
+    let shows : permitted ≡ may_show m old.id old.thread.context.actual = here.shows ∙ ap (λ id. may_show m id old.thread.context.actual) ids in
+    let e : new ≡ record old { thread = starts_at m (id_at a place) now i old.thread } =
+    gives m shows ∙ ap (λ id. record old { thread = starts (act m id now old.thread.context i) now old.thread }) (sym ids) in
+    written bs ws cs a place (starts_at m (id_at a place) now i) old new is lt at e
+
+-- Of a thread that was found.
+
+pub id_found : (m : Machine) (a : Audited) (id : GlobalId) (t : Found) → IsOf m a → found m a.world id ≡ Some t → id_at a t.at ≡ t.declared.id
+id_found m a id t of is =
+    let k = known m a.world id t is in
+    let e : slice_get a.ids t.at ≡ Some t.declared.id = ap (λ ids. slice_get ids t.at) of.ids ∙ slice_get-map (λ (d : Declaration). d.id) m.threads t.at ∙ ap (option_map (λ (d : Declaration). d.id)) k.declared in
+    get_or_from_slice_get a.ids t.at t.declared.id (global_id 0 1) e
+
+pub can_start : (m : Machine) (a : Audited) (id : GlobalId) (t : Found) (i : Instr) (permitted : Bool) → IsOf m a → found m a.world id ≡ Some t →
+    (is_end i ≡ false → t.now.context.place < 1024) → (asks_to_send t.now.context i ≡ true → t.now.context.begun + 1 < 2 ^ 64) → permitted ≡ may_show m t.declared.id t.now.context.actual →
+    CanStart m a t.at i permitted
+can_start m a id t i permitted of is room count shows =
+    let k = known m a.world id t is in
+    let here : IsStarting m (id_at a t.at) i permitted t.now = record {
+      room = λ e. let lt = room e in omega arith;
+      count = count;
+      shows = shows ∙ ap (λ x. may_show m x t.now.context.actual) (sym (id_found m a id t of is));
+    } in
+    subst (λ o. IsSomeAnd o (IsStarting m (id_at a t.at) i permitted)) (sym k.now) here
+
+changed_at : {A : Type 0} (f g : A → A) (xs : List A) (i : ℕ) (x : A) → slice_get xs i ≡ Some x → f x ≡ g x → changed f xs i ≡ changed g xs i
+changed_at f g [] i x h e = refl
+changed_at f g (y ∷ xs) zero x h e = let same : y ≡ x = some_is y x h in rw (same, e) refl
+changed_at f g (y ∷ xs) (suc i) x h e = ap (λ ys. y ∷ ys) (changed_at f g xs i x h e)
+
+pub changes_at : (w : World) (i : ℕ) (f g : Thread → Thread) (t : Thread) → slice_get w.threads i ≡ Some t → f t ≡ g t → change w i f ≡ change w i g
+changes_at w i f g t h e = ap (λ ts. record w { threads = ts }) (changed_at f g w.threads i t h e)
+
+some_send : (a : Act) → is_some (send_of a) ≡ true → (send : Send) × (send_of a ≡ Some send) × ((now : ℕ) (t : Thread) → starts a now t ≡ begins send t)
+some_send RunsAlone h = cc
+some_send (Sends send) h = (send, refl, λ now t. refl)
+some_send (Receives receive) h = cc
+some_send (Orders order) h = cc
+
+some_receive : (a : Act) → is_some (receive_of a) ≡ true → (receive : Receive) × (receive_of a ≡ Some receive) × ((now : ℕ) (t : Thread) → starts a now t ≡ waits receive now t)
+some_receive RunsAlone h = cc
+some_receive (Sends send) h = cc
+some_receive (Receives receive) h = (receive, refl, λ now t. refl)
+some_receive (Orders order) h = cc
+
+pub begins_now : (m : Machine) (a : Audited) (s : Name) (t : Found) (i : Instr) → IsOf m a → found m a.world s.thread ≡ Some t → is_ready t.now.phase ≡ true →
+    (s.k == t.now.context.begun + 1) ≡ true → is_some (send_of (act_of m t)) ≡ true → i ≡ instruction t →
+    after_begin m a.world s ≡ Some (change a.world t.at (starts_at m (id_at a t.at) t.clock i))
+begins_now m a s t i of is ready k has instr =
+    let sent = some_send (act_of m t) has in
+    let ids = id_found m a s.thread t of is in
+    let e : begins sent.0 t.now ≡ starts_at m (id_at a t.at) t.clock i t.now = sym (sent.2 t.clock t.now) ∙ rw (ids, instr) refl in
+    let chain : after_begin m a.world s ≡ Some (change a.world t.at (begins sent.0)) = rw (is, ready, k, sent.1) refl in
+    chain ∙ ap Some (changes_at a.world t.at (begins sent.0) (starts_at m (id_at a t.at) t.clock i) t.now (known m a.world s.thread t is).now e)
+
+pub waits_now : (m : Machine) (a : Audited) (id : GlobalId) (t : Found) (i : Instr) → IsOf m a → found m a.world id ≡ Some t → is_ready t.now.phase ≡ true →
+    is_some (receive_of (act_of m t)) ≡ true → i ≡ instruction t →
+    after_wait m a.world id ≡ Some (change a.world t.at (starts_at m (id_at a t.at) t.clock i))
+waits_now m a id t i of is ready has instr =
+    let got = some_receive (act_of m t) has in
+    let ids = id_found m a id t of is in
+    let e : waits got.0 t.clock t.now ≡ starts_at m (id_at a t.at) t.clock i t.now = sym (got.2 t.clock t.now) ∙ rw (ids, instr) refl in
+    let chain : after_wait m a.world id ≡ Some (change a.world t.at (waits got.0 t.clock)) = rw (is, ready, got.1) refl in
+    chain ∙ ap Some (changes_at a.world t.at (waits got.0 t.clock) (starts_at m (id_at a t.at) t.clock i) t.now (known m a.world id t is).now e)
+
+-- A receive phase alone counts no send.
+pub no_send : {P : Type 0} (m : Machine) (t : Found) (i : Instr) → i ≡ instruction t → is_some (receive_of (act_of m t)) ≡ true → asks_to_send t.now.context i ≡ true → P
+no_send m t i e has asks = by i (subst (λ j. is_some (receive_of (act m t.declared.id t.clock t.now.context j)) ≡ true) (sym e) has) asks
+  where
+    by_id : {P : Type 0} (to : Id) (period : Period) (receive : Option Receive) → is_some (receive_of (ipc_act m t.declared.id t.clock t.now.context to period receive)) ≡ true → not (is_nil to) ≡ true → P
+    by_id NilThread period receive h a = cc
+    by_id AnyThread period receive h a = cc
+    by_id AnyLocalThread period receive h a = cc
+    by_id (LocalThread word) period receive h a = cc
+    by_id (GlobalThread x) period receive h a = cc
+
+    by : {P : Type 0} (i : Instr) → is_some (receive_of (act m t.declared.id t.clock t.now.context i)) ≡ true → asks_to_send t.now.context i ≡ true → P
+    by (Set x word) h a = cc
+    by (Copy x y) h a = cc
+    by (Add x word) h a = cc
+    by (Tag word) h a = cc
+    by (Vs id) h a = cc
+    by (Ipc to from send_period receive_period) h a = by_id (destination t.now.context to) send_period (receive_phase from receive_period) h a
+    by (Ask target what) h a = cc
+    by (Jump place) h a = cc
+    by (OnErr place) h a = cc
+    by End h a = cc

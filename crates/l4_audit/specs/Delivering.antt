@@ -1,0 +1,25 @@
+-- What a delivery tells, and what it does.
+use Rattle.std.specs.Prelude.{ℕ, Bool, ◌==◌, ◌&&◌}
+use Rattle.std.specs.Str.{bytes_eq}
+use Rattle.l4_model.specs.Words.{same_id}
+use Rattle.l4_model.specs.Machine.{Machine}
+use Rattle.l4_model.specs.World.{World, change, unqueued}
+use Rattle.l4_model.specs.Rules.{received_tag, is_cross}
+use Rattle.l4_model.specs.Effects.{receives}
+use Rattle.l4_model.specs.Conditions.{Found, Pending}
+use Rattle.l4_core_model.specs.Letters.{Delivered}
+use Rattle.l4_core_model.specs.Local.{ended}
+use Rattle.l4_types.specs.declared.steps.Delivery.{Delivery}
+
+-- It tells this send to this receiver: its senders, its tag and its words.
+abbrev pub is_delivery : Machine → Delivery → Pending → Found → Bool
+is_delivery m d p r =
+    same_id d.receiver r.declared.id
+    && same_id d.message.shown p.send.message.shown
+    && same_id d.message.actual p.send.message.actual
+    && (received_tag d.cross d.message == received_tag (is_cross m d.receiver p.send.message) p.send.message)
+    && bytes_eq d.message.words p.send.message.words
+
+-- The message goes over from its sender to its receiver.
+abbrev pub taken_over : (sender receiver : ℕ) → Delivery → (now : ℕ) → World → World
+taken_over s r d now w = change (change (unqueued w s) r (receives d.message (received_tag d.cross d.message))) s (ended Delivered now)

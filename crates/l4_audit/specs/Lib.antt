@@ -1,0 +1,6 @@
+pub mod Audited
+pub mod Audits
+pub mod Delivering
+pub mod Phases
+pub mod Starting
+pub mod Stillness

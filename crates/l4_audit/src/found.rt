@@ -1,0 +1,321 @@
+//! Threads and sends as they are looked up in a world.
+ghost use Rattle.std.specs.Prelude.{◌≡◌, ◌<◌, ◌≤◌, false, is_some, length};
+ghost use Rattle.std.specs.Option.{option_map};
+ghost use Rattle.l4_model.specs.Machine.{Machine, declaration_of, same_cpu};
+ghost use Rattle.l4_model.specs.World.{is_ready, is_deleted, receive_now};
+ghost use Rattle.l4_model.specs.Conditions.{instruction, act_of, may_still_accept, call_accepts};
+ghost use Rattle.l4_model.specs.Rules.{accepts, destination, ask_act};
+ghost use Rattle.l4_model.specs.Steps.{runs_alone, send_of, receive_of, order_of, receive_passed};
+ghost use Rattle.l4_types.specs.StepView.{what_of};
+ghost use Rattle.l4_audit.specs.Phases.{has_phase, is_elsewhere};
+ghost use Rattle.l4_script.specs.Scripts.{instr_of, to_of};
+ghost use Rattle.l4_thread.specs.Ipcs.{may_show};
+ghost use Rattle.l4_thread.specs.Requests.{is_end};
+
+use crate::periods::has_passed;
+use l4_script::instructions::{Instr, Ipc, To};
+use l4_script::machine::{Declaration, Machine};
+use l4_thread::orders::Asked;
+use l4_thread::sends::{Receive, Send};
+use l4_thread::tcb::Tcb;
+use l4_types::ids::{GlobalId, ThreadId};
+use l4_types::steps::What;
+use std::marker::Model;
+
+/// A thread: its place in the order of declaration, what the machine declares of it, what it is now, and the clock of its processor.
+#[derive(Drop)]
+pub struct Found<'a> {
+    pub place: usize,
+    pub declared: &'a Declaration,
+    pub tcb: &'a Tcb,
+    pub clock: u64,
+}
+
+impl<'a> Model for Found<'a> {
+    ghost use Rattle.l4_model.specs.Conditions.{Found as ModelFound};
+
+    ghost Value = { ModelFound };
+
+    ghost view = { λ t. record { at = t.place; declared = t.declared.now; now = t.tcb.now.thread; clock = t.clock } };
+}
+
+impl<'a> Found<'a> {
+    /// Its place in the order of declaration.
+    pub fn place(&self) -> usize
+        ensures { result ≡ self.now.at }
+    {
+        self.place
+    }
+
+    /// The clock of its processor, in ticks.
+    pub fn clock(&self) -> u64
+        ensures { result ≡ self.now.clock }
+    {
+        self.clock
+    }
+
+    /// Its id.
+    pub fn id(&self) -> GlobalId
+        ensures { result ≡ self.now.declared.id }
+    {
+        self.declared.id()
+    }
+
+    /// Whether it can run its next instruction.
+    pub fn is_ready(&self) -> bool
+        ensures { result ≡ is_ready self.now.now.phase }
+    {
+        self.tcb.is_ready()
+    }
+
+    /// Its undecided send.
+    pub fn pending(&self) -> Option<Pending<'a>>
+        ensures { result ≡ option_map (λ send. record { sender = self.now; send = send }) self.now.now.send }
+    {
+        let send = self.tcb.send()?;
+        let sender = Found {
+            place: self.place,
+            declared: self.declared,
+            tcb: self.tcb,
+            clock: self.clock,
+        };
+        Some(Pending { sender, send })
+    }
+
+    /// Its instruction. A place after the last one of its script is an `end`.
+    pub fn instruction(&self) -> Instr
+        ensures value { instr_of result ≡ instruction self.now }
+        ensures within { is_end (instr_of result) ≡ false → self.now.now.context.place < 1024 }
+    {
+        self.declared
+            .instruction(self.tcb.thread().place())
+            .unwrap_or(Instr::End)
+    }
+
+    // Where an Ipc of it sends to.
+    fn destination(&self, to: To) -> ThreadId
+        ensures { result ≡ destination self.now.now.context (to_of to) }
+    {
+        match to {
+            To::Id(id) => id,
+            To::Last => self.tcb.thread().regs().from,
+        }
+    }
+
+    /// Whether it may show the originator that its VirtualSender names.
+    pub fn may_show(&self, machine: &Machine) -> bool
+        ensures { result ≡ may_show machine.now self.now.declared.id self.now.now.context.actual }
+    {
+        machine.may_show(self.id(), self.tcb.thread().regs().actual)
+    }
+
+    /// Whether its instruction concerns nobody else.
+    pub fn runs_alone(&self, machine: &Machine) -> bool
+        ensures { result ≡ runs_alone (act_of machine.now self.now) }
+    {
+        match self.instruction() {
+            Instr::Ipc(ipc) => !self.has_phase(&ipc),
+            Instr::Order(target, what) => self.admitted(machine, target, what).is_none(),
+            _ => true,
+        }
+    }
+
+    // Whether an Ipc of it has a phase.
+    fn has_phase(&self, ipc: &Ipc) -> bool
+        ensures { result ≡ has_phase (destination self.now.now.context (to_of ipc.now.to)) ipc.now.from }
+    {
+        self.destination(ipc.to()) != ThreadId::NIL || ipc.from() != ThreadId::NIL
+    }
+
+    /// Whether its instruction begins a send phase.
+    pub fn sends(&self) -> bool
+        ensures { (m : Machine) → result ≡ is_some (send_of (act_of m self.now)) }
+    {
+        match self.instruction() {
+            Instr::Ipc(ipc) => self.destination(ipc.to()) != ThreadId::NIL,
+            _ => false,
+        }
+    }
+
+    /// Whether its instruction begins a receive phase without a send phase.
+    pub fn receives(&self) -> bool
+        ensures { (m : Machine) → result ≡ is_some (receive_of (act_of m self.now)) }
+    {
+        match self.instruction() {
+            Instr::Ipc(ipc) => {
+                self.destination(ipc.to()) == ThreadId::NIL && ipc.from() != ThreadId::NIL
+            }
+            _ => false,
+        }
+    }
+
+    /// How many sends it began.
+    pub fn begun(&self) -> u64
+        ensures { result ≡ self.now.now.context.begun }
+    {
+        self.tcb.thread().begun()
+    }
+
+    /// What its instruction asks of another thread.
+    pub fn order(&self, machine: &Machine) -> Option<Asked>
+        ensures { result ≡ order_of (act_of machine.now self.now) }
+    {
+        match self.instruction() {
+            Instr::Order(target, what) => self.admitted(machine, target, what),
+            _ => None,
+        }
+    }
+
+    /// Whether it was deleted.
+    pub fn is_deleted(&self) -> bool
+        ensures { result ≡ is_deleted self.now.now.phase }
+    {
+        self.tcb.is_deleted()
+    }
+
+    /// The receive phase that it is in.
+    pub fn receiving(&self) -> Option<Receive>
+        ensures { result ≡ receive_now self.now.now.phase }
+    {
+        self.tcb.receiving().copied()
+    }
+
+    /// Whether its receive phase is to be cancelled.
+    pub fn is_receive_cancelled(&self) -> bool
+        ensures { result ≡ self.now.now.cancel_receive }
+    {
+        self.tcb.is_receive_cancelled()
+    }
+
+    /// Whether its send is to be cancelled.
+    pub fn is_send_cancelled(&self) -> bool
+        ensures { result ≡ self.now.now.cancel_send }
+    {
+        self.tcb.is_send_cancelled()
+    }
+
+    /// What it asked of another thread, and is not done yet.
+    pub fn asked(&self) -> Option<Asked>
+        ensures value { result ≡ self.now.now.order }
+        ensures limit { length self.now.declared.script ≤ 1024 }
+    {
+        let script = self.declared.script();
+        prove!(script.len() <= 1024);
+        self.tcb.order()
+    }
+
+    /// Whether the period has passed of the receive phase that it is in.
+    pub fn receive_passed(&self) -> bool
+        ensures { result ≡ receive_passed self.now self.now.now.phase }
+    {
+        match (self.tcb.receiving(), self.tcb.receiving_since()) {
+            (Some(receive), Some(since)) => has_passed(receive.period(), since, self.clock),
+            _ => false,
+        }
+    }
+
+    /// Whether it accepts a sender that is shown so, or may once its call is decided.
+    pub fn may_still_accept(&self, machine: &Machine, shown: GlobalId) -> bool
+        ensures { result ≡ may_still_accept machine.now self.now shown self.now.now.phase }
+    {
+        if let Some(receive) = self.receiving() {
+            return accepts(machine, receive.from(), shown, self.id());
+        }
+        self.tcb.is_sending() && self.call_accepts(machine, shown)
+    }
+
+    // Whether its call goes to another processor, and its receive phase would accept a sender that is shown so.
+    fn call_accepts(&self, machine: &Machine, shown: GlobalId) -> bool
+        ensures { result ≡ call_accepts machine.now self.now self.now.now.send shown }
+    {
+        let Some(call) = self.tcb.send() else {
+            return false;
+        };
+        let Some(receive) = call.receive() else {
+            return false;
+        };
+        self.is_elsewhere(machine, call.to()) && accepts(machine, receive.from(), shown, self.id())
+    }
+
+    // Whether an id is that of a declared thread of another processor.
+    fn is_elsewhere(&self, machine: &Machine, to: ThreadId) -> bool
+        ensures { result ≡ is_elsewhere machine.now self.now.declared.id to }
+    {
+        match to.as_global() {
+            Some(to) => machine.place_of(to).is_some() && !same_cpu(machine, to, self.id()),
+            None => false,
+        }
+    }
+
+    // What it may ask of another thread.
+    fn admitted(&self, machine: &Machine, target: ThreadId, what: What) -> Option<Asked>
+        ensures { result ≡ order_of (ask_act machine.now self.now.declared.id target (what_of what)) }
+    {
+        let target = target.as_global()?;
+        let is_admitted = machine.admits(self.id(), target, what);
+        is_admitted.then_some(Asked::new(target, what))
+    }
+}
+
+/// An undecided send, with its sender.
+#[derive(Drop)]
+pub struct Pending<'a> {
+    pub sender: Found<'a>,
+    pub send: &'a Send,
+}
+
+impl<'a> Model for Pending<'a> {
+    ghost use Rattle.l4_model.specs.Conditions.{Pending as ModelPending};
+
+    ghost Value = { ModelPending };
+
+    ghost view = { λ p. record { sender = p.sender; send = p.send.now } };
+}
+
+impl<'a> Pending<'a> {
+    /// Its sender.
+    pub fn sender(&self) -> &Found<'a>
+        ensures { result.now ≡ self.now.sender }
+    {
+        &self.sender
+    }
+
+    /// The place of its sender, and the clock of the sender's processor in ticks.
+    pub fn sender_now(&self) -> (usize, u64)
+        ensures { result ≡ (self.now.sender.at, self.now.sender.clock) }
+    {
+        (self.sender.place, self.sender.clock)
+    }
+
+    /// The send.
+    pub fn send(&self) -> &Send
+        ensures { result.now ≡ self.now.send }
+    {
+        self.send
+    }
+}
+
+// The processor of a declared thread.
+fn cpu_of(machine: &Machine, id: GlobalId) -> Option<u8>
+    ensures { result ≡ option_map (λ d. d.cpu) (declaration_of machine.now id) }
+{
+    let place = machine.place_of(id)?;
+    Some(machine.threads().get(place)?.cpu())
+}
+
+/// Whether two threads are declared, and of one processor.
+pub fn same_cpu(machine: &Machine, a: GlobalId, b: GlobalId) -> bool
+    ensures { result ≡ same_cpu machine.now a b }
+{
+    match (cpu_of(machine, a), cpu_of(machine, b)) {
+        (Some(a), Some(b)) => a == b,
+        _ => false,
+    }
+}
+
+/// Whether a receiver with this specifier accepts a sender that is shown so (manual: Ipc, `FromSpecifier`).
+pub fn accepts(machine: &Machine, from: ThreadId, shown: GlobalId, receiver: GlobalId) -> bool
+    ensures { result ≡ accepts machine.now from shown receiver }
+{
+    from.takes(shown, machine.same_space(shown, receiver))
+}

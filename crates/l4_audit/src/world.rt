@@ -1,0 +1,102 @@
+//! A machine at one moment.
+ghost use Rattle.std.specs.Prelude.{◌≡◌, slice_index};
+ghost use Rattle.l4_model.specs.Conditions.{found, found_at, found_by, undecided, receiver_of};
+
+mod deliveries;
+mod effects;
+mod looks;
+mod opening;
+mod receives;
+mod sends;
+mod steps;
+mod still;
+mod takes;
+mod views;
+
+use crate::found::{Found, Pending};
+use crate::queue::Queue;
+use l4_script::machine::Machine;
+use l4_thread::tcb::Tcb;
+use l4_types::ids::{GlobalId, ThreadId};
+use l4_types::steps::Name;
+use std::marker::Model;
+
+/// All threads in order of declaration, for each the senders that wait at it, and the clocks of the processors.
+#[derive(Drop)]
+pub struct World {
+    threads: Vec<Tcb>,
+    waiting: Vec<Queue>,
+    clocks: Vec<u64>,
+}
+
+impl Model for World {
+    ghost use Rattle.std.specs.Prelude.{map};
+    ghost use Rattle.l4_audit.specs.Audited.{Audited};
+
+    ghost Value = { Audited };
+
+    ghost view = { λ w. record {
+      ids = map (λ b. b.id) w.threads.items;
+      world = record { threads = map (λ b. b.thread) w.threads.items; waiting = w.waiting.items; clocks = w.clocks.items };
+    } };
+}
+
+impl World {
+    // The clock of a processor, in ticks.
+    fn clock(&self, cpu: u8) -> u64
+        ensures { result ≡ slice_index self.now.world.clocks cpu }
+    {
+        self.clocks.get(usize::from(cpu)).copied().unwrap_or(0)
+    }
+
+    /// The thread at a place of the order of declaration.
+    pub fn found_at<'a>(&'a self, machine: &'a Machine, place: usize) -> Option<Found<'a>>
+        ensures { result ≡ found_at machine.now self.now.world place }
+    {
+        let declared = machine.threads().get(place)?;
+        let tcb = self.threads.get(place)?;
+        Some(Found {
+            place,
+            declared,
+            tcb,
+            clock: self.clock(declared.cpu()),
+        })
+    }
+
+    /// A declared thread.
+    pub fn found<'a>(&'a self, machine: &'a Machine, id: GlobalId) -> Option<Found<'a>>
+        ensures { result ≡ found machine.now self.now.world id }
+    {
+        self.found_at(machine, machine.place_of(id)?)
+    }
+
+    /// The thread that an id names, where it names a declared one.
+    pub fn found_by<'a>(&'a self, machine: &'a Machine, id: ThreadId) -> Option<Found<'a>>
+        ensures { result ≡ found_by machine.now self.now.world id }
+    {
+        self.found(machine, id.as_global()?)
+    }
+
+    /// A send that was begun and is not decided.
+    pub fn undecided<'a>(&'a self, machine: &'a Machine, name: Name) -> Option<Pending<'a>>
+        ensures { result ≡ undecided machine.now self.now.world name }
+    {
+        let sender = self.found(machine, name.thread())?;
+        if sender.tcb.thread().begun() != name.k() {
+            return None;
+        }
+        let send = sender.tcb.send()?;
+        Some(Pending { sender, send })
+    }
+
+    /// The thread that a send goes to.
+    pub fn receiver_of<'a>(
+        &'a self,
+        machine: &'a Machine,
+        pending: &Pending<'a>,
+    ) -> Option<Found<'a>>
+        ensures { result ≡ receiver_of machine.now self.now.world pending.now }
+    {
+        self.found_by(machine, pending.send.to())
+    }
+}

@@ -1,0 +1,75 @@
+//! The step that delivers a send.
+ghost use Rattle.std.specs.Prelude.{◌≡◌, ◌<◌, length};
+ghost use Rattle.l4_model.specs.Steps.{next};
+ghost use Rattle.l4_types.specs.StepView.{step_of};
+ghost use Rattle.l4_types.specs.declared.steps.Step.TheVariants.{Deliver};
+ghost use Rattle.l4_audit.specs.Audited.{IsOf, Makes, with_world};
+ghost use Rattle.l4_audit.specs.Delivering.{is_delivery, taken_over};
+
+use crate::found::{Found, Pending, same_cpu};
+use crate::world::World;
+use l4_script::machine::Machine;
+use l4_types::letters::Decision;
+use l4_types::steps::Delivery;
+
+// Whether a delivery tells this send to this receiver: the senders, the tag and the words.
+fn tells(delivery: &Delivery, machine: &Machine, pending: &Pending, receiver: &Found) -> bool
+    ensures { result ≡ is_delivery machine.now delivery.now pending.now receiver.now }
+{
+    let sent = pending.send().message();
+    let cross = !same_cpu(machine, sent.actual(), delivery.receiver);
+    let tag = sent.tag().received(cross, sent.propagated());
+    delivery.receiver == receiver.id()
+        && delivery.message.shown() == sent.shown()
+        && delivery.message.actual() == sent.actual()
+        && delivery.tag().raw() == tag.raw()
+        && delivery.message.words() == sent.words()
+}
+
+impl World {
+    /// A receiver takes the message of the first waiting sender that it accepts, and the sender goes on.
+    pub fn deliver(&mut self, machine: &Machine, delivery: &Delivery) -> bool
+        requires { IsOf machine.now self.old }
+        ensures step { Makes result (next machine.now self.old.world (step_of (Deliver delivery.now))) self.new.world }
+        ensures ids { self.new.ids ≡ self.old.ids }
+    {
+        let Some(pending) = self.undecided(machine, delivery.name) else {
+            return false;
+        };
+        let Some(receiver) = self.receiver_of(machine, &pending) else {
+            return false;
+        };
+        let Some(receive) = receiver.receiving() else {
+            return false;
+        };
+        let Some(first) = self.first_accepted(machine, &receiver, receive.from()) else {
+            return false;
+        };
+        let (sender, clock) = pending.sender_now();
+        if first != sender || !tells(delivery, machine, &pending, &receiver) {
+            return false;
+        }
+        let place = receiver.place();
+        self.take_over(machine, sender, place, delivery, clock);
+        true
+    }
+
+    // A message goes over from its sender to its receiver.
+    fn take_over(
+        &mut self,
+        machine: &Machine,
+        sender: usize,
+        receiver: usize,
+        delivery: &Delivery,
+        now: u64,
+    )
+        requires of { IsOf machine.now self.old }
+        requires sender { sender < length self.old.world.threads }
+        requires receiver { receiver < length self.old.world.threads }
+        ensures { self.new ≡ with_world self.old (taken_over sender receiver delivery.now now self.old.world) }
+    {
+        self.unqueue(machine, sender);
+        self.receive(receiver, &delivery.message, delivery.tag());
+        self.end_send(sender, Decision::Delivered, now);
+    }
+}

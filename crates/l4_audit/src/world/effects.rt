@@ -1,0 +1,124 @@
+//! What a step does to the threads and lists of a world.
+ghost use Rattle.std.specs.Prelude.{◌≡◌, ◌<◌, ◌^◌, ◌+◌, IsSomeAnd, false, length, slice_get, OnErr, OnOk};
+ghost use Rattle.l4_model.specs.Words.{word_of_tag};
+ghost use Rattle.l4_model.specs.World.{change, queued, unqueued};
+ghost use Rattle.l4_model.specs.Effects.{runs, fails, receives, decided, orders, asked, obeyed};
+ghost use Rattle.l4_core_model.specs.Local.{ended};
+ghost use Rattle.l4_types.specs.Codes.{code_of};
+ghost use Rattle.l4_types.specs.LetterView.{decision_of};
+ghost use Rattle.l4_types.specs.StepView.{what_of};
+ghost use Rattle.l4_script.specs.Scripts.{instr_of};
+ghost use Rattle.l4_thread.specs.Requests.{is_end};
+ghost use Rattle.l4_audit.specs.Audited.{IsOf, with_world, id_at};
+ghost use Rattle.l4_audit.specs.Starting.{CanStart, starts_at};
+
+use crate::world::World;
+use l4_script::instructions::Instr;
+use l4_script::machine::Machine;
+use l4_thread::orders::Asked;
+use l4_types::errors::{IpcError, NoMemory};
+use l4_types::letters::Decision;
+use l4_types::messages::Message;
+use l4_types::steps::What;
+use l4_types::tags::MsgTag;
+
+impl World {
+    /// A thread runs an instruction that concerns nobody else, or its script ends.
+    pub fn run(&mut self, place: usize, instr: &Instr)
+        requires { IsSomeAnd (slice_get self.old.world.threads place) (λ t. is_end (instr_of instr.now) ≡ false → t.context.place + 1 < 2 ^ 64) }
+        ensures { self.new ≡ with_world self.old (change self.old.world place (runs (instr_of instr.now))) }
+    {
+        self.threads[place].run(instr);
+    }
+
+    /// A thread begins the first phase of its Ipc, at this clock of its processor.
+    pub fn start(
+        &mut self,
+        machine: &Machine,
+        place: usize,
+        instr: &Instr,
+        permitted: bool,
+        now: u64,
+    )
+        requires { CanStart machine.now self.old place (instr_of instr.now) permitted }
+        ensures { self.new ≡ with_world self.old (change self.old.world place (starts_at machine.now (id_at self.old place) now (instr_of instr.now))) }
+    {
+        self.threads[place].ipc(instr, permitted, now);
+    }
+
+    /// The Ipc of a thread has failed.
+    pub fn fail(&mut self, place: usize, error: IpcError)
+        requires { place < length self.old.world.threads }
+        ensures { self.new ≡ with_world self.old (change self.old.world place (fails (code_of error))) }
+    {
+        self.threads[place].fail(error);
+    }
+
+    /// A thread receives a message, with this tag.
+    pub fn receive(&mut self, place: usize, message: &Message, tag: MsgTag)
+        requires { place < length self.old.world.threads }
+        ensures { self.new ≡ with_world self.old (change self.old.world place (receives message.now (word_of_tag tag))) }
+    {
+        self.threads[place].receive(message, tag);
+    }
+
+    /// The send of a thread is decided, at this clock of its processor.
+    pub fn end_send(&mut self, place: usize, decision: Decision, now: u64)
+        requires { place < length self.old.world.threads }
+        ensures { self.new ≡ with_world self.old (change self.old.world place (ended (decision_of decision) now)) }
+    {
+        self.threads[place].end_send(decision, now);
+    }
+
+    /// The send of a deleted thread is dropped.
+    pub fn drop_send(&mut self, place: usize)
+        requires { place < length self.old.world.threads }
+        ensures { self.new ≡ with_world self.old (change self.old.world place decided) }
+    {
+        self.threads[place].decide();
+    }
+
+    /// A thread has asked for something.
+    pub fn give_order(&mut self, place: usize, order: Asked)
+        requires { place < length self.old.world.threads }
+        ensures { self.new ≡ with_world self.old (change self.old.world place (orders order)) }
+    {
+        self.threads[place].give_order(order);
+    }
+
+    /// A thread is asked for a cancellation, or it is deleted.
+    pub fn ask(&mut self, place: usize, what: What)
+        requires { place < length self.old.world.threads }
+        ensures { self.new ≡ with_world self.old (change self.old.world place (asked (what_of what))) }
+    {
+        self.threads[place].ask(what);
+    }
+
+    /// What a thread asked for is done.
+    pub fn obey(&mut self, place: usize)
+        requires { IsSomeAnd (slice_get self.old.world.threads place) (λ t. t.context.place + 1 < 2 ^ 64) }
+        ensures { self.new ≡ with_world self.old (change self.old.world place obeyed) }
+    {
+        self.threads[place].obey();
+    }
+
+    /// A sender arrives at a receiver.
+    pub fn queue(&mut self, receiver: usize, sender: usize) -> Result<(), NoMemory>
+        requires { receiver < length self.old.world.waiting }
+        ensures { OnOk result (self.new ≡ with_world self.old (queued self.old.world receiver sender)) }
+    {
+        self.waiting[receiver].push(sender)?;
+        Ok(())
+    }
+
+    /// A sender leaves the list that it stands in, if it stands in one.
+    pub fn unqueue(&mut self, machine: &Machine, sender: usize)
+        requires of { IsOf machine.now self.old }
+        requires within { sender < length self.old.world.threads }
+        ensures { self.new ≡ with_world self.old (unqueued self.old.world sender) }
+    {
+        if let Some(receiver) = self.receiver_place(machine, sender) {
+            self.waiting[receiver].remove(sender);
+        }
+    }
+}

@@ -1,0 +1,54 @@
+//! The world of a machine before its first step.
+ghost use Rattle.std.specs.Prelude.{◌≡◌, IfOk, [], map, replicate};
+ghost use Rattle.l4_model.specs.World.{opening, opening_thread};
+
+use crate::queue::Queue;
+use crate::world::World;
+use l4_script::machine::Machine;
+use l4_thread::tcb::Tcb;
+use l4_types::errors::NoMemory;
+use std::alloc::Global;
+
+impl World {
+    /// The world of a machine before its first step.
+    pub fn new(alloc: Global, machine: &Machine) -> Result<World, NoMemory>
+        ensures { IfOk result (λ a. a ≡ record { ids = map (λ d. d.id) machine.now.threads; world = opening machine.now }) }
+    {
+        Ok(World {
+            threads: blocks(alloc, machine)?,
+            waiting: queues(alloc, machine)?,
+            clocks: clocks(alloc, machine)?,
+        })
+    }
+}
+
+// The blocks of threads that have run nothing.
+fn blocks(alloc: Global, machine: &Machine) -> Result<Vec<Tcb>, NoMemory>
+    ensures { IfOk result (λ blocks. blocks.items ≡ map (λ d. record { id = d.id; thread = opening_thread }) machine.now.threads) }
+{
+    let mut blocks = Vec::new(alloc);
+    for declared in machine.threads() {
+        blocks.push(Tcb::new(declared.id()))?;
+    }
+    Ok(blocks)
+}
+
+// Nobody waits at any thread.
+fn queues(alloc: Global, machine: &Machine) -> Result<Vec<Queue>, NoMemory>
+    ensures { IfOk result (λ queues. queues.items ≡ map (λ d. []) machine.now.threads) }
+{
+    let mut queues = Vec::new(alloc);
+    for _declared in machine.threads() {
+        queues.push(Queue::new(alloc))?;
+    }
+    Ok(queues)
+}
+
+// All clocks are at 0.
+fn clocks(alloc: Global, machine: &Machine) -> Result<Vec<u64>, NoMemory>
+    ensures { IfOk result (λ clocks. clocks.items ≡ replicate machine.now.cpus 0) }
+{
+    let mut clocks = Vec::new(alloc);
+    clocks.resize(usize::from(machine.cpus()), 0)?;
+    Ok(clocks)
+}

@@ -1,0 +1,142 @@
+//! Where nothing but clocks can go on.
+ghost use Rattle.std.specs.Prelude.{◌≡◌, Some, OnOk, slice_get};
+ghost use Rattle.std.specs.List.{list_all};
+ghost use Rattle.l4_model.specs.World.{receive_now};
+ghost use Rattle.l4_model.specs.Conditions.{receiver_of};
+ghost use Rattle.l4_model.specs.Still.{late, is_still_thread};
+ghost use Rattle.l4_audit.specs.Audited.{IsOf, with_world};
+ghost use Rattle.l4_audit.specs.Stillness.{is_still_found, may_obey, may_stop, is_taken, may_arrive, may_decide, may_send};
+
+use crate::found::{Found, Pending};
+use crate::world::World;
+use l4_script::machine::Machine;
+use l4_types::errors::NoMemory;
+use l4_types::ids::GlobalId;
+use l4_types::steps::CLOCKS;
+
+impl World {
+    /// All clocks go on to their last value.
+    pub fn stop_clocks(&mut self) -> Result<(), NoMemory>
+        ensures { OnOk result (self.new ≡ with_world self.old (late self.old.world)) }
+    {
+        let cpus = self.clocks.len();
+        self.clocks.clear();
+        self.clocks.resize(cpus, CLOCKS - 1)?;
+        Ok(())
+    }
+
+    /// Whether no thread can be in for a step but by a tick, with the clocks as they are.
+    pub fn is_still(&self, machine: &Machine) -> bool
+        requires { IsOf machine.now self.now }
+        ensures { result ≡ list_all (λ d. is_still_thread machine.now self.now.world d.id) machine.now.threads }
+    {
+        for declared in machine.threads() {
+            if !self.is_still_thread(machine, declared.id()) {
+                return false;
+            }
+        }
+        true
+    }
+
+    // Whether a thread can be in for no step but by a tick.
+    fn is_still_thread(&self, machine: &Machine, id: GlobalId) -> bool
+        requires { IsOf machine.now self.now }
+        ensures { result ≡ is_still_thread machine.now self.now.world id }
+    {
+        let Some(thread) = self.found(machine, id) else {
+            return true;
+        };
+        self.is_still_found(machine, &thread)
+    }
+
+    // Whether a thread that was found can be in for no step but by a tick.
+    fn is_still_found<'a>(&'a self, machine: &'a Machine, thread: &Found<'a>) -> bool
+        requires of { IsOf machine.now self.now }
+        requires there { slice_get self.now.world.threads thread.now.at ≡ Some thread.now.now }
+        ensures { result ≡ is_still_found machine.now self.now.world thread.now }
+    {
+        let may_go_on = thread.is_ready()
+            || may_obey(machine, thread)
+            || self.may_stop(machine, thread)
+            || self.may_send(machine, thread);
+        !may_go_on
+    }
+
+    // Whether the receive phase of a thread can end without a message.
+    fn may_stop(&self, machine: &Machine, thread: &Found) -> bool
+        ensures { result ≡ may_stop machine.now self.now.world thread.now (receive_now thread.now.now.phase) }
+    {
+        let Some(receive) = thread.receiving() else {
+            return false;
+        };
+        thread.is_receive_cancelled()
+            || ((thread.receive_passed() || self.is_nobody(machine, receive.from()))
+                && self
+                    .first_accepted(machine, thread, receive.from())
+                    .is_none())
+    }
+
+    // Whether the undecided send of a thread can be queued or decided.
+    fn may_send<'a>(&'a self, machine: &'a Machine, thread: &Found<'a>) -> bool
+        requires of { IsOf machine.now self.now }
+        requires there { slice_get self.now.world.threads thread.now.at ≡ Some thread.now.now }
+        ensures { result ≡ may_send machine.now self.now.world thread.now thread.now.now.send }
+    {
+        match thread.pending() {
+            Some(pending) => self.may_decide(machine, &pending),
+            None => false,
+        }
+    }
+
+    // Whether an undecided send can be queued or decided.
+    fn may_decide<'a>(&'a self, machine: &'a Machine, pending: &Pending<'a>) -> bool
+        requires of { IsOf machine.now self.now }
+        requires sender { slice_get self.now.world.threads pending.now.sender.at ≡ Some pending.now.sender.now }
+        requires send { pending.now.sender.now.send ≡ Some pending.now.send }
+        ensures { result ≡ may_decide machine.now self.now.world pending.now }
+    {
+        let sender = pending.sender();
+        self.is_timed_out(machine, pending)
+            || self.is_no_destination(machine, pending.send().to())
+            || (self.is_waiting(machine, pending)
+                && (sender.is_send_cancelled() || sender.is_deleted()))
+            || self.may_arrive(machine, pending)
+    }
+
+    // Whether an undecided send can be queued or delivered.
+    fn may_arrive<'a>(&'a self, machine: &'a Machine, pending: &Pending<'a>) -> bool
+        requires of { IsOf machine.now self.now }
+        requires sender { slice_get self.now.world.threads pending.now.sender.at ≡ Some pending.now.sender.now }
+        requires send { pending.now.sender.now.send ≡ Some pending.now.send }
+        ensures { result ≡ may_arrive machine.now self.now.world pending.now (receiver_of machine.now self.now.world pending.now) }
+    {
+        let Some(receiver) = self.receiver_of(machine, pending) else {
+            return false;
+        };
+        (!receiver.is_deleted() && !self.is_waiting(machine, pending))
+            || self.is_taken(machine, &receiver, pending.sender().place())
+    }
+
+    // Whether a sender is the first that a receiver accepts.
+    fn is_taken(&self, machine: &Machine, receiver: &Found, sender: usize) -> bool
+        ensures { result ≡ is_taken machine.now self.now.world receiver.now sender (receive_now receiver.now.now.phase) }
+    {
+        let Some(receive) = receiver.receiving() else {
+            return false;
+        };
+        match self.first_accepted(machine, receiver, receive.from()) {
+            Some(first) => first == sender,
+            None => false,
+        }
+    }
+}
+
+// Whether what a thread asked for can be done.
+fn may_obey(machine: &Machine, thread: &Found) -> bool
+    ensures { result ≡ may_obey machine.now thread.now.now.order }
+{
+    match thread.asked() {
+        Some(order) => machine.place_of(order.target()).is_some(),
+        None => false,
+    }
+}

@@ -1,0 +1,134 @@
+//! Runs and replays whose traces are read back and audited.
+ghost use Rattle.std.specs.Prelude.{◌≡◌, ◌<◌, ◌↔◌, ◌⊎◌, List, IfOk, IfErr, IsErrOf, Some, Ok, map, length};
+ghost use Rattle.l4_model.specs.History.{IsHistory};
+ghost use Rattle.l4_model.specs.Steps.{Step as ModelStep};
+ghost use Rattle.l4_types.specs.StepView.{step_of};
+ghost use Rattle.l4_machine.specs.Entries.{turns_fault, schedule_fault};
+ghost use Rattle.l4_machine.specs.Outcomes.{IsOutcome, IsReplayed};
+ghost use Rattle.l4_machine.specs.declared.outcome.RunFault.TheVariants.{NoMemory as RunOutOfMemory};
+ghost use Rattle.l4_trace.specs.Reading.{steps_of};
+ghost use Rattle.l4_audit.specs.Audits.{Passes};
+ghost use Rattle.l4_jobs.specs.RoundTrips.{IsAudited};
+
+use crate::traces::trace;
+use l4_audit::audit::{Audit, AuditFault, check};
+use l4_machine::{Outcome, RunFault, replay, run};
+use l4_model::law_first_fault;
+use l4_script::machine::Machine;
+use l4_trace::fault::TraceFault;
+use l4_trace::reading::{law_read_back, read_events};
+use l4_types::errors::NoMemory;
+use l4_types::steps::Step;
+use std::alloc::Global;
+
+/// What a run came to, its trace, and the audit of the steps that were read of this trace.
+#[derive(Drop)]
+pub struct AuditedOutcome {
+    pub outcome: Outcome,
+    pub trace: Vec<u8>,
+    pub audit: Audit,
+}
+
+/// Runs a machine for at most so many turns, 1 to 1,000,000, writes its trace, reads the trace back and audits what was read.
+///
+/// The faults are those of `run` alone: no line of the trace is that of no step, and no step is refused.
+pub fn audited_run(alloc: Global, machine: &Machine, turns: u64) -> Result<AuditedOutcome, RunFault>
+    ensures outcome { IfOk result (λ audited. IsOutcome machine.now turns audited.outcome) }
+    ensures audited { IfOk result (IsAudited machine.now) }
+    ensures err { IfErr result (λ fault. (fault ≡ RunFault.NoMemory) ⊎ (turns_fault turns ≡ Some fault)) }
+    ensures range { IsErrOf result RunFault.Turns ↔ ((turns ≡ 0) ⊎ (1000000 < turns)) }
+{
+    let outcome = run(alloc, machine, turns)?;
+    Ok(audited(alloc, machine, outcome)?)
+}
+
+/// Replays a schedule of at most 1,000,000 entries, writes its trace, reads the trace back and audits what was read.
+///
+/// The faults are those of `replay` alone: no line of the trace is that of no step, and no step is refused.
+pub fn audited_replay(
+    alloc: Global,
+    machine: &Machine,
+    schedule: &[u8],
+) -> Result<AuditedOutcome, RunFault>
+    ensures outcome { IfOk result (λ audited. IsReplayed machine.now schedule.now audited.outcome) }
+    ensures audited { IfOk result (IsAudited machine.now) }
+    ensures err { IfErr result (λ fault. (fault ≡ RunFault.NoMemory) ⊎ (schedule_fault machine.now schedule.now ≡ Some fault)) }
+    ensures range { IsErrOf result RunFault.Turns ↔ (1000000 < length schedule.now) }
+{
+    let outcome = replay(alloc, machine, schedule)?;
+    Ok(audited(alloc, machine, outcome)?)
+}
+
+// The trace of an outcome is read back and audited.
+fn audited(alloc: Global, machine: &Machine, outcome: Outcome) -> Result<AuditedOutcome, NoMemory>
+    requires { IsHistory machine.now (map step_of outcome.history.items) }
+    ensures outcome { IfOk result (λ audited. audited.outcome ≡ outcome) }
+    ensures audited { IfOk result (IsAudited machine.now) }
+{
+    law_read_back();
+    let trace = trace(alloc, outcome.history.as_slice())?;
+    let steps = read_back(alloc, trace.as_slice())?;
+    let audit = passed(alloc, machine, steps.as_slice())?;
+    Ok(AuditedOutcome {
+        outcome,
+        trace,
+        audit,
+    })
+}
+
+// The steps of a trace.
+fn read_back(alloc: Global, trace: &[u8]) -> Result<Vec<Step>, NoMemory>
+    requires { (steps : List ModelStep) × (steps_of trace.now ≡ Ok steps) }
+    ensures { IfOk result (λ steps. steps_of trace.now ≡ Ok (map step_of steps.items)) }
+{
+    match read_events(alloc, trace) {
+        Ok(steps) => Ok(steps),
+        Err(TraceFault::NoMemory) => Err(NoMemory),
+        Err(TraceFault::Line(_)) => unreachable!(),
+    }
+}
+
+// The audit of a history.
+fn passed(alloc: Global, machine: &Machine, history: &[Step]) -> Result<Audit, NoMemory>
+    requires { IsHistory machine.now (map step_of history.now) }
+    ensures { IfOk result (λ audit. Passes machine.now (map step_of history.now) audit) }
+{
+    law_first_fault();
+    match check(alloc, machine, history) {
+        Ok(audit) => Ok(audit),
+        Err(AuditFault::NoMemory) => Err(NoMemory),
+        Err(AuditFault::Refused { .. }) => unreachable!(),
+    }
+}
+
+#[cfg(test)]
+mod tests {
+    use super::*;
+    use l4_types::reports::Ending;
+    use std::test::Fail;
+
+    const TEXT: &[u8] =
+        b"l4 1 64\ncpus 1\nthread 1.1 cpu 0 space 1\nset 1 10\ntag 0x70001\nipc 2.1 nil never never\nthread 2.1 cpu 0 space 2\nipc nil any never never\n";
+
+    const TRACE: &[u8] =
+        b"local 1.1\nwait 2.1\nlocal 1.1\nbegin 1.1#1\nqueue 1.1#1\ndeliver 1.1#1 2.1 1.1 1.1 70001 a\nlocal 2.1\nlocal 1.1\n";
+
+    #[test]
+    fn what_is_written_is_read_and_passes(rt: HostRuntime) -> Result<(), Fail> {
+        let machine = Machine::parse(rt.alloc(), TEXT).ok().ok_or("a machine")?;
+        let ran = audited_run(rt.alloc(), &machine, 100).ok().ok_or("a run")?;
+        assert_eq!(rt; ran.trace.as_slice(), TRACE);
+        assert_eq!(rt; ran.audit.ending, Ending::Quiet);
+        let replayed = audited_replay(rt.alloc(), &machine, &[0; 8])
+            .ok()
+            .ok_or("a replay")?;
+        assert_eq!(rt; replayed.trace.as_slice(), TRACE);
+        assert_eq!(rt; replayed.audit.ending, Ending::Quiet);
+        let begun = audited_replay(rt.alloc(), &machine, &[0; 2])
+            .ok()
+            .ok_or("a replay")?;
+        assert_eq!(rt; begun.trace.as_slice(), b"local 1.1\nwait 2.1\n".as_slice());
+        assert_eq!(rt; begun.audit.ending, Ending::Spent);
+        Ok(())
+    }
+}

@@ -1,0 +1,190 @@
+//! The instructions of a script.
+ghost use Rattle.std.specs.Prelude.{◌≡◌, ◌<◌, IfSome, IsSome, ◌↔◌};
+ghost use Rattle.l4_types.specs.PeriodView.{IsTimely};
+
+use l4_types::ids::ThreadId;
+use l4_types::steps::What;
+use l4_types::tags::MsgTag;
+use l4_types::times::Period;
+use std::marker::Model;
+
+/// A message register that a script may write with any word: MR1 to MR63 (manual: Messages and Message Registers).
+#[derive(Clone, Copy, PartialEq, Eq, Debug)]
+pub struct Register {
+    number: u8,
+}
+
+impl Model for Register {
+    ghost use Rattle.std.specs.Prelude.{ℕ, ◌<◌};
+
+    ghost Value = { ℕ };
+
+    ghost view = { λ r. r.number };
+
+    ghost invariant = { (λ r. (0 < r.number) × (r.number < 64)) };
+
+    ghost inverse = { λ n. record { number = n } };
+}
+
+impl Register {
+    /// The register of this number, or None where it is 0 or above 63.
+    pub fn new(number: u8) -> Option<Register>
+        ensures some { IfSome result (λ register. register ≡ number) }
+        ensures when { IsSome result ↔ ((0 < number) × (number < 64)) }
+    {
+        if number == 0 || number > 63 {
+            return None;
+        }
+        Some(Register { number })
+    }
+
+    /// The number of the register, 1 to 63.
+    pub fn number(&self) -> u8
+        ensures value { result ≡ self.now }
+        ensures lower { 0 < result }
+        ensures upper { result < 64 }
+    {
+        self.number
+    }
+}
+
+/// A message register that a script may read: MR0 to MR63 (manual: Messages and Message Registers).
+#[derive(Clone, Copy, PartialEq, Eq, Debug)]
+pub struct Source {
+    index: u8,
+}
+
+impl Model for Source {
+    ghost use Rattle.std.specs.Prelude.{ℕ, ◌<◌};
+
+    ghost Value = { ℕ };
+
+    ghost view = { λ r. r.index };
+
+    ghost invariant = { (λ r. r.index < 64) };
+
+    ghost inverse = { λ n. record { index = n } };
+}
+
+impl Source {
+    /// The register of this number, or None where it is above 63.
+    pub fn new(number: u8) -> Option<Source>
+        ensures some { IfSome result (λ source. source ≡ number) }
+        ensures when { IsSome result ↔ (number < 64) }
+    {
+        if number > 63 {
+            return None;
+        }
+        Some(Source { index: number })
+    }
+
+    /// The number of the register, 0 to 63.
+    pub fn number(&self) -> u8
+        ensures value { result ≡ self.now }
+        ensures upper { result < 64 }
+    {
+        self.index
+    }
+}
+
+/// Where an Ipc sends to (manual: Ipc, `to`).
+#[derive(Clone, Copy, PartialEq, Eq, Debug)]
+pub enum To {
+    /// This id. To nilthread there is no send phase.
+    Id(ThreadId),
+    /// What the register `from` has at that moment.
+    Last,
+}
+
+/// An Ipc of a script (manual: Ipc). Its periods are those that times have: below 2^42 ticks.
+#[derive(Clone, Copy, PartialEq, Eq, Debug)]
+pub struct Ipc {
+    to: To,
+    from: ThreadId,
+    send_period: Period,
+    receive_period: Period,
+}
+
+impl Model for Ipc {
+    ghost use Rattle.l4_types.specs.PeriodView.{IsTimely};
+    ghost use Rattle.l4_script.specs.Calls.{Call};
+
+    ghost Value = { Call };
+
+    ghost view = { λ i. record { to = i.to; from = i.from; send_period = i.send_period; receive_period = i.receive_period } };
+
+    ghost invariant = { λ i. IsTimely i.send_period × IsTimely i.receive_period };
+
+    ghost inverse = { λ i. record { to = i.to; from = i.from; send_period = i.send_period; receive_period = i.receive_period } };
+}
+
+impl Ipc {
+    /// An Ipc with these phases. There is a send phase unless `to` is nilthread, and a receive phase unless `from` is nilthread.
+    pub(crate) fn new(to: To, from: ThreadId, send_period: Period, receive_period: Period) -> Ipc
+        requires send { IsTimely send_period }
+        requires receive { IsTimely receive_period }
+        ensures { result ≡ record { to = to; from = from; send_period = send_period; receive_period = receive_period } }
+    {
+        Ipc {
+            to,
+            from,
+            send_period,
+            receive_period,
+        }
+    }
+
+    /// Where it sends to.
+    pub fn to(&self) -> To
+        ensures { result ≡ self.now.to }
+    {
+        self.to
+    }
+
+    /// Whom its receive phase accepts (manual: Ipc, `FromSpecifier`). With nilthread there is no receive phase.
+    pub fn from(&self) -> ThreadId
+        ensures { result ≡ self.now.from }
+    {
+        self.from
+    }
+
+    /// How long its send phase may wait, below 2^42 ticks.
+    pub fn send_period(&self) -> Period
+        ensures value { result ≡ self.now.send_period }
+        ensures timely { IsTimely result }
+    {
+        self.send_period
+    }
+
+    /// How long its receive phase may wait, below 2^42 ticks.
+    pub fn receive_period(&self) -> Period
+        ensures value { result ≡ self.now.receive_period }
+        ensures timely { IsTimely result }
+    {
+        self.receive_period
+    }
+}
+
+/// One instruction of a script.
+#[derive(Clone, Copy, PartialEq, Eq, Debug)]
+pub enum Instr {
+    /// The register becomes the word.
+    Set(Register, u64),
+    /// The register becomes what the other one has.
+    Copy(Register, Source),
+    /// The register becomes its sum with the word, modulo 2^64.
+    Add(Register, u64),
+    /// MR0 becomes the tag.
+    Tag(MsgTag),
+    /// The register that is VirtualSender and ActualSender becomes the id (manual: Thread Control Registers).
+    Vs(ThreadId),
+    /// The system call (manual: Ipc).
+    Ipc(Ipc),
+    /// Asks for a cancellation or the deletion of a thread (manual: ExchangeRegisters, ThreadControl).
+    Order(ThreadId, What),
+    /// Goes on at this place of the script, counted from 0.
+    Jump(u64),
+    /// The same where ErrorCode is not 0, else goes on at the next instruction.
+    OnErr(u64),
+    /// The thread has ended.
+    End,
+}

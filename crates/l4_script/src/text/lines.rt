@@ -1,0 +1,51 @@
+//! The lines of a machine text, and their words.
+ghost use Rattle.std.specs.Prelude.{◌≡◌};
+ghost use Rattle.l4_script.specs.Lines.{has_empty_word, is_printable, is_skipped, line_of, after};
+
+use super::fault::TextFaultKind;
+use l4_words::words::Words;
+
+/// What a line says: its words, or nothing where it is empty or a comment.
+#[tactic(auto, unfolding(crate::specs::Lines::line_of))]
+pub(super) fn words_of(line: &[u8]) -> Result<Option<Words<'_>>, TextFaultKind>
+    ensures { result ≡ line_of line.now }
+{
+    if !is_printable(line) {
+        return Err(TextFaultKind::BadLine);
+    }
+    if is_skipped(line) {
+        return Ok(None);
+    }
+    if has_empty_word(line) {
+        return Err(TextFaultKind::BadLine);
+    }
+    Ok(Some(Words::of(line)))
+}
+
+fn is_printable(line: &[u8]) -> bool
+    ensures { result ≡ is_printable line.now }
+{
+    line.iter().all(|byte| matches!(byte, b' '..=b'~'))
+}
+
+fn is_skipped(line: &[u8]) -> bool
+    ensures { result ≡ is_skipped line.now }
+{
+    line.is_empty() || line[0] == b';'
+}
+
+fn has_empty_word(line: &[u8]) -> bool
+    ensures { result ≡ has_empty_word line.now }
+{
+    line.split(|byte| *byte == b' ').any(|word| word.is_empty())
+}
+
+/// The words behind this keyword.
+pub(super) fn after<'a>(keyword: &[u8], mut words: Words<'a>) -> Result<Words<'a>, TextFaultKind>
+    ensures { result ≡ after keyword.now words.entry }
+{
+    match words.next() {
+        Some(word) if word == keyword => Ok(words),
+        _ => Err(TextFaultKind::BadLine),
+    }
+}

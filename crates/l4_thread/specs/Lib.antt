@@ -1,0 +1,5 @@
+pub mod Ipcs
+pub mod Parts
+pub mod PhaseView
+pub mod Requests
+pub mod Spelled

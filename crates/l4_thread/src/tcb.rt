@@ -1,0 +1,186 @@
+//! Thread control blocks.
+ghost use Rattle.std.specs.Prelude.{◌≡◌};
+ghost use Rattle.std.specs.Option.{option_copied};
+ghost use Rattle.l4_model.specs.World.{opening_thread, is_ready, is_sending, is_deleted, receive_now};
+ghost use Rattle.l4_model.specs.History.{state_of};
+ghost use Rattle.l4_core_model.specs.Local.{armed_period, period_of_send};
+ghost use Rattle.l4_types.specs.PeriodView.{period_of, IsTimely};
+ghost use Rattle.l4_types.specs.ReportView.{state_of_view};
+ghost use Rattle.l4_thread.specs.PhaseView.{since_of};
+
+mod effects;
+
+use crate::orders::Asked;
+use crate::phases::Phase;
+use crate::sends::{Receive, Send};
+use crate::thread::Thread;
+use l4_types::ids::GlobalId;
+use l4_types::reports::State;
+use l4_types::times::Period;
+use std::marker::Model;
+
+/// A thread control block: all that is known of a thread.
+#[derive(Drop)]
+pub struct Tcb {
+    thread: Thread,
+    phase: Phase,
+    send: Option<Send>,
+    order: Option<Asked>,
+    cancel_send: bool,
+    cancel_receive: bool,
+}
+
+impl Model for Tcb {
+    ghost use Rattle.l4_thread.specs.Parts.{Block};
+    ghost use Rattle.l4_thread.specs.PhaseView.{phase_of};
+
+    ghost Value = { Block };
+
+    ghost view = { λ t. record {
+      id = t.thread.id;
+      thread = record {
+        context = t.thread.context;
+        phase = phase_of t.phase;
+        send = t.send;
+        order = t.order;
+        cancel_send = t.cancel_send;
+        cancel_receive = t.cancel_receive;
+      };
+    } };
+}
+
+impl Tcb {
+    /// The block of a thread that has run nothing.
+    pub fn new(id: GlobalId) -> Tcb
+        ensures { result ≡ record { id = id; thread = opening_thread } }
+    {
+        Tcb {
+            thread: Thread::new(id),
+            phase: Phase::Ready,
+            send: None,
+            order: None,
+            cancel_send: false,
+            cancel_receive: false,
+        }
+    }
+
+    /// The thread's id.
+    pub fn id(&self) -> GlobalId
+        ensures { result ≡ self.now.id }
+    {
+        self.thread.id()
+    }
+
+    /// The thread's registers, its place in its script, and how many sends it began.
+    pub fn thread(&self) -> &Thread
+        ensures { result.now ≡ record { id = self.now.id; context = self.now.thread.context } }
+    {
+        &self.thread
+    }
+
+    /// Whether it can run its next instruction.
+    pub fn is_ready(&self) -> bool
+        ensures { result ≡ is_ready self.now.thread.phase }
+    {
+        matches!(self.phase, Phase::Ready)
+    }
+
+    /// Whether it is in the send phase of an Ipc.
+    pub fn is_sending(&self) -> bool
+        ensures { result ≡ is_sending self.now.thread.phase }
+    {
+        matches!(self.phase, Phase::Sending)
+    }
+
+    /// Whether it was deleted.
+    pub fn is_deleted(&self) -> bool
+        ensures { result ≡ is_deleted self.now.thread.phase }
+    {
+        matches!(self.phase, Phase::Deleted)
+    }
+
+    /// The receive phase that it is in.
+    pub fn receiving(&self) -> Option<&Receive>
+        ensures { option_copied result ≡ receive_now self.now.thread.phase }
+    {
+        match &self.phase {
+            Phase::Receiving(receive, _) => Some(receive),
+            _ => None,
+        }
+    }
+
+    /// The clock of its processor when the receive phase that it is in began, in ticks.
+    pub fn receiving_since(&self) -> Option<u64>
+        ensures { result ≡ since_of self.now.thread.phase }
+    {
+        match self.phase {
+            Phase::Receiving(_, since) => Some(since),
+            _ => None,
+        }
+    }
+
+    /// Its undecided send.
+    pub fn send(&self) -> Option<&Send>
+        ensures { option_copied result ≡ self.now.thread.send }
+    {
+        self.send.as_ref()
+    }
+
+    /// What it asked of another thread, and is not done yet.
+    pub fn order(&self) -> Option<Asked>
+        ensures { result ≡ self.now.thread.order }
+    {
+        self.order
+    }
+
+    /// Whether its send is to be cancelled.
+    pub fn is_send_cancelled(&self) -> bool
+        ensures { result ≡ self.now.thread.cancel_send }
+    {
+        self.cancel_send
+    }
+
+    /// Whether its receive phase is to be cancelled.
+    pub fn is_receive_cancelled(&self) -> bool
+        ensures { result ≡ self.now.thread.cancel_receive }
+    {
+        self.cancel_receive
+    }
+
+    /// What a report says of it.
+    pub fn state(&self) -> State
+        ensures { state_of_view result ≡ state_of self.now.thread.phase }
+    {
+        match self.phase {
+            Phase::Ready => State::Ready,
+            Phase::Sending => State::Sending,
+            Phase::Receiving(_, _) => State::Receiving,
+            Phase::Ordering => State::Ordering,
+            Phase::Ended => State::Ended,
+            Phase::Deleted => State::Deleted,
+        }
+    }
+
+    /// How long the phase that it is in may wait, below 2^42 ticks. A send phase that may not wait at all has no deadline: never.
+    pub fn waiting_period(&self) -> Period
+        ensures value { period_of result ≡ armed_period self.now.thread.phase self.now.thread.send }
+        ensures timely { IsTimely result }
+    {
+        match &self.phase {
+            Phase::Receiving(receive, _) => receive.period(),
+            Phase::Sending => self.send_period(),
+            _ => Period::Never,
+        }
+    }
+
+    // How long its send may wait, where it may wait at all.
+    fn send_period(&self) -> Period
+        ensures value { period_of result ≡ period_of_send self.now.thread.send }
+        ensures timely { IsTimely result }
+    {
+        match self.send.as_ref().map(|send| send.period()) {
+            None | Some(Period::Zero) => Period::Never,
+            Some(period) => period,
+        }
+    }
+}

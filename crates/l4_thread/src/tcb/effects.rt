@@ -1,0 +1,247 @@
+//! What happens to a thread.
+ghost use Rattle.std.specs.Prelude.{◌≡◌, ◌<◌, ◌^◌, ◌+◌, ℕ, true, false, IfSome};
+ghost use Rattle.std.specs.Option.{option_map};
+ghost use Rattle.l4_model.specs.Words.{word_of_tag};
+ghost use Rattle.l4_model.specs.Machine.{Machine};
+ghost use Rattle.l4_model.specs.Rules.{act};
+ghost use Rattle.l4_model.specs.Effects.{runs, fails, receives, refused, decided, delivered, goes_on, asked, asked_send, asked_receive, has_receive_phase, orders, obeyed};
+ghost use Rattle.l4_core_model.specs.Local.{ended, was_delivered, was_dropped};
+ghost use Rattle.l4_types.specs.Codes.{code_of};
+ghost use Rattle.l4_types.specs.PeriodView.{period_of, IsTimely};
+ghost use Rattle.l4_types.specs.StepView.{what_of};
+ghost use Rattle.l4_types.specs.LetterView.{decision_of};
+ghost use Rattle.l4_script.specs.Scripts.{instr_of};
+ghost use Rattle.l4_thread.specs.Ipcs.{may_show, starts, began_of};
+ghost use Rattle.l4_thread.specs.Requests.{asks_to_send, is_end, receive_from};
+
+use crate::orders::Asked;
+use crate::phases::{Began, Phase};
+use crate::sends::{Receive, Send};
+use crate::tcb::Tcb;
+use l4_script::instructions::Instr;
+use l4_types::errors::IpcError;
+use l4_types::ids::ThreadId;
+use l4_types::letters::{Decision, Refusal};
+use l4_types::messages::Message;
+use l4_types::steps::What;
+use l4_types::tags::MsgTag;
+use l4_types::times::Period;
+
+impl Tcb {
+    /// Runs an instruction that concerns nobody else, or its script ends.
+    pub fn run(&mut self, instr: &Instr)
+        requires room { is_end (instr_of instr.now) ≡ false → self.old.thread.context.place + 1 < 2 ^ 64 }
+        ensures { self.new ≡ record self.old { thread = runs (instr_of instr.now) self.old.thread } }
+    {
+        let has_ended = self.thread.local(instr);
+        self.phase = if has_ended {
+            Phase::Ended
+        } else {
+            Phase::Ready
+        };
+    }
+
+    /// Begins the first phase of an Ipc, at this clock of its processor in ticks, and tells which one. `permitted` says whether the
+    /// thread may show the originator that its VirtualSender names. Of no phase, and of other instructions, nothing changes.
+    pub fn ipc(&mut self, instr: &Instr, permitted: bool, now: u64) -> Began
+        requires room { is_end (instr_of instr.now) ≡ false → self.old.thread.context.place + 1 < 2 ^ 64 }
+        requires count { asks_to_send self.old.thread.context (instr_of instr.now) ≡ true → self.old.thread.context.begun + 1 < 2 ^ 64 }
+        ensures thread { (m : Machine) → permitted ≡ may_show m self.old.id self.old.thread.context.actual →
+            self.new ≡ record self.old { thread = starts (act m self.old.id now self.old.thread.context (instr_of instr.now)) now self.old.thread } }
+        ensures began { (m : Machine) → permitted ≡ may_show m self.old.id self.old.thread.context.actual →
+            result ≡ began_of (act m self.old.id now self.old.thread.context (instr_of instr.now)) }
+    {
+        let request = self.thread.request(instr, permitted);
+        let receive = receive_of(request.receive);
+        if let Some(phase) = request.send {
+            self.send = Some(send_of(phase, receive, now));
+            self.phase = Phase::Sending;
+            return Began::Send;
+        }
+        match receive {
+            Some(receive) => {
+                self.phase = Phase::Receiving(receive, now);
+                Began::Receive
+            }
+            None => Began::Nothing,
+        }
+    }
+
+    /// Its Ipc has failed. A deleted thread stays as it is.
+    pub fn fail(&mut self, error: IpcError)
+        ensures { self.new ≡ record self.old { thread = fails (code_of error) self.old.thread } }
+    {
+        if !self.is_deleted() {
+            self.thread.fail(error);
+            self.phase = Phase::Ready;
+            self.cancel_receive = false;
+        }
+    }
+
+    /// It receives a message, with this tag.
+    pub fn receive(&mut self, message: &Message, tag: MsgTag)
+        ensures { self.new ≡ record self.old { thread = receives message.now (word_of_tag tag) self.old.thread } }
+    {
+        self.thread.received(message, tag);
+        self.phase = Phase::Ready;
+        self.cancel_receive = false;
+    }
+
+    /// Its send is decided, and no receive phase follows: no wish is left.
+    pub fn decide(&mut self)
+        ensures { self.new ≡ record self.old { thread = decided self.old.thread } }
+    {
+        self.send = None;
+        self.cancel_send = false;
+        self.cancel_receive = false;
+    }
+
+    /// Its send is decided, at this clock of its processor in ticks. After a delivery the receive phase of the same Ipc begins at
+    /// once. A deleted thread keeps its registers.
+    pub fn end_send(&mut self, decision: Decision, now: u64)
+        ensures { self.new ≡ record self.old { thread = ended (decision_of decision) now self.old.thread } }
+    {
+        match decision {
+            Decision::Delivered => self.end_delivered(now),
+            Decision::Refused(Refusal::TimedOut) => self.refuse(IpcError::SendTimeout),
+            Decision::Refused(Refusal::Nobody) => self.refuse(IpcError::SendNobody),
+            Decision::Refused(Refusal::Cancelled) => self.refuse(IpcError::SendCancelled),
+            Decision::Refused(Refusal::Dropped) => self.end_dropped(),
+        }
+    }
+
+    // Its send was refused.
+    fn refuse(&mut self, error: IpcError)
+        ensures { self.new ≡ record self.old { thread = refused (code_of error) self.old.thread } }
+    {
+        self.decide();
+        self.fail(error);
+    }
+
+    // Its send was delivered.
+    fn end_delivered(&mut self, now: u64)
+        ensures { self.new ≡ record self.old { thread = was_delivered self.old.thread.send now self.old.thread } }
+    {
+        let Some(receive) = self.send.as_ref().map(|send| send.receive()) else {
+            return;
+        };
+        if self.is_deleted() {
+            self.decide();
+        } else {
+            self.go_on(receive, now);
+        }
+    }
+
+    // After a delivery the receive phase of the same Ipc begins, or the Ipc has ended.
+    fn go_on(&mut self, receive: Option<Receive>, now: u64)
+        ensures { self.new ≡ record self.old { thread = goes_on receive now self.old.thread } }
+    {
+        match receive {
+            Some(receive) => {
+                self.phase = Phase::Receiving(receive, now);
+                self.send = None;
+                self.cancel_send = false;
+            }
+            None => {
+                self.decide();
+                self.thread.sent();
+                self.phase = Phase::Ready;
+            }
+        }
+    }
+
+    // Its send was dropped.
+    fn end_dropped(&mut self)
+        ensures { self.new ≡ record self.old { thread = was_dropped self.old.thread } }
+    {
+        self.decide();
+        if !self.is_deleted() {
+            self.phase = Phase::Ready;
+        }
+    }
+
+    /// It is asked for a cancellation, or it is deleted (manual: ExchangeRegisters, ThreadControl). `S` cancels a send phase, `R` a
+    /// receive phase, also that of an Ipc that is still in its send phase. Else a cancellation has no effect.
+    pub fn ask(&mut self, what: What)
+        ensures { self.new ≡ record self.old { thread = asked (what_of what) self.old.thread } }
+    {
+        match what {
+            What::CancelSend => self.ask_send(),
+            What::CancelReceive => self.ask_receive(),
+            What::CancelBoth => {
+                self.ask_send();
+                self.ask_receive();
+            }
+            What::Delete => {
+                self.phase = Phase::Deleted;
+                self.cancel_receive = false;
+            }
+        }
+    }
+
+    // It is asked to cancel its send phase.
+    fn ask_send(&mut self)
+        ensures { self.new ≡ record self.old { thread = asked_send self.old.thread } }
+    {
+        self.cancel_send = self.cancel_send || self.is_sending();
+    }
+
+    // It is asked to cancel its receive phase.
+    fn ask_receive(&mut self)
+        ensures { self.new ≡ record self.old { thread = asked_receive self.old.thread } }
+    {
+        self.cancel_receive = self.cancel_receive || self.has_receive_phase();
+    }
+
+    // Whether it is in a receive phase, or in the send phase of an Ipc that has one.
+    fn has_receive_phase(&self) -> bool
+        ensures { result ≡ has_receive_phase self.now.thread.phase self.now.thread.send }
+    {
+        match self.phase {
+            Phase::Receiving(_, _) => true,
+            Phase::Sending => self
+                .send
+                .as_ref()
+                .is_some_and(|send| send.receive().is_some()),
+            _ => false,
+        }
+    }
+
+    /// It has asked for something, and waits until it is done.
+    pub fn give_order(&mut self, order: Asked)
+        ensures { self.new ≡ record self.old { thread = orders order self.old.thread } }
+    {
+        self.phase = Phase::Ordering;
+        self.order = Some(order);
+    }
+
+    /// What it asked for is done. A deleted thread keeps its registers.
+    pub fn obey(&mut self)
+        requires { self.old.thread.context.place + 1 < 2 ^ 64 }
+        ensures { self.new ≡ record self.old { thread = obeyed self.old.thread } }
+    {
+        self.order = None;
+        if !self.is_deleted() {
+            self.thread.ordered(0);
+            self.phase = Phase::Ready;
+        }
+    }
+}
+
+// The receive phase that an Ipc asks for.
+fn receive_of(phase: Option<(ThreadId, Period)>) -> Option<Receive>
+    requires { IfSome phase (λ r. IsTimely r.1) }
+    ensures { result ≡ option_map receive_from phase }
+{
+    let (from, period) = phase?;
+    Some(Receive::new(from, period))
+}
+
+// The send of an Ipc that begins at this clock of its processor, with the receive phase that the Ipc asks for.
+fn send_of(phase: (ThreadId, Message, Period), receive: Option<Receive>, now: u64) -> Send
+    requires { IsTimely phase.2 }
+    ensures { result ≡ record { to = phase.0; message = phase.1; period = period_of phase.2; since = now; receive = receive } }
+{
+    let (to, message, period) = phase;
+    Send::new(to, message, period, now, receive)
+}

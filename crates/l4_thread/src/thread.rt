@@ -1,0 +1,295 @@
+//! The part of a thread that its own instructions read and write.
+ghost use Rattle.std.specs.Prelude.{◌≡◌, ◌<◌, ◌^◌, ◌+◌, ◌%◌, IfSome, false, true, take, drop};
+ghost use Rattle.std.specs.Option.{option_map};
+ghost use Rattle.l4_model.specs.Words.{word_of_tag};
+ghost use Rattle.l4_model.specs.World.{opening_context};
+ghost use Rattle.l4_model.specs.Rules.{failed, sent, received, ordered, advanced, ran, register, with_register, destination, receive_phase};
+ghost use Rattle.l4_types.specs.Codes.{code_of};
+ghost use Rattle.l4_types.specs.PeriodView.{period_of, IsTimely};
+ghost use Rattle.l4_script.specs.Scripts.{instr_of, ipc_of, to_of};
+ghost use Rattle.l4_thread.specs.Requests.{originator_if, message_if, phases_of, phases_from, phases_begun, receive_from, counted, AreTimely, asks_to_send, is_end};
+
+use crate::requests::Request;
+use arrayvec::ArrayVec;
+use l4_script::instructions::{Instr, Ipc, Register, To};
+use l4_types::errors::IpcError;
+use l4_types::ids::{GlobalId, ThreadId};
+use l4_types::messages::Message;
+use l4_types::registers::Regs;
+use l4_types::tags::MsgTag;
+use l4_types::times::Period;
+use std::marker::Model;
+
+/// A thread: its id, its registers, its place in its script, and how many sends it began.
+#[derive(Drop)]
+pub struct Thread {
+    id: GlobalId,
+    regs: Regs,
+    place: usize,
+    begun: u64,
+}
+
+impl Model for Thread {
+    ghost use Rattle.l4_thread.specs.Parts.{Part};
+
+    ghost Value = { Part };
+
+    ghost view = { λ t. record { id = t.id; context = record { words = t.regs.words; error = t.regs.error; from = t.regs.from; actual = t.regs.actual; place = t.place; begun = t.begun } } };
+}
+
+impl Thread {
+    /// A thread that has run nothing.
+    pub fn new(id: GlobalId) -> Thread
+        ensures { result ≡ record { id = id; context = opening_context } }
+    {
+        Thread {
+            id,
+            regs: Regs::new(),
+            place: 0,
+            begun: 0,
+        }
+    }
+
+    /// The thread's id.
+    pub fn id(&self) -> GlobalId
+        ensures { result ≡ self.now.id }
+    {
+        self.id
+    }
+
+    /// The registers.
+    pub fn regs(&self) -> &Regs
+        ensures { result.now ≡ record { words = self.now.context.words; error = self.now.context.error; from = self.now.context.from; actual = self.now.context.actual } }
+    {
+        &self.regs
+    }
+
+    /// The place in the script, counted from 0.
+    pub fn place(&self) -> usize
+        ensures { result ≡ self.now.context.place }
+    {
+        self.place
+    }
+
+    /// How many sends the thread began.
+    pub fn begun(&self) -> u64
+        ensures { result ≡ self.now.context.begun }
+    {
+        self.begun
+    }
+
+    // The next instruction is at hand.
+    fn advance(&mut self)
+        requires { self.old.context.place + 1 < 2 ^ 64 }
+        ensures { self.new ≡ record self.old { context = advanced self.old.context } }
+    {
+        self.place += 1;
+    }
+
+    // A message register becomes a word.
+    fn set(&mut self, register: Register, word: u64)
+        ensures { self.new ≡ record self.old { context = with_register register word self.old.context } }
+    {
+        self.regs.words[usize::from(register.number())] = word;
+    }
+
+    // What a message register has.
+    fn register(&self, number: u8) -> u64
+        requires { number < 64 }
+        ensures { result ≡ register self.now.context number }
+    {
+        self.regs.words[usize::from(number)]
+    }
+
+    // It goes on at a place of the script.
+    fn jump(&mut self, place: u64)
+        ensures { self.new ≡ record self.old { context = record self.old.context { place = place } } }
+    {
+        self.place = place as usize;
+    }
+
+    /// Runs an instruction that concerns nobody else (manual: Messages and Message Registers, Thread Control Registers), and tells
+    /// whether the script ends with it. An Ipc is then one without phases, and what is asked of another thread is refused.
+    pub fn local(&mut self, instr: &Instr) -> bool
+        requires room { is_end (instr_of instr.now) ≡ false → self.old.context.place + 1 < 2 ^ 64 }
+        ensures context { self.new ≡ record self.old { context = ran (instr_of instr.now) self.old.context } }
+        ensures ends { result ≡ is_end (instr_of instr.now) }
+    {
+        match instr {
+            Instr::Set(register, word) => self.set(*register, *word),
+            Instr::Copy(register, source) => self.set(*register, self.register(source.number())),
+            Instr::Add(register, word) => {
+                let sum = self.register(register.number()).wrapping_add(*word);
+                self.set(*register, sum);
+            }
+            Instr::Tag(tag) => self.regs.words[0] = tag.raw(),
+            Instr::Vs(id) => self.regs.actual = *id,
+            Instr::Ipc(_) => self.sent(),
+            Instr::Order(_, _) => self.regs.error = 2,
+            Instr::Jump(place) => {
+                self.jump(*place);
+                return false;
+            }
+            Instr::OnErr(place) if self.regs.error != 0 => {
+                self.jump(*place);
+                return false;
+            }
+            Instr::OnErr(_) => {}
+            Instr::End => return true,
+        }
+        self.advance();
+        false
+    }
+
+    /// Begins the phases of an Ipc (manual: Ipc), of which there may be none. `permitted` says whether the thread may show the
+    /// originator that its VirtualSender names. Other instructions have no phases.
+    pub fn request(&mut self, instr: &Instr, permitted: bool) -> Request
+        requires room { is_end (instr_of instr.now) ≡ false → self.old.context.place + 1 < 2 ^ 64 }
+        requires count { asks_to_send self.old.context (instr_of instr.now) ≡ true → self.old.context.begun + 1 < 2 ^ 64 }
+        ensures phases { phases_from result ≡ phases_of permitted self.old.id self.old.context (instr_of instr.now) }
+        ensures timely { AreTimely result }
+        ensures context { self.new ≡ record self.old { context = phases_begun (phases_of permitted self.old.id self.old.context (instr_of instr.now)) self.old.context } }
+    {
+        match instr {
+            Instr::Ipc(ipc) => self.begin(ipc, permitted),
+            _ => Request::NONE,
+        }
+    }
+
+    /// An Ipc received a message, with this tag in message register 0. Registers past its words keep their contents.
+    pub fn received(&mut self, message: &Message, tag: MsgTag)
+        ensures { self.new ≡ record self.old { context = received message.now (word_of_tag tag) self.old.context } }
+    {
+        let words = message.words();
+        let end = words.len() + 1;
+        self.regs.words[0] = tag.raw();
+        self.regs.words[1..end].copy_from_slice(words);
+        self.regs.error = 0;
+        self.regs.from = message.shown().id();
+        self.regs.actual = message.actual().id();
+    }
+
+    /// An Ipc ended well and received nothing.
+    pub fn sent(&mut self)
+        ensures { self.new ≡ record self.old { context = sent self.old.context } }
+    {
+        self.regs.words[0] = 0;
+        self.regs.error = 0;
+        self.regs.from = ThreadId::NIL;
+    }
+
+    /// An Ipc failed.
+    pub fn fail(&mut self, error: IpcError)
+        ensures { self.new ≡ record self.old { context = failed (code_of error) self.old.context } }
+    {
+        self.regs.words[0] = 0x8000;
+        self.regs.error = error.code();
+        self.regs.from = ThreadId::NIL;
+    }
+
+    /// What the thread asked of another was done, ErrorCode 0, or refused, ErrorCode 2 (manual: ExchangeRegisters, ThreadControl).
+    pub fn ordered(&mut self, code: u64)
+        requires { self.old.context.place + 1 < 2 ^ 64 }
+        ensures { self.new ≡ record self.old { context = ordered code self.old.context } }
+    {
+        self.regs.error = code;
+        self.advance();
+    }
+
+    // Begins the phases of an Ipc.
+    fn begin(&mut self, ipc: &Ipc, permitted: bool) -> Request
+        requires room { self.old.context.place + 1 < 2 ^ 64 }
+        requires count { asks_to_send self.old.context (ipc_of ipc.now) ≡ true → self.old.context.begun + 1 < 2 ^ 64 }
+        ensures phases { phases_from result ≡ phases_of permitted self.old.id self.old.context (ipc_of ipc.now) }
+        ensures timely { AreTimely result }
+        ensures context { self.new ≡ record self.old { context = phases_begun (phases_of permitted self.old.id self.old.context (ipc_of ipc.now)) self.old.context } }
+    {
+        let to = self.destination(ipc.to());
+        let receive = receive_phase(ipc);
+        if to == ThreadId::NIL {
+            if receive.is_some() {
+                self.advance();
+            }
+            return Request {
+                send: None,
+                receive,
+            };
+        }
+        let message = self.message(permitted);
+        self.count();
+        Request {
+            send: Some((to, message, ipc.send_period())),
+            receive,
+        }
+    }
+
+    // One more send was begun.
+    fn count(&mut self)
+        requires room { self.old.context.place + 1 < 2 ^ 64 }
+        requires count { self.old.context.begun + 1 < 2 ^ 64 }
+        ensures { self.new ≡ record self.old { context = counted self.old.context } }
+    {
+        self.advance();
+        self.begun += 1;
+    }
+
+    // The destination of an Ipc.
+    fn destination(&self, to: To) -> ThreadId
+        ensures { result ≡ destination self.now.context (to_of to) }
+    {
+        match to {
+            To::Id(id) => id,
+            To::Last => self.regs.from,
+        }
+    }
+
+    // The originator that a send of this thread shows, where bit 12 of message register 0 asks for propagation and the
+    // thread may show it.
+    fn originator(&self, permitted: bool) -> Option<GlobalId>
+        ensures { result ≡ originator_if permitted self.now.context }
+    {
+        if permitted && (self.regs.words[0] / 0x1000) % 2 == 1 {
+            self.regs.actual.as_global()
+        } else {
+            None
+        }
+    }
+
+    // The words from message register 1 on that a send of this thread carries.
+    fn words(&self) -> ArrayVec<u64, 63>
+        ensures { result.items ≡ take (register self.now.context 0 % 64) (drop 1 self.now.context.words) }
+    {
+        let count = (self.regs.words[0] % 64) as usize;
+        let mut words = ArrayVec::new();
+        let _fits = words.try_extend_from_slice(&self.regs.words[1..count + 1]);
+        words
+    }
+
+    // The message of a send that this thread begins now.
+    fn message(&self, permitted: bool) -> Message
+        ensures { result ≡ message_if permitted self.now.id self.now.context }
+    {
+        let originator = self.originator(permitted);
+        let label = self.regs.words[0] / 0x1_0000;
+        Message::new(
+            label,
+            originator.is_some(),
+            self.words(),
+            originator.unwrap_or(self.id),
+            self.id,
+        )
+        .unwrap()
+    }
+}
+
+// The receive phase of an Ipc, unless its specifier is nilthread.
+fn receive_phase(ipc: &Ipc) -> Option<(ThreadId, Period)>
+    ensures value { option_map receive_from result ≡ receive_phase ipc.now.from (period_of ipc.now.receive_period) }
+    ensures timely { IfSome result (λ r. IsTimely r.1) }
+{
+    if ipc.from() == ThreadId::NIL {
+        None
+    } else {
+        Some((ipc.from(), ipc.receive_period()))
+    }
+}

@@ -1,0 +1,143 @@
+//! The kinds of steps, by the first word of a line.
+ghost use Rattle.std.specs.Prelude.{◌≡◌, List, ℕ};
+ghost use Rattle.l4_types.specs.StepView.{step_of};
+ghost use Rattle.l4_trace.specs.Kinds.{step_of_thread, step_of_name, step_of_kind};
+ghost use Rattle.l4_trace.specs.Reading.{step_behind};
+
+use l4_types::ids::GlobalId;
+use l4_types::steps::{Name, Step};
+
+const LOCAL: &[u8] = b"local";
+
+const BEGIN: &[u8] = b"begin";
+
+const QUEUE: &[u8] = b"queue";
+
+const DELIVER: &[u8] = b"deliver";
+
+const WAIT: &[u8] = b"wait";
+
+const SEND_TIMEOUT: &[u8] = b"stimeout";
+
+const RECEIVE_TIMEOUT: &[u8] = b"rtimeout";
+
+const SEND_NOBODY: &[u8] = b"snobody";
+
+const RECEIVE_NOBODY: &[u8] = b"rnobody";
+
+const SEND_CANCEL: &[u8] = b"scancel";
+
+const RECEIVE_CANCEL: &[u8] = b"rcancel";
+
+const DROP: &[u8] = b"drop";
+
+const ORDER: &[u8] = b"order";
+
+const OBEY: &[u8] = b"obey";
+
+const TICK: &[u8] = b"tick";
+
+/// The steps that tell a thread and nothing else.
+#[derive(Clone, Copy)]
+pub(crate) enum OfThread {
+    Local,
+    Wait,
+    ReceiveTimeout,
+    ReceiveNobody,
+    ReceiveCancel,
+    Obey,
+}
+
+impl OfThread {
+    /// The step of this thread.
+    pub(crate) fn step(self, thread: GlobalId) -> Step
+        ensures { step_of result ≡ step_of_thread self thread }
+    {
+        match self {
+            OfThread::Local => Step::Local(thread),
+            OfThread::Wait => Step::Wait(thread),
+            OfThread::ReceiveTimeout => Step::ReceiveTimeout(thread),
+            OfThread::ReceiveNobody => Step::ReceiveNobody(thread),
+            OfThread::ReceiveCancel => Step::ReceiveCancel(thread),
+            OfThread::Obey => Step::Obey(thread),
+        }
+    }
+}
+
+/// The steps that tell the name of a send and nothing else.
+#[derive(Clone, Copy)]
+pub(crate) enum OfName {
+    Begin,
+    Queue,
+    SendTimeout,
+    SendNobody,
+    SendCancel,
+    Drop,
+}
+
+impl OfName {
+    /// The step of the send of this name.
+    pub(crate) fn step(self, name: Name) -> Step
+        ensures { step_of result ≡ step_of_name self name }
+    {
+        match self {
+            OfName::Begin => Step::Begin(name),
+            OfName::Queue => Step::Queue(name),
+            OfName::SendTimeout => Step::SendTimeout(name),
+            OfName::SendNobody => Step::SendNobody(name),
+            OfName::SendCancel => Step::SendCancel(name),
+            OfName::Drop => Step::Drop(name),
+        }
+    }
+}
+
+/// What a line tells.
+#[derive(Clone, Copy)]
+pub(crate) enum Kind {
+    OfThread(OfThread),
+    OfName(OfName),
+    Delivery,
+    Order,
+    Tick,
+}
+
+/// What a line that begins with this word tells.
+#[tactic(auto, unfolding(crate::specs::Reading::step_behind))]
+pub(crate) fn kind_of(word: &[u8]) -> Option<Kind>
+    ensures { (operands : List (List ℕ)) → step_behind word.now operands ≡ step_of_kind result operands }
+{
+    let kind = if word == LOCAL {
+        Kind::OfThread(OfThread::Local)
+    } else if word == BEGIN {
+        Kind::OfName(OfName::Begin)
+    } else if word == QUEUE {
+        Kind::OfName(OfName::Queue)
+    } else if word == DELIVER {
+        Kind::Delivery
+    } else if word == WAIT {
+        Kind::OfThread(OfThread::Wait)
+    } else if word == SEND_TIMEOUT {
+        Kind::OfName(OfName::SendTimeout)
+    } else if word == RECEIVE_TIMEOUT {
+        Kind::OfThread(OfThread::ReceiveTimeout)
+    } else if word == SEND_NOBODY {
+        Kind::OfName(OfName::SendNobody)
+    } else if word == RECEIVE_NOBODY {
+        Kind::OfThread(OfThread::ReceiveNobody)
+    } else if word == SEND_CANCEL {
+        Kind::OfName(OfName::SendCancel)
+    } else if word == RECEIVE_CANCEL {
+        Kind::OfThread(OfThread::ReceiveCancel)
+    } else if word == DROP {
+        Kind::OfName(OfName::Drop)
+    } else if word == ORDER {
+        Kind::Order
+    } else if word == OBEY {
+        Kind::OfThread(OfThread::Obey)
+    } else if word == TICK {
+        Kind::Tick
+    } else {
+        return None;
+    };
+    Some(kind)
+}

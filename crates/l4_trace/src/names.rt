@@ -1,0 +1,25 @@
+//! The names of sends as words spell them.
+ghost use Rattle.std.specs.Prelude.{◌≡◌};
+ghost use Rattle.l4_trace.specs.Names.{name_between, name_of};
+
+use l4_types::steps::Name;
+use l4_words::lines::find_byte;
+use l4_words::numbers::decimal;
+use l4_words::threads::thread;
+
+/// The send of a thread and a decimal number.
+fn name_between(thread_word: &[u8], k: &[u8]) -> Option<Name>
+    ensures { result ≡ name_between thread_word.now k.now }
+{
+    let thread = thread(thread_word)?;
+    let k = decimal(k)?;
+    Name::new(thread, k)
+}
+
+/// The name of a send, `N.V#K`.
+pub(crate) fn name(word: &[u8]) -> Option<Name>
+    ensures { result ≡ name_of word.now }
+{
+    let hash = find_byte(b'#', word)?;
+    name_between(&word[..hash], &word[hash + 1..])
+}

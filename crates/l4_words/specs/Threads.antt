@@ -1,0 +1,24 @@
+-- Threads as words spell them.
+use Rattle.std.specs.Prelude.{ℕ, Bool, ◌==◌, Option, Some, List, ◌++◌, codes, decimal}
+use Rattle.std.specs.List.{before_first, after_first}
+use Rattle.l4_model.specs.Words.{GlobalId, is_global, global_id}
+use Rattle.l4_model.specs.Conditions.{◌>>=◌, ◌>>◌}
+use Rattle.l4_words.specs.Numbers.{number_of}
+
+-- `N.V`: the number and the version of a thread, in decimal.
+abbrev pub thread_word : GlobalId → List ℕ
+thread_word t = decimal t.number ++ codes "." ++ decimal t.version
+
+-- Two decimal numbers that make a global id. The byte of the dot is 46.
+abbrev pub is_dot : ℕ → Bool
+is_dot byte = byte == 46
+
+abbrev pub thread_between : (number version : List ℕ) → Option GlobalId
+thread_between first second = do
+  number ← number_of 10 first
+  version ← number_of 10 second
+  is_global (global_id number version)
+  Some (global_id number version)
+
+unfoldable pub thread_of : List ℕ → Option GlobalId
+thread_of word = thread_between (before_first is_dot word) (after_first is_dot word)

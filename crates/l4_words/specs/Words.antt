@@ -1,0 +1,43 @@
+-- The words of a line.
+use Rattle.std.specs.Prelude.{ℕ, ◌≡◌, ◌==◌, Option, Some, None, List, [], ◌∷◌}
+use Rattle.std.specs.List.{slice_split}
+
+-- What stands between the spaces of a line, byte 32.
+abbrev pub words_in : List ℕ → List (List ℕ)
+words_in line = slice_split (λ byte. byte == 32) line
+
+-- The words of what follows the words that were read, where something follows them.
+abbrev pub words_left : Option (List ℕ) → List (List ℕ)
+words_left None = []
+words_left (Some rest) = words_in rest
+
+-- So many words, and no more.
+abbrev pub one : List (List ℕ) → Option (List ℕ)
+one (a ∷ []) = Some a
+one _ = None
+
+abbrev pub two : List (List ℕ) → Option (List ℕ × List ℕ)
+two (a ∷ b ∷ []) = Some (a, b)
+two _ = None
+
+abbrev pub three : List (List ℕ) → Option (List ℕ × List ℕ × List ℕ)
+three (a ∷ b ∷ c ∷ []) = Some (a, b, c)
+three _ = None
+
+abbrev pub four : List (List ℕ) → Option (List ℕ × List ℕ × List ℕ × List ℕ)
+four (a ∷ b ∷ c ∷ d ∷ []) = Some (a, b, c, d)
+four _ = None
+
+abbrev pub five : List (List ℕ) → Option (List ℕ × List ℕ × List ℕ × List ℕ × List ℕ)
+five (a ∷ b ∷ c ∷ d ∷ e ∷ []) = Some (a, b, c, d, e)
+five _ = None
+
+-- Five words, and those behind them.
+abbrev pub first_five : List (List ℕ) → Option (List ℕ × List ℕ × List ℕ × List ℕ × List ℕ × List (List ℕ))
+first_five (a ∷ b ∷ c ∷ d ∷ e ∷ others) = Some (a, b, c, d, e, others)
+first_five _ = None
+
+-- What was found, seen by a view, is what the definition gives.
+abbrev pub Finds : {X Y : Type 0} → (X → Y) → Option X → Option Y → Type 0
+Finds view None found = found ≡ None
+Finds view (Some x) found = found ≡ Some (view x)

@@ -1,0 +1,32 @@
+//! The lines of a text.
+ghost use Rattle.std.specs.Prelude.{◌≡◌, ◌==◌, ◌<◌, ◌∷◌, [], length, position, IfSome, MatchOption};
+ghost use Rattle.std.specs.List.{slice_split};
+ghost use Rattle.l4_words.specs.Lines.{parts_of};
+
+/// The place of the first such byte.
+pub fn find_byte(byte: u8, bytes: &[u8]) -> Option<usize>
+    ensures { result ≡ position (λ other. other == byte) bytes.now }
+{
+    bytes.iter().position(|other| *other == byte)
+}
+
+/// What stands before the first such byte, and what follows it. None where there is no such byte.
+pub fn split_once(byte: u8, bytes: &[u8]) -> Option<(&[u8], &[u8])>
+    ensures parts { MatchOption result
+        (slice_split (λ other. other == byte) bytes.now ≡ bytes.now ∷ [])
+        (λ split. slice_split (λ other. other == byte) bytes.now ≡ split.0.now ∷ slice_split (λ other. other == byte) split.1.now) }
+    ensures shorter { IfSome result (λ split. length split.1.now < length bytes.now) }
+{
+    let end = find_byte(byte, bytes)?;
+    Some((&bytes[..end], &bytes[end + 1..]))
+}
+
+/// The first line of a text, without its end, and what follows. None where no line is ended.
+pub fn split_line(text: &[u8]) -> Option<(&[u8], &[u8])>
+    ensures parts { MatchOption result
+        (parts_of text.now ≡ text.now ∷ [])
+        (λ split. parts_of text.now ≡ split.0.now ∷ parts_of split.1.now) }
+    ensures shorter { IfSome result (λ split. length split.1.now < length text.now) }
+{
+    split_once(b'\n', text)
+}

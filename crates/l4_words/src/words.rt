@@ -1,0 +1,144 @@
+//! The words of a line.
+ghost use Rattle.std.specs.Prelude.{◌≡◌, ◌∷◌, [], MatchOption};
+ghost use Rattle.l4_words.specs.Words.{Finds, words_in, one, two, three, four, five, first_five};
+
+use crate::lines::split_once;
+use std::marker::Model;
+
+/// The words of a line that are still to be read.
+#[derive(Drop)]
+pub struct Words<'a> {
+    // What follows the words that were read, and the space behind the last of them.
+    rest: Option<&'a [u8]>,
+}
+
+impl<'a> Model for Words<'a> {
+    ghost use Rattle.std.specs.Prelude.{List, ℕ};
+    ghost use Rattle.std.specs.Option.{option_copied};
+    ghost use Rattle.l4_words.specs.Words.{words_left};
+
+    ghost Value = { List (List ℕ) };
+
+    ghost view = { λ w. words_left (option_copied w.rest) };
+}
+
+type ThreeWords<'a> = (&'a [u8], &'a [u8], &'a [u8]);
+
+type FourWords<'a> = (&'a [u8], &'a [u8], &'a [u8], &'a [u8]);
+
+type FiveWords<'a> = (&'a [u8], &'a [u8], &'a [u8], &'a [u8], &'a [u8]);
+
+type FiveAndMore<'a> = (&'a [u8], &'a [u8], &'a [u8], &'a [u8], &'a [u8], Words<'a>);
+
+impl<'a> Words<'a> {
+    /// The words of a line.
+    pub fn of(line: &'a [u8]) -> Words<'a>
+        ensures { result ≡ words_in line.now }
+    {
+        Words { rest: Some(line) }
+    }
+
+    /// The next word, or None where no word is left.
+    pub fn next(&mut self) -> Option<&'a [u8]>
+        ensures { MatchOption result
+            ((self.old ≡ []) × (self.new ≡ []))
+            (λ word. self.old ≡ word.now ∷ self.new) }
+    {
+        let line = self.rest?;
+        match split_once(b' ', line) {
+            Some((word, rest)) => {
+                self.rest = Some(rest);
+                Some(word)
+            }
+            None => {
+                self.rest = None;
+                Some(line)
+            }
+        }
+    }
+
+    /// The one word that is left. None where there are more or fewer.
+    pub fn one(mut self) -> Option<&'a [u8]>
+        ensures { Finds (λ word. word.now) result (one self.entry) }
+    {
+        match (self.next(), self.next()) {
+            (Some(word), None) => Some(word),
+            _ => None,
+        }
+    }
+
+    /// The two words that are left. None where there are more or fewer.
+    pub fn two(mut self) -> Option<(&'a [u8], &'a [u8])>
+        ensures { Finds (λ words. (words.0.now, words.1.now)) result (two self.entry) }
+    {
+        match (self.next(), self.next(), self.next()) {
+            (Some(first), Some(second), None) => Some((first, second)),
+            _ => None,
+        }
+    }
+
+    /// The three words that are left. None where there are more or fewer.
+    pub fn three(mut self) -> Option<ThreeWords<'a>>
+        ensures { Finds (λ words. (words.0.now, words.1.now, words.2.now)) result (three self.entry) }
+    {
+        match (self.next(), self.next(), self.next(), self.next()) {
+            (Some(first), Some(second), Some(third), None) => Some((first, second, third)),
+            _ => None,
+        }
+    }
+
+    /// The four words that are left. None where there are more or fewer.
+    pub fn four(mut self) -> Option<FourWords<'a>>
+        ensures { Finds (λ words. (words.0.now, words.1.now, words.2.now, words.3.now)) result (four self.entry) }
+    {
+        match (
+            self.next(),
+            self.next(),
+            self.next(),
+            self.next(),
+            self.next(),
+        ) {
+            (Some(first), Some(second), Some(third), Some(fourth), None) => Some((
+                first, second, third, fourth,
+            )),
+            _ => None,
+        }
+    }
+
+    /// The five words that are left. None where there are more or fewer.
+    pub fn five(mut self) -> Option<FiveWords<'a>>
+        ensures { Finds (λ words. (words.0.now, words.1.now, words.2.now, words.3.now, words.4.now)) result (five self.entry) }
+    {
+        match (
+            self.next(),
+            self.next(),
+            self.next(),
+            self.next(),
+            self.next(),
+            self.next(),
+        ) {
+            (Some(first), Some(second), Some(third), Some(fourth), Some(fifth), None) => Some((
+                first, second, third, fourth, fifth,
+            )),
+            _ => None,
+        }
+    }
+
+    /// The next five words, and those behind them. None where there are fewer.
+    pub fn first_five(mut self) -> Option<FiveAndMore<'a>>
+        ensures { Finds (λ words. (words.0.now, words.1.now, words.2.now, words.3.now, words.4.now, words.5)) result (first_five self.entry) }
+    {
+        match (
+            self.next(),
+            self.next(),
+            self.next(),
+            self.next(),
+            self.next(),
+        ) {
+            (Some(first), Some(second), Some(third), Some(fourth), Some(fifth)) => Some((
+                first, second, third, fourth, fifth, self,
+            )),
+            _ => None,
+        }
+    }
+}

@@ -79,7 +79,7 @@ advance_ends m w l to x single k fit all h =
 
 -- A core run so far
 
-run-append : (m : Machine) (xs ys : List Step) (w : World) → run m w (xs ++ ys) ≡ (run m w xs >>= λ v. run m v ys)
+pub run-append : (m : Machine) (xs ys : List Step) (w : World) → run m w (xs ++ ys) ≡ (run m w xs >>= λ v. run m v ys)
 run-append m [] ys w = refl
 run-append m (x ∷ xs) ys w = by (next m w x) (λ v. run-append m xs ys v)
   where
@@ -91,7 +91,7 @@ append_nil : {A : Type 0} (xs : List A) → xs ++ [] ≡ xs
 append_nil [] = refl
 append_nil (x ∷ xs) = ap (λ ys. x ∷ ys) (append_nil xs)
 
-told-last : (es : List Event) (e : Event) → told (es ++ e ∷ []) ≡ told es ++ e.steps
+pub told-last : (es : List Event) (e : Event) → told (es ++ e ∷ []) ≡ told es ++ e.steps
 told-last [] e = append_nil e.steps
 told-last (x ∷ es) e = ap (λ ys. x.steps ++ ys) (told-last es e) ∙ sym (append_assoc x.steps (told es) e.steps)
 

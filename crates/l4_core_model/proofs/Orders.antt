@@ -120,7 +120,7 @@ ask_declared m caller AnyThread what order h none = cc
 ask_declared m caller AnyLocalThread what order h none = cc
 ask_declared m caller (LocalThread word) what order h none = cc
 
-ipc_orders_none : (m : Machine) (id : GlobalId) (now : ℕ) (c : Context) (to : Id) (period : Period) (receive : Option Receive) (order : Asked) → ipc_act m id now c to period receive ≡ Orders order → ⊥
+pub ipc_orders_none : (m : Machine) (id : GlobalId) (now : ℕ) (c : Context) (to : Id) (period : Period) (receive : Option Receive) (order : Asked) → ipc_act m id now c to period receive ≡ Orders order → ⊥
 ipc_orders_none m id now c NilThread period None order h = cc
 ipc_orders_none m id now c NilThread period (Some receive) order h = cc
 ipc_orders_none m id now c AnyThread period receive order h = cc
@@ -128,7 +128,7 @@ ipc_orders_none m id now c AnyLocalThread period receive order h = cc
 ipc_orders_none m id now c (LocalThread word) period receive order h = cc
 ipc_orders_none m id now c (GlobalThread t) period receive order h = cc
 
-target_declared : (m : Machine) (id : GlobalId) (now : ℕ) (c : Context) (i : Instr) (order : Asked) → act m id now c i ≡ Orders order → place_of m order.target ≡ None → ⊥
+pub target_declared : (m : Machine) (id : GlobalId) (now : ℕ) (c : Context) (i : Instr) (order : Asked) → act m id now c i ≡ Orders order → place_of m order.target ≡ None → ⊥
 target_declared m id now c (Ask target what) order h none = ask_declared m id target what order h none
 target_declared m id now c (Ipc to from send_period receive_period) order h none = ipc_orders_none m id now c (destination c to) send_period (receive_phase from receive_period) order h
 target_declared m id now c (Set a word) order h none = cc

@@ -1,0 +1,122 @@
+-- A thread of this processor is asked for something, and all stays related.
+use Rattle.std.proofs.Common.{◌≡◌, ℕ, ◌<◌, List, [], ◌∷◌, filter, length, refl, ap, sym, ◌∙◌, subst, arith}
+use Rattle.std.specs.Prelude.{◌==◌, not, slice_index_or}
+use Rattle.l4_model.specs.Machine.{Machine, What, CancelSend, CancelReceive, CancelBoth, Delete}
+use Rattle.l4_model.specs.World.{Thread, World, change, opening_thread}
+use Rattle.l4_model.specs.Effects.{asked}
+use Rattle.l4_core_model.specs.Plain as plain
+use Rattle.l4_core_model.specs.Local.{Local, relists, readied}
+use Rattle.l4_core_model.specs.Acts.{Work, ◌▷◌, does, asks}
+use Rattle.l4_core_model.proofs.Knows.{get-changed}
+use Rattle.l4_core_model.proofs.Fit.{all-filter}
+use Rattle.l4_core_model.proofs.Remembers.{same_or_apart, of_other}
+use Rattle.l4_split.proofs.Entries.{filter_kept, filter_out}
+use Rattle.l4_split.proofs.Keeping.{changes_here, changes_other, comes_here, comes_other}
+use Rattle.l4_split.proofs.Views.{Scene, Kept, View, kept, view, home, amid, words, notices, is_of}
+use Rattle.l4_split.proofs.Rows.{seats, Agrees, learned, Row, IsKeptAtHome, Stands}
+use Rattle.l4_split.proofs.Relation.{IsSized, RelatesBut}
+use Rattle.l4_split.proofs.Frames.{first_about, takes_in, world_changes, local_changes, changes_spares, comes_spares}
+use Rattle.l4_split.proofs.Moves.{at_home, Carries, same_alike, Moves, moves_kept}
+use Rattle.l4_split.proofs.Going.{IsHere, home_is, put_other, sized_here}
+use Rattle.l4_split.proofs.Asking.{asked_wants, row_as, asked_learned, asked_kept, asked_at_home, asked_ready, asked_thread, asked_carries}
+
+-- Its view after it
+
+asked_stands : (m : Machine) (j : ℕ) (what : What) (v after : View) → after.world ≡ asked what v.world → after.mail ≡ v.mail → at_home m j after ≡ asked_kept what j (at_home m j v) → (at_home m j after).listed ≡ (at_home m j v).listed → (at_home m j after).clock ≡ (at_home m j v).clock →
+    ((c : ℕ) → (c ≡ home m j → ⊥) → after.kept c ≡ v.kept c) → Stands m j v → Stands m j after
+asked_stands m j what v after world mail here listed clock other h =
+    let k : Kept = at_home m j v in
+    let t : Thread = k.thread in
+    let thread_is : (at_home m j after).thread ≡ asked what t = ap (λ (k : Kept). k.thread) here ∙ asked_thread what j k in
+    let wants = asked_wants what t in
+    let sent : (c : ℕ) → (after.kept c).thread.send ≡ (v.kept c).thread.send = λ c. same_or_apart ((after.kept c).thread.send ≡ (v.kept c).thread.send) c (home m j)
+    (λ e. subst (λ c. (after.kept c).thread.send ≡ (v.kept c).thread.send) (sym e) (ap (λ (t : Thread). t.send) thread_is ∙ wants.send)) (λ ne. ap (λ (k : Kept). k.thread.send) (other c ne)) in
+    let begun : (c : ℕ) → (after.kept c).thread.context.begun ≡ (v.kept c).thread.context.begun = λ c. same_or_apart ((after.kept c).thread.context.begun ≡ (v.kept c).thread.context.begun) c (home m j)
+    (λ e. subst (λ c. (after.kept c).thread.context.begun ≡ (v.kept c).thread.context.begun) (sym e) (ap (λ (t : Thread). t.context.begun) thread_is ∙ wants.begun)) (λ ne. ap (λ (k : Kept). k.thread.context.begun) (other c ne)) in
+    let lists : (c : ℕ) → (after.kept c).listed ≡ (v.kept c).listed = λ c. same_or_apart ((after.kept c).listed ≡ (v.kept c).listed) c (home m j)
+    (λ e. subst (λ c. (after.kept c).listed ≡ (v.kept c).listed) (sym e) listed) (λ ne. ap (λ (k : Kept). k.listed) (other c ne)) in
+    let seats_same : seats after ≡ seats v = λ d. record { sent = λ c. sent c d; begun = λ c. begun c d; listed = λ c. lists c d } in
+    let moves : Moves m j v after = record {
+      elsewhere = λ c ne. same_alike (v.kept c) (after.kept c) (other c ne);
+      notices = ap notices mail;
+      carries = subst (Carries k) (sym here) (asked_carries what j k);
+    } in
+    let row : Row m j (asked what t) (seats v) (words v.mail) t.send = row_as m j t (asked what t) (seats v) (words v.mail) t.send wants h.known.row in
+    record {
+      known = record {
+        agrees = subst (λ u. Agrees u (learned (words after.mail) (at_home m j after).clock (at_home m j after).thread)) (sym world)
+            (subst (λ mail. Agrees (asked what v.world) (learned (words mail) (at_home m j after).clock (at_home m j after).thread)) (sym mail)
+            (subst (λ c. Agrees (asked what v.world) (learned (words v.mail) c (at_home m j after).thread)) (sym clock)
+            (subst (λ t. Agrees (asked what v.world) (learned (words v.mail) k.clock t)) (sym thread_is) (asked_learned m j what v h.known))));
+        row = subst (λ mail. Row m j (at_home m j after).thread (seats after) (words mail) (at_home m j after).thread.send) (sym mail)
+            (subst (λ s. Row m j (at_home m j after).thread s (words v.mail) (at_home m j after).thread.send) (sym seats_same)
+            (subst (λ (u : Thread). Row m j u (seats v) (words v.mail) u.send) (sym thread_is)
+            (subst (Row m j (asked what t) (seats v) (words v.mail)) (sym wants.send) row)));
+        kept = moves_kept m j v after h.known.kept moves (subst (IsKeptAtHome j) (sym here) (asked_at_home what j k h.known.kept.at_home));
+      };
+      ready = subst (λ (k : Kept). k.ready ≡ readied k.thread.phase j []) (sym here) (asked_ready what j k h.ready);
+    }
+
+-- What this processor keeps after it
+
+dropped_here : (l : Local) (j : ℕ) → kept (relists (plain.dropped j) l) j ≡ record (kept l j) { ready = [] }
+dropped_here l j = ap (λ is. record (kept l j) { ready = is }) (filter_out (λ i. j == i) (λ i. not (j == i)) (λ i is. rw is refl) l.lists.ready)
+
+dropped_other : (l : Local) (j i : ℕ) → (j ≡ i → ⊥) → kept (relists (plain.dropped j) l) i ≡ kept l i
+dropped_other l j i ne = ap (λ is. record (kept l i) { ready = is }) (filter_kept (λ k. i == k) (λ k. not (j == k)) (λ k is. of_other j i k ne is) l.lists.ready)
+
+pub asks_here : (what : What) (l : Local) (j : ℕ) → j < length l.threads → kept (asks what j l) j ≡ asked_kept what j (kept l j)
+asks_here CancelSend l j lt = changes_here l j (asked CancelSend) lt
+asks_here CancelReceive l j lt = changes_here l j (asked CancelReceive) lt
+asks_here CancelBoth l j lt = changes_here l j (asked CancelBoth) lt
+asks_here Delete l j lt = comes_here (relists (plain.dropped j) l) j (asked Delete) lt ∙ ap (λ (k : Kept). record k { thread = asked Delete k.thread; armed = [] }) (dropped_here l j)
+
+pub asks_other : (what : What) (l : Local) (j i : ℕ) → (j ≡ i → ⊥) → kept (asks what j l) i ≡ kept l i
+asks_other CancelSend l j i ne = changes_other l j i (asked CancelSend) ne
+asks_other CancelReceive l j i ne = changes_other l j i (asked CancelReceive) ne
+asks_other CancelBoth l j i ne = changes_other l j i (asked CancelBoth) ne
+asks_other Delete l j i ne = comes_other (relists (plain.dropped j) l) j i (asked Delete) ne ∙ dropped_other l j i ne
+
+dropped_sized : (m : Machine) (j : ℕ) (l : Local) → IsSized m l → IsSized m (relists (plain.dropped j) l)
+dropped_sized m j l z = record { threads = z.threads; lists = z.lists; told = z.told; ready = all-filter (λ i. i < length m.threads) (λ i. not (j == i)) l.lists.ready z.ready; armed = z.armed; listed = z.listed }
+
+pub asks_sized : (m : Machine) (what : What) (j : ℕ) (but : List ℕ) (l : Local) → j < length m.threads → IsSized m l → IsSized m (asks what j l)
+asks_sized m CancelSend j but l lt z = (changes_spares m j (j ∷ but) l (asked CancelSend) (first_about j but)).sized z
+asks_sized m CancelReceive j but l lt z = (changes_spares m j (j ∷ but) l (asked CancelReceive) (first_about j but)).sized z
+asks_sized m CancelBoth j but l lt z = (changes_spares m j (j ∷ but) l (asked CancelBoth) (first_about j but)).sized z
+asks_sized m Delete j but l lt z = (comes_spares m j (j ∷ but) (relists (plain.dropped j) l) (asked Delete) lt (first_about j but)).sized (dropped_sized m j l z)
+
+pub asks_clock : (what : What) (l : Local) (j : ℕ) → (asks what j l).clock ≡ l.clock
+asks_clock CancelSend l j = refl
+asks_clock CancelReceive l j = refl
+asks_clock CancelBoth l j = refl
+asks_clock Delete l j = refl
+
+pub asks_lists : (what : What) (l : Local) (j : ℕ) → (asks what j l).lists.waiting ≡ l.lists.waiting
+asks_lists CancelSend l j = refl
+asks_lists CancelReceive l j = refl
+asks_lists CancelBoth l j = refl
+asks_lists Delete l j = refl
+
+pub kept_lists : (a b : Local) (j : ℕ) → a.lists.waiting ≡ b.lists.waiting → (kept a j).listed ≡ (kept b j).listed
+kept_lists a b j e = ap (λ ess. λ r. filter (is_of j) (slice_index_or ess r [])) e
+
+pub asks_relates : (m : Machine) (cpu j : ℕ) (what : What) (but : List ℕ) (s : Scene) (w : World) (x : Work) → IsHere m cpu j → Stands m j (view m (amid cpu s x) w j) → RelatesBut m (Stands m) (j ∷ but) (amid cpu s x) w →
+    RelatesBut m (Stands m) but (amid cpu s (x ▷ does (asks what j))) (change w j (asked what))
+asks_relates m cpu j what but s w x here stands rel =
+    let y : Work = x ▷ does (asks what j) in
+    let u : World = change w j (asked what) in
+    let v : View = view m (amid cpu s x) w j in
+    let after : View = view m (amid cpu s y) u j in
+    let z = sized_here m cpu j (j ∷ but) s w x here rel in
+    let size : j < length x.local.threads = omega (arith, z.threads, here.within) in
+    let in_world : j < length w.threads = omega (arith, rel.sized_world.threads, here.within) in
+    let was : at_home m j v ≡ kept x.local j = home_is m cpu j s x w here.home in
+    let is : at_home m j after ≡ kept y.local j = home_is m cpu j s y u here.home in
+    takes_in m j but (amid cpu s y) u
+    (world_changes m j (j ∷ but) (amid cpu s y) w (asked what) (first_about j but)
+    (local_changes m cpu (j ∷ but) s w x (asks what j) (record { sized = asks_sized m what j but x.local here.within; clock = asks_clock what x.local j; kept = λ i out. asks_other what x.local j i (λ e. out.0 (sym e)) }) (asks_lists what x.local j) rel))
+    (asked_stands m j what v after (get-changed (asked what) w.threads j opening_thread in_world) refl (is ∙ asks_here what x.local j size ∙ sym (ap (asked_kept what j) was))
+    (ap (λ (k : Kept). k.listed) is ∙ kept_lists (asks what j x.local) x.local j (asks_lists what x.local j) ∙ sym (ap (λ (k : Kept). k.listed) was))
+    (ap (λ (k : Kept). k.clock) is ∙ asks_clock what x.local j ∙ sym (ap (λ (k : Kept). k.clock) was))
+    (λ c ne. put_other cpu c j x.local y.local s.locals (λ h. ne (sym h ∙ sym here.home))) stands)

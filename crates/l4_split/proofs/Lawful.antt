@@ -1,0 +1,136 @@
+-- Every letter under way can be handled where it goes.
+use Rattle.std.proofs.Common.{◌≡◌, ℕ, zero, suc, ◌<◌, Bool, true, false, Option, Some, None, List, [], ◌∷◌, ◌++◌, filter, length, refl, ap, sym, ◌∙◌, subst}
+use Rattle.std.specs.Prelude.{not, is_some, slice_get, slice_index_or}
+use Rattle.std.specs.List.{AllByRecursion}
+use Rattle.l4_model.specs.Words.{GlobalId}
+use Rattle.l4_model.specs.Machine.{Machine, place_of, is_declared}
+use Rattle.l4_model.specs.World.{World, Send}
+use Rattle.l4_model.specs.Reached.{WorldFacts}
+use Rattle.l4_model.proofs.Chains.{some_is}
+use Rattle.l4_core_model.specs.Letters.{Content, SendLetter, DoneLetter, WithdrawLetter, GoneLetter, OrderLetter, OrderDoneLetter, Letter}
+use Rattle.l4_core_model.specs.Local.{Local, declared}
+use Rattle.l4_core_model.specs.Acts.{Work}
+use Rattle.l4_core_model.specs.Turns.{opened}
+use Rattle.l4_core_model.specs.Mail.{handled, handle}
+use Rattle.l4_core_model.specs.Runs.{System, Posted, letters, IsMachine}
+use Rattle.l4_core_model.proofs.Knows.{same_nat}
+use Rattle.l4_core_model.proofs.Beginning.{place_within}
+use Rattle.l4_split.proofs.Views.{Scene, Kept, View, view, world_thread, nowhere, scene, subject, says_where, words, notices, is_about}
+use Rattle.l4_split.proofs.Rows.{seats, Agrees, learns, learned, Row, RowOf, IsNotice, IsNoticeOf, Stands}
+use Rattle.l4_split.proofs.Relation.{RelatesBut, Relates}
+use Rattle.l4_split.proofs.MailFrames.{about_place, keeps_one, first_is}
+use Rattle.l4_split.proofs.Moves.{at_home}
+use Rattle.l4_split.proofs.Waiting.{agrees_send}
+use Rattle.l4_split.proofs.Lawfully.{own_is, foreign_is, sent_lawful, done_lawful, ordered_lawful, obeyed_lawful}
+
+-- The relation says nothing of a letter about a thread that is not declared, so this is a fact of its own.
+abbrev pub AreAboutDeclared : Machine → List Posted → Type 0
+AreAboutDeclared m mail = AllByRecursion (λ (p : Posted). is_declared m (subject p.letter.content) ≡ true) mail
+
+-- A letter stands somewhere among those under way, and is about the thread at a place.
+pub record IsUnderWay (m : Machine) (i : ℕ) (p : Posted) (mail : List Posted) : Type 0 where
+  pub before : List Posted
+  pub after : List Posted
+  pub is : mail ≡ before ++ p ∷ after
+  pub about : place_of m (subject p.letter.content) ≡ Some i
+
+-- Of its thread's letters it is the one that says where, or one of the others.
+
+only_row : (m : Machine) (i : ℕ) (k : Kept) (v : View) (send : Option Send) (xs ys : List Posted) (p : Posted) → Row m i k.thread (seats v) (xs ++ p ∷ ys) send → Agrees v.world (learned (xs ++ p ∷ ys) k.clock k.thread) →
+    RowOf m i k.thread (seats v) p p.letter.content × Agrees v.world (learns p.letter.content k.clock k.thread)
+only_row m i k v send [] [] p h a = (h, a)
+only_row m i k v send [] (y ∷ ys) p h a = absurd h
+only_row m i k v send (x ∷ []) ys p h a = absurd h
+only_row m i k v send (x ∷ z ∷ xs) ys p h a = absurd h
+
+one_of : {A : Type 0} (P : A → Type 0) (xs ys : List A) (x : A) → AllByRecursion P (xs ++ x ∷ ys) → P x
+one_of P [] ys x all = all.0
+one_of P (y ∷ xs) ys x all = one_of P xs ys x all.1
+
+word_row : (m : Machine) (i : ℕ) (s : Scene) (w : World) (p : Posted) → IsUnderWay m i p s.mail → says_where p.letter.content ≡ true → Stands m i (view m s w i) →
+    RowOf m i (at_home m i (view m s w i)).thread (seats (view m s w i)) p p.letter.content × Agrees (world_thread w i) (learns p.letter.content (at_home m i (view m s w i)).clock (at_home m i (view m s w i)).thread)
+word_row m i s w p u says stands =
+    let v : View = view m s w i in
+    let k : Kept = at_home m i v in
+    let word : Posted → Bool = λ q. says_where q.letter.content in
+    let here = about_place m i i p u.about ∙ same_nat i in
+    let at = ap words (ap (filter (is_about m i)) u.is ∙ keeps_one (is_about m i) u.before u.after p here) ∙ keeps_one word (filter (is_about m i) u.before) (filter (is_about m i) u.after) p says in
+    only_row m i k v k.thread.send (words (filter (is_about m i) u.before)) (words (filter (is_about m i) u.after)) p
+    (subst (λ ps. Row m i k.thread (seats v) ps k.thread.send) at stands.known.row) (subst (λ ps. Agrees v.world (learned ps k.clock k.thread)) at stands.known.agrees)
+
+late_notice : (m : Machine) (i : ℕ) (s : Scene) (w : World) (p : Posted) → IsUnderWay m i p s.mail → says_where p.letter.content ≡ false → Stands m i (view m s w i) → IsNotice m i (at_home m i (view m s w i)) p
+late_notice m i s w p u late stands =
+    let v : View = view m s w i in
+    let other : Posted → Bool = λ q. not (says_where q.letter.content) in
+    let here = about_place m i i p u.about ∙ same_nat i in
+    let at = ap notices (ap (filter (is_about m i)) u.is ∙ keeps_one (is_about m i) u.before u.after p here) ∙ keeps_one other (filter (is_about m i) u.before) (filter (is_about m i) u.after) p (rw late refl) in
+    one_of (IsNotice m i (at_home m i v)) (notices (filter (is_about m i) u.before)) (notices (filter (is_about m i) u.after)) p (subst (AllByRecursion (IsNotice m i (at_home m i v))) at stands.known.kept.notices)
+
+-- Any letter under way
+
+letter_lawful : (m : Machine) (i : ℕ) (s : Scene) (w : World) (p : Posted) (x : Work) (c : Content) → p.letter.content ≡ c → IsMachine m → WorldFacts m w → IsUnderWay m i p s.mail → Stands m i (view m s w i) → x.local.threads ≡ (s.locals p.to).threads → is_some (handled m p.to p.letter.content x) ≡ true
+letter_lawful m i s w p x c content machine facts u stands at = by c content
+  where
+    lt : i < length m.threads
+    lt = place_within m (subject p.letter.content) i u.about
+
+    k : Kept
+    k = at_home m i (view m s w i)
+
+    v : View
+    v = view m s w i
+
+    about : (c : Content) → p.letter.content ≡ c → place_of m (subject c) ≡ Some i
+    about c content = sym (ap (λ c. place_of m (subject c)) content) ∙ u.about
+
+    row : (c : Content) → p.letter.content ≡ c → says_where c ≡ true → RowOf m i k.thread (seats v) p c × Agrees v.world (learns c k.clock k.thread)
+    row c content says = subst (λ c. RowOf m i k.thread (seats v) p c × Agrees v.world (learns c k.clock k.thread)) content (word_row m i s w p u (ap says_where content ∙ says) stands)
+
+    notice : (c : Content) → p.letter.content ≡ c → says_where c ≡ false → IsNoticeOf m i k p c
+    notice c content late = subst (IsNoticeOf m i k p) content (late_notice m i s w p u (ap says_where content ∙ late) stands)
+
+    by : (c : Content) → p.letter.content ≡ c → is_some (handled m p.to p.letter.content x) ≡ true
+    by (SendLetter name receiver message zero_timeout) content =
+        let r = row (SendLetter name receiver message zero_timeout) content refl in
+        sent_lawful m i s w p x machine facts lt at (agrees_send v.world k.thread r.1) r.0
+    by (DoneLetter name result) content = done_lawful m i s w p x name result content machine lt at (row (DoneLetter name result) content refl).0
+    by (WithdrawLetter name receiver cause) content =
+        let n = notice (WithdrawLetter name receiver cause) content refl in
+        let own = own_is m p.to receiver n.r n.place n.to in
+        let foreign = foreign_is m p.to name.thread i (about (WithdrawLetter name receiver cause) content) (λ e. n.split (sym n.to ∙ sym e)) in
+        rw (content, own, foreign) refl
+    by (GoneLetter id) content =
+        let n = notice (GoneLetter id) content refl in
+        let foreign = foreign_is m p.to id i (about (GoneLetter id) content) (λ e. n.1 (sym e)) in
+        rw (content, foreign) refl
+    by (OrderLetter caller target what) content = ordered_lawful m i s w p x machine lt (row (OrderLetter caller target what) content refl).0
+    by (OrderDoneLetter caller) content = obeyed_lawful m i s w p x caller content (about (OrderDoneLetter caller) content) at stands (row (OrderDoneLetter caller) content refl).0
+
+placed : (m : Machine) (id : GlobalId) → is_declared m id ≡ true → (i : ℕ) × (place_of m id ≡ Some i)
+placed m id h = by (place_of m id) h
+  where
+    by : (o : Option ℕ) → is_some o ≡ true → (i : ℕ) × (o ≡ Some i)
+    by None h = cc
+    by (Some i) h = (i, refl)
+
+pub any_lawful : (m : Machine) (s : Scene) (w : World) (p : Posted) (before after : List Posted) (stamp : ℕ) → IsMachine m → RelatesBut m (Stands m) [] s w → WorldFacts m w → AreAboutDeclared m s.mail →
+    s.mail ≡ before ++ p ∷ after → is_some (handled m p.to p.letter.content (opened stamp (s.locals p.to))) ≡ true
+any_lawful m s w p before after stamp machine rel facts declared at =
+    let here = placed m (subject p.letter.content) (one_of (λ (q : Posted). is_declared m (subject q.letter.content) ≡ true) before after p (subst (AreAboutDeclared m) at declared)) in
+    letter_lawful m here.0 s w p (opened stamp (s.locals p.to)) p.letter.content refl machine facts (record { before = before; after = after; is = at; about = here.1 })
+    (rel.places here.0 (place_within m (subject p.letter.content) here.0 here.1) tt) refl
+
+-- So is the first letter of a pair.
+
+local_at : (ls : List Local) (cpu : ℕ) (l : Local) → slice_get ls cpu ≡ Some l → slice_index_or ls cpu nowhere ≡ l
+local_at [] cpu l h = cc
+local_at (k ∷ ls) zero l h = some_is k l h
+local_at (k ∷ ls) (suc cpu) l h = local_at ls cpu l h
+
+pub lawful : (m : Machine) (g : System) (w : World) (from cpu : ℕ) (letter : Letter) (l : Local) → IsMachine m → Relates m g w → WorldFacts m w → AreAboutDeclared m g.mail →
+    slice_get (letters g.mail from cpu) 0 ≡ Some letter → slice_get g.locals cpu ≡ Some l → handle m cpu l letter ≡ None → ⊥
+lawful m g w from cpu letter l machine rel facts declared first at none =
+    let f = first_is from cpu letter g.mail first in
+    let some = any_lawful m (scene g) w (record { from = from; to = cpu; letter = letter }) f.before f.after letter.stamp machine rel facts declared f.is in
+    let here : is_some (handle m cpu l letter) ≡ true = subst (λ k. is_some (handle m cpu k letter) ≡ true) (local_at g.locals cpu l at) some in
+    cc (here, none)

@@ -1,0 +1,151 @@
+-- At rest an undecided send waits, and nothing can decide it.
+use Rattle.std.proofs.Common.{◌≡◌, ℕ, zero, suc, ◌+◌, ◌<◌, Bool, true, false, cond, Some, List, [], ◌∷◌, filter, length, refl, ap, sym, ◌∙◌, subst, inl, inr}
+use Rattle.std.specs.Prelude.{◌==◌, ◌||◌, slice_index, slice_index_or}
+use Rattle.std.specs.List.{list_any}
+use Rattle.std.proofs.lemmas.Bool.{eqb-true}
+use Rattle.l4_model.specs.Machine.{Machine}
+use Rattle.l4_model.specs.World.{World, Send, Phase, Ready, Sending, Receiving, Ordering, Ended, Deleted, is_deleted}
+use Rattle.l4_model.specs.Conditions.{is_zero, is_refusable}
+use Rattle.l4_model.proofs.Chains.{some_is}
+use Rattle.l4_core_model.specs.Plain as plain
+use Rattle.l4_core_model.specs.Local.{Local, declared, destination_place, thread, held, armed_period, armed_for}
+use Rattle.l4_core_model.specs.Acts.{entry, zero_refusable}
+use Rattle.l4_core_model.proofs.Knows.{blocks}
+use Rattle.l4_core_model.proofs.Beginning.{any_in, destination_within}
+use Rattle.l4_core_model.proofs.Fit.{Suits}
+use Rattle.l4_core_model.proofs.Remembers.{same_or_apart}
+use Rattle.l4_split.proofs.Views.{Scene, view, world_thread, home, is_of}
+use Rattle.l4_split.proofs.Rows.{seats, IsWaiting, IsSplit, deadlines}
+use Rattle.l4_split.proofs.Relation.{senders}
+use Rattle.l4_split.proofs.Moves.{deleted_phase}
+use Rattle.l4_split.proofs.Seen.{refusable_at_home}
+use Rattle.l4_split.proofs.Settled.{IsSettledSend, there}
+use Rattle.l4_split.proofs.Rest.{IsAtRest, own, own_agrees, own_seen, own_waits, no_deadline, none_armed, none_decided, none_ending}
+
+-- One entry is enough to stand in a list, and to be queued.
+
+pub any_kept : {A : Type 0} (p : A → Bool) (xs : List A) (e : A) → filter p xs ≡ e ∷ [] → list_any p xs ≡ true
+any_kept p [] e h = cc
+any_kept p (x ∷ xs) e h = by (p x) h (any_kept p xs e)
+  where
+    by : (b : Bool) → cond b (x ∷ filter p xs) (filter p xs) ≡ e ∷ [] → (filter p xs ≡ e ∷ [] → list_any p xs ≡ true) → (b || list_any p xs) ≡ true
+    by true h rest = refl
+    by false h rest = rest h
+
+pub any_list : {A : Type 0} (p : A → Bool) (xss : List (List A)) (r : ℕ) → list_any p (slice_index_or xss r []) ≡ true → list_any (list_any p) xss ≡ true
+any_list p [] r h = cc
+any_list p (xs ∷ xss) zero h = rw h refl
+any_list p (xs ∷ xss) (suc r) h = by (list_any p xs) (any_list p xss r h)
+  where
+    by : (b : Bool) → list_any (list_any p) xss ≡ true → (b || list_any (list_any p) xss) ≡ true
+    by true h = refl
+    by false h = h
+
+any_block : (i : ℕ) (es : List plain.Waiting) → list_any (λ x. i == x) (blocks es) ≡ list_any (is_of i) es
+any_block i [] = refl
+any_block i (e ∷ es) = ap (λ b. (i == e.block) || b) (any_block i es)
+
+-- A timed send has a deadline.
+timed : (i n : ℕ) (send : Send) → send.period ≡ Some n → is_zero send.period ≡ false → deadlines i Sending (Some send) ≡ [] → ⊥
+timed i n send period not_zero h =
+    let armed : armed_period Sending (Some send) ≡ Some n = rw not_zero period in
+    let one : deadlines i Sending (Some send) ≡ (send.since + n, i) ∷ [] = ap (λ p. armed_for p send.since i []) armed in
+    cc (one, h)
+
+-- A send that waits, at home or elsewhere
+record IsHere (m : Machine) (s : Scene) (w : World) (i : ℕ) (send : Send) : Type 0 where
+  rest : IsAtRest m s w
+  within : i < length m.threads
+  has : (own m s i).send ≡ Some send
+  row : IsWaiting m i send (own m s i) (seats (view m s w i))
+
+to_within : (m : Machine) (s : Scene) (w : World) (i : ℕ) (send : Send) → (h : IsHere m s w i send) → h.row.r < length m.threads
+to_within m s w i send h = destination_within m send.to h.row.r h.row.to
+
+-- Where it goes to another processor
+split : (m : Machine) (s : Scene) (w : World) (i : ℕ) (send : Send) → (h : IsHere m s w i send) → (home m h.row.r ≡ home m i → ⊥) → IsSplit m i (own m s i)
+split m s w i send h ne = record { send = send; has = h.has; order = h.row.order; r = h.row.r; to = h.row.to; split = ne }
+
+not_split : (m : Machine) (s : Scene) (w : World) (i : ℕ) (send : Send) → (h : IsHere m s w i send) → home m h.row.r ≡ home m i → IsSplit m i (own m s i) → ⊥
+not_split m s w i send h same q =
+    let it : q.send ≡ send = some_is q.send send (sym q.has ∙ h.has) in
+    let r : q.r ≡ h.row.r = some_is q.r h.row.r (sym q.to ∙ ap (λ (s : Send). destination_place m s.to) it ∙ h.row.to) in
+    q.split (ap (home m) r ∙ same)
+
+stands_at_home : (m : Machine) (s : Scene) (w : World) (i : ℕ) (send : Send) → (h : IsHere m s w i send) → home m h.row.r ≡ home m i → plain.is_queued (s.locals (home m i)).lists i ≡ true
+stands_at_home m s w i send h same =
+    let e : plain.Waiting = entry m h.row.r i send in
+    any_list (is_of i) (s.locals (home m i)).lists.waiting h.row.r (any_kept (is_of i) _ e (subst (λ c. filter (is_of i) (plain.list_of (s.locals c).lists h.row.r) ≡ e ∷ []) same h.row.listed))
+
+no_drop : (m : Machine) (s : Scene) (w : World) (i : ℕ) (send : Send) → IsHere m s w i send → is_deleted (own m s i).phase ≡ true → ⊥
+no_drop m s w i send h gone = same_or_apart ⊥ (home m h.row.r) (home m i)
+    (λ same. (h.rest.idle i h.within).no_drop gone (stands_at_home m s w i send h same))
+    (λ ne. none_ending m s w i h.rest h.within (record { goes = split m s w i send h ne; undecided = none_decided m s w i h.rest; ending = inr (inr (deleted_phase (own m s i).phase gone)) }))
+
+no_wish : (m : Machine) (s : Scene) (w : World) (i : ℕ) (send : Send) → IsHere m s w i send → (own m s i).cancel_send ≡ true → ⊥
+no_wish m s w i send h wish = same_or_apart ⊥ (home m h.row.r) (home m i)
+    (λ same. (h.rest.idle i h.within).no_cancel (stands_at_home m s w i send h same) wish)
+    (λ ne. none_ending m s w i h.rest h.within (record { goes = split m s w i send h ne; undecided = none_decided m s w i h.rest; ending = inr (inl wish) }))
+
+endless : (m : Machine) (s : Scene) (w : World) (i n : ℕ) (send : Send) → IsHere m s w i send → send.period ≡ Some n → is_zero send.period ≡ false → ⊥
+endless m s w i n send h period not_zero = by (own m s i).phase refl (subst (λ o. Suits (own m s i).phase o (own m s i).order) h.has (h.rest.relates.places i h.within tt).known.kept.at_home.good.suits)
+  where
+    sending : (own m s i).phase ≡ Sending → deadlines i (own m s i).phase (own m s i).send ≡ [] → ⊥
+    sending is none = timed i n send period not_zero (sym (ap (λ o. deadlines i Sending o) h.has) ∙ sym (ap (λ p. deadlines i p (own m s i).send) is) ∙ none)
+
+    by : (p : Phase) → (own m s i).phase ≡ p → Suits p (Some send) (own m s i).order → ⊥
+    by Ready is suits = cc
+    by Sending is suits = same_or_apart ⊥ (home m h.row.r) (home m i)
+        (λ same. sending is (no_deadline m s w i h.rest h.within (not_split m s w i send h same)))
+        (λ ne. none_ending m s w i h.rest h.within (record { goes = split m s w i send h ne; undecided = none_decided m s w i h.rest; ending = inl (λ armed. sending is (sym armed ∙ none_armed m s w i h.rest h.within)) }))
+    by (Receiving receive since) is suits = cc
+    by Ordering is suits = cc
+    by Ended is suits = cc
+    by Deleted is suits = no_drop m s w i send h (ap is_deleted is)
+
+-- Its receiver has no duty to refuse it.
+
+-- what is kept of it where it waits
+at_receiver : (m : Machine) (s : Scene) (w : World) (i : ℕ) (send : Send) (clock : ℕ) → (h : IsHere m s w i send) → is_zero send.period ≡ true →
+    is_refusable m send (Some (record { at = h.row.r; declared = declared m h.row.r; now = own m s h.row.r; clock = clock })) ≡ true →
+    zero_refusable m (record { at = h.row.r; declared = declared m h.row.r; now = own m s h.row.r; clock = clock }) (thread (s.locals (home m h.row.r)) i).send ≡ true
+at_receiver m s w i send clock h at_once refusable = same_or_apart _ (home m h.row.r) (home m i)
+    (λ same. let has : (thread (s.locals (home m h.row.r)) i).send ≡ Some send = ap (λ c. (thread (s.locals c) i).send) same ∙ h.has in rw (has, at_once) refusable)
+    (λ ne. let has = (h.row.stand_in ne).has in rw (has, at_once) refusable)
+
+stays : (m : Machine) (s : Scene) (w : World) (i : ℕ) (send : Send) (clocks : List ℕ) → (h : IsHere m s w i send) → is_zero send.period ≡ true → is_refusable m send (Some (there m w clocks h.row.r)) ≡ true → ⊥
+stays m s w i send clocks h at_once refusable =
+    let r = h.row.r in
+    let l : Local = s.locals (home m r) in
+    let lt = to_within m s w i send h in
+    let here = refusable_at_home m r (slice_index clocks (declared m r).cpu) l.clock send (world_thread w r) (own m s r) (own_agrees m s w r h.rest lt) refusable in
+    let it = any_in (λ (e : plain.Waiting). zero_refusable m (held m l r) (thread l e.block).send ≡ false) (is_of i) (plain.list_of l.lists r) (h.rest.idle r lt).no_zero (any_kept (is_of i) _ (entry m r i send) h.row.listed) in
+    let none : zero_refusable m (held m l r) (thread l i).send ≡ false = ap (λ j. zero_refusable m (held m l r) (thread l j).send) (eqb-true i it.0.block it.1) ∙ it.2 in
+    let some = at_receiver m s w i send l.clock h at_once here in
+    cc (none, some)
+
+receiver_alive : (m : Machine) (s : Scene) (w : World) (i : ℕ) (send : Send) → (h : IsHere m s w i send) → is_deleted (world_thread w h.row.r).phase ≡ true → ⊥
+receiver_alive m s w i send h gone =
+    let lt = to_within m s w i send h in
+    let empty = (h.rest.idle h.row.r lt).no_refusal (sym (own_seen m s w h.row.r h.rest lt).deleted ∙ gone) in
+    let none = ap (filter (is_of i)) empty in
+    let one = h.row.listed in
+    cc (none, one)
+
+pub settled_send : (m : Machine) (s : Scene) (w : World) (i : ℕ) (send : Send) → IsAtRest m s w → i < length m.threads → (world_thread w i).send ≡ Some send → IsSettledSend m w i send
+settled_send m s w i send rest lt has_there =
+    let seen = own_seen m s w i rest lt in
+    let has = sym seen.send ∙ has_there in
+    let h : IsHere m s w i send = record { rest = rest; within = lt; has = has; row = own_waits m s w i send rest lt has } in
+    let r = h.row.r in
+    let e : plain.Waiting = entry m r i send in
+    record {
+      receiver = r;
+      to = h.row.to;
+      waits = any_list (λ x. i == x) w.waiting r (ap (list_any (λ x. i == x)) (rest.relates.lists r (to_within m s w i send h)) ∙ any_block i (senders m s r) ∙ any_kept (is_of i) (senders m s r) e h.row.listed);
+      endless = λ n. endless m s w i n send h;
+      stays = λ clocks. stays m s w i send clocks h;
+      alive = receiver_alive m s w i send h;
+      no_wish = λ wish. no_wish m s w i send h (sym seen.cancel_send ∙ wish);
+      no_drop = λ gone. no_drop m s w i send h (sym seen.deleted ∙ gone);
+    }

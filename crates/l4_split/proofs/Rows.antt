@@ -1,0 +1,214 @@
+-- What the world, the processors and the letters say of one thread, and how they agree.
+use Rattle.std.specs.Prelude.{ℕ, ◌≤◌, ◌≡◌, ◌⊎◌, true, false, Option, Some, None, IfSome, List, [], ◌∷◌}
+use Rattle.std.specs.List.{AllByRecursion}
+use Rattle.l4_model.specs.Words.{GlobalId}
+use Rattle.l4_model.specs.Machine.{Machine, place_of}
+use Rattle.l4_model.specs.World.{Name, Receive, Send, Asked, Phase, Receiving, Deleted, Thread, is_deleted}
+use Rattle.l4_model.specs.Conditions.{is_zero, has_passed}
+use Rattle.l4_model.specs.Effects.{obeyed}
+use Rattle.l4_core_model.specs.Plain as plain
+use Rattle.l4_core_model.specs.Letters.{Cause, ByTimeout, ByCancel, ByDeletion, Content, SendLetter, DoneLetter, WithdrawLetter, GoneLetter, OrderLetter, OrderDoneLetter}
+use Rattle.l4_core_model.specs.Local.{declared, destination_place, armed_period, armed_for, readied, ended, stand_in}
+use Rattle.l4_core_model.specs.Acts.{entry}
+use Rattle.l4_core_model.specs.Runs.{Posted}
+use Rattle.l4_core_model.proofs.Fit.{IsGood}
+use Rattle.l4_split.proofs.Views.{Kept, View, home, words, notices}
+
+-- The thread in the world
+
+-- A thread of the world is as its home has it, but for two things. A receive phase that follows a delivery began when the message
+-- was delivered, which home hears later. Of a deleted thread no registers count.
+pub record IsEarlier (receive : Receive) (since : ℕ) (world t : Thread) : Type 0 where
+  pub began : ℕ
+  pub no_later : began ≤ since
+  pub same : world ≡ record t { phase = Receiving receive began }
+
+pub record IsLeft (world t : Thread) : Type 0 where
+  pub deleted : world.phase ≡ Deleted
+  pub begun : world.context.begun ≡ t.context.begun
+  pub send : world.send ≡ t.send
+  pub order : world.order ≡ t.order
+  pub cancel_send : world.cancel_send ≡ t.cancel_send
+
+abbrev pub AgreesIn : Phase → (world t : Thread) → Type 0
+AgreesIn (Receiving receive since) world t = IsEarlier receive since world t
+AgreesIn Deleted world t = IsLeft world t
+AgreesIn _ world t = world ≡ t
+
+abbrev pub Agrees : (world t : Thread) → Type 0
+Agrees world t = AgreesIn t.phase world t
+
+-- The thread as its home has it once the letter under way to it is handled.
+abbrev pub learns : Content → (clock : ℕ) → Thread → Thread
+learns (DoneLetter s result) clock t = ended result clock t
+learns (OrderDoneLetter caller) clock t = obeyed t
+learns _ clock t = t
+
+abbrev pub learned : List Posted → (clock : ℕ) → Thread → Thread
+learned [] clock t = t
+learned (p ∷ ps) clock t = learns p.letter.content clock t
+
+-- Where its send or order is
+
+abbrev pub name_of : Machine → ℕ → Thread → Name
+name_of m i t = record { thread = (declared m i).id; k = t.context.begun }
+
+-- Where a send can be: in a list, or in its sender's place elsewhere.
+pub record Seats : Type 0 where
+  pub sent : (cpu : ℕ) → Option Send
+  pub begun : (cpu : ℕ) → ℕ
+  pub listed : (cpu receiver : ℕ) → List plain.Waiting
+
+abbrev pub seats : View → Seats
+seats v = record { sent = λ cpu. (v.kept cpu).thread.send; begun = λ cpu. (v.kept cpu).thread.context.begun; listed = λ cpu. (v.kept cpu).listed }
+
+-- It stands in no list, and has no stand-in.
+pub record IsUnplaced (m : Machine) (i : ℕ) (v : Seats) : Type 0 where
+  pub listed : (cpu r : ℕ) → v.listed cpu r ≡ []
+  pub stand_in : (cpu : ℕ) → (cpu ≡ home m i → ⊥) → v.sent cpu ≡ None
+
+pub record IsPlain (m : Machine) (i : ℕ) (t : Thread) (v : Seats) : Type 0 where
+  pub order : t.order ≡ None
+  pub unplaced : IsUnplaced m i v
+
+pub record IsStandIn (m : Machine) (r : ℕ) (send : Send) (k : ℕ) (sent : Option Send) (begun : ℕ) : Type 0 where
+  pub has : sent ≡ Some (stand_in (declared m r).id send.message (is_zero send.period))
+  pub number : begun ≡ k
+
+-- Its send waits in the list of its receiver, and nowhere else.
+pub record IsWaiting (m : Machine) (i : ℕ) (send : Send) (t : Thread) (v : Seats) : Type 0 where
+  pub order : t.order ≡ None
+  pub r : ℕ
+  pub to : destination_place m send.to ≡ Some r
+  pub listed : v.listed (home m r) r ≡ entry m r i send ∷ []
+  pub other_lists : (q : ℕ) → (r ≡ q → ⊥) → v.listed (home m r) q ≡ []
+  pub elsewhere : (cpu q : ℕ) → (cpu ≡ home m r → ⊥) → v.listed cpu q ≡ []
+  pub stand_in : (home m r ≡ home m i → ⊥) → IsStandIn m r send t.context.begun (v.sent (home m r)) (v.begun (home m r))
+  pub no_other : (cpu : ℕ) → (cpu ≡ home m i → ⊥) → (cpu ≡ home m r → ⊥) → v.sent cpu ≡ None
+
+-- Its send goes to a thread of another processor.
+pub record IsSplit (m : Machine) (i : ℕ) (t : Thread) : Type 0 where
+  pub send : Send
+  pub has : t.send ≡ Some send
+  pub order : t.order ≡ None
+  pub r : ℕ
+  pub to : destination_place m send.to ≡ Some r
+  pub split : home m r ≡ home m i → ⊥
+
+-- It is under way.
+pub record IsSent (m : Machine) (i : ℕ) (t : Thread) (v : Seats) (p : Posted) : Type 0 where
+  pub goes : IsSplit m i t
+  pub letter : p.letter.content ≡ SendLetter (name_of m i t) (declared m goes.r).id goes.send.message (is_zero goes.send.period)
+  pub from : p.from ≡ home m i
+  pub to : p.to ≡ home m goes.r
+  pub unplaced : IsUnplaced m i v
+
+-- It is decided, and the letter that says so is under way.
+pub record IsDecided (m : Machine) (i : ℕ) (t : Thread) (v : Seats) (p : Posted) (s : Name) : Type 0 where
+  pub goes : IsSplit m i t
+  pub name : s ≡ name_of m i t
+  pub from : p.from ≡ home m goes.r
+  pub to : p.to ≡ home m i
+  pub unplaced : IsUnplaced m i v
+
+-- An order is under way, or the letter that says that it is done.
+pub record IsOrdering (m : Machine) (i : ℕ) (t : Thread) (v : Seats) : Type 0 where
+  pub no_send : t.send ≡ None
+  pub order : Asked
+  pub has : t.order ≡ Some order
+  pub target : ℕ
+  pub place : place_of m order.target ≡ Some target
+  pub split : home m target ≡ home m i → ⊥
+  pub unplaced : IsUnplaced m i v
+
+pub record IsOrdered (m : Machine) (i : ℕ) (t : Thread) (v : Seats) (p : Posted) : Type 0 where
+  pub orders : IsOrdering m i t v
+  pub letter : p.letter.content ≡ OrderLetter (declared m i).id orders.order.target orders.order.what
+  pub from : p.from ≡ home m i
+  pub to : p.to ≡ home m orders.target
+
+pub record IsObeyed (m : Machine) (i : ℕ) (t : Thread) (v : Seats) (p : Posted) : Type 0 where
+  pub orders : IsOrdering m i t v
+  pub from : p.from ≡ home m orders.target
+  pub to : p.to ≡ home m i
+
+abbrev pub RowOf : Machine → ℕ → Thread → Seats → Posted → Content → Type 0
+RowOf m i t v p (SendLetter s receiver message zero_timeout) = IsSent m i t v p
+RowOf m i t v p (DoneLetter s result) = IsDecided m i t v p s
+RowOf m i t v p (OrderLetter caller target what) = IsOrdered m i t v p
+RowOf m i t v p (OrderDoneLetter caller) = IsObeyed m i t v p
+RowOf m i t v p _ = ⊥
+
+-- The row is told by the letter, or where there is none by the send.
+abbrev pub Row : Machine → ℕ → Thread → Seats → List Posted → Option Send → Type 0
+Row m i t v [] None = IsPlain m i t v
+Row m i t v [] (Some send) = IsWaiting m i send t v
+Row m i t v (p ∷ []) send = RowOf m i t v p p.letter.content
+Row m i t v (p ∷ q ∷ ps) send = ⊥
+
+-- At home
+
+-- When the phase that it is in began, and what is armed for it.
+abbrev pub since_of : Phase → Option Send → ℕ
+since_of (Receiving receive since) send = since
+since_of _ None = 0
+since_of _ (Some send) = send.since
+
+abbrev pub deadlines : ℕ → Phase → Option Send → List (ℕ × ℕ)
+deadlines i phase send = armed_for (armed_period phase send) (since_of phase send) i []
+
+-- A deadline has gone once it is past.
+abbrev pub IsArmed : ℕ → Thread → List (ℕ × ℕ) → Type 0
+IsArmed i t armed = (armed ≡ deadlines i t.phase t.send) ⊎ (armed ≡ [])
+
+pub record IsKeptAtHome (i : ℕ) (k : Kept) : Type 0 where
+  pub good : IsGood k.clock k.thread
+  pub armed : IsArmed i k.thread k.armed
+
+-- Elsewhere
+
+pub record IsKeptElsewhere (t : Thread) (k : Kept) : Type 0 where
+  pub ready : k.ready ≡ []
+  pub armed : k.armed ≡ []
+  pub gone : is_deleted k.thread.phase ≡ true → is_deleted t.phase ≡ true
+
+-- Letters that may come late
+
+-- Why a send is withdrawn is true while it is not known at home how it was decided.
+abbrev pub IsCause : Cause → (clock : ℕ) → Thread → Send → Type 0
+IsCause ByTimeout clock t send = (has_passed send.period send.since clock ≡ true) × (is_zero send.period ≡ false)
+IsCause ByCancel clock t send = t.cancel_send ≡ true
+IsCause ByDeletion clock t send = t.phase ≡ Deleted
+
+pub record IsWithdrawal (m : Machine) (i : ℕ) (k : Kept) (p : Posted) (s : Name) (receiver : GlobalId) (cause : Cause) : Type 0 where
+  pub r : ℕ
+  pub place : place_of m receiver ≡ Some r
+  pub split : home m r ≡ home m i → ⊥
+  pub to : p.to ≡ home m r
+  pub number : s.k ≤ k.thread.context.begun
+  pub true_cause : s.k ≡ k.thread.context.begun → IfSome k.thread.send (IsCause cause k.clock k.thread)
+
+abbrev pub IsNoticeOf : Machine → ℕ → Kept → Posted → Content → Type 0
+IsNoticeOf m i k p (WithdrawLetter s receiver cause) = IsWithdrawal m i k p s receiver cause
+IsNoticeOf m i k p (GoneLetter id) = (k.thread.phase ≡ Deleted) × (p.to ≡ home m i → ⊥)
+IsNoticeOf m i k p _ = ⊥
+
+abbrev pub IsNotice : Machine → ℕ → Kept → Posted → Type 0
+IsNotice m i k p = IsNoticeOf m i k p p.letter.content
+
+-- What the processors keep of it and the late letters say of it, wherever its send or order is.
+pub record IsKept (m : Machine) (i : ℕ) (v : View) : Type 0 where
+  pub at_home : IsKeptAtHome i (v.kept (home m i))
+  pub elsewhere : (cpu : ℕ) → (cpu ≡ home m i → ⊥) → IsKeptElsewhere (v.kept (home m i)).thread (v.kept cpu)
+  pub notices : AllByRecursion (IsNotice m i (v.kept (home m i))) (notices v.mail)
+
+-- All that is said of one place, but for its entry among the ready ones.
+pub record Known (m : Machine) (i : ℕ) (v : View) : Type 0 where
+  pub agrees : Agrees v.world (learned (words v.mail) (v.kept (home m i)).clock (v.kept (home m i)).thread)
+  pub row : Row m i (v.kept (home m i)).thread (seats v) (words v.mail) (v.kept (home m i)).thread.send
+  pub kept : IsKept m i v
+
+-- A ready thread stands among the ready ones once, any other one does not.
+pub record Stands (m : Machine) (i : ℕ) (v : View) : Type 0 where
+  pub known : Known m i v
+  pub ready : (v.kept (home m i)).ready ≡ readied (v.kept (home m i)).thread.phase i []

@@ -1,5 +1,5 @@
--- Each letter that an event posts is about a declared thread.
-use Rattle.std.proofs.Common.{◌≡◌, ℕ, ◌<◌, true, Option, Some, None, length, refl, ap, sym, subst}
+-- Each letter that an event posts is about a declared thread, and goes to a processor of the machine.
+use Rattle.std.proofs.Common.{◌≡◌, ℕ, ◌<◌, true, Option, Some, None, length, refl, ap, subst}
 use Rattle.std.specs.Prelude.{is_some}
 use Rattle.std.specs.List.{AllByRecursion}
 use Rattle.l4_model.specs.Words.{GlobalId}
@@ -7,47 +7,54 @@ use Rattle.l4_model.specs.Machine.{Machine, What, place_of, is_declared}
 use Rattle.l4_model.specs.World.{Send, Asked, Message, is_deleted}
 use Rattle.l4_model.specs.Rules.{Act, RunsAlone, Sends, Receives, Orders, received_tag, is_cross}
 use Rattle.l4_model.specs.Steps.{Begin, Queue, Obey, Order}
-use Rattle.l4_model.specs.Effects.{begins, orders}
-use Rattle.l4_model.proofs.Chains.{cond_keeps}
+use Rattle.l4_model.specs.Effects.{begins, orders, decided}
+use Rattle.l4_model.proofs.Chains.{cond_keeps, some_is}
 use Rattle.l4_core_model.specs.Plain as plain
-use Rattle.l4_core_model.specs.Letters.{Refusal, TimedOut, Nobody, Result, Delivered, Refused, Cause, Content, Letter, refusal_step, cause_of}
-use Rattle.l4_core_model.specs.Local.{declared, is_own, thread, held, destination_place, relists, comes_to}
-use Rattle.l4_core_model.specs.Acts.{Work, ◌▷◌, tells, does, posts, tells_send, ends, refuses, delivers, delivers_send, delivers_message, is_place, first_acceptable, zero_refusable, entry, queues_send, arrives, goes_to, begins_send, split_place, withdraws, asks, withdraws_for, obeys, order_goes_to, gives_order, acts}
+use Rattle.l4_core_model.specs.Letters.{DoneLetter, Refusal, TimedOut, Nobody, Result, Delivered, Refused, Cause, Content, Letter, refusal_step, cause_of}
+use Rattle.l4_core_model.specs.Local.{last_name, changes, declared, is_own, thread, held, destination_place, relists, comes_to}
+use Rattle.l4_core_model.specs.Acts.{Work, ◌▷◌, tells, does, posts, tells_send, ends, refuses, delivers, delivers_send, delivers_message, is_place, first_acceptable, zero_refusable, entry, queues_send, arrives, goes_to, begins_send, split_place, split_receiver, withdraws, asks, withdraws_for, obeys, order_goes_to, gives_order, acts}
 use Rattle.l4_core_model.specs.Runs.{IsMachine}
 use Rattle.l4_core_model.proofs.Fit.{all-append}
-use Rattle.l4_core_model.proofs.Beginning.{place_within}
+use Rattle.l4_core_model.proofs.Beginning.{place_within, destination_within}
+use Rattle.l4_split.proofs.Noticing.{split_cases}
 use Rattle.l4_split.proofs.Views.{subject}
 
-pub record IsAddressed (m : Machine) (x : Work) : Type 0 where
-  pub all : AllByRecursion (λ (p : ℕ × Letter). is_declared m (subject p.1.content) ≡ true) x.letters
+-- A letter is about a declared thread, and goes to a processor of the machine.
+abbrev pub IsAddressedTo : Machine → (to : ℕ) → Content → Type 0
+IsAddressedTo m to content = (is_declared m (subject content) ≡ true) × (to < m.cpus)
+
+abbrev pub IsAddressed : Machine → Work → Type 0
+IsAddressed m x = AllByRecursion (λ (p : ℕ × Letter). IsAddressedTo m p.0 p.1.content) x.letters
 
 -- A thread of the machine
 pub record IsThread (m : Machine) (i : ℕ) : Type 0 where
   pub machine : IsMachine m
   pub within : i < length m.threads
 
+pub thread_at : (m : Machine) (id : GlobalId) (i : ℕ) → IsMachine m → place_of m id ≡ Some i → IsThread m i
+thread_at m id i machine at = record { machine = machine; within = place_within m id i at }
+
 pub is_known : (m : Machine) (i : ℕ) → IsThread m i → is_declared m (declared m i).id ≡ true
 is_known m i t = ap (λ o. is_some o) (t.machine.placed i t.within)
 
-pub posts_addressed : (m : Machine) (to : ℕ) (content : Content) (x : Work) → is_declared m (subject content) ≡ true → IsAddressed m x → IsAddressed m (posts to content x)
-posts_addressed m to content x about a = record { all = all-append (λ (p : ℕ × Letter). is_declared m (subject p.1.content) ≡ true) x.letters (to, record { stamp = x.local.stamp; content = content }) a.all about }
+pub home_below : (m : Machine) (i : ℕ) → IsThread m i → (declared m i).cpu < m.cpus
+home_below m i t = t.machine.homed i t.within
 
--- What posts none
-pub same_addressed : (m : Machine) (x y : Work) → y.letters ≡ x.letters → IsAddressed m x → IsAddressed m y
-same_addressed m x y same a = record { all = subst (AllByRecursion (λ (p : ℕ × Letter). is_declared m (subject p.1.content) ≡ true)) (sym same) a.all }
+pub posts_addressed : (m : Machine) (to : ℕ) (content : Content) (x : Work) → is_declared m (subject content) ≡ true → to < m.cpus → IsAddressed m x → IsAddressed m (posts to content x)
+posts_addressed m to content x about lt a = all-append (λ (p : ℕ × Letter). IsAddressedTo m p.0 p.1.content) x.letters (to, record { stamp = x.local.stamp; content = content }) a (about, lt)
 
 -- Sends
 
 ends_addressed : (m : Machine) (cpu i : ℕ) (result : Result) (x : Work) → IsThread m i → IsAddressed m x → IsAddressed m (ends m cpu result i x)
 ends_addressed m cpu i result x t a = cond_keeps (IsAddressed m) (is_own m cpu i) _ _
-    (λ own. same_addressed m x _ refl a)
-    (λ other. posts_addressed m (declared m i).cpu _ _ (is_known m i t) (same_addressed m x _ refl a))
+    (λ own. a)
+    (λ other. posts_addressed m (declared m i).cpu (DoneLetter (last_name m x.local i) result) (x ▷ does (relists (plain.unqueued i)) ▷ does (changes i decided)) (is_known m i t) (home_below m i t) a)
 
 pub refuses_addressed : (m : Machine) (cpu i : ℕ) (refusal : Refusal) (x : Work) → IsThread m i → IsAddressed m x → IsAddressed m (refuses m cpu refusal i x)
-refuses_addressed m cpu i refusal x t a = ends_addressed m cpu i (Refused refusal) (x ▷ tells_send m (refusal_step refusal) i) t (same_addressed m x _ refl a)
+refuses_addressed m cpu i refusal x t a = ends_addressed m cpu i (Refused refusal) (x ▷ tells_send m (refusal_step refusal) i) t a
 
 message_addressed : (m : Machine) (cpu r i : ℕ) (message : Message) (tag : ℕ) (x : Work) → IsThread m i → IsAddressed m x → IsAddressed m (delivers_message m cpu r i message tag x)
-message_addressed m cpu r i message tag x t a = ends_addressed m cpu i Delivered _ t (same_addressed m x _ refl a)
+message_addressed m cpu r i message tag x t a = ends_addressed m cpu i Delivered _ t a
 
 pub delivers_addressed : (m : Machine) (cpu r i : ℕ) (x : Work) → IsThread m i → IsAddressed m x → IsAddressed m (delivers m cpu r i x)
 delivers_addressed m cpu r i x t a = by (thread x.local i).send
@@ -64,33 +71,42 @@ arrives_addressed m cpu r i x t a = cond_keeps (IsAddressed m) (is_deleted (thre
     queues None = a
     queues (Some send) =
         let y : Work = x ▷ tells_send m Queue i ▷ does (relists (plain.queued r (entry m r i send))) in
-        cond_keeps (IsAddressed m) (is_place (first_acceptable y.local r) i) _ _ (λ first. delivers_addressed m cpu r i y t (same_addressed m x y refl a)) (λ other. same_addressed m x y refl a)
+        cond_keeps (IsAddressed m) (is_place (first_acceptable y.local r) i) _ _ (λ first. delivers_addressed m cpu r i y t a) (λ other. a)
 
 begins_addressed : (m : Machine) (cpu i : ℕ) (send : Send) (x : Work) → IsThread m i → IsAddressed m x → IsAddressed m (begins_send m cpu i send x)
-begins_addressed m cpu i send x t a = by (destination_place m send.to)
+begins_addressed m cpu i send x t a = by (destination_place m send.to) refl
   where
     y : Work
     y = x ▷ does (comes_to i (begins send)) ▷ tells_send m Begin i
 
-    by : (o : Option ℕ) → IsAddressed m (goes_to m cpu i send o y)
-    by None = refuses_addressed m cpu i Nobody y t (same_addressed m x y refl a)
-    by (Some r) = cond_keeps (IsAddressed m) (is_own m cpu r) _ _ (λ own. arrives_addressed m cpu r i y t (same_addressed m x y refl a)) (λ other. posts_addressed m (declared m r).cpu _ y (is_known m i t) (same_addressed m x y refl a))
+    by : (o : Option ℕ) → destination_place m send.to ≡ o → IsAddressed m (goes_to m cpu i send o y)
+    by None to = refuses_addressed m cpu i Nobody y t a
+    by (Some r) to = cond_keeps (IsAddressed m) (is_own m cpu r) _ _ (λ own. arrives_addressed m cpu r i y t a)
+        (λ other. posts_addressed m (declared m r).cpu _ y (is_known m i t) (t.machine.homed r (destination_within m send.to r to)) a)
 
-pub withdraws_addressed : (m : Machine) (cause : Cause) (i : ℕ) (o : Option ℕ) (x : Work) → IsThread m i → IsAddressed m x → IsAddressed m (withdraws m cause i o x)
-withdraws_addressed m cause i None x t a = a
-withdraws_addressed m cause i (Some r) x t a = posts_addressed m (declared m r).cpu _ x (is_known m i t) a
+split_within : (m : Machine) (cpu : ℕ) (o : Option Send) (r : ℕ) → split_receiver m cpu o ≡ Some r → r < length m.threads
+split_within m cpu None r h = cc
+split_within m cpu (Some send) r h = split_cases m cpu send (λ o. o ≡ Some r → r < length m.threads) (λ h. cc)
+    (λ q to away h. subst (λ r. r < length m.threads) (some_is q r h) (destination_within m send.to q to)) h
+
+pub withdraws_addressed : (m : Machine) (cpu : ℕ) (cause : Cause) (i : ℕ) (x : Work) → IsThread m i → IsAddressed m x → IsAddressed m (withdraws m cause i (split_place m cpu x.local i) x)
+withdraws_addressed m cpu cause i x t a = by (split_place m cpu x.local i) refl
+  where
+    by : (o : Option ℕ) → split_place m cpu x.local i ≡ o → IsAddressed m (withdraws m cause i o x)
+    by None is = a
+    by (Some r) is = posts_addressed m (declared m r).cpu _ x (is_known m i t) (t.machine.homed r (split_within m cpu (thread x.local i).send r is)) a
 
 -- Orders
 
 pub obeys_addressed : (m : Machine) (cpu : ℕ) (caller : GlobalId) (what : What) (j : ℕ) (x : Work) → IsThread m j → IsAddressed m x → IsAddressed m (obeys m cpu caller what j x)
-obeys_addressed m cpu caller what j x t a = cond_keeps (IsAddressed m) (is_deleted (thread x.local j).phase) _ _ (λ gone. same_addressed m x _ refl a) (λ alive. by (cause_of what))
+obeys_addressed m cpu caller what j x t a = cond_keeps (IsAddressed m) (is_deleted (thread x.local j).phase) _ _ (λ gone. a) (λ alive. by (cause_of what))
   where
     y : Work
     y = x ▷ tells (Obey caller) ▷ does (asks what j)
 
     by : (o : Option Cause) → IsAddressed m (withdraws_for m cpu j o y)
-    by None = same_addressed m x y refl a
-    by (Some cause) = withdraws_addressed m cause j (split_place m cpu y.local j) y t (same_addressed m x y refl a)
+    by None = a
+    by (Some cause) = withdraws_addressed m cpu cause j y t a
 
 order_addressed : (m : Machine) (cpu i : ℕ) (order : Asked) (x : Work) → IsThread m i → IsAddressed m x → IsAddressed m (gives_order m cpu i order x)
 order_addressed m cpu i order x t a = by (place_of m order.target) refl
@@ -99,14 +115,14 @@ order_addressed m cpu i order x t a = by (place_of m order.target) refl
     y = x ▷ does (comes_to i (orders order)) ▷ tells (Order (declared m i).id order.target order.what)
 
     by : (o : Option ℕ) → place_of m order.target ≡ o → IsAddressed m (order_goes_to m cpu i order o y)
-    by None is = same_addressed m x y refl a
+    by None is = a
     by (Some j) is = cond_keeps (IsAddressed m) (is_own m cpu j) _ _
-        (λ own. same_addressed m _ _ refl (obeys_addressed m cpu (declared m i).id order.what j y (record { machine = t.machine; within = place_within m order.target j is }) (same_addressed m x y refl a)))
-        (λ other. posts_addressed m (declared m j).cpu _ y (is_known m i t) (same_addressed m x y refl a))
+        (λ own. obeys_addressed m cpu (declared m i).id order.what j y (thread_at m order.target j t.machine is) a)
+        (λ other. posts_addressed m (declared m j).cpu _ y (is_known m i t) (t.machine.homed j (place_within m order.target j is)) a)
 
 -- Instructions
 pub acts_addressed : (m : Machine) (cpu i : ℕ) (act : Act) (x : Work) → IsThread m i → IsAddressed m x → IsAddressed m (acts m cpu i act x)
-acts_addressed m cpu i RunsAlone x t a = same_addressed m x _ refl a
+acts_addressed m cpu i RunsAlone x t a = a
 acts_addressed m cpu i (Sends send) x t a = begins_addressed m cpu i send x t a
-acts_addressed m cpu i (Receives receive) x t a = same_addressed m x _ refl a
+acts_addressed m cpu i (Receives receive) x t a = a
 acts_addressed m cpu i (Orders order) x t a = order_addressed m cpu i order x t a

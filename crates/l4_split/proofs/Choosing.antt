@@ -1,25 +1,22 @@
 -- The core's turn: the first duty, else the first due timeout, else one instruction of the first ready thread.
-use Rattle.std.proofs.Common.{◌≡◌, ℕ, ◌+◌, ◌<◌, Bool, true, false, cond, Option, Some, None, List, [], ◌∷◌, filter, drop, length, refl, ap, sym, ◌∙◌, subst, arith}
-use Rattle.std.specs.Prelude.{◌==◌, slice_get, nat_le}
-use Rattle.std.specs.Option.{option_map}
-use Rattle.std.specs.List.{AllByRecursion, range_with_len}
-use Rattle.std.proofs.lemmas.Bool.{eqb-true}
+use Rattle.std.proofs.Common.{◌≡◌, ℕ, ◌<◌, Bool, true, false, cond, Option, Some, None, List, [], ◌∷◌, filter, drop, length, refl, ap, sym, ◌∙◌, subst}
+use Rattle.std.specs.Prelude.{◌==◌}
+use Rattle.std.specs.List.{AllByRecursion}
 use Rattle.l4_model.specs.Machine.{Machine}
 use Rattle.l4_model.specs.World.{World, Phase, Ready, Sending, Receiving, Ordering, Ended, Deleted, is_ready}
 use Rattle.l4_model.specs.Rules.{Act, RunsAlone, Sends, Receives, Orders}
 use Rattle.l4_model.specs.Steps.{runs_alone, receive_of, send_of}
 use Rattle.l4_model.specs.Conditions.{Found, act_of}
-use Rattle.l4_model.proofs.Chains.{some_is}
 use Rattle.l4_core_model.specs.Plain as plain
-use Rattle.l4_core_model.specs.Local.{Local, declared, is_own, own_places, thread, held, relists, readied}
+use Rattle.l4_core_model.specs.Local.{Local, declared, thread, held, relists, readied}
 use Rattle.l4_core_model.specs.Acts.{Work, ◌▷◌, does, first_acceptable, acts}
-use Rattle.l4_core_model.specs.Turns.{Duty, duty_drops_own, duty_refuses_waiting, duty_tells_gone, duty_cancels_own, duty_cancels_receive, duty_delivers_first, duty_closes_receive, duty_refuses_zero, duty_of, first_some, first_duty, Choice, ByDuty, ByDue, ByReady, choice, does_choice, turn, opened}
+use Rattle.l4_core_model.specs.Turns.{Duty, duty_drops_own, duty_refuses_waiting, duty_tells_gone, duty_cancels_own, duty_cancels_receive, duty_delivers_first, duty_closes_receive, duty_refuses_zero, duty_of, first_some, Choice, ByDuty, ByDue, ByReady, does_choice, turn, opened}
 use Rattle.l4_core_model.specs.Runs.{IsMachine}
 use Rattle.l4_core_model.proofs.Knows.{same_nat}
-use Rattle.l4_core_model.proofs.Fit.{all-map, all-filter, all-drop}
-use Rattle.l4_split.proofs.Entries.{other_is, filter_kept, filter_range}
-use Rattle.l4_split.proofs.Opening.{range_below}
+use Rattle.l4_core_model.proofs.Fit.{all-map, all-drop}
+use Rattle.l4_split.proofs.Entries.{other_is}
 use Rattle.l4_core_model.proofs.Remembers.{same_or_apart}
+use Rattle.l4_split.proofs.Choices.{IsChoice, turn_then}
 use Rattle.l4_split.proofs.Views.{Scene, Kept, View, kept, view, home, put, amid, notices}
 use Rattle.l4_split.proofs.Rows.{IsNotice, Known, Stands}
 use Rattle.l4_split.proofs.Deciding.{notice_as}
@@ -29,8 +26,8 @@ use Rattle.l4_split.proofs.Frames.{leaves_out, Spares, local_changes}
 use Rattle.l4_split.proofs.ListFrames.{put_here}
 use Rattle.l4_split.proofs.Keeping.{popped_other}
 use Rattle.l4_split.proofs.Moves.{at_home}
-use Rattle.l4_split.proofs.Going.{Goes, IsHere, home_is, put_other}
-use Rattle.l4_core_model.proofs.Duties.{first_then, accepts_none}
+use Rattle.l4_split.proofs.Going.{Goes, home_is, put_other}
+use Rattle.l4_core_model.proofs.Duties.{accepts_none}
 use Rattle.l4_split.proofs.Instructions.{Runs, runs_alone_goes, waits_goes}
 use Rattle.l4_split.proofs.Beginning.{begins_send_goes}
 use Rattle.l4_core_model.proofs.Beginning.{act_sends}
@@ -129,10 +126,10 @@ ready_goes m cpu s w x i is machine processor e at =
     seen : view m (amid cpu s (x ▷ does (relists plain.popped))) e.now i ≡ reread (λ c. (kept (put cpu (relists plain.popped x.local) s.locals c) i).ready) (view m (amid cpu s x) e.now i)
     seen = λ d. record (view m (amid cpu s x) e.now i) { kept = λ c. seen_at c (cpu == c) d }
 
--- Where no own thread has a duty, none accepts what waits for it.
+-- The choice
 
-no_duty_f : (m : Machine) (cpu : ℕ) (l : Local) (t : Found) → duty_of m cpu l t ≡ None → duty_delivers_first l t ≡ None
-no_duty_f m cpu l t h = by (duty_drops_own l t) (duty_refuses_waiting l t) (duty_tells_gone m cpu l t) (duty_cancels_own l t) (duty_cancels_receive t) (duty_delivers_first l t) (duty_closes_receive m l t ∷ duty_refuses_zero m l t ∷ []) h
+due_first : (m : Machine) (cpu : ℕ) (l : Local) (t : Found) → duty_of m cpu l t ≡ None → duty_delivers_first l t ≡ None
+due_first m cpu l t h = by (duty_drops_own l t) (duty_refuses_waiting l t) (duty_tells_gone m cpu l t) (duty_cancels_own l t) (duty_cancels_receive t) (duty_delivers_first l t) (duty_closes_receive m l t ∷ duty_refuses_zero m l t ∷ []) h
   where
     by : (a b c d e f : Option Duty) (rest : List (Option Duty)) → first_some (a ∷ b ∷ c ∷ d ∷ e ∷ f ∷ rest) ≡ None → f ≡ None
     by None None None None None None rest h = refl
@@ -143,94 +140,16 @@ no_duty_f m cpu l t h = by (duty_drops_own l t) (duty_refuses_waiting l t) (duty
     by None (Some y) c d e f rest h = cc
     by (Some y) b c d e f rest h = cc
 
-no_duties : (m : Machine) (cpu : ℕ) (l : Local) (is : List ℕ) → first_duty m cpu l is ≡ None → AllByRecursion (λ i. duty_of m cpu l (held m l i) ≡ None) is
-no_duties m cpu l [] h = tt
-no_duties m cpu l (i ∷ is) h = by (duty_of m cpu l (held m l i)) refl h (no_duties m cpu l is)
-  where
-    last : (o : Option Choice) → first_some (None ∷ o ∷ []) ≡ None → o ≡ None
-    last None h = refl
-    last (Some c) h = cc
-
-    by : (o : Option Duty) → duty_of m cpu l (held m l i) ≡ o → first_some (option_map (ByDuty i) o ∷ first_duty m cpu l is ∷ []) ≡ None →
-        (first_duty m cpu l is ≡ None → AllByRecursion (λ j. duty_of m cpu l (held m l j) ≡ None) is) → AllByRecursion (λ j. duty_of m cpu l (held m l j) ≡ None) (i ∷ is)
-    by None e h rest = (e, rest (last (first_duty m cpu l is) h))
-    by (Some d) e h rest = cc
-
--- What holds of all own places holds of one.
-own_at : (m : Machine) (cpu i : ℕ) (P : ℕ → Type 0) → IsHere m cpu i → AllByRecursion P (own_places m cpu) → P i
-own_at m cpu i P here all = (subst (AllByRecursion P) entry (all-filter P (λ j. i == j) (own_places m cpu) all)).0
-  where
-    own : is_own m cpu i ≡ true
-    own = let is = here.home in rw is (same_nat cpu)
-
-    entry : filter (λ j. i == j) (own_places m cpu) ≡ i ∷ []
-    entry = filter_kept (λ j. i == j) (is_own m cpu) (λ j same. subst (λ k. is_own m cpu k ≡ true) (eqb-true i j same) own) (range_with_len 0 (length m.threads)) ∙ filter_range 0 (length m.threads) i (omega arith) (let lt = here.within in omega arith)
-
--- an own place is of this processor
-pub own_here : (m : Machine) (cpu : ℕ) → IsMachine m → AllByRecursion (IsHere m cpu) (own_places m cpu)
-own_here m cpu machine = own_filter (range_with_len 0 (length m.threads)) (all-map (λ i. i < 0 + length m.threads) (λ i. i < length m.threads) (λ i lt. omega arith) (range_with_len 0 (length m.threads)) (range_below 0 (length m.threads)))
-  where
-    own_filter : (is : List ℕ) → AllByRecursion (λ i. i < length m.threads) is → AllByRecursion (IsHere m cpu) (filter (is_own m cpu) is)
-    own_filter [] below = tt
-    own_filter (i ∷ is) below = by (is_own m cpu i) refl (own_filter is below.1)
-      where
-        by : (b : Bool) → (home m i == cpu) ≡ b → AllByRecursion (IsHere m cpu) (filter (is_own m cpu) is) → AllByRecursion (IsHere m cpu) (cond b (i ∷ filter (is_own m cpu) is) (filter (is_own m cpu) is))
-        by true own rest = (record { machine = machine; within = below.0; home = eqb-true (home m i) cpu own }, rest)
-        by false own rest = rest
-
--- The choice
-
-by_duty : (m : Machine) (cpu : ℕ) (s : Scene) (w : World) (l : Local) (c : Choice) (is : List ℕ) → cpu < m.cpus → Goes m cpu s w [] (opened 0 l) → AllByRecursion (IsHere m cpu) is → first_duty m cpu l is ≡ Some c → Goes m cpu s w [] (does_choice m cpu c (opened 0 l))
-by_duty m cpu s w l c [] processor e here h = cc
-by_duty m cpu s w l c (i ∷ is) processor e here h =
-    first_then (option_map (ByDuty i) (duty_of m cpu l (held m l i))) (first_duty m cpu l is ∷ []) c h
-    (λ first. mapped (duty_of m cpu l (held m l i)) refl first)
-    (λ none later. by_duty m cpu s w l c is processor e here.1 (last (first_duty m cpu l is) later))
-  where
-    last : (o : Option Choice) → first_some (o ∷ []) ≡ Some c → o ≡ Some c
-    last None h = cc
-    last (Some d) h = h
-
-    mapped : (o : Option Duty) → duty_of m cpu l (held m l i) ≡ o → option_map (ByDuty i) o ≡ Some c → Goes m cpu s w [] (does_choice m cpu c (opened 0 l))
-    mapped None is h = cc
-    mapped (Some d) is h = subst (λ b. Goes m cpu s w [] (does_choice m cpu b (opened 0 l))) (some_is (ByDuty i d) c h) (duty_goes m cpu i s w (opened 0 l) d here.0 processor e is)
-
-by_due : (m : Machine) (cpu : ℕ) (s : Scene) (w : World) (l : Local) (c : Choice) → IsMachine m → cpu < m.cpus → Goes m cpu s w [] (opened 0 l) → first_duty m cpu l (own_places m cpu) ≡ None →
-    (armed : List (ℕ × ℕ)) → l.lists.armed ≡ armed → option_map ByDue (plain.due_block l.clock armed) ≡ Some c → Goes m cpu s w [] (does_choice m cpu c (opened 0 l))
-by_due m cpu s w l c machine processor e none [] at h = cc
-by_due m cpu s w l c machine processor e none (a ∷ others) at h = by (nat_le a.0 l.clock) refl h
-  where
-    by : (b : Bool) → nat_le a.0 l.clock ≡ b → option_map ByDue (cond b (Some a.1) None) ≡ Some c → Goes m cpu s w [] (does_choice m cpu c (opened 0 l))
-    by true past h =
-        let due = due_goes m cpu s w (opened 0 l) a others machine processor e at in
-        let no_duty = own_at m cpu a.1 (λ i. duty_of m cpu l (held m l i) ≡ None) due.here (no_duties m cpu l (own_places m cpu) none) in
-        let no_first = accepts_none (first_acceptable l a.1) (no_duty_f m cpu l (held m l a.1) no_duty) in
-        subst (λ b. Goes m cpu s w [] (does_choice m cpu b (opened 0 l))) (some_is (ByDue a.1) c h) (times_out_goes m cpu a.0 a.1 s w (opened 0 l ▷ does (relists plain.popped_due)) processor due past no_first)
-    by false past h = cc
-
-by_ready : (m : Machine) (cpu : ℕ) (s : Scene) (w : World) (l : Local) (c : Choice) → IsMachine m → cpu < m.cpus → Goes m cpu s w [] (opened 0 l) →
-    (ready : List ℕ) → l.lists.ready ≡ ready → option_map ByReady (slice_get ready 0) ≡ Some c → Goes m cpu s w [] (does_choice m cpu c (opened 0 l))
-by_ready m cpu s w l c machine processor e [] at h = cc
-by_ready m cpu s w l c machine processor e (i ∷ is) at h =
-    let r = ready_goes m cpu s w (opened 0 l) i is machine processor e at in
-    subst (λ b. Goes m cpu s w [] (does_choice m cpu b (opened 0 l))) (some_is (ByReady i) c h) (acts_goes m cpu i s w (opened 0 l ▷ does (relists plain.popped)) processor r.goes r.runs)
-
-choice_goes : (m : Machine) (cpu : ℕ) (s : Scene) (w : World) (l : Local) (c : Choice) → IsMachine m → cpu < m.cpus → Goes m cpu s w [] (opened 0 l) → choice m cpu l ≡ Some c → Goes m cpu s w [] (does_choice m cpu c (opened 0 l))
-choice_goes m cpu s w l c machine processor e h =
-    first_then (first_duty m cpu l (own_places m cpu)) _ c h
-    (λ duty. by_duty m cpu s w l c (own_places m cpu) processor e (own_here m cpu machine) duty)
-    λ none h.
-    first_then (option_map ByDue (plain.due_block l.clock l.lists.armed)) _ c h
-    (λ due. by_due m cpu s w l c machine processor e none l.lists.armed refl due)
-    λ none_due h.
-    first_then (option_map ByReady (slice_get l.lists.ready 0)) _ c h
-    (λ ready. by_ready m cpu s w l c machine processor e l.lists.ready refl ready)
-    λ none_ready h.
-    cc
+choice_goes : (m : Machine) (cpu : ℕ) (s : Scene) (w : World) (l : Local) (c : Choice) → IsMachine m → cpu < m.cpus → Goes m cpu s w [] (opened 0 l) → IsChoice m cpu l c → Goes m cpu s w [] (does_choice m cpu c (opened 0 l))
+choice_goes m cpu s w l (ByDuty i duty) machine processor e c =
+    duty_goes m cpu i s w (opened 0 l) duty (record { machine = machine; within = c.0.within; home = c.0.home }) processor e c.1
+choice_goes m cpu s w l (ByDue i) machine processor e c =
+    let due = due_goes m cpu s w (opened 0 l) (c.0, i) c.1.0 machine processor e c.1.1.0 in
+    let none = due_first m cpu l (held m l i) (c.1.1.1.1 i (record { within = due.here.within; home = due.here.home })) in
+    times_out_goes m cpu c.0 i s w (opened 0 l ▷ does (relists plain.popped_due)) processor due c.1.1.1.0 (accepts_none (first_acceptable l i) none)
+choice_goes m cpu s w l (ByReady i) machine processor e c =
+    let r = ready_goes m cpu s w (opened 0 l) i c.0 machine processor e c.1 in
+    acts_goes m cpu i s w (opened 0 l ▷ does (relists plain.popped)) processor r.goes r.runs
 
 pub turn_goes : (m : Machine) (cpu : ℕ) (s : Scene) (w : World) (x : Work) → IsMachine m → cpu < m.cpus → RelatesBut m (Stands m) [] s w → turn m cpu (s.locals cpu) ≡ Some x → Goes m cpu s w [] x
-turn_goes m cpu s w x machine processor rel h = by (choice m cpu (s.locals cpu)) refl h
-  where
-    by : (o : Option Choice) → choice m cpu (s.locals cpu) ≡ o → option_map (λ c. does_choice m cpu c (opened 0 (s.locals cpu))) o ≡ Some x → Goes m cpu s w [] x
-    by None is h = cc
-    by (Some c) is h = subst (Goes m cpu s w []) (some_is (does_choice m cpu c (opened 0 (s.locals cpu))) x h) (choice_goes m cpu s w (s.locals cpu) c machine processor (opened_goes m cpu 0 [] s w rel) is)
+turn_goes m cpu s w x machine processor rel h = turn_then m cpu (s.locals cpu) x (Goes m cpu s w []) h λ c is. choice_goes m cpu s w (s.locals cpu) c machine processor (opened_goes m cpu 0 [] s w rel) is

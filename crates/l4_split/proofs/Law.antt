@@ -1,120 +1,158 @@
--- What the events of any core run tell is a history.
-use Rattle.std.proofs.Common.{◌≡◌, ℕ, zero, suc, ◌<◌, ◌^◌, Bool, true, false, cond, Option, Some, None, List, [], ◌∷◌, length, refl, ap, sym, ◌∙◌, subst, arith}
-use Rattle.std.specs.Prelude.{◌==◌, slice_get, slice_index_or, nat_lt}
-use Rattle.std.specs.Option.{option_map}
-use Rattle.std.proofs.lemmas.Bool.{eqb-true}
-use Rattle.std.proofs.lemmas.List.FromFn.{length-map-range_with_len}
-use Rattle.l4_model.specs.Machine.{Machine}
-use Rattle.l4_model.specs.World.{World, opening, changed}
-use Rattle.l4_model.specs.History.{run}
-use Rattle.l4_model.specs.Conditions.{◌>>=◌}
-use Rattle.l4_model.proofs.Chains.{bind_then, guard_then, some_is}
-use Rattle.l4_core_model.specs.Letters.{Letter}
-use Rattle.l4_core_model.specs.Local.{Local, opening_local}
-use Rattle.l4_core_model.specs.Acts.{Work}
-use Rattle.l4_core_model.specs.Mail.{handle}
-use Rattle.l4_core_model.specs.Turns.{turn, advance, opened}
-use Rattle.l4_core_model.specs.Runs.{System, letters, Happening, Handles, Turns, Ticks, Happened, happens, done, taken, Run, then_event, core_run, opening_run, told, IsMachine, TellsHistories}
-use Rattle.l4_core_model.proofs.Knows.{length-changed, get-changed}
-use Rattle.l4_core_model.proofs.Remembers.{apart}
+-- What is true of a run stays true event by event.
 use Rattle.l4_core_model.proofs.Law.{run-append, told-last}
-use Rattle.l4_split.proofs.Entries.{get_other_place}
-use Rattle.l4_split.proofs.Views.{scene, nowhere, amid}
-use Rattle.l4_split.proofs.Rows.{Stands}
-use Rattle.l4_split.proofs.Relation.{RelatesBut, Relates}
-use Rattle.l4_split.proofs.Opening.{opening_relates}
-use Rattle.l4_split.proofs.MailFrames.{first_is}
-use Rattle.l4_split.proofs.Going.{Goes}
-use Rattle.l4_split.proofs.Ticking.{tick_goes}
-use Rattle.l4_split.proofs.Opened.{opened_goes}
+use Rattle.l4_core_model.specs.Runs.{told}
+use Rattle.std.proofs.lemmas.List.FromFn.{length-map-range_with_len}
+use Rattle.l4_model.proofs.Lawful.{lawful}
 use Rattle.l4_split.proofs.Choosing.{turn_goes}
-use Rattle.l4_split.proofs.Handles.{handle_goes}
+use Rattle.l4_split.proofs.Ticking.{tick_goes}
+use Rattle.l4_core_model.specs.Local.{Local, opening_local}
+use Rattle.l4_core_model.specs.Laws.{IsCoreRun}
+use Rattle.l4_split.proofs.Opened.{opened_goes}
+use Rattle.std.specs.Prelude.{slice_get}
+use Rattle.l4_split.proofs.AddressedTurns.{turn_addressed}
+use Rattle.l4_split.proofs.Views.{Scene, scene}
+use Rattle.l4_split.proofs.AddressedLetters.{handled_addressed}
+use Rattle.l4_core_model.specs.Mail.{handle}
+use Rattle.l4_split.proofs.Going.{Goes}
+use Rattle.l4_split.proofs.PledgeChoosing.{turn_keeps}
+use Rattle.l4_split.proofs.Lawful.{all_lawful, first_lawful}
+use Rattle.l4_core_model.proofs.Knows.{length-changed}
+use Rattle.l4_split.proofs.Rows.{Stands}
+use Rattle.l4_core_model.specs.Letters.{Letter}
+use Rattle.l4_split.specs.Laws.{IsLawfulRun, LettersAreLawful}
+use Rattle.l4_split.proofs.PledgeOpening.{opening_promised}
+use Rattle.l4_split.proofs.Opening.{opening_relates}
+use Rattle.l4_model.specs.Steps.{Tick}
+use Rattle.l4_model.specs.Conditions.{◌>>=◌}
+use Rattle.l4_model.specs.History.{reached, run}
+use Rattle.l4_split.proofs.RestIsStill.{resting_still}
+use Rattle.l4_model.specs.Machine.{Machine}
+use Rattle.l4_core_model.specs.Turns.{advance, opened, turn}
+use Rattle.l4_split.proofs.Handles.{letter_goes}
+use Rattle.std.specs.List.{AllByRecursion}
+use Rattle.l4_model.specs.Still.{IsStill}
+use Rattle.l4_split.proofs.Addressed.{IsAddressed, IsAddressedTo}
+use Rattle.l4_split.proofs.Receiving.{IsLetter}
+use Rattle.l4_model.proofs.Chains.{bind_then, some_is}
+use Rattle.l4_model.proofs.Worlds.{reached_facts}
+use Rattle.l4_core_model.specs.Acts.{Work, tells}
+use Rattle.l4_split.proofs.Promised.{Promised}
+use Rattle.l4_split.proofs.Events.{advance_then, done_scene, event_then}
+use Rattle.l4_split.proofs.PledgeActs.{Amid}
+use Rattle.l4_split.proofs.PledgeTurns.{opened_keeps, ticks_keeps}
+use Rattle.l4_model.specs.World.{World, opening}
+use Rattle.l4_split.proofs.PledgeHandles.{letter_keeps}
+use Rattle.l4_split.proofs.Relation.{Relates, RelatesBut}
+use Rattle.l4_split.proofs.MailFrames.{first_is}
+use Rattle.std.proofs.Common.{List, Some, [], ap, arith, length, map, refl, subst, sym, true, ℕ, ◌++◌, ◌<◌, ◌∙◌, ◌∷◌, ◌≡◌}
+use Rattle.l4_core_model.specs.Runs.{Happened, Happening, IsMachine, Posted, Run, System, at_rest, core_run, done, happens, letters, opening_run, posted, taken, then_event}
 
--- A core run so far
-pub record Leads (m : Machine) (r : Run) : Type 0 where
-  pub w : World
-  pub reaches : run m (opening m) (told r.events) ≡ Some w
+-- Letters
+
+abbrev pub AreAddressed : Machine → List Posted → Type 0
+AreAddressed m mail = AllByRecursion (λ (p : Posted). IsAddressedTo m p.to p.letter.content) mail
+
+all_join : {A : Type 0} (P : A → Type 0) (xs ys : List A) → AllByRecursion P xs → AllByRecursion P ys → AllByRecursion P (xs ++ ys)
+all_join P [] ys all more = more
+all_join P (x ∷ xs) ys all more = (all.0, all_join P xs ys all.1 more)
+
+all_without : {A : Type 0} (P : A → Type 0) (xs ys : List A) (x : A) → AllByRecursion P (xs ++ x ∷ ys) → AllByRecursion P (xs ++ ys)
+all_without P [] ys x all = all.1
+all_without P (y ∷ xs) ys x all = (all.0, all_without P xs ys x all.1)
+
+all_posted : (m : Machine) (cpu : ℕ) (ls : List (ℕ × Letter)) → AllByRecursion (λ (p : ℕ × Letter). IsAddressedTo m p.0 p.1.content) ls → AreAddressed m (map (posted cpu) ls)
+all_posted m cpu [] all = tt
+all_posted m cpu (l ∷ ls) all = (all.0, all_posted m cpu ls all.1)
+
+-- The world that a run leads to, and what is known of it and of the run's system.
+pub record RunFacts (m : Machine) (r : Run) : Type 0 where
+  pub world : World
+  pub reaches : reached m (told r.events) ≡ Some world
   pub counted : length r.system.locals ≡ m.cpus
-  pub relates : Relates m r.system w
-
--- The scene after an event is the one under way.
-pub done_scene : (cpu : ℕ) (g : System) (x : Work) → cpu < length g.locals → amid cpu (scene g) x ≡ scene (done cpu g x).system
-done_scene cpu g x lt = λ d. record { locals = λ c. at c (cpu == c) refl d; mail = (scene (done cpu g x).system).mail }
-  where
-    at : (c : ℕ) (b : Bool) → (cpu == c) ≡ b → cond b x.local (slice_index_or g.locals c nowhere) ≡ slice_index_or (changed (λ l. x.local) g.locals cpu) c nowhere
-    at c true is = sym (ap (λ i. slice_index_or (changed (λ l. x.local) g.locals cpu) i nowhere) (sym (eqb-true cpu c is)) ∙ get-changed (λ l. x.local) g.locals cpu nowhere lt)
-    at c false is = sym (get_other_place (λ l. x.local) g.locals cpu c nowhere (apart cpu c is))
+  pub relates : Relates m r.system world
+  pub promised : Promised m [] (scene r.system)
+  pub addressed : AreAddressed m r.system.mail
 
 -- An event of a processor
-event_leads : (m : Machine) (r : Run) (cpu : ℕ) (g : System) (x : Work) → (s : Leads m r) → g.locals ≡ r.system.locals → cpu < m.cpus → Goes m cpu (scene g) s.w [] x → Leads m (then_event r (done cpu g x))
-event_leads m r cpu g x s same lt e =
-    let before = s.reaches in
+event_facts : (m : Machine) (r : Run) (cpu : ℕ) (g : System) (x : Work) → (f : RunFacts m r) → g.locals ≡ r.system.locals → cpu < m.cpus →
+    AreAddressed m g.mail → Goes m cpu (scene g) f.world [] x → Amid m cpu (scene g) x → IsAddressed m x → RunFacts m (then_event r (done cpu g x))
+event_facts m r cpu g x f same lt mail e p a =
+    let before = f.reaches in
     let after = e.reaches in
-    let size : length g.locals ≡ m.cpus = ap (λ (ls : List Local). length ls) same ∙ s.counted in
+    let size : length g.locals ≡ m.cpus = ap (λ (ls : List Local). length ls) same ∙ f.counted in
     let within : cpu < length g.locals = omega arith in
     let all = told-last r.events (record { cpu = cpu; stamp = x.local.stamp; steps = x.steps }) in
     record {
-      w = e.now;
+      world = e.now;
       reaches = ap (run m (opening m)) all ∙ run-append m (told r.events) x.steps (opening m) ∙ ap (λ o. o >>= λ v. run m v x.steps) before ∙ after;
       counted = length-changed (λ l. x.local) g.locals cpu ∙ size;
       relates = subst (λ s. RelatesBut m (Stands m) [] s e.now) (done_scene cpu g x within) e.relates;
+      promised = subst (Promised m []) (done_scene cpu g x within) p;
+      addressed = all_join (λ (p : Posted). IsAddressedTo m p.to p.letter.content) g.mail (map (posted cpu) x.letters) mail (all_posted m cpu x.letters a);
     }
 
-pub at_place : (ls : List Local) (cpu : ℕ) (l : Local) → slice_get ls cpu ≡ Some l → (cpu < length ls) × (slice_index_or ls cpu nowhere ≡ l)
-at_place [] cpu l h = cc
-at_place (k ∷ ls) zero l h = (omega arith, some_is k l h)
-at_place (k ∷ ls) (suc cpu) l h = let rest = at_place ls cpu l h in (omega (arith, rest.0), rest.1)
-
-pub step_leads : (m : Machine) (r : Run) (e : Happening) (h : Happened) → IsMachine m → Leads m r → happens m r.system e ≡ Some h → Leads m (then_event r h)
-step_leads m r (Handles cpu from) h machine s is =
-    bind_then (slice_get r.system.locals cpu) _ h is λ l at rest.
-    bind_then (slice_get (letters r.system.mail from cpu) 0) _ h rest λ letter first rest.
-    let place = at_place r.system.locals cpu l at in
-    let lt : cpu < m.cpus = omega (arith, place.0, s.counted) in
-    by lt letter first (handle m cpu (slice_index_or r.system.locals cpu nowhere) letter) refl (subst (λ k. option_map (done cpu (taken from cpu r.system)) (handle m cpu k letter) ≡ Some h) (sym place.1) rest)
+step_facts : (m : Machine) (r : Run) (e : Happening) (h : Happened) → IsMachine m → RunFacts m r → happens m r.system e ≡ Some h → RunFacts m (then_event r h)
+step_facts m r e h machine f is = event_then m r.system e h (λ h. RunFacts m (then_event r h)) f.counted is handles turns ticks
   where
-    by : cpu < m.cpus → (letter : Letter) → slice_get (letters r.system.mail from cpu) 0 ≡ Some letter → (o : Option Work) → handle m cpu (slice_index_or r.system.locals cpu nowhere) letter ≡ o → option_map (done cpu (taken from cpu r.system)) o ≡ Some h → Leads m (then_event r h)
-    by lt letter first None e is = cc
-    by lt letter first (Some x) e is = subst (λ h. Leads m (then_event r h)) (some_is (done cpu (taken from cpu r.system) x) h is)
-        (event_leads m r cpu (taken from cpu r.system) x s refl lt (handle_goes m from cpu letter (scene r.system) s.w x letter.content (record { machine = machine; processor = lt; relates = s.relates; first = first_is from cpu letter r.system.mail first }) refl e))
-step_leads m r (Turns cpu) h machine s is =
-    bind_then (slice_get r.system.locals cpu) _ h is λ l at rest.
-    let place = at_place r.system.locals cpu l at in
-    let lt : cpu < m.cpus = omega (arith, place.0, s.counted) in
-    by lt (turn m cpu (slice_index_or r.system.locals cpu nowhere)) refl (subst (λ k. option_map (done cpu r.system) (turn m cpu k) ≡ Some h) (sym place.1) rest)
-  where
-    by : cpu < m.cpus → (o : Option Work) → turn m cpu (slice_index_or r.system.locals cpu nowhere) ≡ o → option_map (done cpu r.system) o ≡ Some h → Leads m (then_event r h)
-    by lt None e is = cc
-    by lt (Some x) e is = subst (λ h. Leads m (then_event r h)) (some_is (done cpu r.system x) h is) (event_leads m r cpu r.system x s refl lt (turn_goes m cpu (scene r.system) s.w x machine lt s.relates e))
-step_leads m r (Ticks cpu clock) h machine s is =
-    bind_then (slice_get r.system.locals cpu) _ h is λ l at rest.
-    let place = at_place r.system.locals cpu l at in
-    let lt : cpu < m.cpus = omega (arith, place.0, s.counted) in
-    by lt (advance m cpu clock (slice_index_or r.system.locals cpu nowhere)) refl (subst (λ k. option_map (done cpu r.system) (advance m cpu clock k) ≡ Some h) (sym place.1) rest)
-  where
-    here : Local
-    here = slice_index_or r.system.locals cpu nowhere
+    s : Scene
+    s = scene r.system
 
-    ticks : (x : Work) → cpu < m.cpus → advance m cpu clock here ≡ Some x → Goes m cpu (scene r.system) s.w [] x
-    ticks x lt e =
-        guard_then (nat_lt here.clock clock) _ x e λ above rest.
-        guard_then (nat_lt clock (2 ^ 62)) _ x rest λ below rest.
-        subst (Goes m cpu (scene r.system) s.w []) (some_is _ x rest) (tick_goes m cpu clock (scene r.system) s.w (opened 0 here) lt (opened_goes m cpu 0 [] (scene r.system) s.w s.relates) above below)
+    handles : (cpu from : ℕ) (letter : Letter) (x : Work) → cpu < m.cpus → slice_get (letters r.system.mail from cpu) 0 ≡ Some letter → handle m cpu (s.locals cpu) letter ≡ Some x → RunFacts m (then_event r (done cpu (taken from cpu r.system) x))
+    handles cpu from letter x lt first is =
+        let at = first_is from cpu letter r.system.mail first in
+        let l : IsLetter m from cpu letter s f.world = record { machine = machine; processor = lt; relates = f.relates; first = at } in
+        let left = all_without (λ (p : Posted). IsAddressedTo m p.to p.letter.content) at.before at.after _ (subst (AreAddressed m) at.is f.addressed) in
+        event_facts m r cpu (taken from cpu r.system) x f refl lt (subst (AreAddressed m) (sym at.left) left)
+        (letter_goes m from cpu letter s f.world x letter.content l refl is)
+        (letter_keeps m from cpu letter s f.world x letter.content l first refl f.promised is)
+        (handled_addressed m cpu letter.content (opened letter.stamp (s.locals cpu)) x machine tt is)
 
-    by : cpu < m.cpus → (o : Option Work) → advance m cpu clock (slice_index_or r.system.locals cpu nowhere) ≡ o → option_map (done cpu r.system) o ≡ Some h → Leads m (then_event r h)
-    by lt None e is = cc
-    by lt (Some x) e is = subst (λ h. Leads m (then_event r h)) (some_is (done cpu r.system x) h is) (event_leads m r cpu r.system x s refl lt (ticks x lt e))
+    turns : (cpu : ℕ) (x : Work) → cpu < m.cpus → turn m cpu (s.locals cpu) ≡ Some x → RunFacts m (then_event r (done cpu r.system x))
+    turns cpu x lt is = event_facts m r cpu r.system x f refl lt f.addressed (turn_goes m cpu s f.world x machine lt f.relates is) (turn_keeps m cpu s f.world x machine lt f.relates f.promised is)
+        (turn_addressed m cpu (s.locals cpu) x machine (f.relates.sized cpu lt) is)
 
--- A run
-run_leads : (m : Machine) (es : List Happening) (r last : Run) → IsMachine m → Leads m r → core_run m r es ≡ Some last → Leads m last
-run_leads m [] r last machine s h = subst (Leads m) (some_is r last h) s
-run_leads m (e ∷ es) r last machine s h =
+    ticks : (cpu clock : ℕ) (x : Work) → cpu < m.cpus → advance m cpu clock (s.locals cpu) ≡ Some x → RunFacts m (then_event r (done cpu r.system x))
+    ticks cpu clock x lt is = advance_then m cpu clock (s.locals cpu) x (λ x. RunFacts m (then_event r (done cpu r.system x))) is λ above below.
+        event_facts m r cpu r.system _ f refl lt f.addressed
+        (tick_goes m cpu clock s f.world (opened 0 (s.locals cpu)) lt (opened_goes m cpu 0 [] s f.world f.relates) above below)
+        (ticks_keeps m cpu clock s (tells (Tick cpu clock) (opened 0 (s.locals cpu))) lt (opened_keeps m cpu 0 [] s lt f.promised)) tt
+
+opening_facts : (m : Machine) → IsMachine m → RunFacts m (opening_run m)
+opening_facts m machine = record {
+  world = opening m;
+  reaches = refl;
+  counted = length-map-range_with_len (opening_local m) 0 m.cpus;
+  relates = opening_relates m machine;
+  promised = opening_promised m machine;
+  addressed = tt;
+}
+
+goes_on_facts : (m : Machine) (es : List Happening) (r last : Run) → IsMachine m → RunFacts m r → core_run m r es ≡ Some last → RunFacts m last
+goes_on_facts m [] r last machine f h = subst (RunFacts m) (some_is r last h) f
+goes_on_facts m (e ∷ es) r last machine f h =
     bind_then (happens m r.system e) _ last h λ happened is rest.
-    run_leads m es (then_event r happened) last machine (step_leads m r e happened machine s is) rest
+    goes_on_facts m es (then_event r happened) last machine (step_facts m r e happened machine f is) rest
 
-pub opening_leads : (m : Machine) → IsMachine m → Leads m (opening_run m)
-opening_leads m machine = record { w = opening m; reaches = refl; counted = length-map-range_with_len (opening_local m) 0 m.cpus; relates = opening_relates m machine }
+pub run_facts : (m : Machine) (r : Run) → IsMachine m → IsCoreRun m r → RunFacts m r
+run_facts m r machine is = goes_on_facts m is.0 (opening_run m) r machine (opening_facts m machine) is.1
 
--- The law of all machines
-pub tells_histories : (m : Machine) → IsMachine m → TellsHistories m
-tells_histories m machine es r h = let s = run_leads m es (opening_run m) r machine (opening_leads m machine) h in (s.w, s.reaches)
+-- The laws
+
+pub letters_lawful : (m : Machine) (r : Run) → IsMachine m → RunFacts m r → LettersAreLawful m r.system
+letters_lawful m r machine f =
+    let facts = reached_facts m (told r.events) f.world f.reaches in
+    record {
+      first = λ from cpu letter l first at. first_lawful m r.system f.world from cpu letter l machine f.relates facts f.addressed first at;
+      all = all_lawful m r.system f.world machine f.counted f.relates facts f.addressed;
+    }
+
+pub rest_still : (m : Machine) (r : Run) → IsMachine m → (f : RunFacts m r) → at_rest m r.system ≡ true → IsStill m f.world
+rest_still m r machine f rest = resting_still m r.system f.world machine f.relates f.promised rest
+
+pub run_lawful : (m : Machine) (r : Run) → IsMachine m → RunFacts m r → IsLawfulRun m r
+run_lawful m r machine f = record {
+  history = (f.world, f.reaches);
+  lawful = lawful m (told r.events) f.world f.reaches;
+  letters = letters_lawful m r machine f;
+  still = λ rest w at. subst (IsStill m) (some_is f.world w (sym f.reaches ∙ at)) (rest_still m r machine f rest);
+}

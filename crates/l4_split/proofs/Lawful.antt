@@ -1,12 +1,17 @@
 -- Every letter under way can be handled where it goes.
-use Rattle.std.proofs.Common.{◌≡◌, ℕ, zero, suc, ◌<◌, Bool, true, false, Option, Some, None, List, [], ◌∷◌, ◌++◌, filter, length, refl, ap, sym, ◌∙◌, subst}
-use Rattle.std.specs.Prelude.{not, is_some, slice_get, slice_index_or}
+use Rattle.l4_split.specs.Laws.{IsLawfulLetter}
+use Rattle.l4_model.specs.Still.{late}
+use Rattle.l4_split.proofs.Events.{local_at}
+use Rattle.std.proofs.lemmas.Option.{slice_get-get_or}
+use Rattle.l4_model.proofs.Rows.Writing.{id, send}
+use Rattle.l4_split.proofs.Addressed.{IsAddressedTo}
+use Rattle.std.proofs.Common.{◌≡◌, ℕ, ◌<◌, Bool, true, false, Option, Some, None, List, [], ◌∷◌, ◌++◌, filter, length, refl, ap, sym, ◌∙◌, subst, append_assoc, arith}
+use Rattle.std.specs.Prelude.{not, is_some, slice_get, IsSomeAnd}
 use Rattle.std.specs.List.{AllByRecursion}
 use Rattle.l4_model.specs.Words.{GlobalId}
 use Rattle.l4_model.specs.Machine.{Machine, place_of, is_declared}
 use Rattle.l4_model.specs.World.{World, Send}
 use Rattle.l4_model.specs.Reached.{WorldFacts}
-use Rattle.l4_model.proofs.Chains.{some_is}
 use Rattle.l4_core_model.specs.Letters.{Content, SendLetter, DoneLetter, WithdrawLetter, GoneLetter, OrderLetter, OrderDoneLetter, Letter}
 use Rattle.l4_core_model.specs.Local.{Local, declared}
 use Rattle.l4_core_model.specs.Acts.{Work}
@@ -22,10 +27,6 @@ use Rattle.l4_split.proofs.MailFrames.{about_place, keeps_one, first_is}
 use Rattle.l4_split.proofs.Moves.{at_home}
 use Rattle.l4_split.proofs.Waiting.{agrees_send}
 use Rattle.l4_split.proofs.Lawfully.{own_is, foreign_is, sent_lawful, done_lawful, ordered_lawful, obeyed_lawful}
-
--- The relation says nothing of a letter about a thread that is not declared, so this is a fact of its own.
-abbrev pub AreAboutDeclared : Machine → List Posted → Type 0
-AreAboutDeclared m mail = AllByRecursion (λ (p : Posted). is_declared m (subject p.letter.content) ≡ true) mail
 
 -- A letter stands somewhere among those under way, and is about the thread at a place.
 pub record IsUnderWay (m : Machine) (i : ℕ) (p : Posted) (mail : List Posted) : Type 0 where
@@ -113,24 +114,33 @@ placed m id h = by (place_of m id) h
     by None h = cc
     by (Some i) h = (i, refl)
 
-pub any_lawful : (m : Machine) (s : Scene) (w : World) (p : Posted) (before after : List Posted) (stamp : ℕ) → IsMachine m → RelatesBut m (Stands m) [] s w → WorldFacts m w → AreAboutDeclared m s.mail →
+under_way_lawful : (m : Machine) (s : Scene) (w : World) (p : Posted) (before after : List Posted) (stamp : ℕ) → IsMachine m → RelatesBut m (Stands m) [] s w → WorldFacts m w → is_declared m (subject p.letter.content) ≡ true →
     s.mail ≡ before ++ p ∷ after → is_some (handled m p.to p.letter.content (opened stamp (s.locals p.to))) ≡ true
-any_lawful m s w p before after stamp machine rel facts declared at =
-    let here = placed m (subject p.letter.content) (one_of (λ (q : Posted). is_declared m (subject q.letter.content) ≡ true) before after p (subst (AreAboutDeclared m) at declared)) in
+under_way_lawful m s w p before after stamp machine rel facts declared at =
+    let here = placed m (subject p.letter.content) declared in
     letter_lawful m here.0 s w p (opened stamp (s.locals p.to)) p.letter.content refl machine facts (record { before = before; after = after; is = at; about = here.1 })
     (rel.places here.0 (place_within m (subject p.letter.content) here.0 here.1) tt) refl
 
+abbrev AreAddressed : Machine → List Posted → Type 0
+AreAddressed m mail = AllByRecursion (λ (p : Posted). IsAddressedTo m p.to p.letter.content) mail
+
+pub all_lawful : (m : Machine) (g : System) (w : World) → IsMachine m → length g.locals ≡ m.cpus → Relates m g w → WorldFacts m w → AreAddressed m g.mail → AllByRecursion (IsLawfulLetter m g) g.mail
+all_lawful m g w machine counted rel facts addressed = by [] g.mail refl addressed
+  where
+    by : (before after : List Posted) → g.mail ≡ before ++ after → AreAddressed m after → AllByRecursion (IsLawfulLetter m g) after
+    by before [] is all = tt
+    by before (p ∷ ps) is all =
+        let lt : p.to < length g.locals = omega (arith, all.0.1, counted) in
+        let handled_there = under_way_lawful m (scene g) w p before ps p.letter.stamp machine rel facts all.0.0 is in (
+          subst (λ o. IsSomeAnd o (λ l. is_some (handle m p.to l p.letter) ≡ true)) (sym (slice_get-get_or g.locals p.to nowhere lt)) handled_there,
+          by (before ++ p ∷ []) ps (is ∙ sym (append_assoc before (p ∷ []) ps)) all.1,
+        )
+
 -- So is the first letter of a pair.
-
-local_at : (ls : List Local) (cpu : ℕ) (l : Local) → slice_get ls cpu ≡ Some l → slice_index_or ls cpu nowhere ≡ l
-local_at [] cpu l h = cc
-local_at (k ∷ ls) zero l h = some_is k l h
-local_at (k ∷ ls) (suc cpu) l h = local_at ls cpu l h
-
-pub lawful : (m : Machine) (g : System) (w : World) (from cpu : ℕ) (letter : Letter) (l : Local) → IsMachine m → Relates m g w → WorldFacts m w → AreAboutDeclared m g.mail →
-    slice_get (letters g.mail from cpu) 0 ≡ Some letter → slice_get g.locals cpu ≡ Some l → handle m cpu l letter ≡ None → ⊥
-lawful m g w from cpu letter l machine rel facts declared first at none =
+pub first_lawful : (m : Machine) (g : System) (w : World) (from cpu : ℕ) (letter : Letter) (l : Local) → IsMachine m → Relates m g w → WorldFacts m w → AreAddressed m g.mail →
+    slice_get (letters g.mail from cpu) 0 ≡ Some letter → slice_get g.locals cpu ≡ Some l → is_some (handle m cpu l letter) ≡ true
+first_lawful m g w from cpu letter l machine rel facts addressed first at =
     let f = first_is from cpu letter g.mail first in
-    let some = any_lawful m (scene g) w (record { from = from; to = cpu; letter = letter }) f.before f.after letter.stamp machine rel facts declared f.is in
-    let here : is_some (handle m cpu l letter) ≡ true = subst (λ k. is_some (handle m cpu k letter) ≡ true) (local_at g.locals cpu l at) some in
-    cc (here, none)
+    let about = one_of (λ (p : Posted). IsAddressedTo m p.to p.letter.content) f.before f.after _ (subst (AreAddressed m) f.is addressed) in
+    let handled_there = under_way_lawful m (scene g) w (record { from = from; to = cpu; letter = letter }) f.before f.after letter.stamp machine rel facts about.0 f.is in
+    subst (λ k. is_some (handle m cpu k letter) ≡ true) (local_at g.locals cpu l at).1 handled_there

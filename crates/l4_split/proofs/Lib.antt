@@ -2,7 +2,6 @@ pub mod Entries
 pub mod Views
 pub mod Keeping
 pub mod Rows
-pub mod Promises
 pub mod Relation
 pub mod Opening
 pub mod Squares
@@ -28,6 +27,7 @@ pub mod Failing
 pub mod Ending
 pub mod Noticing
 pub mod Timing
+pub mod Choices
 pub mod Turning
 pub mod Choosing
 pub mod Receiving
@@ -36,6 +36,8 @@ pub mod Gone
 pub mod Opened
 pub mod Obeyed
 pub mod Handles
+pub mod Events
+pub mod AddressedLetters
 pub mod Law
 pub mod AskedSquares
 pub mod Asking
@@ -56,11 +58,10 @@ pub mod PledgeTelling
 pub mod PledgeTurns
 pub mod PledgeChoosing
 pub mod PledgeTaking
+pub mod PledgeHandles
 pub mod PledgeWithdrawn
 pub mod PledgeOpening
-pub mod PledgeLaw
 pub mod PledgeListed
-pub mod Pledges
 pub mod Settled
 pub mod Stilled
 pub mod Idle
@@ -68,9 +69,7 @@ pub mod Seen
 pub mod Rest
 pub mod RestingSends
 pub mod RestIsStill
-pub mod RunIsStill
 pub mod Addressed
-pub mod AddressedRuns
 pub mod AddressedTurns
 pub mod Lawful
 pub mod Lawfully

@@ -45,7 +45,7 @@ notice_relates m cpu to i content but s w x rel out lt about late notice =
     })
 
 -- Whether a send goes to another processor's thread
-split_cases : (m : Machine) (cpu : ℕ) (send : Send) (P : Option ℕ → Type 0) → P None → ((r : ℕ) → destination_place m send.to ≡ Some r → (home m r ≡ cpu → ⊥) → P (Some r)) → P (split_receiver m cpu (Some send))
+pub split_cases : (m : Machine) (cpu : ℕ) (send : Send) (P : Option ℕ → Type 0) → P None → ((r : ℕ) → destination_place m send.to ≡ Some r → (home m r ≡ cpu → ⊥) → P (Some r)) → P (split_receiver m cpu (Some send))
 split_cases m cpu send P none split = by (destination_place m send.to) refl
   where
     by : (o : Option ℕ) → destination_place m send.to ≡ o → P (split_receiver m cpu (Some send))

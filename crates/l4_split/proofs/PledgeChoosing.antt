@@ -1,7 +1,6 @@
 -- What is promised is kept by the core's turn.
-use Rattle.std.proofs.Common.{◌≡◌, ℕ, ◌+◌, ◌<◌, Bool, true, false, cond, Option, Some, None, List, [], ◌∷◌, filter, refl, ap, sym, ◌∙◌, subst, arith}
-use Rattle.std.specs.Prelude.{not, nat_le, slice_get}
-use Rattle.std.specs.Option.{option_map}
+use Rattle.std.proofs.Common.{◌≡◌, ℕ, ◌+◌, ◌<◌, Bool, true, false, cond, Some, List, [], ◌∷◌, filter, refl, ap, sym, ◌∙◌, subst, arith}
+use Rattle.std.specs.Prelude.{not}
 use Rattle.std.specs.List.{AllByRecursion}
 use Rattle.std.proofs.lemmas.List.{append-nil}
 use Rattle.l4_model.specs.Machine.{Machine, place_of}
@@ -9,15 +8,14 @@ use Rattle.l4_model.specs.World.{Name, World, is_ready}
 use Rattle.l4_model.specs.Rules.{Act, RunsAlone, Sends, Receives, Orders}
 use Rattle.l4_model.specs.Conditions.{act_of}
 use Rattle.l4_model.specs.Effects.{begins}
-use Rattle.l4_model.proofs.Chains.{some_is}
 use Rattle.l4_core_model.specs.Plain as plain
 use Rattle.l4_core_model.specs.Letters.{Content, SendLetter, DoneLetter, WithdrawLetter, GoneLetter, OrderLetter, OrderDoneLetter}
-use Rattle.l4_core_model.specs.Local.{Local, own_places, thread, held, last_name, relists, comes_to}
+use Rattle.l4_core_model.specs.Local.{Local, thread, held, last_name, relists, comes_to}
 use Rattle.l4_core_model.specs.Acts.{Work, ◌▷◌, does, is_place, acts}
-use Rattle.l4_core_model.specs.Turns.{Duty, duty_of, first_some, first_duty, Choice, ByDuty, ByDue, ByReady, choice, does_choice, turn, opened}
+use Rattle.l4_core_model.specs.Turns.{Choice, ByDuty, ByDue, ByReady, does_choice, turn, opened}
 use Rattle.l4_core_model.specs.Runs.{Posted, IsMachine}
 use Rattle.l4_core_model.proofs.Knows.{same_nat}
-use Rattle.l4_core_model.proofs.Duties.{first_then}
+use Rattle.l4_split.proofs.Choices.{IsChoice, turn_then}
 use Rattle.l4_split.proofs.Views.{Scene, Kept, kept, view, subject, says_where, is_about}
 use Rattle.l4_split.proofs.Rows.{IsNotice, IsNoticeOf, Stands}
 use Rattle.l4_split.proofs.Relation.{RelatesBut}
@@ -26,7 +24,7 @@ use Rattle.l4_split.proofs.Moves.{at_home}
 use Rattle.l4_split.proofs.Going.{IsHere}
 use Rattle.l4_split.proofs.Opened.{opened_goes}
 use Rattle.l4_split.proofs.Timing.{due_goes}
-use Rattle.l4_split.proofs.Choosing.{ready_goes, own_here}
+use Rattle.l4_split.proofs.Choosing.{ready_goes}
 use Rattle.l4_split.proofs.Promised.{IsNotWithdrawalOf, Promised}
 use Rattle.l4_split.proofs.PledgeLocals.{size_now, relists_keeps}
 use Rattle.l4_split.proofs.PledgeActs.{Amid, begins_keeps, runs_keeps, waits_keeps}
@@ -104,63 +102,15 @@ acts_keeps m cpu i s w l is processor here ready stands p = by (act_of m (held m
     by (Orders order) = gives_keeps m cpu i order s x processor here.within here.home ready p
 
 -- The choice
-
-by_duty : (m : Machine) (cpu : ℕ) (s : Scene) (l : Local) (c : Choice) (is : List ℕ) → cpu < m.cpus → Amid m cpu s (opened 0 l) → AllByRecursion (IsHere m cpu) is → first_duty m cpu l is ≡ Some c → Amid m cpu s (does_choice m cpu c (opened 0 l))
-by_duty m cpu s l c [] processor p here h = cc
-by_duty m cpu s l c (i ∷ is) processor p here h =
-    first_then (option_map (ByDuty i) (duty_of m cpu l (held m l i))) (first_duty m cpu l is ∷ []) c h
-    (λ first. mapped (duty_of m cpu l (held m l i)) refl first)
-    (λ none later. by_duty m cpu s l c is processor p here.1 (last (first_duty m cpu l is) later))
-  where
-    last : (o : Option Choice) → first_some (o ∷ []) ≡ Some c → o ≡ Some c
-    last None h = cc
-    last (Some d) h = h
-
-    mapped : (o : Option Duty) → duty_of m cpu l (held m l i) ≡ o → option_map (ByDuty i) o ≡ Some c → Amid m cpu s (does_choice m cpu c (opened 0 l))
-    mapped None is h = cc
-    mapped (Some d) is h = subst (λ b. Amid m cpu s (does_choice m cpu b (opened 0 l))) (some_is (ByDuty i d) c h) (duty_keeps m cpu i s (opened 0 l) d processor here.0.home p is)
-
-by_due : (m : Machine) (cpu : ℕ) (s : Scene) (w : World) (c : Choice) → IsMachine m → cpu < m.cpus → RelatesBut m (Stands m) [] s w → Amid m cpu s (opened 0 (s.locals cpu)) →
-    (armed : List (ℕ × ℕ)) → (s.locals cpu).lists.armed ≡ armed → option_map ByDue (plain.due_block (s.locals cpu).clock armed) ≡ Some c → Amid m cpu s (does_choice m cpu c (opened 0 (s.locals cpu)))
-by_due m cpu s w c machine processor rel p [] at h = cc
-by_due m cpu s w c machine processor rel p (a ∷ others) at h = by (nat_le a.0 (s.locals cpu).clock) h
-  where
-    by : (b : Bool) → option_map ByDue (cond b (Some a.1) None) ≡ Some c → Amid m cpu s (does_choice m cpu c (opened 0 (s.locals cpu)))
-    by true h =
-        let due = due_goes m cpu s w (opened 0 (s.locals cpu)) a others machine processor (opened_goes m cpu 0 [] s w rel) at in
-        subst (λ b. Amid m cpu s (does_choice m cpu b (opened 0 (s.locals cpu)))) (some_is (ByDue a.1) c h) (due_keeps m cpu s (opened 0 (s.locals cpu)) a others processor due.here.home (subst (λ c. IsListedHere m a.1 (s.locals c)) due.here.home (listed_here m a.1 s w (rel.places a.1 due.here.within tt))) at p)
-    by false h = cc
-
-by_ready : (m : Machine) (cpu : ℕ) (s : Scene) (w : World) (c : Choice) → IsMachine m → cpu < m.cpus → RelatesBut m (Stands m) [] s w → Amid m cpu s (opened 0 (s.locals cpu)) →
-    (ready : List ℕ) → (s.locals cpu).lists.ready ≡ ready → option_map ByReady (slice_get ready 0) ≡ Some c → Amid m cpu s (does_choice m cpu c (opened 0 (s.locals cpu)))
-by_ready m cpu s w c machine processor rel p [] at h = cc
-by_ready m cpu s w c machine processor rel p (i ∷ is) at h =
-    let r = ready_goes m cpu s w (opened 0 (s.locals cpu)) i is machine processor (opened_goes m cpu 0 [] s w rel) at in
-    subst (λ b. Amid m cpu s (does_choice m cpu b (opened 0 (s.locals cpu)))) (some_is (ByReady i) c h)
-    (acts_keeps m cpu i s w (s.locals cpu) refl processor r.runs.here r.runs.ready (rel.places i r.runs.here.within tt) (relists_keeps m cpu [] s (opened 0 (s.locals cpu)) plain.popped processor refl p))
+choice_keeps : (m : Machine) (cpu : ℕ) (s : Scene) (w : World) (c : Choice) → IsMachine m → cpu < m.cpus → RelatesBut m (Stands m) [] s w → Amid m cpu s (opened 0 (s.locals cpu)) → IsChoice m cpu (s.locals cpu) c →
+    Amid m cpu s (does_choice m cpu c (opened 0 (s.locals cpu)))
+choice_keeps m cpu s w (ByDuty i duty) machine processor rel p c = duty_keeps m cpu i s (opened 0 (s.locals cpu)) duty processor c.0.home p c.1
+choice_keeps m cpu s w (ByDue i) machine processor rel p c =
+    let due = due_goes m cpu s w (opened 0 (s.locals cpu)) (c.0, i) c.1.0 machine processor (opened_goes m cpu 0 [] s w rel) c.1.1.0 in
+    due_keeps m cpu s (opened 0 (s.locals cpu)) (c.0, i) c.1.0 processor due.here.home (subst (λ c. IsListedHere m i (s.locals c)) due.here.home (listed_here m i s w (rel.places i due.here.within tt))) c.1.1.0 p
+choice_keeps m cpu s w (ByReady i) machine processor rel p c =
+    let r = ready_goes m cpu s w (opened 0 (s.locals cpu)) i c.0 machine processor (opened_goes m cpu 0 [] s w rel) c.1 in
+    acts_keeps m cpu i s w (s.locals cpu) refl processor r.runs.here r.runs.ready (rel.places i r.runs.here.within tt) (relists_keeps m cpu [] s (opened 0 (s.locals cpu)) plain.popped processor refl p)
 
 pub turn_keeps : (m : Machine) (cpu : ℕ) (s : Scene) (w : World) (x : Work) → IsMachine m → cpu < m.cpus → RelatesBut m (Stands m) [] s w → Promised m [] s → turn m cpu (s.locals cpu) ≡ Some x → Amid m cpu s x
-turn_keeps m cpu s w x machine processor rel promised h = by (choice m cpu (s.locals cpu)) refl h
-  where
-    l : Local
-    l = s.locals cpu
-
-    p : Amid m cpu s (opened 0 l)
-    p = opened_keeps m cpu 0 [] s processor promised
-
-    chosen : (c : Choice) → choice m cpu l ≡ Some c → Amid m cpu s (does_choice m cpu c (opened 0 l))
-    chosen c h =
-        first_then (first_duty m cpu l (own_places m cpu)) _ c h
-        (λ duty. by_duty m cpu s l c (own_places m cpu) processor p (own_here m cpu machine) duty)
-        λ none h.
-        first_then (option_map ByDue (plain.due_block l.clock l.lists.armed)) _ c h
-        (λ due. by_due m cpu s w c machine processor rel p l.lists.armed refl due)
-        λ none_due h.
-        first_then (option_map ByReady (slice_get l.lists.ready 0)) _ c h
-        (λ ready. by_ready m cpu s w c machine processor rel p l.lists.ready refl ready)
-        λ none_ready h.
-        cc
-
-    by : (o : Option Choice) → choice m cpu l ≡ o → option_map (λ c. does_choice m cpu c (opened 0 l)) o ≡ Some x → Amid m cpu s x
-    by None is h = cc
-    by (Some c) is h = subst (Amid m cpu s) (some_is (does_choice m cpu c (opened 0 l)) x h) (chosen c is)
+turn_keeps m cpu s w x machine processor rel promised h = turn_then m cpu (s.locals cpu) x (Amid m cpu s) h λ c is. choice_keeps m cpu s w c machine processor rel (opened_keeps m cpu 0 [] s processor promised) is

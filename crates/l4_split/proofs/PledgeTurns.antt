@@ -1,27 +1,25 @@
 -- What is promised is kept by a duty, a due timeout and an instruction.
 use Rattle.std.proofs.Common.{◌≡◌, ℕ, ◌<◌, true, false, Option, Some, None, List, [], ◌∷◌, refl, ap, sym, ◌∙◌, subst}
-use Rattle.std.specs.Prelude.{is_some, find, slice_get, slice_index_or}
+use Rattle.std.specs.Prelude.{is_some}
 use Rattle.l4_model.specs.Machine.{Machine}
-use Rattle.l4_model.specs.World.{Send, Thread, Phase, Ready, Sending, Receiving, Ordering, Ended, Deleted, receive_now, is_deleted}
+use Rattle.l4_model.specs.World.{Send, Phase, Ready, Sending, Receiving, Ordering, Ended, Deleted, receive_now}
 use Rattle.l4_model.specs.Steps.{ReceiveTimeout, ReceiveNobody, ReceiveCancel, SendTimeout}
-use Rattle.l4_model.specs.Conditions.{Found, is_nobody}
-use Rattle.l4_model.proofs.Chains.{bind_then, guard_then, some_is, cond_keeps}
+use Rattle.l4_model.proofs.Chains.{cond_keeps}
 use Rattle.l4_core_model.specs.Plain as plain
 use Rattle.l4_core_model.specs.Letters.{TimedOut, Nobody, Cancelled, Dropped, Refused, ByTimeout}
-use Rattle.l4_core_model.specs.Local.{Local, is_own, thread, held, held_by, relists, armed_period}
-use Rattle.l4_core_model.specs.Acts.{Work, ◌▷◌, tells_send, does, first_acceptable, is_place, zero_refusable}
-use Rattle.l4_core_model.specs.Turns.{Duty, DropsOwn, RefusesFirst, TellsGone, CancelsOwn, CancelsReceive, DeliversFirst, ClosesReceive, RefusesZero, duty_drops_own, duty_refuses_waiting, duty_tells_gone, duty_cancels_own, duty_cancels_receive, duty_delivers_first, duty_closes_receive, duty_refuses_zero, duty_of, does_duty, next_untold, times_out, opened, clock_is}
+use Rattle.l4_core_model.specs.Local.{Local, is_own, thread, relists, armed_period}
+use Rattle.l4_core_model.specs.Acts.{Work, ◌▷◌, tells_send, does, is_place}
+use Rattle.l4_core_model.specs.Turns.{Duty, DropsOwn, RefusesFirst, TellsGone, CancelsOwn, CancelsReceive, DeliversFirst, ClosesReceive, RefusesZero, does_duty, times_out, opened, clock_is}
 use Rattle.l4_core_model.proofs.Knows.{same_nat}
-use Rattle.l4_core_model.proofs.Duties.{first_then, receiving_is}
 use Rattle.l4_core_model.proofs.Remembers.{apart}
+use Rattle.l4_split.proofs.Choices.{IsDuty, in_some_receive}
 use Rattle.l4_split.proofs.Views.{Scene, kept, home, amid}
 use Rattle.l4_split.proofs.Opened.{opened_scene}
 use Rattle.l4_split.proofs.Timing.{popped_spares}
-use Rattle.l4_split.proofs.Turning.{receives_some}
 use Rattle.l4_split.proofs.Promised.{IsSplitSend, IsRearmed, Promised}
 use Rattle.l4_split.proofs.PledgeFrames.{leaves_one}
 use Rattle.l4_split.proofs.PledgeLocals.{same_steady, Spared, local_keeps}
-use Rattle.l4_split.proofs.PledgeSettles.{IsFree, receiving_free}
+use Rattle.l4_split.proofs.PledgeSettles.{receiving_free}
 use Rattle.l4_split.proofs.PledgeActs.{Amid, ends_here, refuses_keeps, delivers_keeps, fails_keeps}
 use Rattle.l4_split.proofs.PledgeOrders.{withdraws_keeps}
 use Rattle.l4_split.proofs.PledgeTelling.{tells_keeps}
@@ -66,13 +64,10 @@ rearmed_unless m i l none unqueued listed other empty = by (thread l i).phase no
     by Ended none = refl
     by Deleted none = refl
 
-receiving_now : (t : Thread) → is_some (receive_now t.phase) ≡ true → IsFree t.phase
-receiving_now t h = let r = receives_some (receive_now t.phase) h in let is = receiving_is t r.0 r.1 in receiving_free t.phase r.0 is.since is.is
-
 times_out_keeps : (m : Machine) (cpu i : ℕ) (s : Scene) (x : Work) → cpu < m.cpus → home m i ≡ cpu → IsListedHere m i x.local → Promised m (i ∷ []) (amid cpu s x) → Amid m cpu s (times_out m cpu i x)
 times_out_keeps m cpu i s x processor here listed p =
     cond_keeps (Amid m cpu s) (is_some (receive_now (thread x.local i).phase)) _ _
-    (λ receiving. fails_keeps m cpu i 3 ReceiveTimeout s x processor here (receiving_now (thread x.local i) receiving) p)
+    (λ receiving. fails_keeps m cpu i 3 ReceiveTimeout s x processor here (let r = in_some_receive x.local i receiving in receiving_free (thread x.local i).phase r.0 r.1.since r.1.is) p)
     (λ other. cond_keeps (Amid m cpu s) (plain.is_queued x.local.lists i) _ _
     (λ queued. cond_keeps (Amid m cpu s) (is_own m cpu i) _ _
     (λ own. ends_here m cpu i (Refused TimedOut) s (x ▷ tells_send m SendTimeout i) processor here p)
@@ -93,54 +88,14 @@ due_keeps m cpu s x a others processor here listed at p =
     }) (leaves_one m a.1 [] (amid cpu s x) p))
 
 -- A duty
-pub duty_keeps : (m : Machine) (cpu i : ℕ) (s : Scene) (x : Work) (duty : Duty) → cpu < m.cpus → home m i ≡ cpu → Amid m cpu s x → duty_of m cpu x.local (held m x.local i) ≡ Some duty → Amid m cpu s (does_duty m cpu i duty x)
-duty_keeps m cpu i s x d processor here p h =
-    let t : Found = held m x.local i in
-    let P : Duty → Type 0 = λ duty. Amid m cpu s (does_duty m cpu i duty x) in
-    first_then (duty_drops_own x.local t) _ d h
-    (λ is.
-    guard_then (is_deleted t.now.phase) _ d is λ gone rest.
-    guard_then (plain.is_queued x.local.lists i) _ d rest λ queued rest.
-    subst P (some_is DropsOwn d rest) (refuses_keeps m cpu i Dropped s x processor p))
-    λ none_a h.
-    first_then (duty_refuses_waiting x.local t) _ d h
-    (λ is.
-    guard_then (is_deleted t.now.phase) _ d is λ gone rest.
-    bind_then (slice_get (plain.list_of x.local.lists i) 0) _ d rest λ f at rest.
-    subst P (some_is (RefusesFirst f.block) d rest) (refuses_keeps m cpu f.block Nobody s x processor p))
-    λ none_b h.
-    first_then (duty_tells_gone m cpu x.local t) _ d h
-    (λ is.
-    guard_then (is_deleted t.now.phase) _ d is λ gone rest.
-    bind_then (next_untold m cpu (slice_index_or x.local.told i 0)) _ d rest λ to untold rest.
-    subst P (some_is (TellsGone to) d rest) (tells_keeps m cpu to i s x processor here untold p))
-    λ none_c h.
-    first_then (duty_cancels_own x.local t) _ d h
-    (λ is.
-    guard_then (plain.is_queued x.local.lists i) _ d is λ queued rest.
-    guard_then t.now.cancel_send _ d rest λ wish rest.
-    subst P (some_is CancelsOwn d rest) (refuses_keeps m cpu i Cancelled s x processor p))
-    λ none_d h.
-    first_then (duty_cancels_receive t) _ d h
-    (λ is.
-    guard_then (is_some (receive_now t.now.phase)) _ d is λ receiving rest.
-    guard_then t.now.cancel_receive _ d rest λ wish rest.
-    subst P (some_is CancelsReceive d rest) (fails_keeps m cpu i 7 ReceiveCancel s x processor here (receiving_now (thread x.local i) receiving) (leaves_one m i [] (amid cpu s x) p)))
-    λ none_e h.
-    first_then (duty_delivers_first x.local t) _ d h
-    (λ is.
-    bind_then (first_acceptable x.local i) _ d is λ first accepted rest.
-    subst P (some_is (DeliversFirst first) d rest) (delivers_keeps m cpu i first s x processor here (ap (λ o. is_place o first) accepted ∙ same_nat first) p))
-    λ none_f h.
-    first_then (duty_closes_receive m x.local t) _ d h
-    (λ is.
-    bind_then (receive_now t.now.phase) _ d is λ receive receiving rest.
-    guard_then (is_nobody receive.from (held_by m x.local receive.from)) _ d rest λ nobody rest.
-    subst P (some_is ClosesReceive d rest) (fails_keeps m cpu i 5 ReceiveNobody s x processor here (receiving_now (thread x.local i) (ap is_some receiving)) (leaves_one m i [] (amid cpu s x) p)))
-    λ none_g h.
-    first_then (duty_refuses_zero m x.local t) _ d h
-    (λ is.
-    bind_then (find (λ f. zero_refusable m t (thread x.local f.block).send) (plain.list_of x.local.lists i)) _ d is λ f found rest.
-    subst P (some_is (RefusesZero f.block) d rest) (refuses_keeps m cpu f.block TimedOut s x processor p))
-    λ none_h h.
-    cc
+pub duty_keeps : (m : Machine) (cpu i : ℕ) (s : Scene) (x : Work) (duty : Duty) → cpu < m.cpus → home m i ≡ cpu → Amid m cpu s x → IsDuty m cpu x.local i duty → Amid m cpu s (does_duty m cpu i duty x)
+duty_keeps m cpu i s x DropsOwn processor here p d = refuses_keeps m cpu i Dropped s x processor p
+duty_keeps m cpu i s x (RefusesFirst sender) processor here p d = refuses_keeps m cpu sender Nobody s x processor p
+duty_keeps m cpu i s x (TellsGone to) processor here p d = tells_keeps m cpu to i s x processor here d.1 p
+duty_keeps m cpu i s x CancelsOwn processor here p d = refuses_keeps m cpu i Cancelled s x processor p
+duty_keeps m cpu i s x CancelsReceive processor here p d =
+    fails_keeps m cpu i 7 ReceiveCancel s x processor here (receiving_free (thread x.local i).phase d.0 d.1.0.since d.1.0.is) (leaves_one m i [] (amid cpu s x) p)
+duty_keeps m cpu i s x (DeliversFirst sender) processor here p d = delivers_keeps m cpu i sender s x processor here (ap (λ o. is_place o sender) d ∙ same_nat sender) p
+duty_keeps m cpu i s x ClosesReceive processor here p d =
+    fails_keeps m cpu i 5 ReceiveNobody s x processor here (receiving_free (thread x.local i).phase d.0 d.1.0.since d.1.0.is) (leaves_one m i [] (amid cpu s x) p)
+duty_keeps m cpu i s x (RefusesZero sender) processor here p d = refuses_keeps m cpu sender TimedOut s x processor p

@@ -1,34 +1,36 @@
 -- What is known of each thread at rest: no letter is under way, so the world has it as its home does.
-use Rattle.std.proofs.Common.{◌≡◌, ℕ, ◌+◌, ◌<◌, Bool, true, false, cond, Option, Some, None, [], filter, length, refl, ap, sym, ◌∙◌, subst, arith}
-use Rattle.std.specs.Prelude.{◌==◌, ◌||◌, nat_lt}
-use Rattle.std.specs.List.{list_any}
+use Rattle.l4_model.proofs.Places.{known}
+use Rattle.l4_split.proofs.Going.{told}
+use Rattle.l4_model.proofs.Rows.Writing.{send}
+use Rattle.std.proofs.Common.{◌≡◌, ℕ, ◌+◌, ◌<◌, Bool, true, false, cond, Option, Some, None, [], filter, length, refl, ap, sym, ◌∙◌, subst, arith, inl, inr, ◌⊎◌}
+use Rattle.std.specs.Prelude.{◌==◌, nat_lt}
 use Rattle.std.proofs.lemmas.Bool.{eqb-true}
 use Rattle.std.proofs.lemmas.Bool.Decides.{nat_tests}
 use Rattle.l4_model.specs.Machine.{Machine}
 use Rattle.l4_model.specs.World.{Thread, World, Send, Phase, Ready, Sending, Receiving, Ordering, Ended, Deleted, is_ready, is_deleted}
-use Rattle.l4_core_model.specs.Local.{declared, thread, readied}
+use Rattle.l4_core_model.specs.Local.{declared, thread, readied, armed_period, destination_place}
 use Rattle.l4_core_model.specs.Turns.{next_untold}
 use Rattle.l4_core_model.specs.Runs.{System, at_rest, IsMachine}
 use Rattle.l4_core_model.proofs.Remembers.{same_or_apart}
 use Rattle.l4_split.proofs.Views.{Scene, view, world_thread, home, scene, words, is_about}
-use Rattle.l4_split.proofs.Rows.{seats, Agrees, learned, Row, IsWaiting, IsSplit, deadlines, Stands}
+use Rattle.l4_split.proofs.Rows.{seats, Agrees, learned, Row, IsWaiting, Stands, name_of}
+use Rattle.l4_split.proofs.Promised.{AnyOf, IsAnswer, IsGone, IsSplitSend, IsLate, IsWished, kept_at, phases, Promised}
 use Rattle.l4_split.proofs.Relation.{RelatesBut, Relates}
-use Rattle.l4_split.proofs.Pledges.{IsToEnd, ArePledged, decides, withdraws_between, tells_gone}
 use Rattle.l4_split.proofs.Seen.{IsSeen, is_seen}
 use Rattle.l4_split.proofs.Idle.{IsIdle, is_idle, none_posted}
 
 pub record IsAtRest (m : Machine) (s : Scene) (w : World) : Type 0 where
   pub machine : IsMachine m
   pub relates : RelatesBut m (Stands m) [] s w
-  pub pledged : ArePledged m s
+  pub promised : Promised m [] s
   pub quiet : s.mail ≡ []
   pub idle : (i : ℕ) → i < length m.threads → IsIdle m (home m i) (s.locals (home m i)) i
 
-pub is_at_rest : (m : Machine) (g : System) (w : World) → IsMachine m → Relates m g w → ArePledged m (scene g) → at_rest m g ≡ true → IsAtRest m (scene g) w
-is_at_rest m g w machine rel pledged h = record {
+pub is_at_rest : (m : Machine) (g : System) (w : World) → IsMachine m → Relates m g w → Promised m [] (scene g) → at_rest m g ≡ true → IsAtRest m (scene g) w
+is_at_rest m g w machine rel promised h = record {
   machine = machine;
   relates = rel;
-  pledged = pledged;
+  promised = promised;
   quiet = none_posted m g h;
   idle = λ i lt. is_idle m g i machine lt (rel.sized (home m i) (machine.homed i lt)).threads h;
 }
@@ -75,27 +77,23 @@ unready m s w i rest lt ready =
     none Ended h is = cc
     none Deleted h is = cc
 
--- Nothing is armed, though what is not a split send has its deadline while it goes on.
-pub no_deadline : (m : Machine) (s : Scene) (w : World) (i : ℕ) → IsAtRest m s w → i < length m.threads → (IsSplit m i (own m s i) → ⊥) → deadlines i (own m s i).phase (own m s i).send ≡ []
-no_deadline m s w i rest lt one = sym ((rest.pledged i lt).armed one) ∙ ap (filter (λ (e : ℕ × ℕ). i == e.1)) (rest.idle i lt).none_armed
+-- Nothing is armed, so what is not a send to another processor's thread has no deadline.
 
--- what is open to be decided where no letter is under way
-pub none_decided : (m : Machine) (s : Scene) (w : World) (i : ℕ) → IsAtRest m s w → list_any decides (view m s w i).mail ≡ false
-none_decided m s w i rest = ap (list_any decides) (no_mail m s w i rest)
-
-pub none_armed : (m : Machine) (s : Scene) (w : World) (i : ℕ) → IsAtRest m s w → i < length m.threads → ((view m s w i).kept (home m i)).armed ≡ []
+pub none_armed : (m : Machine) (s : Scene) (w : World) (i : ℕ) → IsAtRest m s w → i < length m.threads → (kept_at s (home m i) i).armed ≡ []
 none_armed m s w i rest lt = ap (filter (λ (e : ℕ × ℕ). i == e.1)) (rest.idle i lt).none_armed
 
--- No split send is to end: a withdrawal would be under way.
-pub none_ending : (m : Machine) (s : Scene) (w : World) (i : ℕ) → IsAtRest m s w → i < length m.threads → IsToEnd m i (own m s i) ((view m s w i).kept (home m i)).armed (view m s w i).mail → ⊥
-none_ending m s w i rest lt e =
-    let under_way = (rest.pledged i lt).withdrawn e in
-    let none = ap (list_any (withdraws_between (home m i) (home m e.goes.r) (record { thread = (declared m i).id; k = (own m s i).context.begun }))) (no_mail m s w i rest) in
-    cc (under_way, none)
+pub no_deadline : (m : Machine) (s : Scene) (w : World) (i : ℕ) → IsAtRest m s w → i < length m.threads → (IsSplitSend m i (own m s i).send → ⊥) → armed_period (own m s i).phase (own m s i).send ≡ None
+no_deadline m s w i rest lt one = rest.promised.armed i lt tt one (none_armed m s w i rest lt)
+
+-- No split send is to end: its answer would be under way.
+pub none_ending : (m : Machine) (s : Scene) (w : World) (i r : ℕ) (send : Send) → IsAtRest m s w → i < length m.threads → (own m s i).send ≡ Some send → destination_place m send.to ≡ Some r → (home m r ≡ home m i → ⊥) →
+    IsLate (kept_at s (home m i) i) ⊎ IsWished (own m s i) → ⊥
+none_ending m s w i r send rest lt has to away ending =
+    subst (AnyOf (IsAnswer (name_of m i (own m s i)) (home m i) (home m r))) rest.quiet (rest.promised.answered i lt tt send r has to away ending)
 
 -- All processors know of a deletion.
 
-told_all : (m : Machine) (cpu here told : ℕ) → next_untold m here told ≡ None → cpu < m.cpus → (cpu ≡ here → ⊥) → nat_lt cpu told ≡ true
+told_all : (m : Machine) (cpu here told : ℕ) → next_untold m here told ≡ None → cpu < m.cpus → (cpu ≡ here → ⊥) → cpu < told
 told_all m cpu here told h lt ne = by (told == here) refl h
   where
     past : (n : ℕ) → cond (nat_lt n m.cpus) (Some n) None ≡ None → nat_lt n m.cpus ≡ false
@@ -105,7 +103,7 @@ told_all m cpu here told h lt ne = by (told == here) refl h
         at true h = cc
         at false h = refl
 
-    by : (b : Bool) → (told == here) ≡ b → cond (nat_lt (cond b (told + 1) told) m.cpus) (Some (cond b (told + 1) told)) None ≡ None → nat_lt cpu told ≡ true
+    by : (b : Bool) → (told == here) ≡ b → cond (nat_lt (cond b (told + 1) told) m.cpus) (Some (cond b (told + 1) told)) None ≡ None → cpu < told
     by true is h = let same = eqb-true told here is in let last = past (told + 1) h in grind (arith, nat_tests)
     by false is h = let last = past told h in grind (arith, nat_tests)
 
@@ -114,9 +112,8 @@ known_gone m s w j cpu rest lt processor gone =
     let at_home : is_deleted (own m s j).phase ≡ true = sym (own_seen m s w j rest lt).deleted ∙ gone in
     same_or_apart (is_deleted (thread (s.locals cpu) j).phase ≡ true) cpu (home m j)
     (λ same. ap (λ c. is_deleted (thread (s.locals c) j).phase) same ∙ at_home)
-    (λ ne. let told = (rest.pledged j lt).told cpu processor ne (told_all m cpu (home m j) _ ((rest.idle j lt).all_told at_home) processor ne) in
-    either (is_deleted (thread (s.locals cpu) j).phase) (subst (λ mail. (is_deleted (thread (s.locals cpu) j).phase || list_any (tells_gone cpu) mail) ≡ true) (no_mail m s w j rest) told))
+    (λ ne. by (rest.promised.told j lt cpu processor ne (told_all m cpu (home m j) _ ((rest.idle j lt).all_told at_home) processor ne)))
   where
-    either : (b : Bool) → (b || false) ≡ true → b ≡ true
-    either true h = refl
-    either false h = cc
+    by : (phases s j cpu ≡ Deleted) ⊎ AnyOf (IsGone (declared m j).id cpu) s.mail → is_deleted (thread (s.locals cpu) j).phase ≡ true
+    by (inl known) = ap is_deleted known
+    by (inr letter) = absurd (subst (AnyOf (IsGone (declared m j).id cpu)) rest.quiet letter)

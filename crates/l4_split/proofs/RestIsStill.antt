@@ -1,5 +1,5 @@
--- A machine at rest, whose places have their promises, is still.
-use Rattle.std.proofs.Common.{◌≡◌, ℕ, ◌+◌, ◌<◌, true, Option, Some, None, List, [], ◌∷◌, length, refl, ap, sym, ◌∙◌}
+-- Where a machine is at rest, nothing but clocks can go on in the world.
+use Rattle.std.proofs.Common.{◌≡◌, ℕ, ◌<◌, true, Option, Some, None, List, [], length, refl, sym, ◌∙◌, subst}
 use Rattle.std.specs.Option.{option_map}
 use Rattle.l4_model.specs.Words.{Id, NilThread, AnyThread, AnyLocalThread, LocalThread, GlobalThread}
 use Rattle.l4_model.specs.Machine.{Machine, place_of}
@@ -7,17 +7,16 @@ use Rattle.l4_model.specs.World.{World, Receive, Receiving, receive_now}
 use Rattle.l4_model.specs.Conditions.{is_nobody}
 use Rattle.l4_model.specs.Still.{IsStill}
 use Rattle.l4_core_model.specs.Plain as plain
-use Rattle.l4_core_model.specs.Local.{destination_place, held_by, armed_for}
+use Rattle.l4_core_model.specs.Local.{destination_place, held_by, armed_period}
 use Rattle.l4_core_model.specs.Acts.{first_acceptable}
 use Rattle.l4_core_model.specs.Runs.{System, at_rest, IsMachine}
 use Rattle.l4_core_model.proofs.Beginning.{place_within}
 use Rattle.l4_core_model.proofs.Duties.{receiving_is}
 use Rattle.l4_core_model.proofs.Good.{receiving_has_none}
 use Rattle.l4_split.proofs.Views.{Scene, world_thread, home, scene}
-use Rattle.l4_split.proofs.Rows.{IsSplit, deadlines}
 use Rattle.l4_split.proofs.Relation.{Relates, senders}
 use Rattle.l4_split.proofs.Waiting.{first_is}
-use Rattle.l4_split.proofs.Pledges.{ArePledged}
+use Rattle.l4_split.proofs.Promised.{IsSplitSend, Promised}
 use Rattle.l4_split.proofs.Settled.{IsSettledReceive, IsSettledThread, there}
 use Rattle.l4_split.proofs.Stilled.{settled_still}
 use Rattle.l4_split.proofs.Rest.{IsAtRest, is_at_rest, own, own_seen, no_order, unready, no_deadline, known_gone}
@@ -55,10 +54,9 @@ settled_receive m s w i receive rest lt receiving_there =
 
     finite : (n : ℕ) → receive.period ≡ Some n → (since : ℕ) → (own m s i).phase ≡ Receiving receive since → (own m s i).send ≡ None → ⊥
     finite n period since is none =
-        let no_split : IsSplit m i (own m s i) → ⊥ = λ q. let some = q.has in cc in
-        let empty = no_deadline m s w i rest lt no_split in
-        let one : deadlines i (own m s i).phase (own m s i).send ≡ (since + n, i) ∷ [] = rw is (ap (λ p. armed_for p since i []) period) in
-        cc (empty, one)
+        let never = no_deadline m s w i rest lt (subst (λ o. IsSplitSend m i o → ⊥) (sym none) (λ split. split)) in
+        let some : armed_period (own m s i).phase (own m s i).send ≡ Some n = rw is period in
+        cc (never, some)
 
 settled_thread : (m : Machine) (s : Scene) (w : World) (i : ℕ) → IsAtRest m s w → i < length m.threads → IsSettledThread m w i
 settled_thread m s w i rest lt = record {
@@ -68,7 +66,7 @@ settled_thread m s w i rest lt = record {
   receives = λ receive is. settled_receive m s w i receive rest lt is;
 }
 
-pub resting_still : (m : Machine) (g : System) (w : World) → IsMachine m → Relates m g w → ArePledged m (scene g) → at_rest m g ≡ true → IsStill m w
-resting_still m g w machine rel pledged h =
-    let rest = is_at_rest m g w machine rel pledged h in
+pub resting_still : (m : Machine) (g : System) (w : World) → IsMachine m → Relates m g w → Promised m [] (scene g) → at_rest m g ≡ true → IsStill m w
+resting_still m g w machine rel promised h =
+    let rest = is_at_rest m g w machine rel promised h in
     settled_still m w (record { size = rel.sized_world.threads; threads = λ i lt. settled_thread m (scene g) w i rest lt })

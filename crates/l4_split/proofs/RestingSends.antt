@@ -1,5 +1,7 @@
 -- At rest an undecided send waits, and nothing can decide it.
-use Rattle.std.proofs.Common.{◌≡◌, ℕ, zero, suc, ◌+◌, ◌<◌, Bool, true, false, cond, Some, List, [], ◌∷◌, filter, length, refl, ap, sym, ◌∙◌, subst, inl, inr}
+use Rattle.l4_model.proofs.Rows.Writing.{send}
+use Rattle.l4_core_model.specs.Plain.{Waiting}
+use Rattle.std.proofs.Common.{◌≡◌, ℕ, zero, suc, ◌<◌, Bool, true, false, cond, Some, List, [], ◌∷◌, filter, length, refl, ap, sym, ◌∙◌, subst, inl, inr, None}
 use Rattle.std.specs.Prelude.{◌==◌, ◌||◌, slice_index, slice_index_or}
 use Rattle.std.specs.List.{list_any}
 use Rattle.std.proofs.lemmas.Bool.{eqb-true}
@@ -8,19 +10,20 @@ use Rattle.l4_model.specs.World.{World, Send, Phase, Ready, Sending, Receiving, 
 use Rattle.l4_model.specs.Conditions.{is_zero, is_refusable}
 use Rattle.l4_model.proofs.Chains.{some_is}
 use Rattle.l4_core_model.specs.Plain as plain
-use Rattle.l4_core_model.specs.Local.{Local, declared, destination_place, thread, held, armed_period, armed_for}
+use Rattle.l4_core_model.specs.Local.{Local, declared, thread, held, armed_period}
 use Rattle.l4_core_model.specs.Acts.{entry, zero_refusable}
 use Rattle.l4_core_model.proofs.Knows.{blocks}
 use Rattle.l4_core_model.proofs.Beginning.{any_in, destination_within}
 use Rattle.l4_core_model.proofs.Fit.{Suits}
 use Rattle.l4_core_model.proofs.Remembers.{same_or_apart}
 use Rattle.l4_split.proofs.Views.{Scene, view, world_thread, home, is_of}
-use Rattle.l4_split.proofs.Rows.{seats, IsWaiting, IsSplit, deadlines}
+use Rattle.l4_split.proofs.Rows.{seats, IsWaiting}
+use Rattle.l4_split.proofs.Promised.{IsSplitSend}
 use Rattle.l4_split.proofs.Relation.{senders}
 use Rattle.l4_split.proofs.Moves.{deleted_phase}
 use Rattle.l4_split.proofs.Seen.{refusable_at_home}
 use Rattle.l4_split.proofs.Settled.{IsSettledSend, there}
-use Rattle.l4_split.proofs.Rest.{IsAtRest, own, own_agrees, own_seen, own_waits, no_deadline, none_armed, none_decided, none_ending}
+use Rattle.l4_split.proofs.Rest.{IsAtRest, own, own_agrees, own_seen, own_waits, no_deadline, none_armed, none_ending}
 
 -- One entry is enough to stand in a list, and to be queued.
 
@@ -45,13 +48,6 @@ any_block : (i : ℕ) (es : List plain.Waiting) → list_any (λ x. i == x) (blo
 any_block i [] = refl
 any_block i (e ∷ es) = ap (λ b. (i == e.block) || b) (any_block i es)
 
--- A timed send has a deadline.
-timed : (i n : ℕ) (send : Send) → send.period ≡ Some n → is_zero send.period ≡ false → deadlines i Sending (Some send) ≡ [] → ⊥
-timed i n send period not_zero h =
-    let armed : armed_period Sending (Some send) ≡ Some n = rw not_zero period in
-    let one : deadlines i Sending (Some send) ≡ (send.since + n, i) ∷ [] = ap (λ p. armed_for p send.since i []) armed in
-    cc (one, h)
-
 -- A send that waits, at home or elsewhere
 record IsHere (m : Machine) (s : Scene) (w : World) (i : ℕ) (send : Send) : Type 0 where
   rest : IsAtRest m s w
@@ -62,15 +58,11 @@ record IsHere (m : Machine) (s : Scene) (w : World) (i : ℕ) (send : Send) : Ty
 to_within : (m : Machine) (s : Scene) (w : World) (i : ℕ) (send : Send) → (h : IsHere m s w i send) → h.row.r < length m.threads
 to_within m s w i send h = destination_within m send.to h.row.r h.row.to
 
--- Where it goes to another processor
-split : (m : Machine) (s : Scene) (w : World) (i : ℕ) (send : Send) → (h : IsHere m s w i send) → (home m h.row.r ≡ home m i → ⊥) → IsSplit m i (own m s i)
-split m s w i send h ne = record { send = send; has = h.has; order = h.row.order; r = h.row.r; to = h.row.to; split = ne }
-
-not_split : (m : Machine) (s : Scene) (w : World) (i : ℕ) (send : Send) → (h : IsHere m s w i send) → home m h.row.r ≡ home m i → IsSplit m i (own m s i) → ⊥
-not_split m s w i send h same q =
-    let it : q.send ≡ send = some_is q.send send (sym q.has ∙ h.has) in
-    let r : q.r ≡ h.row.r = some_is q.r h.row.r (sym q.to ∙ ap (λ (s : Send). destination_place m s.to) it ∙ h.row.to) in
-    q.split (ap (home m) r ∙ same)
+-- It does not go to another processor's thread.
+not_split : (m : Machine) (s : Scene) (w : World) (i : ℕ) (send : Send) → (h : IsHere m s w i send) → home m h.row.r ≡ home m i → IsSplitSend m i (own m s i).send → ⊥
+not_split m s w i send h same split =
+    let q : IsSplitSend m i (Some send) = subst (IsSplitSend m i) h.has split in
+    q.1.1 (ap (home m) (some_is q.0 h.row.r (sym q.1.0 ∙ h.row.to)) ∙ same)
 
 stands_at_home : (m : Machine) (s : Scene) (w : World) (i : ℕ) (send : Send) → (h : IsHere m s w i send) → home m h.row.r ≡ home m i → plain.is_queued (s.locals (home m i)).lists i ≡ true
 stands_at_home m s w i send h same =
@@ -80,24 +72,24 @@ stands_at_home m s w i send h same =
 no_drop : (m : Machine) (s : Scene) (w : World) (i : ℕ) (send : Send) → IsHere m s w i send → is_deleted (own m s i).phase ≡ true → ⊥
 no_drop m s w i send h gone = same_or_apart ⊥ (home m h.row.r) (home m i)
     (λ same. (h.rest.idle i h.within).no_drop gone (stands_at_home m s w i send h same))
-    (λ ne. none_ending m s w i h.rest h.within (record { goes = split m s w i send h ne; undecided = none_decided m s w i h.rest; ending = inr (inr (deleted_phase (own m s i).phase gone)) }))
+    (λ ne. none_ending m s w i h.row.r send h.rest h.within h.has h.row.to ne (inr (inr (deleted_phase (own m s i).phase gone))))
 
 no_wish : (m : Machine) (s : Scene) (w : World) (i : ℕ) (send : Send) → IsHere m s w i send → (own m s i).cancel_send ≡ true → ⊥
 no_wish m s w i send h wish = same_or_apart ⊥ (home m h.row.r) (home m i)
     (λ same. (h.rest.idle i h.within).no_cancel (stands_at_home m s w i send h same) wish)
-    (λ ne. none_ending m s w i h.rest h.within (record { goes = split m s w i send h ne; undecided = none_decided m s w i h.rest; ending = inr (inl wish) }))
+    (λ ne. none_ending m s w i h.row.r send h.rest h.within h.has h.row.to ne (inr (inl wish)))
 
 endless : (m : Machine) (s : Scene) (w : World) (i n : ℕ) (send : Send) → IsHere m s w i send → send.period ≡ Some n → is_zero send.period ≡ false → ⊥
 endless m s w i n send h period not_zero = by (own m s i).phase refl (subst (λ o. Suits (own m s i).phase o (own m s i).order) h.has (h.rest.relates.places i h.within tt).known.kept.at_home.good.suits)
   where
-    sending : (own m s i).phase ≡ Sending → deadlines i (own m s i).phase (own m s i).send ≡ [] → ⊥
-    sending is none = timed i n send period not_zero (sym (ap (λ o. deadlines i Sending o) h.has) ∙ sym (ap (λ p. deadlines i p (own m s i).send) is) ∙ none)
+    timed : (own m s i).phase ≡ Sending → armed_period (own m s i).phase (own m s i).send ≡ None → ⊥
+    timed is none = let has = h.has in let some : armed_period (own m s i).phase (own m s i).send ≡ Some n = rw (is, has, not_zero) period in cc (none, some)
 
     by : (p : Phase) → (own m s i).phase ≡ p → Suits p (Some send) (own m s i).order → ⊥
     by Ready is suits = cc
     by Sending is suits = same_or_apart ⊥ (home m h.row.r) (home m i)
-        (λ same. sending is (no_deadline m s w i h.rest h.within (not_split m s w i send h same)))
-        (λ ne. none_ending m s w i h.rest h.within (record { goes = split m s w i send h ne; undecided = none_decided m s w i h.rest; ending = inl (λ armed. sending is (sym armed ∙ none_armed m s w i h.rest h.within)) }))
+        (λ same. timed is (no_deadline m s w i h.rest h.within (not_split m s w i send h same)))
+        (λ ne. none_ending m s w i h.row.r send h.rest h.within h.has h.row.to ne (inl (none_armed m s w i h.rest h.within, timed is)))
     by (Receiving receive since) is suits = cc
     by Ordering is suits = cc
     by Ended is suits = cc

@@ -1,1 +1,1 @@
-pub mod Resting
+pub mod Laws

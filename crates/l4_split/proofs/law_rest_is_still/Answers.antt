@@ -1,5 +1,5 @@
-use Rattle.l4_split.proofs.RunIsStill.{run_is_still}
+use Rattle.l4_split.proofs.Law.{run_facts, rest_still}
 use Rattle.l4_split.proofs.law_rest_is_still.Goals as goal
 
 pub returns : goal.returns
-returns c = λ m is happenings r h. let s = run_is_still m is happenings r h in (s.w, (s.reaches, s.still))
+returns c = λ m is happenings r h. let f = run_facts m r is (happenings, h) in (f.world, (f.reaches, rest_still m r is f))

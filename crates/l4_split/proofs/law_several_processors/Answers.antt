@@ -1,5 +1,5 @@
-use Rattle.l4_split.proofs.Law.{tells_histories}
+use Rattle.l4_split.proofs.Law.{run_facts}
 use Rattle.l4_split.proofs.law_several_processors.Goals as goal
 
 pub returns : goal.returns
-returns c = λ m is. tells_histories m is
+returns c = λ m is happenings r h. let f = run_facts m r is (happenings, h) in (f.world, f.reaches)

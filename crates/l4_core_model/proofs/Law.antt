@@ -28,11 +28,11 @@ use Rattle.l4_core_model.proofs.Still.{resting_still}
 
 -- A tick
 
-send_later : (now to : ℕ) (o : Option Send) → now ≤ to → SendIsSince now o → SendIsSince to o
+pub send_later : (now to : ℕ) (o : Option Send) → now ≤ to → SendIsSince now o → SendIsSince to o
 send_later now to None le h = tt
 send_later now to (Some send) le h = omega arith
 
-phase_later : (now to : ℕ) (p : Phase) → now ≤ to → PhaseIsSince now p → PhaseIsSince to p
+pub phase_later : (now to : ℕ) (p : Phase) → now ≤ to → PhaseIsSince now p → PhaseIsSince to p
 phase_later now to Ready le h = tt
 phase_later now to Sending le h = tt
 phase_later now to (Receiving receive since) le h = omega arith
@@ -162,7 +162,7 @@ run_leads m (e ∷ es) r last single s h =
 
 -- The opening
 
-get-same : {A B : Type 0} (b : B) (xs : List A) (i : ℕ) → slice_index_or (map (λ x. b) xs) i b ≡ b
+pub get-same : {A B : Type 0} (b : B) (xs : List A) (i : ℕ) → slice_index_or (map (λ x. b) xs) i b ≡ b
 get-same b [] i = refl
 get-same b (x ∷ xs) zero = refl
 get-same b (x ∷ xs) (suc i) = get-same b xs i

@@ -165,7 +165,7 @@ timed_send m l i n send rest lt has period not_zero = by (thread l i).phase refl
     by Ended is suits = cc
     by Deleted is suits = none_to_drop m l i rest lt (ap is_deleted is) (is_waiting_here m l i send rest lt has)
 
-passed_is_finite : (P : Type 0) (period : Period) (since now : ℕ) → has_passed period since now ≡ true → ((n : ℕ) → period ≡ Some n → P) → P
+pub passed_is_finite : (P : Type 0) (period : Period) (since now : ℕ) → has_passed period since now ≡ true → ((n : ℕ) → period ≡ Some n → P) → P
 passed_is_finite P None since now h then = cc
 passed_is_finite P (Some n) since now h then = then n refl
 

@@ -4,7 +4,7 @@ use Rattle.std.specs.Prelude.{◌==◌, not}
 use Rattle.std.proofs.lemmas.Bool.{eqb-true}
 use Rattle.l4_model.specs.Words.{NilThread}
 use Rattle.l4_model.specs.Machine.{Machine}
-use Rattle.l4_model.specs.World.{Thread, World, Send, Phase, Deleted, Name, change, is_ready, opening_thread}
+use Rattle.l4_model.specs.World.{Thread, World, Send, Name, change, opening_thread}
 use Rattle.l4_model.specs.Conditions.{act_of, is_zero}
 use Rattle.l4_model.specs.Steps.{Begin, send_of, next}
 use Rattle.l4_model.specs.Effects.{begins}
@@ -23,7 +23,7 @@ use Rattle.l4_split.proofs.Rows.{seats, Agrees, IsKeptAtHome, IsSent}
 use Rattle.l4_split.proofs.Squares.{same_agrees}
 use Rattle.l4_split.proofs.Frames.{first_about, takes_in}
 use Rattle.l4_split.proofs.MailFrames.{letter_posted, mail_here}
-use Rattle.l4_split.proofs.Moves.{at_home, Carries, same_alike, Moves, moves_kept, word_known, come_kept}
+use Rattle.l4_split.proofs.Moves.{at_home, Carries, same_alike, Moves, moves_kept, word_known, come_kept, ready_is_alive}
 use Rattle.l4_split.proofs.Going.{Goes, told, home_is, sized_here, comes}
 use Rattle.l4_split.proofs.Instructions.{Runs, running_is, running_found}
 use Rattle.l4_split.proofs.Deciding.{sender_unready}
@@ -60,7 +60,7 @@ begin_goes m cpu i s w x send processor e r sends since =
       elsewhere = λ p ne. same_alike (v.kept p) (after.kept p) (c.elsewhere p ne);
       notices = refl;
       carries = subst (λ a. Carries a (at_home m i after)) (sym was) (subst (Carries k) (sym c.here) (record {
-        deleted = λ gone. absurd (not_deleted (thread x.local i).phase gone ready);
+        deleted = λ gone. ready_is_alive (thread x.local i).phase gone ready;
         begun = omega arith;
         causes = λ cause same old. absurd (omega arith);
       }));
@@ -85,9 +85,6 @@ begin_goes m cpu i s w x send processor e r sends since =
       };
       free = λ q. sym (ap (λ (k : Kept). k.listed q) (home_is m cpu i s y u r.here.home)) ∙ ap (λ (k : Kept). k.listed q) c.here ∙ sym (ap (λ (k : Kept). k.listed q) was) ∙ running.free.unplaced.listed (home m i) q;
     }
-  where
-    not_deleted : (p : Phase) → p ≡ Deleted → is_ready p ≡ true → ⊥
-    not_deleted p gone ready = let h : is_ready Deleted ≡ true = subst (λ p. is_ready p ≡ true) gone ready in cc
 
 -- It goes to another processor.
 posted_goes : (m : Machine) (cpu i r : ℕ) (s : Scene) (w : World) (x : Work) (send : Send) → IsInHand m cpu i s w x send → home m i ≡ cpu → destination_place m send.to ≡ Some r → (home m r ≡ cpu → ⊥) → Goes m cpu s w [] (posts_send m r i send x)

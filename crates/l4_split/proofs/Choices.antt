@@ -13,11 +13,11 @@ use Rattle.l4_core_model.specs.Local.{Local, is_own, own_places, thread, held, h
 use Rattle.l4_core_model.specs.Acts.{Work, first_acceptable, zero_refusable}
 use Rattle.l4_core_model.specs.Turns.{Duty, DropsOwn, RefusesFirst, TellsGone, CancelsOwn, CancelsReceive, DeliversFirst, ClosesReceive, RefusesZero, duty_drops_own, duty_refuses_waiting, next_untold, duty_tells_gone, duty_cancels_own, duty_cancels_receive, duty_delivers_first, duty_closes_receive, duty_refuses_zero, first_some, duty_of, Choice, ByDuty, ByDue, ByReady, first_duty, choice, does_choice, turn, opened}
 use Rattle.l4_core_model.proofs.Fit.{all-map, all-filter}
-use Rattle.l4_core_model.proofs.Duties.{receiving_is, first_then, accepts_none}
+use Rattle.l4_core_model.proofs.Duties.{receiving_is, first_then, accepts_none, receives_some}
 use Rattle.l4_core_model.proofs.Knows.{same_nat}
 use Rattle.l4_split.proofs.Entries.{filter_kept, filter_range}
 use Rattle.l4_split.proofs.Views.{home}
-use Rattle.l4_split.proofs.Opening.{range_below}
+use Rattle.l4_core_model.proofs.Single.{range_below}
 
 -- One of the entries of a list.
 pub record IsEntryOf (e : plain.Waiting) (es : List plain.Waiting) : Type 0 where
@@ -62,10 +62,6 @@ IsDuty m cpu l i ClosesReceive =
     (receive : Receive) × (IsInReceive (thread l i).phase receive × ((is_nobody receive.from (held_by m l receive.from) ≡ true) × (first_acceptable l i ≡ None)))
 IsDuty m cpu l i (RefusesZero sender) =
     (e : plain.Waiting) × (IsEntryOf e (plain.list_of l.lists i) × ((e.block ≡ sender) × (zero_refusable m (held m l i) (thread l e.block).send ≡ true)))
-
-receives_some : (o : Option Receive) → is_some o ≡ true → (receive : Receive) × (o ≡ Some receive)
-receives_some None h = cc
-receives_some (Some receive) h = (receive, refl)
 
 pub in_receive : (l : Local) (i : ℕ) (receive : Receive) → receive_now (thread l i).phase ≡ Some receive → IsInReceive (thread l i).phase receive
 in_receive l i receive h = let is = receiving_is (thread l i) receive h in record { since = is.since; is = is.is }

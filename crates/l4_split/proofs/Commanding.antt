@@ -1,8 +1,7 @@
 -- A thread gives an order: it is done here, or goes to its target's processor.
-use Rattle.std.proofs.Common.{◌≡◌, ℕ, Option, Some, None, [], ◌∷◌, ap, sym, ◌∙◌, subst, arith}
-use Rattle.std.specs.Prelude.{IfSome}
+use Rattle.std.proofs.Common.{◌≡◌, ℕ, Some, None, [], ◌∷◌, ap, sym, ◌∙◌, subst, arith}
 use Rattle.l4_model.specs.Machine.{Machine}
-use Rattle.l4_model.specs.World.{Thread, World, Send, Asked, change}
+use Rattle.l4_model.specs.World.{Thread, World, Asked, change}
 use Rattle.l4_model.specs.Effects.{obeyed}
 use Rattle.l4_core_model.specs.Local.{thread, comes_to}
 use Rattle.l4_core_model.specs.Acts.{Work, ◌▷◌, does}
@@ -12,7 +11,7 @@ use Rattle.l4_split.proofs.Views.{Scene, Kept, View, kept, view, amid, words}
 use Rattle.l4_split.proofs.Rows.{seats, Agrees, IsUnplaced, IsKept, Stands}
 use Rattle.l4_split.proofs.Relation.{RelatesBut}
 use Rattle.l4_split.proofs.Frames.{takes_in}
-use Rattle.l4_split.proofs.Moves.{at_home}
+use Rattle.l4_split.proofs.Moves.{at_home, of_none}
 use Rattle.l4_split.proofs.Going.{IsHere, IsQuiet, home_is, comes, quiet_stands}
 use Rattle.l4_split.proofs.Obeyed.{obeyed_send, obeyed_order, obeyed_begun, obeyed_deleted, obeyed_fresh}
 use Rattle.l4_split.proofs.Ordered.{obeyed_agrees}
@@ -52,10 +51,7 @@ obeyed_here m cpu i order s w x here c rel =
       carries = record {
         deleted = λ gone. obeyed_deleted t gone;
         begun = let same = obeyed_begun t in omega arith;
-        causes = λ cause same old. none_sent _ (obeyed t).send (obeyed_send t ∙ none);
+        causes = λ cause same old. of_none _ (obeyed t).send (obeyed_send t ∙ none);
       };
     } in
     takes_in m i [] (amid cpu s (x ▷ does (comes_to i obeyed))) (change w i obeyed) k.relates (quiet_stands m cpu i [] s w x obeyed obeyed here k q)
-  where
-    none_sent : (P : Send → Type 0) (o : Option Send) → o ≡ None → IfSome o P
-    none_sent P o is = rw is tt

@@ -16,7 +16,7 @@ use Rattle.l4_split.proofs.Keeping.{come}
 use Rattle.l4_split.proofs.Views.{Scene, Kept, View, kept, view, world_thread, home, amid, words, notices}
 use Rattle.l4_split.proofs.Rows.{seats, Agrees, IsUnplaced, IsStandIn, IsCause, IsNotice, IsNoticeOf, IsKept, Stands}
 use Rattle.l4_split.proofs.Squares.{ended_agrees, ended_deleted}
-use Rattle.l4_split.proofs.Moves.{at_home, Carries, moved_notice, IsFresh}
+use Rattle.l4_split.proofs.Moves.{at_home, Carries, moved_notice, IsFresh, of_none}
 use Rattle.l4_split.proofs.Frames.{first_about, takes_in}
 use Rattle.l4_split.proofs.ListFrames.{unqueues, unlisted, view_unqueued}
 use Rattle.l4_split.proofs.Relation.{RelatesBut}
@@ -107,11 +107,8 @@ pub ended_carries : (result : Result) (k : Kept) (i : ℕ) (send : Send) → k.t
 ended_carries result k i send has order = record {
   deleted = λ gone. ap (λ (t : Thread). t.phase) (ended_deleted result k.clock k.thread send gone has) ∙ gone;
   begun = let same = ended_begun result k.clock k.thread in omega arith;
-  causes = λ cause same old. none_sent _ (ended result k.clock k.thread).send (ended_none result k.clock k.thread send has order).0;
+  causes = λ cause same old. of_none _ (ended result k.clock k.thread).send (ended_none result k.clock k.thread send has order).0;
 }
-  where
-    none_sent : (P : Send → Type 0) (o : Option Send) → o ≡ None → IfSome o P
-    none_sent P o is = rw is tt
 
 -- What is kept of it says nothing of lists.
 

@@ -1,6 +1,5 @@
 -- The first waiting send that a receiver accepts is delivered to it.
-use Rattle.std.proofs.Common.{◌≡◌, ℕ, ◌<◌, Option, Some, None, [], length, refl, ap, sym, ◌∙◌, subst, arith}
-use Rattle.std.specs.Prelude.{IfSome}
+use Rattle.std.proofs.Common.{◌≡◌, ℕ, ◌<◌, Some, None, [], length, refl, ap, sym, ◌∙◌, subst, arith}
 use Rattle.l4_model.specs.Words.{Id}
 use Rattle.l4_model.specs.Machine.{Machine}
 use Rattle.l4_model.specs.World.{Thread, World, Send, Receive, Message, Phase, Ready, Receiving, Deleted, change, unqueued, opening_thread}
@@ -21,7 +20,7 @@ use Rattle.l4_split.proofs.Rows.{Agrees, IsEarlier, Stands}
 use Rattle.l4_split.proofs.Squares.{same_agrees, receiving_is, receives_agrees}
 use Rattle.l4_split.proofs.Relation.{RelatesBut, senders}
 use Rattle.l4_split.proofs.Frames.{leaves_out, takes_in, put_same}
-use Rattle.l4_split.proofs.Moves.{at_home}
+use Rattle.l4_split.proofs.Moves.{at_home, of_none}
 use Rattle.l4_split.proofs.Going.{Goes, IsHere, told, put_home, home_is, IsQuiet, comes, quiet_stands}
 use Rattle.l4_split.proofs.Instructions.{IsFree, free_is}
 use Rattle.l4_split.proofs.Deciding.{IsAt}
@@ -75,15 +74,12 @@ receiving_quiet m cpu r s w x receive since f at is send order begun ready good 
   carries = record {
     deleted = λ gone. absurd (not_deleted (thread x.local r).phase is gone);
     begun = omega (arith, begun);
-    causes = λ cause same old. none_sent _ (f (thread x.local r)).send (send ∙ at.send);
+    causes = λ cause same old. of_none _ (f (thread x.local r)).send (send ∙ at.send);
   };
 }
   where
     not_deleted : (p : Phase) → p ≡ Receiving receive since → p ≡ Deleted → ⊥
     not_deleted p a b = cc
-
-    none_sent : (P : Send → Type 0) (o : Option Send) → o ≡ None → IfSome o P
-    none_sent P o is = rw is tt
 
 -- The first waiting send of a receiver of this processor
 first_at : (m : Machine) (cpu r i : ℕ) (s : Scene) (w : World) (x : Work) (from : Id) → IsHere m cpu r → RelatesBut m (Stands m) [] (amid cpu s x) w → plain.first_taken from (plain.list_of x.local.lists r) ≡ Some i → IsFirst m (amid cpu s x) w r i

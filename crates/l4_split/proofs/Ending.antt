@@ -1,6 +1,7 @@
 -- A waiting send is refused, cancelled or dropped on its receiver's processor.
-use Rattle.std.proofs.Common.{◌≡◌, ℕ, zero, suc, ◌<◌, Bool, true, false, cond, Option, Some, None, List, [], ◌∷◌, filter, length, refl, ap, sym, ◌∙◌, subst, inl}
-use Rattle.std.specs.Prelude.{◌==◌, ◌||◌, slice_index_or}
+use Rattle.l4_split.proofs.Members.{any_block, any_kept, any_list, none_kept}
+use Rattle.std.proofs.Common.{◌≡◌, ℕ, ◌<◌, true, false, Option, Some, None, List, [], ◌∷◌, length, refl, ap, sym, ◌∙◌, subst, inl}
+use Rattle.std.specs.Prelude.{◌==◌}
 use Rattle.std.specs.List.{list_any}
 use Rattle.l4_model.specs.Machine.{Machine}
 use Rattle.l4_model.specs.World.{Thread, World, Send, Phase, Ready, Sending, Receiving, Ordering, Ended, Deleted, is_queued, is_deleted}
@@ -11,7 +12,6 @@ use Rattle.l4_core_model.specs.Letters.{TimedOut, Nobody, Cancelled, Dropped, Co
 use Rattle.l4_core_model.specs.Local.{thread, held}
 use Rattle.l4_core_model.specs.Acts.{Work, entry, refuses, zero_refusable}
 use Rattle.l4_core_model.specs.Runs.{Posted, IsMachine}
-use Rattle.l4_core_model.proofs.Knows.{blocks}
 use Rattle.l4_core_model.proofs.Beginning.{destination_within, any_at}
 use Rattle.l4_core_model.proofs.Remembers.{same_or_apart}
 use Rattle.l4_split.proofs.Views.{Scene, Kept, View, kept, view, world_thread, home, amid, words, is_of}
@@ -34,23 +34,6 @@ pub record IsListedSend (m : Machine) (cpu r i : ℕ) (s : Scene) (w : World) (x
   pub receiver : IsReceiver m cpu r s has.goes.now x send
   pub queued : is_queued has.goes.now.waiting i ≡ true
 
-any_list : (i : ℕ) (lists : List (List ℕ)) (r : ℕ) → list_any (λ x. i == x) (slice_index_or lists r []) ≡ true → is_queued lists i ≡ true
-any_list i [] r h = cc
-any_list i (xs ∷ lists) zero h = rw h refl
-any_list i (xs ∷ lists) (suc r) h = by (list_any (λ x. i == x) xs) (any_list i lists r h)
-  where
-    by : (b : Bool) → is_queued lists i ≡ true → (b || is_queued lists i) ≡ true
-    by true h = refl
-    by false h = h
-
-any_block : (i : ℕ) (e : plain.Waiting) (es : List plain.Waiting) → filter (is_of i) es ≡ e ∷ [] → list_any (λ x. i == x) (blocks es) ≡ true
-any_block i e [] h = cc
-any_block i e (f ∷ es) h = by (i == f.block) h (any_block i e es)
-  where
-    by : (b : Bool) → cond b (f ∷ filter (is_of i) es) (filter (is_of i) es) ≡ e ∷ [] → (filter (is_of i) es ≡ e ∷ [] → list_any (λ x. i == x) (blocks es) ≡ true) → (b || list_any (λ x. i == x) (blocks es)) ≡ true
-    by true h rest = refl
-    by false h rest = rest h
-
 pub listed_send : (m : Machine) (cpu r i : ℕ) (s : Scene) (w : World) (x : Work) (seat : plain.Waiting) → IsHere m cpu r → cpu < m.cpus → (e : Goes m cpu s w [] x) → i < length m.threads → IsEntry m r i (view m (amid cpu s x) e.now i) seat → IsListedSend m cpu r i s w x
 listed_send m cpu r i s w x seat here processor e lt is =
     let v : View = view m (amid cpu s x) e.now i in
@@ -66,7 +49,8 @@ listed_send m cpu r i s w x seat here processor e lt is =
         at = subst (λ p. IsAt m p i is.send v) here.home (entry_at m r i v seat (e.relates.places i lt tt) is);
       };
       receiver = record { within = here.within; home = here.home; to = is.waits.to ∙ ap Some q; seen = inl (e.relates.places r here.within tt).known };
-      queued = any_list i e.now.waiting r (ap (list_any (λ x. i == x)) (e.relates.lists r here.within) ∙ any_block i _ (senders m (amid cpu s x) r) listed);
+      queued = any_list (λ x. i == x) e.now.waiting r
+          (ap (list_any (λ x. i == x)) (e.relates.lists r here.within) ∙ any_block i (senders m (amid cpu s x) r) ∙ any_kept (is_of i) (senders m (amid cpu s x) r) [] _ listed);
     }
 
 -- What waits at a deleted thread, and what is of timeout zero and not waited for
@@ -145,18 +129,10 @@ queued_where m cpu i q v known some = by (words v.mail) refl (at_home m i v).thr
     by (p ∷ []) quiet o has row agrees = word p p.letter.content row
     by (p ∷ q ∷ ps) quiet o has row agrees = absurd row
 
-some_of : (i : ℕ) (es : List plain.Waiting) → list_any (λ (e : plain.Waiting). i == e.block) es ≡ true → filter (is_of i) es ≡ [] → ⊥
-some_of i [] h none = cc
-some_of i (e ∷ es) h none = by (i == e.block) h none (some_of i es)
-  where
-    by : (b : Bool) → (b || list_any (λ (e : plain.Waiting). i == e.block) es) ≡ true → cond b (e ∷ filter (is_of i) es) (filter (is_of i) es) ≡ [] → (list_any (λ (e : plain.Waiting). i == e.block) es ≡ true → filter (is_of i) es ≡ [] → ⊥) → ⊥
-    by true h none rest = cc
-    by false h none rest = rest h none
-
 pub queued_here : (m : Machine) (cpu i : ℕ) (s : Scene) (w : World) (x : Work) → cpu < m.cpus → (e : Goes m cpu s w [] x) → IsMachine m → i < length m.threads → plain.is_queued x.local.lists i ≡ true → (r : ℕ) × IsListedSend m cpu r i s w x
 queued_here m cpu i s w x processor e machine lt queued =
     let v : View = view m (amid cpu s x) e.now i in
     let at = any_at (list_any (λ (f : plain.Waiting). i == f.block)) x.local.lists.waiting queued in
     let here : v.kept cpu ≡ kept x.local i = ap (λ l. kept l i) (put_here cpu cpu x.local s.locals refl) in
-    let q = queued_where m cpu i at.0 v (e.relates.places i lt tt).known (λ none. some_of i (plain.list_of x.local.lists at.0) at.1 (sym (ap (λ (k : Kept). k.listed at.0) here) ∙ none)) in
+    let q = queued_where m cpu i at.0 v (e.relates.places i lt tt).known (λ none. let no = none_kept (is_of i) (plain.list_of x.local.lists at.0) (sym (ap (λ (k : Kept). k.listed at.0) here) ∙ none) in let yes = at.1 in cc (no, yes)) in
     (q.r, listed_send m cpu q.r i s w x q.entry (record { machine = machine; within = q.within; home = q.here }) processor e lt q.is)

@@ -1,9 +1,9 @@
 -- An instruction gives an order.
 use Rattle.std.proofs.Common.{◌≡◌, ℕ, ◌<◌, Bool, true, false, cond, Option, Some, None, [], ◌∷◌, ◌++◌, length, refl, ap, sym, ◌∙◌, subst, arith}
-use Rattle.std.specs.Prelude.{◌==◌, not, IfSome}
+use Rattle.std.specs.Prelude.{◌==◌, not}
 use Rattle.std.proofs.lemmas.Bool.{eqb-true}
 use Rattle.l4_model.specs.Machine.{Machine, What, CancelSend, CancelReceive, CancelBoth, Delete, place_of}
-use Rattle.l4_model.specs.World.{Thread, World, Send, Asked, Phase, Deleted, change, is_ready, is_deleted, opening_thread}
+use Rattle.l4_model.specs.World.{Thread, World, Asked, change, is_deleted, opening_thread}
 use Rattle.l4_model.specs.Effects.{asked, orders, obeyed}
 use Rattle.l4_model.specs.History.{run}
 use Rattle.l4_model.specs.Rules.{Orders}
@@ -26,7 +26,7 @@ use Rattle.l4_split.proofs.Relation.{RelatesBut}
 use Rattle.l4_split.proofs.Frames.{first_about, takes_in, put_same, world_changes, local_changes}
 use Rattle.l4_split.proofs.MailFrames.{letter_posted, mail_here}
 use Rattle.l4_split.proofs.Squares.{same_agrees}
-use Rattle.l4_split.proofs.Moves.{at_home, Carries, same_alike, Moves, moves_kept, word_known, come_kept}
+use Rattle.l4_split.proofs.Moves.{at_home, Carries, same_alike, Moves, moves_kept, word_known, come_kept, of_none, ready_is_alive}
 use Rattle.l4_split.proofs.Going.{Goes, told, IsHere, home_is, comes}
 use Rattle.l4_split.proofs.Instructions.{Runs, running_is, running_found}
 use Rattle.l4_split.proofs.Finding.{found_is}
@@ -73,9 +73,9 @@ calls_goes m cpu i order s w x e r act_is =
       elsewhere = λ p ne. same_alike (v.kept p) (after.kept p) (c.elsewhere p ne);
       notices = refl;
       carries = subst (λ a. Carries a (at_home m i after)) (sym was) (subst (Carries k) (sym c.here) (record {
-        deleted = λ gone. absurd (not_deleted (thread x.local i).phase gone ready);
+        deleted = λ gone. ready_is_alive (thread x.local i).phase gone ready;
         begun = omega arith;
-        causes = λ cause same old. none_sent _ (thread x.local i).send running.send;
+        causes = λ cause same old. of_none _ (thread x.local i).send running.send;
       }));
     } in
     record {
@@ -96,12 +96,6 @@ calls_goes m cpu i order s w x e r act_is =
         agrees = subst (λ (a : Kept). Agrees after.world a.thread) (sym c.here) (same_agrees after.world (f (thread x.local i)) (c.world ∙ ap f running.same));
       };
     }
-  where
-    not_deleted : (p : Phase) → p ≡ Deleted → is_ready p ≡ true → ⊥
-    not_deleted p gone ready = let h : is_ready Deleted ≡ true = subst (λ p. is_ready p ≡ true) gone ready in cc
-
-    none_sent : (P : Send → Type 0) (o : Option Send) → o ≡ None → IfSome o P
-    none_sent P o is = rw is tt
 
 -- To another processor's thread
 foreign_goes : (m : Machine) (cpu i j : ℕ) (order : Asked) (s : Scene) (w : World) (y : Work) → HasCalled m cpu i order s w y → place_of m order.target ≡ Some j → (home m j ≡ cpu → ⊥) → Goes m cpu s w [] (posts (home m j) (OrderLetter (declared m i).id order.target order.what) y)

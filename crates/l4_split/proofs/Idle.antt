@@ -1,6 +1,8 @@
 -- What is known of a thread where its processor has nothing to do.
-use Rattle.std.proofs.Common.{◌≡◌, ℕ, zero, suc, ◌+◌, ◌<◌, ◌≤◌, Bool, true, false, cond, Option, Some, None, List, [], ◌∷◌, filter, length, refl, ap, sym, ◌∙◌, subst, arith}
-use Rattle.std.specs.Prelude.{◌==◌, ◌&&◌, not, is_some, find, slice_get, slice_index_or}
+use Rattle.l4_split.proofs.Choices.{has_no_duty}
+use Rattle.l4_core_model.proofs.Resting.{none_of, guarded, found_none}
+use Rattle.std.proofs.Common.{◌≡◌, ℕ, zero, suc, ◌+◌, ◌<◌, ◌≤◌, Bool, true, false, Option, Some, None, List, [], ◌∷◌, length, refl, ap, sym, ◌∙◌, subst, arith}
+use Rattle.std.specs.Prelude.{◌==◌, ◌&&◌, not, is_some, slice_get, slice_index_or}
 use Rattle.std.specs.Option.{option_map}
 use Rattle.std.specs.List.{AllByRecursion, list_all, range_with_len}
 use Rattle.std.proofs.lemmas.Bool.{eqb-true}
@@ -9,16 +11,13 @@ use Rattle.l4_model.specs.World.{Receive, is_deleted, receive_now}
 use Rattle.l4_model.specs.Conditions.{Found, is_nobody, ◌>>=◌, ◌>>◌}
 use Rattle.l4_model.proofs.Chains.{some_is}
 use Rattle.l4_core_model.specs.Plain as plain
-use Rattle.l4_core_model.specs.Local.{Local, is_own, own_places, thread, held, held_by}
+use Rattle.l4_core_model.specs.Local.{Local, own_places, thread, held, held_by}
 use Rattle.l4_core_model.specs.Acts.{first_acceptable, zero_refusable}
-use Rattle.l4_core_model.specs.Turns.{Duty, DropsOwn, RefusesFirst, TellsGone, CancelsOwn, CancelsReceive, ClosesReceive, RefusesZero, next_untold, duty_drops_own, duty_refuses_waiting, duty_tells_gone, duty_cancels_own, duty_cancels_receive, duty_delivers_first, duty_closes_receive, duty_refuses_zero, duty_of, first_some, first_duty, Choice, ByDuty, ByDue, ByReady, choice, is_busy}
+use Rattle.l4_core_model.specs.Turns.{DropsOwn, RefusesFirst, TellsGone, CancelsOwn, CancelsReceive, ClosesReceive, RefusesZero, next_untold, duty_drops_own, duty_refuses_waiting, duty_tells_gone, duty_cancels_own, duty_cancels_receive, duty_delivers_first, duty_closes_receive, duty_refuses_zero, duty_of, first_duty, Choice, ByDue, ByReady, choice, is_busy}
 use Rattle.l4_core_model.specs.Runs.{System, Posted, processors, is_empty, local_at_rest, at_rest, IsMachine}
-use Rattle.l4_core_model.proofs.Knows.{same_nat}
-use Rattle.l4_core_model.proofs.Fit.{all-filter}
 use Rattle.l4_core_model.proofs.Pieces.{both}
 use Rattle.l4_core_model.proofs.Remembers.{apart}
 use Rattle.l4_core_model.proofs.Duties.{accepts_none}
-use Rattle.l4_split.proofs.Entries.{filter_kept, filter_range}
 use Rattle.l4_split.proofs.Views.{home, nowhere}
 
 pub record IsIdle (m : Machine) (cpu : ℕ) (l : Local) (i : ℕ) : Type 0 where
@@ -34,24 +33,6 @@ pub record IsIdle (m : Machine) (cpu : ℕ) (l : Local) (i : ℕ) : Type 0 where
   pub none_armed : l.lists.armed ≡ []
 
 -- It has no duty of any kind.
-
-none_of : {A : Type 0} (os : List (Option A)) → first_some os ≡ None → AllByRecursion (λ o. o ≡ None) os
-none_of [] h = tt
-none_of (None ∷ os) h = (refl, none_of os h)
-none_of (Some x ∷ os) h = cc
-
-guarded : {A : Type 0} (a b : Bool) (x : A) → (a >> (b >> Some x)) ≡ None → a ≡ true → b ≡ true → ⊥
-guarded true true x h p q = cc
-guarded true false x h p q = cc
-guarded false b x h p q = cc
-
-found_none : {A B : Type 0} (p : A → Bool) (f : A → Option B) → ((x : A) → f x ≡ None → ⊥) → (xs : List A) → (find p xs >>= f) ≡ None → AllByRecursion (λ x. p x ≡ false) xs
-found_none p f gives [] h = tt
-found_none p f gives (x ∷ xs) h = by (p x) refl h (found_none p f gives xs)
-  where
-    by : (b : Bool) → p x ≡ b → (cond b (Some x) (find p xs) >>= f) ≡ None → ((find p xs >>= f) ≡ None → AllByRecursion (λ x. p x ≡ false) xs) → (p x ≡ false) × AllByRecursion (λ x. p x ≡ false) xs
-    by true is h rest = absurd (gives x h)
-    by false is h rest = (is, rest h)
 
 refuses_none : (b : Bool) (es : List plain.Waiting) → (b >> (slice_get es 0 >>= λ e. Some (RefusesFirst e.block))) ≡ None → b ≡ true → es ≡ []
 refuses_none true [] h gone = refl
@@ -87,31 +68,11 @@ idle_from m cpu l i h ready armed =
       none_armed = armed;
     }
 
--- No own thread has one.
-
-no_duties : (m : Machine) (cpu : ℕ) (l : Local) (is : List ℕ) → first_duty m cpu l is ≡ None → AllByRecursion (λ i. duty_of m cpu l (held m l i) ≡ None) is
-no_duties m cpu l [] h = tt
-no_duties m cpu l (i ∷ is) h = by (duty_of m cpu l (held m l i)) refl (none_of (option_map (ByDuty i) (duty_of m cpu l (held m l i)) ∷ first_duty m cpu l is ∷ []) h) (no_duties m cpu l is)
-  where
-    by : (o : Option Duty) → duty_of m cpu l (held m l i) ≡ o → AllByRecursion (λ o. o ≡ None) (option_map (ByDuty i) o ∷ first_duty m cpu l is ∷ []) →
-        (first_duty m cpu l is ≡ None → AllByRecursion (λ j. duty_of m cpu l (held m l j) ≡ None) is) → AllByRecursion (λ j. duty_of m cpu l (held m l j) ≡ None) (i ∷ is)
-    by None e h rest = (e, rest h.1.0)
-    by (Some d) e h rest = let no = h.0 in cc
-
-own_at : (m : Machine) (cpu i : ℕ) (P : ℕ → Type 0) → home m i ≡ cpu → i < length m.threads → AllByRecursion P (own_places m cpu) → P i
-own_at m cpu i P here lt all = (subst (AllByRecursion P) entry (all-filter P (λ j. i == j) (own_places m cpu) all)).0
-  where
-    own : is_own m cpu i ≡ true
-    own = rw here (same_nat cpu)
-
-    entry : filter (λ j. i == j) (own_places m cpu) ≡ i ∷ []
-    entry = filter_kept (λ j. i == j) (is_own m cpu) (λ j same. subst (λ k. is_own m cpu k ≡ true) (eqb-true i j same) own) (range_with_len 0 (length m.threads)) ∙ filter_range 0 (length m.threads) i (omega arith) (omega arith)
-
 idle_processor : (m : Machine) (cpu : ℕ) (l : Local) (i : ℕ) → home m i ≡ cpu → i < length m.threads → (not (is_busy m cpu l) && is_empty l.lists.armed) ≡ true → IsIdle m cpu l i
 idle_processor m cpu l i here lt h =
     let t = both (not (is_busy m cpu l)) (is_empty l.lists.armed) h in
     let none = none_of (first_duty m cpu l (own_places m cpu) ∷ option_map ByDue (plain.due_block l.clock l.lists.armed) ∷ option_map ByReady (slice_get l.lists.ready 0) ∷ []) (idle (choice m cpu l) t.0) in
-    idle_from m cpu l i (own_at m cpu i (λ j. duty_of m cpu l (held m l j) ≡ None) here lt (no_duties m cpu l (own_places m cpu) none.0)) (no_first l.lists.ready none.1.1.0) (nothing l.lists.armed t.1)
+    idle_from m cpu l i (has_no_duty m cpu l none.0 i (record { within = lt; home = here })) (no_first l.lists.ready none.1.1.0) (nothing l.lists.armed t.1)
   where
     idle : (o : Option Choice) → not (is_some o) ≡ true → o ≡ None
     idle None h = refl

@@ -1,13 +1,11 @@
 -- Instructions that concern nobody else, waits, and receive phases that fail.
+use Rattle.l4_model.proofs.Sends.{begun-ran}
 use Rattle.std.proofs.Common.{◌≡◌, ℕ, true, Option, Some, None, List, [], ◌∷◌, refl, ap, ◌∙◌, subst, arith}
-use Rattle.std.specs.Prelude.{IfSome, ◌==◌}
-use Rattle.l4_model.specs.Machine.{Machine, Instr, Set, Copy, Add, Tag, Vs, Ipc, Ask, Jump, OnErr, End}
-use Rattle.l4_model.specs.World.{Thread, World, Send, Receive, Phase, Deleted, Context, is_ready}
-use Rattle.l4_model.specs.Rules.{ran}
+use Rattle.l4_model.specs.Machine.{Machine, Instr, End}
+use Rattle.l4_model.specs.World.{Thread, World, Send, Receive, is_ready}
 use Rattle.l4_model.specs.Steps.{Local as RanLocal, Wait, runs_alone, receive_of}
 use Rattle.l4_model.specs.Conditions.{instruction, act_of, found}
-use Rattle.l4_model.specs.Effects.{runs, waits, phase_after}
-use Rattle.l4_model.proofs.Chains.{cond_both}
+use Rattle.l4_model.specs.Effects.{runs, waits, phase_after, receives}
 use Rattle.l4_core_model.specs.Letters.{Content, SendLetter, DoneLetter, WithdrawLetter, GoneLetter, OrderLetter, OrderDoneLetter}
 use Rattle.l4_core_model.specs.Local.{declared, thread, held}
 use Rattle.l4_core_model.specs.Acts.{Work, runs_alone_at, waits_at}
@@ -17,7 +15,7 @@ use Rattle.l4_core_model.proofs.Good.{ready_has_none, runs_good, waits_good}
 use Rattle.l4_split.proofs.Views.{Scene, Kept, View, kept, view, world_thread, amid, words}
 use Rattle.l4_split.proofs.Rows.{seats, Agrees, learned, Row, RowOf, IsUnplaced, Known}
 use Rattle.l4_split.proofs.Squares.{same_agrees, ready_is}
-use Rattle.l4_split.proofs.Moves.{at_home, IsFresh}
+use Rattle.l4_split.proofs.Moves.{at_home, IsFresh, of_none, ready_is_alive}
 use Rattle.l4_split.proofs.Going.{Goes, IsHere, IsQuiet, home_is, found_here, comes_quiet}
 
 -- Of a thread that has neither send nor order no letter is under way, and the world has it as home does.
@@ -96,30 +94,11 @@ running_quiet m cpu i s w x f e r send order begun good fresh =
       good = good is.good;
       fresh = fresh;
       carries = record {
-        deleted = λ gone. not_deleted (thread x.local i).phase gone r.ready;
+        deleted = λ gone. ready_is_alive (thread x.local i).phase gone r.ready;
         begun = omega (arith, begun);
-        causes = λ cause same old. none_sent _ (f (thread x.local i)).send (send ∙ is.send);
+        causes = λ cause same old. of_none _ (f (thread x.local i)).send (send ∙ is.send);
       };
     }
-  where
-    not_deleted : {P : Type 0} (p : Phase) → p ≡ Deleted → is_ready p ≡ true → P
-    not_deleted p gone ready = let h : is_ready Deleted ≡ true = subst (λ p. is_ready p ≡ true) gone ready in cc
-
-    none_sent : (P : Send → Type 0) (o : Option Send) → o ≡ None → IfSome o P
-    none_sent P o is = rw is tt
-
--- local
-ran_begun : (i : Instr) (c : Context) → (ran i c).begun ≡ c.begun
-ran_begun (Set a word) c = refl
-ran_begun (Copy a b) c = refl
-ran_begun (Add a word) c = refl
-ran_begun (Tag word) c = refl
-ran_begun (Vs id) c = refl
-ran_begun (Ipc to from send_period receive_period) c = refl
-ran_begun (Ask target what) c = refl
-ran_begun (Jump place) c = refl
-ran_begun (OnErr place) c = cond_both (λ (d : Context). d.begun) c.begun (c.error == 0) _ _ refl refl
-ran_begun End c = refl
 
 ran_fresh : (i : Instr) (clock : ℕ) (send : Option Send) → IsFresh clock (phase_after i) send
 ran_fresh End clock send = tt
@@ -131,7 +110,7 @@ runs_alone_goes m cpu i s w x e r alone =
     let ready = r.ready in
     let instr : Instr = instruction (held m x.local i) in
     comes_quiet m cpu i s w x (RanLocal (declared m i).id) (runs instr) (runs instr) r.here e
-    (running_quiet m cpu i s w x (runs instr) e r refl refl (ran_begun instr (thread x.local i).context) (runs_good x.local.clock instr (thread x.local i) ready) (ran_fresh instr x.local.clock _))
+    (running_quiet m cpu i s w x (runs instr) e r refl refl (begun-ran instr (thread x.local i).context) (runs_good x.local.clock instr (thread x.local i) ready) (ran_fresh instr x.local.clock _))
     (rw (found_is, ready, alone) refl)
 
 -- wait

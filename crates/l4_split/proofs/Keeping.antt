@@ -86,7 +86,7 @@ comes_here l i f lt =
 
 -- A send leaves its list
 
-list_unqueued : (l : Local) (i r : ℕ) → plain.list_of (plain.unqueued i l.lists) r ≡ filter (λ (e : plain.Waiting). not (i == e.block)) (plain.list_of l.lists r)
+pub list_unqueued : (l : Local) (i r : ℕ) → plain.list_of (plain.unqueued i l.lists) r ≡ filter (λ (e : plain.Waiting). not (i == e.block)) (plain.list_of l.lists r)
 list_unqueued l i r = get_or-map (filter (λ (e : plain.Waiting). not (i == e.block))) l.lists.waiting r []
 
 pub unqueued_other : (l : Local) (i j : ℕ) → (i ≡ j → ⊥) → kept (relists (plain.unqueued i) l) j ≡ kept l j

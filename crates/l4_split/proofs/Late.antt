@@ -1,5 +1,7 @@
 -- Letters that come late: a withdrawal, and that a thread is gone.
-use Rattle.std.proofs.Common.{◌≡◌, ℕ, ◌<◌, Bool, true, false, Some, List, [], ◌∷◌, ◌++◌, filter, length, refl, ap, sym, ◌∙◌, subst}
+use Rattle.l4_model.specs.Still.{late}
+use Rattle.l4_split.proofs.Members.{all_without, one_of}
+use Rattle.std.proofs.Common.{◌≡◌, ℕ, ◌<◌, Bool, true, false, Some, [], ◌∷◌, ◌++◌, filter, length, refl, ap, sym, ◌∙◌, subst}
 use Rattle.std.specs.Prelude.{not, IfSome}
 use Rattle.std.specs.List.{AllByRecursion}
 use Rattle.std.proofs.lemmas.Bool.{eqb-true}
@@ -33,10 +35,6 @@ use Rattle.l4_split.proofs.Receiving.{without, IsLetter, at_work, foreign_place_
 
 -- A late letter is taken out: what it says is true, and all else is as it was.
 
-all_without : {A : Type 0} (P : A → Type 0) (xs ys : List A) (x : A) → AllByRecursion P (xs ++ x ∷ ys) → P x × AllByRecursion P (xs ++ ys)
-all_without P [] ys x all = all
-all_without P (y ∷ xs) ys x all = let rest = all_without P xs ys x all.1 in (rest.0, (all.0, rest.1))
-
 pub record IsNoticed (m : Machine) (from cpu i : ℕ) (letter : Letter) (s : Scene) (w : World) : Type 0 where
   pub relates : RelatesBut m (Stands m) [] (amid cpu (without from cpu s) (at_work cpu letter s)) w
   pub says : IsNotice m i (at_home m i (view m s w i)) (record { from = from; to = cpu; letter = letter })
@@ -57,7 +55,7 @@ noticed m from cpu i letter s w h lt about late =
     let old_notices : notices before.mail ≡ notices (filter mine f.before) ++ p ∷ notices (filter mine f.after) = ap notices old ∙ keeps_one (λ q. not (word q)) (filter mine f.before) (filter mine f.after) p (rw late refl) in
     let new_notices : notices after.mail ≡ notices (filter mine f.before) ++ notices (filter mine f.after) = ap notices new ∙ filter-append (λ q. not (word q)) (filter mine f.before) (filter mine f.after) in
     let k : Kept = at_home m i before in
-    let split = all_without (IsNotice m i k) (notices (filter mine f.before)) (notices (filter mine f.after)) p (subst (AllByRecursion (IsNotice m i k)) old_notices stands.known.kept.notices) in
+    let was = subst (AllByRecursion (IsNotice m i k)) old_notices stands.known.kept.notices in
     let left : Stands m i (record before { mail = after.mail }) = record {
       known = record {
         agrees = subst (λ ps. Agrees before.world (learned ps k.clock k.thread)) (sym same_words) stands.known.agrees;
@@ -65,7 +63,7 @@ noticed m from cpu i letter s w h lt about late =
         kept = record {
           at_home = record { good = stands.known.kept.at_home.good; armed = stands.known.kept.at_home.armed };
           elsewhere = stands.known.kept.elsewhere;
-          notices = subst (AllByRecursion (IsNotice m i k)) (sym new_notices) split.1;
+          notices = subst (AllByRecursion (IsNotice m i k)) (sym new_notices) (all_without (IsNotice m i k) (notices (filter mine f.before)) (notices (filter mine f.after)) p was);
         };
       };
       ready = stands.ready;
@@ -75,7 +73,7 @@ noticed m from cpu i letter s w h lt about late =
       relates = takes_in m i [] (amid cpu (without from cpu s) (at_work cpu letter s)) w
           (opened_relates m cpu letter.stamp (i ∷ []) (without from cpu s) w (letter_taken m from cpu i letter (i ∷ []) s w about (first_about i []) f (leaves_out m i [] s w h.relates)))
           (subst (Stands m i) (λ d. record { world = before.world; kept = λ c. sym (kept_same c) d; mail = after.mail }) left);
-      says = split.0;
+      says = one_of (IsNotice m i k) (notices (filter mine f.before)) (notices (filter mine f.after)) p was;
     }
 
 -- A withdrawal

@@ -1,4 +1,5 @@
 -- What is true of a run stays true event by event.
+use Rattle.l4_split.proofs.Members.{all_join, all_without}
 use Rattle.l4_core_model.proofs.Law.{run-append, told-last}
 use Rattle.l4_core_model.specs.Runs.{told}
 use Rattle.std.proofs.lemmas.List.FromFn.{length-map-range_with_len}
@@ -15,7 +16,7 @@ use Rattle.l4_split.proofs.AddressedLetters.{handled_addressed}
 use Rattle.l4_core_model.specs.Mail.{handle}
 use Rattle.l4_split.proofs.Going.{Goes}
 use Rattle.l4_split.proofs.PledgeChoosing.{turn_keeps}
-use Rattle.l4_split.proofs.Lawful.{all_lawful, first_lawful}
+use Rattle.l4_split.proofs.Lawful.{all_lawful, first_lawful, AreAddressed}
 use Rattle.l4_core_model.proofs.Knows.{length-changed}
 use Rattle.l4_split.proofs.Rows.{Stands}
 use Rattle.l4_core_model.specs.Letters.{Letter}
@@ -44,21 +45,10 @@ use Rattle.l4_model.specs.World.{World, opening}
 use Rattle.l4_split.proofs.PledgeHandles.{letter_keeps}
 use Rattle.l4_split.proofs.Relation.{Relates, RelatesBut}
 use Rattle.l4_split.proofs.MailFrames.{first_is}
-use Rattle.std.proofs.Common.{List, Some, [], ap, arith, length, map, refl, subst, sym, true, ℕ, ◌++◌, ◌<◌, ◌∙◌, ◌∷◌, ◌≡◌}
+use Rattle.std.proofs.Common.{List, Some, [], ap, arith, length, map, refl, subst, sym, true, ℕ, ◌<◌, ◌∙◌, ◌∷◌, ◌≡◌}
 use Rattle.l4_core_model.specs.Runs.{Happened, Happening, IsMachine, Posted, Run, System, at_rest, core_run, done, happens, letters, opening_run, posted, taken, then_event}
 
 -- Letters
-
-abbrev pub AreAddressed : Machine → List Posted → Type 0
-AreAddressed m mail = AllByRecursion (λ (p : Posted). IsAddressedTo m p.to p.letter.content) mail
-
-all_join : {A : Type 0} (P : A → Type 0) (xs ys : List A) → AllByRecursion P xs → AllByRecursion P ys → AllByRecursion P (xs ++ ys)
-all_join P [] ys all more = more
-all_join P (x ∷ xs) ys all more = (all.0, all_join P xs ys all.1 more)
-
-all_without : {A : Type 0} (P : A → Type 0) (xs ys : List A) (x : A) → AllByRecursion P (xs ++ x ∷ ys) → AllByRecursion P (xs ++ ys)
-all_without P [] ys x all = all.1
-all_without P (y ∷ xs) ys x all = (all.0, all_without P xs ys x all.1)
 
 all_posted : (m : Machine) (cpu : ℕ) (ls : List (ℕ × Letter)) → AllByRecursion (λ (p : ℕ × Letter). IsAddressedTo m p.0 p.1.content) ls → AreAddressed m (map (posted cpu) ls)
 all_posted m cpu [] all = tt

@@ -1,4 +1,5 @@
 -- Every letter under way can be handled where it goes.
+use Rattle.l4_split.proofs.Members.{one_of}
 use Rattle.l4_split.specs.Laws.{IsLawfulLetter}
 use Rattle.l4_model.specs.Still.{late}
 use Rattle.l4_split.proofs.Events.{local_at}
@@ -43,10 +44,6 @@ only_row m i k v send [] [] p h a = (h, a)
 only_row m i k v send [] (y ∷ ys) p h a = absurd h
 only_row m i k v send (x ∷ []) ys p h a = absurd h
 only_row m i k v send (x ∷ z ∷ xs) ys p h a = absurd h
-
-one_of : {A : Type 0} (P : A → Type 0) (xs ys : List A) (x : A) → AllByRecursion P (xs ++ x ∷ ys) → P x
-one_of P [] ys x all = all.0
-one_of P (y ∷ xs) ys x all = one_of P xs ys x all.1
 
 word_row : (m : Machine) (i : ℕ) (s : Scene) (w : World) (p : Posted) → IsUnderWay m i p s.mail → says_where p.letter.content ≡ true → Stands m i (view m s w i) →
     RowOf m i (at_home m i (view m s w i)).thread (seats (view m s w i)) p p.letter.content × Agrees (world_thread w i) (learns p.letter.content (at_home m i (view m s w i)).clock (at_home m i (view m s w i)).thread)
@@ -121,7 +118,7 @@ under_way_lawful m s w p before after stamp machine rel facts declared at =
     letter_lawful m here.0 s w p (opened stamp (s.locals p.to)) p.letter.content refl machine facts (record { before = before; after = after; is = at; about = here.1 })
     (rel.places here.0 (place_within m (subject p.letter.content) here.0 here.1) tt) refl
 
-abbrev AreAddressed : Machine → List Posted → Type 0
+abbrev pub AreAddressed : Machine → List Posted → Type 0
 AreAddressed m mail = AllByRecursion (λ (p : Posted). IsAddressedTo m p.to p.letter.content) mail
 
 pub all_lawful : (m : Machine) (g : System) (w : World) → IsMachine m → length g.locals ≡ m.cpus → Relates m g w → WorldFacts m w → AreAddressed m g.mail → AllByRecursion (IsLawfulLetter m g) g.mail

@@ -1,4 +1,5 @@
 pub mod Entries
+pub mod Members
 pub mod Views
 pub mod Keeping
 pub mod Rows

@@ -9,24 +9,16 @@ use Rattle.l4_model.specs.World.{World, unqueued, queued}
 use Rattle.l4_core_model.specs.Plain as plain
 use Rattle.l4_core_model.specs.Local.{Local, relists}
 use Rattle.l4_core_model.specs.Acts.{Work, ◌▷◌, does}
-use Rattle.l4_core_model.proofs.Knows.{blocks, length-changed, same_nat}
+use Rattle.l4_core_model.proofs.Knows.{blocks, length-changed, same_nat, filter-blocks}
 use Rattle.l4_core_model.proofs.Fit.{all-append, all-filter}
 use Rattle.l4_core_model.proofs.Remembers.{apart}
 use Rattle.l4_split.proofs.Entries.{changed_cases}
-use Rattle.l4_split.proofs.Keeping.{unqueued_other, unqueued_here, queued_other, list_queued}
+use Rattle.l4_split.proofs.Keeping.{unqueued_other, unqueued_here, queued_other, list_queued, list_unqueued}
 use Rattle.l4_split.proofs.Views.{Scene, View, kept, view, home, put, amid, is_of}
 use Rattle.l4_split.proofs.Relation.{IsSized, RelatesBut, senders}
 use Rattle.l4_split.proofs.Frames.{put_same, IsAbout, Spares, both_change}
 
 -- Lists of blocks
-
-blocks_without : (p : ℕ → Bool) (es : List plain.Waiting) → filter p (blocks es) ≡ blocks (filter (λ e. p e.block) es)
-blocks_without p [] = refl
-blocks_without p (e ∷ es) = by (p e.block) (blocks_without p es)
-  where
-    by : (b : Bool) → filter p (blocks es) ≡ blocks (filter (λ e. p e.block) es) → cond b (e.block ∷ filter p (blocks es)) (filter p (blocks es)) ≡ blocks (cond b (e ∷ filter (λ x. p x.block) es) (filter (λ x. p x.block) es))
-    by true h = ap (λ xs. e.block ∷ xs) h
-    by false h = h
 
 -- Where a place has no entry, taking its entries out changes nothing.
 filter_stays : (i : ℕ) (es : List plain.Waiting) → filter (is_of i) es ≡ [] → filter (λ e. not (i == e.block)) es ≡ es
@@ -40,9 +32,6 @@ filter_stays i (e ∷ es) h = by (i == e.block) h (filter_stays i es)
 
 -- A send leaves its list. On other processors it stands in none.
 
-list_without : (l : Local) (i q : ℕ) → plain.list_of (plain.unqueued i l.lists) q ≡ filter (λ (e : plain.Waiting). not (i == e.block)) (plain.list_of l.lists q)
-list_without l i q = get_or-map (filter (λ (e : plain.Waiting). not (i == e.block))) l.lists.waiting q []
-
 unqueued_spares : (m : Machine) (i : ℕ) (but : List ℕ) (l : Local) → IsAbout i but → Spares m but l (relists (plain.unqueued i) l)
 unqueued_spares m i but l about = record {
   sized = λ z. record {
@@ -51,7 +40,7 @@ unqueued_spares m i but l about = record {
     told = z.told;
     ready = z.ready;
     armed = z.armed;
-    listed = λ q. subst (AllByRecursion (λ (e : plain.Waiting). e.block < length m.threads)) (sym (list_without l i q)) (all-filter (λ (e : plain.Waiting). e.block < length m.threads) (λ (e : plain.Waiting). not (i == e.block)) (plain.list_of l.lists q) (z.listed q));
+    listed = λ q. subst (AllByRecursion (λ (e : plain.Waiting). e.block < length m.threads)) (sym (list_unqueued l i q)) (all-filter (λ (e : plain.Waiting). e.block < length m.threads) (λ (e : plain.Waiting). not (i == e.block)) (plain.list_of l.lists q) (z.listed q));
   };
   clock = refl;
   kept = λ j out. unqueued_other l i j (about j out);
@@ -64,7 +53,7 @@ put_without cpu c i q l locals elsewhere = by (cpu == c) (λ h. elsewhere (apart
   where
     by : (b : Bool) → ((cpu == c) ≡ false → filter (is_of i) (plain.list_of (put cpu l locals c).lists q) ≡ []) → (cpu == c) ≡ b →
         plain.list_of (cond b (relists (plain.unqueued i) l) (locals c)).lists q ≡ filter (λ (e : plain.Waiting). not (i == e.block)) (plain.list_of (cond b l (locals c)).lists q)
-    by true none is = list_without l i q
+    by true none is = list_unqueued l i q
     by false none is = sym (filter_stays i (plain.list_of (locals c).lists q) (subst (λ b. filter (is_of i) (plain.list_of (cond b l (locals c)).lists q) ≡ []) is (none is)))
 
 pub unqueues : {P : ℕ → View → Type 0} (m : Machine) (cpu i : ℕ) (but : List ℕ) (s : Scene) (w : World) (x : Work) → IsAbout i but →
@@ -72,7 +61,7 @@ pub unqueues : {P : ℕ → View → Type 0} (m : Machine) (cpu i : ℕ) (but : 
     RelatesBut m P but (amid cpu s x) w → RelatesBut m P but (amid cpu s (x ▷ does (relists (plain.unqueued i)))) (unqueued w i)
 unqueues m cpu i but s w x about elsewhere r =
     both_change m cpu but s w x (relists (plain.unqueued i)) (unqueued w i).waiting (unqueued_spares m i but x.local about) (length-map w.waiting (filter (λ x. not (i == x))) ∙ r.sized_world.lists)
-    (λ q lt. get_or-map (filter (λ x. not (i == x))) w.waiting q [] ∙ ap (filter (λ x. not (i == x))) (r.lists q lt) ∙ blocks_without (λ x. not (i == x)) (senders m (amid cpu s x) q)
+    (λ q lt. get_or-map (filter (λ x. not (i == x))) w.waiting q [] ∙ ap (filter (λ x. not (i == x))) (r.lists q lt) ∙ filter-blocks (λ x. not (i == x)) (senders m (amid cpu s x) q)
     ∙ ap blocks (sym (put_without cpu (home m q) i q x.local s.locals (elsewhere (home m q) q)))) r
 
 -- Of its sender, all else is as it was.

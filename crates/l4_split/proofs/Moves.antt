@@ -3,7 +3,7 @@ use Rattle.std.proofs.Common.{◌≡◌, ℕ, ◌≤◌, true, Option, Some, Non
 use Rattle.std.specs.Prelude.{IfSome}
 use Rattle.std.specs.List.{AllByRecursion}
 use Rattle.l4_model.specs.Machine.{Machine}
-use Rattle.l4_model.specs.World.{Thread, Send, Phase, Ready, Sending, Receiving, Ordering, Ended, Deleted, is_deleted}
+use Rattle.l4_model.specs.World.{Thread, Send, Phase, Ready, Sending, Receiving, Ordering, Ended, Deleted, is_deleted, is_ready}
 use Rattle.l4_core_model.specs.Letters.{Content, SendLetter, DoneLetter, WithdrawLetter, GoneLetter, OrderLetter, OrderDoneLetter, Cause}
 use Rattle.l4_core_model.specs.Local.{armed_for, armed_period}
 use Rattle.l4_core_model.specs.Runs.{Posted}
@@ -43,6 +43,14 @@ deleted_phase (Receiving receive since) h = cc
 deleted_phase Ordering h = cc
 deleted_phase Ended h = cc
 deleted_phase Deleted h = refl
+
+-- A ready thread is not deleted.
+pub ready_is_alive : {P : Type 0} (p : Phase) → p ≡ Deleted → is_ready p ≡ true → P
+ready_is_alive p gone ready = let h : is_ready Deleted ≡ true = subst (λ p. is_ready p ≡ true) gone ready in cc
+
+-- Nothing is to be shown of a send that is not there.
+pub of_none : (P : Send → Type 0) (o : Option Send) → o ≡ None → IfSome o P
+of_none P o is = rw is tt
 
 moved_elsewhere : (m : Machine) (i : ℕ) (v after : View) → IsKept m i v → Moves m i v after → (cpu : ℕ) → (cpu ≡ home m i → ⊥) → IsKeptElsewhere (at_home m i after).thread (after.kept cpu)
 moved_elsewhere m i v after known moves cpu ne =

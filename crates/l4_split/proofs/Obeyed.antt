@@ -1,6 +1,6 @@
 -- A letter says that an order is done.
 use Rattle.std.proofs.Common.{◌≡◌, ℕ, false, Option, Some, None, [], ◌∷◌, refl, ap, sym, ◌∙◌, subst, arith}
-use Rattle.std.specs.Prelude.{◌||◌, IfSome}
+use Rattle.std.specs.Prelude.{◌||◌}
 use Rattle.l4_model.specs.Words.{GlobalId}
 use Rattle.l4_model.specs.Machine.{Machine, place_of}
 use Rattle.l4_model.specs.World.{Thread, World, Send, Asked, Phase, Ready, Sending, Receiving, Ordering, Ended, Deleted, change, is_alive, is_deleted}
@@ -18,7 +18,7 @@ use Rattle.l4_split.proofs.Views.{Scene, Kept, View, kept, view, home, amid, sub
 use Rattle.l4_split.proofs.Rows.{seats, Agrees, learns, RowOf, IsObeyed, Stands}
 use Rattle.l4_split.proofs.Relation.{RelatesBut}
 use Rattle.l4_split.proofs.Frames.{takes_in}
-use Rattle.l4_split.proofs.Moves.{at_home, IsFresh}
+use Rattle.l4_split.proofs.Moves.{at_home, IsFresh, of_none}
 use Rattle.l4_split.proofs.Going.{Goes, IsHere, IsQuiet, home_is, comes, quiet_stands}
 use Rattle.l4_split.proofs.Handling.{IsTakenOut, taken_kept, taken_row, taken_agrees, unchanged}
 use Rattle.l4_split.proofs.Receiving.{without, IsLetter, at_work, own_place_is, taken_out, taken_relates}
@@ -82,14 +82,11 @@ obeyed_relates m cpu i s w x before p caller here content t rel =
       carries = record {
         deleted = λ gone. obeyed_deleted (thread x.local i) gone;
         begun = let same = obeyed_begun (thread x.local i) in omega arith;
-        causes = λ cause same old. none_sent _ (obeyed (thread x.local i)).send (obeyed_send (thread x.local i) ∙ none);
+        causes = λ cause same old. of_none _ (obeyed (thread x.local i)).send (obeyed_send (thread x.local i) ∙ none);
       };
     } in
     subst (RelatesBut m (Stands m) [] (amid cpu s (x ▷ does (comes_to i obeyed)))) (ap (λ ts. record w { threads = ts }) (unchanged w.threads i))
     (takes_in m i [] (amid cpu s (x ▷ does (comes_to i obeyed))) (change w i (λ t. t)) c.relates (quiet_stands m cpu i [] s w x obeyed (λ t. t) here c q))
-  where
-    none_sent : (P : Send → Type 0) (o : Option Send) → o ≡ None → IfSome o P
-    none_sent P o is = rw is tt
 
 pub handles_order_done : (m : Machine) (from cpu : ℕ) (letter : Letter) (s : Scene) (w : World) (x : Work) (caller : GlobalId) → IsLetter m from cpu letter s w → letter.content ≡ OrderDoneLetter caller →
     handled m cpu (OrderDoneLetter caller) (at_work cpu letter s) ≡ Some x → Goes m cpu (without from cpu s) w [] x

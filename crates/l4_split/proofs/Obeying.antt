@@ -1,6 +1,7 @@
 -- A letter brings an order to its target.
-use Rattle.std.proofs.Common.{◌≡◌, ℕ, ◌<◌, Bool, true, false, Option, Some, None, List, [], ◌∷◌, ◌++◌, length, refl, ap, sym, ◌∙◌, subst, arith}
-use Rattle.std.specs.Prelude.{◌||◌, IfSome}
+use Rattle.l4_model.proofs.Lists.{or_right}
+use Rattle.std.proofs.Common.{◌≡◌, ℕ, ◌<◌, true, false, Option, Some, None, List, [], ◌∷◌, ◌++◌, length, refl, ap, sym, ◌∙◌, subst, arith}
+use Rattle.std.specs.Prelude.{IfSome}
 use Rattle.l4_model.specs.Words.{GlobalId}
 use Rattle.l4_model.specs.Machine.{Machine, What, CancelSend, CancelReceive, CancelBoth, Delete}
 use Rattle.l4_model.specs.World.{Thread, World, Send, Phase, Ready, Sending, Receiving, Ordering, Ended, Deleted, change, is_deleted}
@@ -21,10 +22,6 @@ use Rattle.l4_split.proofs.Noticing.{withdraws_relates, withdraws_steps}
 use Rattle.l4_split.proofs.Asking.{asked_wants, asked_thread}
 use Rattle.l4_split.proofs.Asks.{asks_here, asks_relates}
 
-or_last : (b : Bool) → (b || true) ≡ true
-or_last true = refl
-or_last false = refl
-
 -- Why the send of a living thread that was asked is withdrawn is true.
 wished : (p : Phase) (t : Thread) (o : Option Send) → t.phase ≡ p → t.send ≡ o → is_deleted p ≡ false → Suits p o t.order → (what : What) (cause : Cause) → cause_of what ≡ Some cause → (clock : ℕ) → IfSome o (IsCause cause clock (asked what t))
 wished p t None is has alive suits what cause why clock = tt
@@ -33,9 +30,9 @@ wished (Receiving receive since) t (Some send) is has alive suits what cause why
 wished Ordering t (Some send) is has alive suits what cause why clock = cc
 wished Ended t (Some send) is has alive suits what cause why clock = cc
 wished Deleted t (Some send) is has alive suits what cause why clock = cc
-wished Sending t (Some send) is has alive suits CancelSend cause why clock = subst (λ c. IsCause c clock (asked CancelSend t) send) (some_is ByCancel cause why) (rw is (or_last t.cancel_send))
+wished Sending t (Some send) is has alive suits CancelSend cause why clock = subst (λ c. IsCause c clock (asked CancelSend t) send) (some_is ByCancel cause why) (rw is (or_right t.cancel_send true refl))
 wished Sending t (Some send) is has alive suits CancelReceive cause why clock = cc
-wished Sending t (Some send) is has alive suits CancelBoth cause why clock = subst (λ c. IsCause c clock (asked CancelBoth t) send) (some_is ByCancel cause why) (rw is (or_last t.cancel_send))
+wished Sending t (Some send) is has alive suits CancelBoth cause why clock = subst (λ c. IsCause c clock (asked CancelBoth t) send) (some_is ByCancel cause why) (rw is (or_right t.cancel_send true refl))
 wished Sending t (Some send) is has alive suits Delete cause why clock = subst (λ c. IsCause c clock (asked Delete t) send) (some_is ByDeletion cause why) refl
 
 withdraws_for_relates : (m : Machine) (cpu j : ℕ) (what : What) (o : Option Cause) (but : List ℕ) (s : Scene) (w : World) (y : Work) → cause_of what ≡ o → IsHere m cpu j → RelatesBut m (Stands m) but (amid cpu s y) w → NotIn j but →

@@ -1,4 +1,6 @@
 -- The opening system and the opening world are related.
+use Rattle.l4_core_model.proofs.Single.{range_below}
+use Rattle.l4_core_model.proofs.Law.{get-same}
 use Rattle.std.proofs.Common.{◌≡◌, ℕ, zero, suc, ◌+◌, ◌<◌, ◌≤◌, true, false, List, [], ◌∷◌, map, filter, length, refl, ap, sym, ◌∙◌, subst, arith, inl, inr, ◌⊎◌}
 use Rattle.std.specs.Prelude.{◌==◌, slice_index_or}
 use Rattle.std.specs.List.{range_with_len, AllByRecursion}
@@ -17,11 +19,6 @@ use Rattle.l4_split.proofs.Entries.{filter_kept, filter_out, filter_range, other
 use Rattle.l4_split.proofs.Views.{Kept, View, kept, view, home, nowhere, scene}
 use Rattle.l4_split.proofs.Rows.{Stands}
 use Rattle.l4_split.proofs.Relation.{IsSized, Relates, senders}
-
-pub get-same : {A B : Type 0} (b : B) (xs : List A) (i : ℕ) → slice_index_or (map (λ x. b) xs) i b ≡ b
-get-same b [] i = refl
-get-same b (x ∷ xs) zero = refl
-get-same b (x ∷ xs) (suc i) = get-same b xs i
 
 at_range : {A : Type 0} (f : ℕ → A) (d : A) (a n i : ℕ) → i < n → slice_index_or (map f (range_with_len a n)) i d ≡ f (a + i)
 at_range f d a zero i lt = absurd (omega arith)
@@ -90,10 +87,6 @@ opened_stands m i v world mail here other = record {
   where
     listed : (cpu r : ℕ) → (v.kept cpu).listed r ≡ []
     listed cpu r = same_or_apart ((v.kept cpu).listed r ≡ []) cpu (home m i) (λ e. ap (λ c. (v.kept c).listed r) e ∙ ap (λ (k : Kept). k.listed r) here) (λ ne. ap (λ (k : Kept). k.listed r) (other cpu ne))
-
-pub range_below : (a n : ℕ) → AllByRecursion (λ i. i < a + n) (range_with_len a n)
-range_below a zero = tt
-range_below a (suc n) = (omega arith, all-map (λ i. i < a + 1 + n) (λ i. i < a + suc n) (λ i lt. omega arith) (range_with_len (a + 1) n) (range_below (a + 1) n))
 
 opening_sized : (m : Machine) (cpu : ℕ) → IsSized m (opening_local m cpu)
 opening_sized m cpu = record {

@@ -1,4 +1,5 @@
 -- What is promised is kept where a send begins, waits, is refused or delivered, and where an instruction concerns its thread alone.
+use Rattle.l4_split.proofs.Members.{all_true}
 use Rattle.std.proofs.Common.{◌≡◌, ℕ, ◌<◌, true, Option, Some, None, List, [], ◌∷◌, refl}
 use Rattle.std.specs.List.{AllByRecursion}
 use Rattle.std.proofs.lemmas.Bool.{eqb-true}
@@ -25,10 +26,6 @@ use Rattle.l4_split.proofs.PledgeSettles.{IsFree, receiving_free, runs_settles, 
 -- The middle of an event
 abbrev pub Amid : Machine → (cpu : ℕ) → Scene → Work → Type 0
 Amid m cpu s x = Promised m [] (amid cpu s x)
-
-pub all_true : {A : Type 0} (P : A → Type 0) → ((x : A) → P x) → (xs : List A) → AllByRecursion P xs
-all_true P f [] = tt
-all_true P f (x ∷ xs) = (f x, all_true P f xs)
 
 -- A decision
 

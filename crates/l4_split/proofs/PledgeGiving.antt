@@ -1,4 +1,5 @@
 -- What is promised is kept where an order is given.
+use Rattle.l4_split.proofs.Members.{all_true}
 use Rattle.std.proofs.Common.{◌≡◌, ℕ, ◌<◌, true, false, Option, Some, None, [], length, refl, ap, sym, ◌∙◌, subst, inl, inr, ◌⊎◌, arith}
 use Rattle.std.proofs.lemmas.Bool.{eqb-true}
 use Rattle.l4_model.specs.Words.{GlobalId}
@@ -19,7 +20,7 @@ use Rattle.l4_split.proofs.Promised.{MayFollow}
 use Rattle.l4_split.proofs.PledgeFrames.{posts_keeps}
 use Rattle.l4_split.proofs.PledgeLocals.{size_now, comes_on}
 use Rattle.l4_split.proofs.PledgeSettles.{ordering_free, orders_settles, obeyed_settles}
-use Rattle.l4_split.proofs.PledgeActs.{Amid, all_true}
+use Rattle.l4_split.proofs.PledgeActs.{Amid}
 use Rattle.l4_split.proofs.PledgeOrders.{comes_dead, obeys_keeps}
 
 -- The caller hears that what it asked for is done.

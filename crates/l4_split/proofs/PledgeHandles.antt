@@ -1,4 +1,5 @@
 -- What is promised is kept by what a letter brings about.
+use Rattle.l4_split.proofs.Members.{all_true}
 use Rattle.l4_split.proofs.PledgeWithdrawn.{withdraw_keeps}
 use Rattle.l4_model.proofs.Rows.Writing.{id, send}
 use Rattle.l4_split.proofs.PledgeTaking.{same_place, silent_spent, taken_keeps}
@@ -21,7 +22,7 @@ use Rattle.l4_split.proofs.Promised.{MayFollow, IsAnswerIn, IsGoneIn, kept_at, p
 use Rattle.l4_split.proofs.PledgeFrames.{posts_keeps}
 use Rattle.l4_split.proofs.PledgeLocals.{here_local, size_now, changes_away, comes_on}
 use Rattle.l4_split.proofs.PledgeSettles.{ended_settles, ended_none}
-use Rattle.l4_split.proofs.PledgeActs.{Amid, all_true, arrives_keeps}
+use Rattle.l4_split.proofs.PledgeActs.{Amid, arrives_keeps}
 use Rattle.l4_split.proofs.PledgeOrders.{obeys_keeps}
 use Rattle.l4_split.proofs.PledgeGiving.{obeyed_keeps}
 use Rattle.l4_split.proofs.PledgeTurns.{opened_keeps}

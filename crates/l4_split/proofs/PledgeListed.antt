@@ -1,4 +1,5 @@
 -- A send that is not split stands in a list of its own processor.
+use Rattle.l4_split.proofs.Members.{any_kept, any_list}
 use Rattle.std.proofs.Common.{◌≡◌, ℕ, true, Some, List, [], ◌∷◌, ap, sym, ◌∙◌, subst}
 use Rattle.l4_model.specs.Machine.{Machine}
 use Rattle.l4_model.specs.World.{World}
@@ -6,12 +7,12 @@ use Rattle.l4_core_model.specs.Plain as plain
 use Rattle.l4_core_model.specs.Letters.{Content, SendLetter, DoneLetter, WithdrawLetter, GoneLetter, OrderLetter, OrderDoneLetter}
 use Rattle.l4_core_model.specs.Runs.{Posted}
 use Rattle.l4_core_model.proofs.Remembers.{same_or_apart}
-use Rattle.l4_split.proofs.Views.{Scene, View, view, home, words}
+use Rattle.l4_split.proofs.Views.{Scene, View, view, home, words, is_of}
 use Rattle.l4_split.proofs.Rows.{Row, RowOf, seats, IsSplit, Stands}
 use Rattle.l4_split.proofs.Moves.{at_home}
 use Rattle.l4_split.proofs.Promised.{IsSplitSend}
 use Rattle.l4_split.proofs.PledgeTurns.{IsListedHere}
-use Rattle.l4_split.proofs.PledgeWithdrawn.{listed_queued, none_sent}
+use Rattle.l4_split.proofs.PledgeWithdrawn.{none_sent}
 
 pub listed_here : (m : Machine) (i : ℕ) (s : Scene) (w : World) → Stands m i (view m s w i) → IsListedHere m i (s.locals (home m i))
 listed_here m i s w stands send has whole = by (words v.mail) (subst (Row m i (at_home m i v).thread (seats v) (words v.mail)) has stands.known.row)
@@ -35,7 +36,7 @@ listed_here m i s w stands send has whole = by (words v.mail) (subst (Row m i (a
 
     by : (ws : List Posted) → Row m i (at_home m i v).thread (seats v) ws (Some send) → Queued
     by [] row = same_or_apart Queued (home m row.r) (home m i)
-        (λ here. listed_queued i row.r (s.locals (home m i)).lists.waiting _ [] (sym (ap (λ c. (v.kept c).listed row.r) here) ∙ row.listed))
+        (λ here. any_list (is_of i) (s.locals (home m i)).lists.waiting row.r (any_kept (is_of i) _ [] _ (sym (ap (λ c. (v.kept c).listed row.r) here) ∙ row.listed)))
         (λ away. absurd (whole (row.r, (row.to, away))))
     by (q ∷ []) row = by_word q q.letter.content row
     by (q ∷ p ∷ ps) row = absurd row

@@ -1,4 +1,5 @@
 -- What is promised is kept where a send is withdrawn, and where an order is given or obeyed.
+use Rattle.l4_split.proofs.Members.{all_true}
 use Rattle.std.proofs.Common.{◌≡◌, ℕ, ◌<◌, Bool, true, false, Option, Some, None, List, [], ◌∷◌, length, refl, ap, sym, ◌∙◌, subst, inr, arith}
 use Rattle.std.specs.Prelude.{◌||◌}
 use Rattle.l4_model.specs.Words.{GlobalId}
@@ -25,7 +26,7 @@ use Rattle.l4_split.proofs.Promised.{AnyOf, MayFollow, IsAnswer, IsRearmed, IsCa
 use Rattle.l4_split.proofs.PledgeLetters.{any_last}
 use Rattle.l4_split.proofs.PledgeFrames.{leaves_one, takes_one, posts_keeps}
 use Rattle.l4_split.proofs.PledgeLocals.{Steadies, same_steady, Spared, size_now, local_keeps, relists_keeps, come_rearmed, comes_spared}
-use Rattle.l4_split.proofs.PledgeActs.{Amid, all_true}
+use Rattle.l4_split.proofs.PledgeActs.{Amid}
 
 -- A split send is withdrawn.
 

@@ -1,4 +1,5 @@
 -- What is promised is kept where a deletion is told to one processor more.
+use Rattle.l4_split.proofs.Members.{all_true}
 use Rattle.std.proofs.Common.{◌≡◌, ℕ, ◌+◌, ◌<◌, ◌≤◌, Bool, true, false, cond, Some, None, [], ◌∷◌, ◌++◌, length, refl, ap, sym, ◌∙◌, subst, inl, inr, ◌⊎◌, arith}
 use Rattle.std.specs.Prelude.{◌==◌, nat_lt, slice_index_or}
 use Rattle.std.proofs.lemmas.Bool.{eqb-true, cases_lt}
@@ -21,7 +22,7 @@ use Rattle.l4_split.proofs.Going.{put_home}
 use Rattle.l4_split.proofs.Promised.{AnyOf, MayFollow, InOrder, IsAnswer, IsGone, IsRearmed, IsCalm, IsAnswered, IsTold, kept_at, phases}
 use Rattle.l4_split.proofs.PledgeLetters.{any_append, any_last, order_append}
 use Rattle.l4_split.proofs.PledgeLocals.{here_local}
-use Rattle.l4_split.proofs.PledgeActs.{Amid, all_true}
+use Rattle.l4_split.proofs.PledgeActs.{Amid}
 
 -- Who is told now was told before, or is the next one.
 told_now : (m : Machine) (cpu told to : ℕ) → next_untold m cpu told ≡ Some to → (c : ℕ) → c < to + 1 → (c ≡ cpu → ⊥) → (c < told) ⊎ (c ≡ to)

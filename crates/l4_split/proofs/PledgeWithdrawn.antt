@@ -1,7 +1,7 @@
 -- What is promised is kept where a withdrawal is handled: it finds its send, or the send was decided before.
-use Rattle.std.proofs.Common.{◌≡◌, ℕ, zero, suc, ◌<◌, Bool, true, false, cond, Option, Some, None, List, [], ◌∷◌, map, filter, length, refl, ap, sym, ◌∙◌, subst, inl, inr, ◌⊎◌}
-use Rattle.std.specs.Prelude.{◌==◌, ◌&&◌, ◌||◌, slice_get, slice_index_or}
-use Rattle.std.specs.List.{list_any}
+use Rattle.l4_split.proofs.Members.{any_kept, any_list}
+use Rattle.std.proofs.Common.{◌≡◌, ℕ, ◌<◌, Bool, true, false, Option, Some, None, List, [], ◌∷◌, map, filter, length, refl, ap, sym, ◌∙◌, subst, inl, inr, ◌⊎◌}
+use Rattle.std.specs.Prelude.{◌==◌, ◌&&◌, slice_get}
 use Rattle.std.proofs.lemmas.Bool.{eqb-true}
 use Rattle.std.proofs.lemmas.List.{append-nil}
 use Rattle.l4_model.specs.Words.{GlobalId}
@@ -28,25 +28,6 @@ use Rattle.l4_split.proofs.PledgeLetters.{any_last, any_map, any_filter, any_fil
 use Rattle.l4_split.proofs.PledgeActs.{Amid, refuses_keeps}
 use Rattle.l4_split.proofs.PledgeTurns.{opened_keeps}
 use Rattle.l4_split.proofs.PledgeTaking.{taken_any, taken_keeps, same_place}
-
--- A send that stands in a list is queued.
-
-or_right : (a b : Bool) → b ≡ true → (a || b) ≡ true
-or_right true b h = refl
-or_right false b h = h
-
-listed_any : (i : ℕ) (es : List plain.Waiting) (f : plain.Waiting) (fs : List plain.Waiting) → filter (is_of i) es ≡ f ∷ fs → list_any (λ (e : plain.Waiting). i == e.block) es ≡ true
-listed_any i [] f fs h = cc
-listed_any i (e ∷ es) f fs h = by (i == e.block) h (listed_any i es f fs)
-  where
-    by : (b : Bool) → cond b (e ∷ filter (is_of i) es) (filter (is_of i) es) ≡ f ∷ fs → (filter (is_of i) es ≡ f ∷ fs → list_any (λ (e : plain.Waiting). i == e.block) es ≡ true) → (b || list_any (λ (e : plain.Waiting). i == e.block) es) ≡ true
-    by true h rest = refl
-    by false h rest = rest h
-
-pub listed_queued : (i r : ℕ) (lists : List (List plain.Waiting)) (f : plain.Waiting) (fs : List plain.Waiting) → filter (is_of i) (slice_index_or lists r []) ≡ f ∷ fs → list_any (list_any (λ (e : plain.Waiting). i == e.block)) lists ≡ true
-listed_queued i r [] f fs h = cc
-listed_queued i zero (es ∷ lists) f fs h = let here = listed_any i es f fs h in rw here refl
-listed_queued i (suc r) (es ∷ lists) f fs h = or_right (list_any (λ (e : plain.Waiting). i == e.block) es) _ (listed_queued i r lists f fs h)
 
 -- Of a send and of its decision
 
@@ -180,7 +161,7 @@ withdraw_keeps m from cpu letter s w x name receiver cause h first content promi
             let at : home m row.r ≡ cpu = ap (home m) r_is ∙ sym here in
             let listed = sym (ap (λ c. (v.kept c).listed row.r) at) ∙ row.listed in
             let number : (thread y.local j).context.begun ≡ name.k = sym (ap (λ c. (v.kept c).thread.context.begun) at) ∙ (row.stand_in (λ e. away (sym (ap (home m) r_is) ∙ e))).number ∙ sym number_is in
-            and_true (plain.is_queued y.local.lists j) ((thread y.local j).context.begun == name.k) (listed_queued j row.r y.local.lists.waiting _ [] listed)
+            and_true (plain.is_queued y.local.lists j) ((thread y.local j).context.begun == name.k) (any_list (is_of j) y.local.lists.waiting row.r (any_kept (is_of j) _ [] _ listed))
             (subst (λ n. ((thread y.local j).context.begun == n) ≡ true) number (same_nat (thread y.local j).context.begun)) none
         by_words none (q ∷ []) is row = by_word q q.letter.content is refl row
         by_words none (q ∷ p ∷ ps) is row = absurd row

@@ -1,6 +1,7 @@
 -- A send in hand is appended to the list of its receiver.
-use Rattle.std.proofs.Common.{◌≡◌, ℕ, suc, ◌<◌, Bool, true, false, cond, Option, Some, None, List, [], ◌∷◌, ◌++◌, filter, length, refl, ap, sym, ◌∙◌, subst, inl, inr, arith}
-use Rattle.std.specs.Prelude.{◌==◌, ◌||◌, slice_index_or}
+use Rattle.l4_split.proofs.Members.{any_block, none_in, none_kept}
+use Rattle.std.proofs.Common.{◌≡◌, ℕ, ◌<◌, true, false, Option, Some, None, List, [], ◌∷◌, ◌++◌, length, refl, ap, sym, ◌∙◌, subst, inl, inr, arith}
+use Rattle.std.specs.Prelude.{◌==◌}
 use Rattle.std.specs.List.{list_any}
 use Rattle.l4_model.specs.Machine.{Machine}
 use Rattle.l4_model.specs.World.{Thread, World, Send, Receive, Phase, Ready, Sending, Receiving, Ordering, Ended, Deleted, queued, is_queued, is_alive}
@@ -12,7 +13,6 @@ use Rattle.l4_core_model.specs.Letters.{Result, Delivered, Refused, TimedOut, No
 use Rattle.l4_core_model.specs.Local.{Local, thread, destination_place, last_name, relists, readied, ended, was_delivered}
 use Rattle.l4_core_model.specs.Acts.{Work, ◌▷◌, tells, does, entry}
 use Rattle.l4_core_model.specs.Runs.{Posted}
-use Rattle.l4_core_model.proofs.Knows.{blocks}
 use Rattle.l4_core_model.proofs.Fit.{Suits}
 use Rattle.l4_core_model.proofs.Remembers.{same_or_apart}
 use Rattle.l4_split.proofs.Keeping.{queued_listed, queued_other_list}
@@ -77,20 +77,8 @@ alive_seen m r v (inr agrees) alive = agrees_alive v.world (at_home m r v).threa
 
 -- A send that is in no list of a processor is in none of the world.
 
-none_of : (i : ℕ) (es : List plain.Waiting) → filter (is_of i) es ≡ [] → list_any (λ x. i == x) (blocks es) ≡ false
-none_of i [] h = refl
-none_of i (e ∷ es) h = by (i == e.block) h (none_of i es)
-  where
-    by : (b : Bool) → cond b (e ∷ filter (is_of i) es) (filter (is_of i) es) ≡ [] → (filter (is_of i) es ≡ [] → list_any (λ x. i == x) (blocks es) ≡ false) → (b || list_any (λ x. i == x) (blocks es)) ≡ false
-    by true h rest = cc
-    by false h rest = rest h
-
-none_in : (i : ℕ) (lists : List (List ℕ)) → ((q : ℕ) → q < length lists → list_any (λ x. i == x) (slice_index_or lists q []) ≡ false) → is_queued lists i ≡ false
-none_in i [] none = refl
-none_in i (xs ∷ lists) none = let here = none 0 (omega arith) in rw here (none_in i lists (λ q lt. none (suc q) (omega arith)))
-
 not_waiting : {P : ℕ → View → Type 0} (m : Machine) (i : ℕ) (but : List ℕ) (s : Scene) (w : World) → RelatesBut m P but s w → ((cpu q : ℕ) → ((view m s w i).kept cpu).listed q ≡ []) → is_queued w.waiting i ≡ false
-not_waiting m i but s w rel none = none_in i w.waiting (λ q lt. let within : q < length m.threads = omega (arith, rel.sized_world.lists) in ap (list_any (λ x. i == x)) (rel.lists q within) ∙ none_of i (senders m s q) (none (home m q) q))
+not_waiting m i but s w rel none = none_in (λ x. i == x) w.waiting (λ q lt. let within : q < length m.threads = omega (arith, rel.sized_world.lists) in ap (list_any (λ x. i == x)) (rel.lists q within) ∙ any_block i (senders m s q) ∙ none_kept (is_of i) (senders m s q) (none (home m q) q))
 
 -- In hand, it is in no list of this processor either.
 pub record IsInHand (m : Machine) (cpu i : ℕ) (s : Scene) (w : World) (x : Work) (send : Send) : Type 0 where

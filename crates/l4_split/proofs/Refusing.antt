@@ -1,11 +1,11 @@
 -- A send on its receiver's processor is refused.
-use Rattle.std.proofs.Common.{◌≡◌, ℕ, ◌<◌, ◌≤◌, true, Some, None, List, [], ◌∷◌, length, refl, ap, sym, ◌∙◌, subst, inl, inr, ◌⊎◌, arith}
+use Rattle.l4_core_model.proofs.Sending.{nowhere_is, zero_passed}
+use Rattle.std.proofs.Common.{◌≡◌, ℕ, ◌<◌, ◌≤◌, true, Some, None, List, [], ◌∷◌, length, refl, ap, sym, ◌∙◌, subst, inl, inr, ◌⊎◌}
 use Rattle.std.specs.Prelude.{◌&&◌, not}
-use Rattle.std.proofs.lemmas.Bool.Decides.{nat_tests}
-use Rattle.l4_model.specs.Words.{Id, NilThread, AnyThread, AnyLocalThread, LocalThread, GlobalThread, Period}
+use Rattle.l4_model.specs.Words.{Id, NilThread, AnyThread, AnyLocalThread, LocalThread, GlobalThread}
 use Rattle.l4_model.specs.Machine.{Machine, place_of}
 use Rattle.l4_model.specs.World.{Thread, World, Send, Message, Deleted, change, unqueued, is_deleted, is_alive}
-use Rattle.l4_model.specs.Conditions.{Found, found_by, is_no_destination, is_zero, has_passed, is_refusable, may_still_accept}
+use Rattle.l4_model.specs.Conditions.{Found, is_no_destination, is_zero, is_refusable, may_still_accept}
 use Rattle.l4_model.specs.History.{run}
 use Rattle.l4_model.specs.Steps.{next}
 use Rattle.l4_model.specs.Effects.{refused, obeyed}
@@ -45,13 +45,6 @@ refuses_goes m cpu i s w x refusal send g h is possible =
     }
 
 -- Nobody is there
-
-nowhere_is : (m : Machine) (w : World) (to : Id) → destination_place m to ≡ None → (to ≡ NilThread → ⊥) → is_no_destination to (found_by m w to) ≡ true
-nowhere_is m w NilThread h not_nil = absurd (not_nil refl)
-nowhere_is m w AnyThread h not_nil = refl
-nowhere_is m w AnyLocalThread h not_nil = refl
-nowhere_is m w (LocalThread word) h not_nil = refl
-nowhere_is m w (GlobalThread t) h not_nil = rw h refl
 
 pub nowhere_goes : (m : Machine) (cpu i : ℕ) (s : Scene) (w : World) (x : Work) (send : Send) → HasSend m cpu i s w x send → destination_place m send.to ≡ None → (send.to ≡ NilThread → ⊥) → Goes m cpu s w [] (refuses m cpu Nobody i x)
 nowhere_goes m cpu i s w x send h to not_nil =
@@ -108,11 +101,6 @@ pub record IsReceiver (m : Machine) (cpu r : ℕ) (s : Scene) (w : World) (x : W
   pub home : home m r ≡ cpu
   pub to : destination_place m send.to ≡ Some r
   pub seen : IsSeen m r (view m (amid cpu s x) w r)
-
--- a send of timeout zero began no later than now
-zero_passed : (period : Period) (since now : ℕ) → is_zero period ≡ true → since ≤ now → has_passed period since now ≡ true
-zero_passed None since now z le = cc
-zero_passed (Some n) since now z le = grind (arith, nat_tests)
 
 pub deleted_goes : (m : Machine) (cpu i r : ℕ) (s : Scene) (w : World) (x : Work) (send : Send) → (h : HasSend m cpu i s w x send) → IsReceiver m cpu r s h.goes.now x send → is_deleted (thread x.local r).phase ≡ true → Goes m cpu s w [] (refuses m cpu Nobody i x)
 deleted_goes m cpu i r s w x send h q gone =

@@ -1,8 +1,9 @@
 -- At rest an undecided send waits, and nothing can decide it.
+use Rattle.l4_split.proofs.Members.{any_block, any_kept, any_list}
 use Rattle.l4_model.proofs.Rows.Writing.{send}
 use Rattle.l4_core_model.specs.Plain.{Waiting}
-use Rattle.std.proofs.Common.{◌≡◌, ℕ, zero, suc, ◌<◌, Bool, true, false, cond, Some, List, [], ◌∷◌, filter, length, refl, ap, sym, ◌∙◌, subst, inl, inr, None}
-use Rattle.std.specs.Prelude.{◌==◌, ◌||◌, slice_index, slice_index_or}
+use Rattle.std.proofs.Common.{◌≡◌, ℕ, ◌<◌, true, false, Some, List, [], ◌∷◌, filter, length, refl, ap, sym, ◌∙◌, subst, inl, inr, None}
+use Rattle.std.specs.Prelude.{◌==◌, slice_index}
 use Rattle.std.specs.List.{list_any}
 use Rattle.std.proofs.lemmas.Bool.{eqb-true}
 use Rattle.l4_model.specs.Machine.{Machine}
@@ -12,7 +13,6 @@ use Rattle.l4_model.proofs.Chains.{some_is}
 use Rattle.l4_core_model.specs.Plain as plain
 use Rattle.l4_core_model.specs.Local.{Local, declared, thread, held, armed_period}
 use Rattle.l4_core_model.specs.Acts.{entry, zero_refusable}
-use Rattle.l4_core_model.proofs.Knows.{blocks}
 use Rattle.l4_core_model.proofs.Beginning.{any_in, destination_within}
 use Rattle.l4_core_model.proofs.Fit.{Suits}
 use Rattle.l4_core_model.proofs.Remembers.{same_or_apart}
@@ -24,29 +24,6 @@ use Rattle.l4_split.proofs.Moves.{deleted_phase}
 use Rattle.l4_split.proofs.Seen.{refusable_at_home}
 use Rattle.l4_split.proofs.Settled.{IsSettledSend, there}
 use Rattle.l4_split.proofs.Rest.{IsAtRest, own, own_agrees, own_seen, own_waits, no_deadline, none_armed, none_ending}
-
--- One entry is enough to stand in a list, and to be queued.
-
-pub any_kept : {A : Type 0} (p : A → Bool) (xs : List A) (e : A) → filter p xs ≡ e ∷ [] → list_any p xs ≡ true
-any_kept p [] e h = cc
-any_kept p (x ∷ xs) e h = by (p x) h (any_kept p xs e)
-  where
-    by : (b : Bool) → cond b (x ∷ filter p xs) (filter p xs) ≡ e ∷ [] → (filter p xs ≡ e ∷ [] → list_any p xs ≡ true) → (b || list_any p xs) ≡ true
-    by true h rest = refl
-    by false h rest = rest h
-
-pub any_list : {A : Type 0} (p : A → Bool) (xss : List (List A)) (r : ℕ) → list_any p (slice_index_or xss r []) ≡ true → list_any (list_any p) xss ≡ true
-any_list p [] r h = cc
-any_list p (xs ∷ xss) zero h = rw h refl
-any_list p (xs ∷ xss) (suc r) h = by (list_any p xs) (any_list p xss r h)
-  where
-    by : (b : Bool) → list_any (list_any p) xss ≡ true → (b || list_any (list_any p) xss) ≡ true
-    by true h = refl
-    by false h = h
-
-any_block : (i : ℕ) (es : List plain.Waiting) → list_any (λ x. i == x) (blocks es) ≡ list_any (is_of i) es
-any_block i [] = refl
-any_block i (e ∷ es) = ap (λ b. (i == e.block) || b) (any_block i es)
 
 -- A send that waits, at home or elsewhere
 record IsHere (m : Machine) (s : Scene) (w : World) (i : ℕ) (send : Send) : Type 0 where
@@ -67,7 +44,7 @@ not_split m s w i send h same split =
 stands_at_home : (m : Machine) (s : Scene) (w : World) (i : ℕ) (send : Send) → (h : IsHere m s w i send) → home m h.row.r ≡ home m i → plain.is_queued (s.locals (home m i)).lists i ≡ true
 stands_at_home m s w i send h same =
     let e : plain.Waiting = entry m h.row.r i send in
-    any_list (is_of i) (s.locals (home m i)).lists.waiting h.row.r (any_kept (is_of i) _ e (subst (λ c. filter (is_of i) (plain.list_of (s.locals c).lists h.row.r) ≡ e ∷ []) same h.row.listed))
+    any_list (is_of i) (s.locals (home m i)).lists.waiting h.row.r (any_kept (is_of i) _ [] e (subst (λ c. filter (is_of i) (plain.list_of (s.locals c).lists h.row.r) ≡ e ∷ []) same h.row.listed))
 
 no_drop : (m : Machine) (s : Scene) (w : World) (i : ℕ) (send : Send) → IsHere m s w i send → is_deleted (own m s i).phase ≡ true → ⊥
 no_drop m s w i send h gone = same_or_apart ⊥ (home m h.row.r) (home m i)
@@ -111,7 +88,7 @@ stays m s w i send clocks h at_once refusable =
     let l : Local = s.locals (home m r) in
     let lt = to_within m s w i send h in
     let here = refusable_at_home m r (slice_index clocks (declared m r).cpu) l.clock send (world_thread w r) (own m s r) (own_agrees m s w r h.rest lt) refusable in
-    let it = any_in (λ (e : plain.Waiting). zero_refusable m (held m l r) (thread l e.block).send ≡ false) (is_of i) (plain.list_of l.lists r) (h.rest.idle r lt).no_zero (any_kept (is_of i) _ (entry m r i send) h.row.listed) in
+    let it = any_in (λ (e : plain.Waiting). zero_refusable m (held m l r) (thread l e.block).send ≡ false) (is_of i) (plain.list_of l.lists r) (h.rest.idle r lt).no_zero (any_kept (is_of i) _ [] (entry m r i send) h.row.listed) in
     let none : zero_refusable m (held m l r) (thread l i).send ≡ false = ap (λ j. zero_refusable m (held m l r) (thread l j).send) (eqb-true i it.0.block it.1) ∙ it.2 in
     let some = at_receiver m s w i send l.clock h at_once here in
     cc (none, some)
@@ -134,7 +111,7 @@ settled_send m s w i send rest lt has_there =
     record {
       receiver = r;
       to = h.row.to;
-      waits = any_list (λ x. i == x) w.waiting r (ap (list_any (λ x. i == x)) (rest.relates.lists r (to_within m s w i send h)) ∙ any_block i (senders m s r) ∙ any_kept (is_of i) (senders m s r) e h.row.listed);
+      waits = any_list (λ x. i == x) w.waiting r (ap (list_any (λ x. i == x)) (rest.relates.lists r (to_within m s w i send h)) ∙ any_block i (senders m s r) ∙ any_kept (is_of i) (senders m s r) [] e h.row.listed);
       endless = λ n. endless m s w i n send h;
       stays = λ clocks. stays m s w i send clocks h;
       alive = receiver_alive m s w i send h;

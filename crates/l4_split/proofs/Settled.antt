@@ -1,9 +1,10 @@
 -- A world in which no thread has anything to do is still.
+use Rattle.l4_core_model.proofs.Still.{passed_is_finite}
 use Rattle.std.proofs.Common.{◌≡◌, ℕ, ◌<◌, Bool, true, false, cond, Option, Some, None, List, length, refl, ap, sym, ◌∙◌, arith}
 use Rattle.std.specs.Prelude.{◌==◌, not, slice_index}
 use Rattle.std.specs.Option.{option_map}
 use Rattle.std.proofs.lemmas.Option.{slice_get-get_or}
-use Rattle.l4_model.specs.Words.{GlobalId, Id, NilThread, AnyThread, AnyLocalThread, LocalThread, GlobalThread, Period}
+use Rattle.l4_model.specs.Words.{GlobalId, Id, NilThread, AnyThread, AnyLocalThread, LocalThread, GlobalThread}
 use Rattle.l4_model.specs.Machine.{Machine, place_of}
 use Rattle.l4_model.specs.World.{World, Send, Receive, Phase, Ready, Sending, Receiving, Ordering, Ended, Deleted, Name, is_queued, is_ready, is_deleted, receive_now, opening_thread}
 use Rattle.l4_model.specs.Steps.{receive_passed}
@@ -100,10 +101,6 @@ is_pending m w clocks s p settled h =
 
 -- No step of a send is possible.
 
-finite : (P : Type 0) (period : Period) (since now : ℕ) → has_passed period since now ≡ true → ((n : ℕ) → period ≡ Some n → P) → P
-finite P None since now h then = cc
-finite P (Some n) since now h then = then n refl
-
 to_is : (m : Machine) (w : World) (clocks : List ℕ) (p : Pending) → IsSettled m w → (it : IsPending m w clocks p) → receiver_of m (later w clocks) p ≡ Some (there m w clocks it.settled.receiver)
 to_is m w clocks p settled it = found_to m w clocks p.send.to settled.size ∙ ap (option_map (there m w clocks)) it.settled.to
 
@@ -119,7 +116,7 @@ no_timeout m w clocks p settled it due =
   where
     by : (b : Bool) → is_zero p.send.period ≡ b → cond b (is_refusable m p.send (receiver_of m (later w clocks) p)) (is_waiting (later w clocks) p) ≡ true → has_passed p.send.period p.send.since p.sender.clock ≡ true → ⊥
     by true at_once h passed = it.settled.stays clocks at_once (sym (ap (is_refusable m p.send) (to_is m w clocks p settled it)) ∙ h)
-    by false not_zero h passed = finite ⊥ p.send.period p.send.since p.sender.clock passed (λ n period. it.settled.endless n period not_zero)
+    by false not_zero h passed = passed_is_finite ⊥ p.send.period p.send.since p.sender.clock passed (λ n period. it.settled.endless n period not_zero)
 
 gone : (m : Machine) (w : World) (clocks : List ℕ) (to : Id) (r : ℕ) → destination_place m to ≡ Some r → is_no_destination to (Some (there m w clocks r)) ≡ true → is_deleted (world_thread w r).phase ≡ true
 gone m w clocks NilThread r to h = cc
@@ -149,7 +146,7 @@ passed_finite m w t receive receiving passed endless = by t.now.phase receiving 
     by : (p : Phase) → receive_now p ≡ Some receive → receive_passed t p ≡ true → ⊥
     by Ready r h = cc
     by Sending r h = cc
-    by (Receiving other since) r h = let same : other ≡ receive = some_is other receive r in finite ⊥ other.period since t.clock h (λ n period. endless n (sym (ap (λ (r : Receive). r.period) same) ∙ period))
+    by (Receiving other since) r h = let same : other ≡ receive = some_is other receive r in passed_is_finite ⊥ other.period since t.clock h (λ n period. endless n (sym (ap (λ (r : Receive). r.period) same) ∙ period))
     by Ordering r h = cc
     by Ended r h = cc
     by Deleted r h = cc

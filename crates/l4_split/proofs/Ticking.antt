@@ -1,21 +1,20 @@
 -- The clock of a processor goes on.
+use Rattle.l4_model.proofs.Clocks.{passed_later}
+use Rattle.l4_core_model.proofs.Law.{send_later, phase_later}
 use Rattle.std.proofs.Common.{◌≡◌, ℕ, ◌<◌, ◌≤◌, ◌^◌, Bool, true, false, cond, Option, Some, None, [], length, refl, ap, sym, ◌∙◌, subst, arith}
 use Rattle.std.specs.Prelude.{◌==◌, nat_lt, slice_get, slice_set, slice_index_or, IfSome}
 use Rattle.std.proofs.lemmas.List.{length-set, get_or-set_same, get_or-set_other}
 use Rattle.std.proofs.lemmas.Bool.{ltb-true}
-use Rattle.std.proofs.lemmas.Bool.Decides.{nat_tests}
 use Rattle.std.proofs.lemmas.Option.{slice_get-get_or}
-use Rattle.l4_model.specs.Words.{Period}
 use Rattle.l4_model.specs.Machine.{Machine}
-use Rattle.l4_model.specs.World.{Thread, World, Send, Phase, Ready, Sending, Receiving, Ordering, Ended, Deleted}
-use Rattle.l4_model.specs.Conditions.{has_passed}
+use Rattle.l4_model.specs.World.{Thread, World, Send}
 use Rattle.l4_model.specs.Steps.{Tick, next}
 use Rattle.l4_core_model.specs.Letters.{Content, SendLetter, DoneLetter, WithdrawLetter, GoneLetter, OrderLetter, OrderDoneLetter, Cause, ByTimeout, ByCancel, ByDeletion}
 use Rattle.l4_core_model.specs.Local.{Local}
 use Rattle.l4_core_model.specs.Acts.{Work, ◌▷◌, tells, does}
 use Rattle.l4_core_model.specs.Turns.{clock_is}
 use Rattle.l4_core_model.specs.Runs.{Posted}
-use Rattle.l4_core_model.proofs.Fit.{SendIsSince, PhaseIsSince, all-map}
+use Rattle.l4_core_model.proofs.Fit.{all-map}
 use Rattle.l4_core_model.proofs.Remembers.{same_or_apart}
 use Rattle.l4_core_model.proofs.Knows.{blocks}
 use Rattle.l4_split.proofs.Entries.{other_is}
@@ -29,22 +28,6 @@ use Rattle.l4_split.proofs.Moves.{at_home}
 use Rattle.l4_split.proofs.Going.{Goes, told}
 
 -- What is said of a place stays true.
-
-send_later : (now later : ℕ) (o : Option Send) → now ≤ later → SendIsSince now o → SendIsSince later o
-send_later now later None le h = tt
-send_later now later (Some send) le h = omega arith
-
-phase_later : (now later : ℕ) (p : Phase) → now ≤ later → PhaseIsSince now p → PhaseIsSince later p
-phase_later now later Ready le h = tt
-phase_later now later Sending le h = tt
-phase_later now later (Receiving receive since) le h = omega arith
-phase_later now later Ordering le h = tt
-phase_later now later Ended le h = tt
-phase_later now later Deleted le h = tt
-
-passed_later : (period : Period) (since now later : ℕ) → now ≤ later → has_passed period since now ≡ true → has_passed period since later ≡ true
-passed_later None since now later le h = cc
-passed_later (Some n) since now later le h = grind (arith, nat_tests)
 
 cause_later : (cause : Cause) (now later : ℕ) (t : Thread) (o : Option Send) → now ≤ later → IfSome o (IsCause cause now t) → IfSome o (IsCause cause later t)
 cause_later cause now later t None le h = tt

@@ -106,7 +106,7 @@ posted_goes m cpu i r s w x send h here to away =
       notices = others;
       carries = record { deleted = λ gone. gone; begun = omega arith; causes = λ cause same old. old };
     } in
-    let keeps = moves_kept m i v after at.kept moves (record { good = at.kept.at_home.good; armed = at.kept.at_home.armed }) in
+    let keeps = moves_kept m i v after at.kept moves at.kept.at_home in
     let suits : Suits (at_home m i v).thread.phase (Some send) (at_home m i v).thread.order = subst (λ o. Suits (at_home m i v).thread.phase o (at_home m i v).thread.order) at.has at.kept.at_home.good.suits in
     let row : IsSent m i (at_home m i after).thread (seats after) p = record {
       goes = record { send = send; has = at.has; order = at.order; r = r; to = to; split = λ same. away (same ∙ here) };

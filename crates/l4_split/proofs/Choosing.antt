@@ -13,13 +13,13 @@ use Rattle.l4_core_model.specs.Acts.{Work, ◌▷◌, does, first_acceptable, ac
 use Rattle.l4_core_model.specs.Turns.{Duty, duty_drops_own, duty_refuses_waiting, duty_tells_gone, duty_cancels_own, duty_cancels_receive, duty_delivers_first, duty_closes_receive, duty_refuses_zero, duty_of, first_some, Choice, ByDuty, ByDue, ByReady, does_choice, turn, opened}
 use Rattle.l4_core_model.specs.Runs.{IsMachine}
 use Rattle.l4_core_model.proofs.Knows.{same_nat}
-use Rattle.l4_core_model.proofs.Fit.{all-map, all-drop}
+use Rattle.l4_core_model.proofs.Fit.{all-drop}
 use Rattle.l4_split.proofs.Entries.{other_is}
 use Rattle.l4_core_model.proofs.Remembers.{same_or_apart}
 use Rattle.l4_split.proofs.Choices.{IsChoice, turn_then}
-use Rattle.l4_split.proofs.Views.{Scene, Kept, View, kept, view, home, put, amid, notices}
-use Rattle.l4_split.proofs.Rows.{IsNotice, Known, Stands}
-use Rattle.l4_split.proofs.Deciding.{notice_as}
+use Rattle.l4_split.proofs.Views.{Scene, Kept, View, kept, view, home, put, amid}
+use Rattle.l4_split.proofs.Rows.{Known, Stands}
+
 use Rattle.l4_split.proofs.Timing.{due_goes, times_out_goes}
 use Rattle.l4_split.proofs.Relation.{IsSized, RelatesBut}
 use Rattle.l4_split.proofs.Frames.{leaves_out, Spares, local_changes}
@@ -82,9 +82,9 @@ known_reread m i ready v none h = record {
   agrees = h.agrees;
   row = h.row;
   kept = record {
-    at_home = record { good = h.kept.at_home.good; armed = h.kept.at_home.armed };
+    at_home = h.kept.at_home;
     elsewhere = λ c ne. let e = h.kept.elsewhere c ne in record { ready = none c ne; armed = e.armed; gone = e.gone };
-    notices = all-map (IsNotice m i (at_home m i v)) (IsNotice m i (at_home m i (reread ready v))) (λ p n. notice_as m i (at_home m i v) (at_home m i (reread ready v)) p p.letter.content refl refl n) (notices v.mail) h.kept.notices;
+    notices = h.kept.notices;
   };
 }
 

@@ -1,22 +1,20 @@
 -- A send is decided on the processor where it is: its sender goes on, at once or by a letter.
 use Rattle.std.proofs.Common.{◌≡◌, ℕ, false, Option, Some, None, List, [], ◌∷◌, refl, ap, sym, ◌∙◌, subst, arith}
-use Rattle.std.specs.Prelude.{IfSome}
 use Rattle.l4_model.specs.Machine.{Machine}
 use Rattle.l4_model.specs.World.{Thread, World, Send, Asked, Receive, Phase, Ready, Sending, Receiving, Ordering, Ended, Deleted, change, unqueued, is_alive}
 use Rattle.l4_model.specs.Effects.{decided, goes_on}
 use Rattle.l4_model.proofs.Chains.{cond_both, cond_keeps}
 use Rattle.l4_core_model.specs.Plain as plain
-use Rattle.l4_core_model.specs.Letters.{Result, Delivered, Refused, TimedOut, Nobody, Cancelled, Dropped, Content}
+use Rattle.l4_core_model.specs.Letters.{Result, Delivered, Refused, TimedOut, Nobody, Cancelled, Dropped}
 use Rattle.l4_core_model.specs.Local.{thread, destination_place, relists, comes_to, readied, ended, was_delivered}
 use Rattle.l4_core_model.specs.Acts.{Work, ◌▷◌, does}
-use Rattle.l4_core_model.specs.Runs.{Posted}
-use Rattle.l4_core_model.proofs.Fit.{IsGood, Suits, all-map}
+use Rattle.l4_core_model.proofs.Fit.{IsGood, Suits}
 use Rattle.l4_core_model.proofs.Good.{ended_refused_good, ended_delivered_good, ended_refused_none, ended_delivered_none}
 use Rattle.l4_split.proofs.Keeping.{come}
-use Rattle.l4_split.proofs.Views.{Scene, Kept, View, kept, view, world_thread, home, amid, words, notices}
-use Rattle.l4_split.proofs.Rows.{seats, Agrees, IsUnplaced, IsStandIn, IsCause, IsNotice, IsNoticeOf, IsKept, Stands}
+use Rattle.l4_split.proofs.Views.{Scene, Kept, View, kept, view, world_thread, home, amid, words}
+use Rattle.l4_split.proofs.Rows.{seats, Agrees, IsUnplaced, IsStandIn, IsKept, Stands}
 use Rattle.l4_split.proofs.Squares.{ended_agrees, ended_deleted}
-use Rattle.l4_split.proofs.Moves.{at_home, Carries, moved_notice, IsFresh, of_none}
+use Rattle.l4_split.proofs.Moves.{at_home, Carries, IsFresh, of_none}
 use Rattle.l4_split.proofs.Frames.{first_about, takes_in}
 use Rattle.l4_split.proofs.ListFrames.{unqueues, unlisted, view_unqueued}
 use Rattle.l4_split.proofs.Relation.{RelatesBut}
@@ -112,25 +110,18 @@ ended_carries result k i send has order = record {
 
 -- What is kept of it says nothing of lists.
 
-pub notice_as : (m : Machine) (i : ℕ) (k after : Kept) (p : Posted) (c : Content) → after.thread ≡ k.thread → after.clock ≡ k.clock → IsNoticeOf m i k p c → IsNoticeOf m i after p c
-notice_as m i k after p c thread clock n = moved_notice m i k after p c (record {
-  deleted = λ gone. ap (λ (t : Thread). t.phase) thread ∙ gone;
-  begun = let same = ap (λ (t : Thread). t.context.begun) thread in omega arith;
-  causes = λ cause same old. subst (λ now. IfSome after.thread.send (IsCause cause now after.thread)) (sym clock) (subst (λ (t : Thread). IfSome t.send (IsCause cause k.clock t)) (sym thread) old);
-}) n
-
 pub kept_unlisted : (m : Machine) (i : ℕ) (v : View) → IsKept m i v → IsKept m i (unlisted v)
 kept_unlisted m i v h = record {
-  at_home = record { good = h.at_home.good; armed = h.at_home.armed };
-  elsewhere = λ c ne. let e = h.elsewhere c ne in record { ready = e.ready; armed = e.armed; gone = e.gone };
-  notices = all-map (IsNotice m i (at_home m i v)) (IsNotice m i (at_home m i (unlisted v))) (λ p n. notice_as m i (at_home m i v) (at_home m i (unlisted v)) p p.letter.content refl refl n) (notices v.mail) h.notices;
+  at_home = h.at_home;
+  elsewhere = h.elsewhere;
+  notices = h.notices;
 }
 
 pub kept_listed : (m : Machine) (i : ℕ) (v : View) → IsKept m i (unlisted v) → IsKept m i v
 kept_listed m i v h = record {
-  at_home = record { good = h.at_home.good; armed = h.at_home.armed };
-  elsewhere = λ c ne. let e = h.elsewhere c ne in record { ready = e.ready; armed = e.armed; gone = e.gone };
-  notices = all-map (IsNotice m i (at_home m i (unlisted v))) (IsNotice m i (at_home m i v)) (λ p n. notice_as m i (at_home m i (unlisted v)) (at_home m i v) p p.letter.content refl refl n) (notices v.mail) h.notices;
+  at_home = h.at_home;
+  elsewhere = h.elsewhere;
+  notices = h.notices;
 }
 
 -- The sender is of this processor.

@@ -111,7 +111,7 @@ foreign_goes m cpu i j order s w y h at away =
     let word : words after.mail ≡ p ∷ [] = ap words mail ∙ filter_last (λ (q : Posted). says_where q.letter.content) v.mail p refl ∙ ap (λ ps. ps ++ p ∷ []) c.quiet in
     let others : notices after.mail ≡ notices v.mail = ap notices mail ∙ filter_last_other (λ (q : Posted). not (says_where q.letter.content)) v.mail p refl in
     let moves : Moves m i v after = record { elsewhere = λ q ne. same_alike (v.kept q) (after.kept q) refl; notices = others; carries = record { deleted = λ gone. gone; begun = omega arith; causes = λ cause same old. old } } in
-    let keeps = moves_kept m i v after c.kept moves (record { good = c.kept.at_home.good; armed = c.kept.at_home.armed }) in
+    let keeps = moves_kept m i v after c.kept moves c.kept.at_home in
     let suits : Suits (at_home m i v).thread.phase (at_home m i v).thread.send (Some order) = subst (Suits (at_home m i v).thread.phase (at_home m i v).thread.send) c.has c.kept.at_home.good.suits in
     let row : IsOrdered m i (at_home m i after).thread (seats after) p = record {
       orders = record { no_send = c.send; order = order; has = c.has; target = j; place = at; split = λ same. away (same ∙ h.here.home); unplaced = record { listed = c.unplaced.listed; stand_in = c.unplaced.stand_in } };

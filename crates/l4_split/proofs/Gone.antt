@@ -13,7 +13,6 @@ use Rattle.l4_core_model.specs.Acts.{Work, ◌▷◌, does, posts}
 use Rattle.l4_core_model.specs.Turns.{next_untold, has_told}
 use Rattle.l4_core_model.specs.Mail.{foreign_place, handled}
 use Rattle.l4_core_model.proofs.Beginning.{place_within}
-use Rattle.l4_core_model.proofs.Fit.{all-map}
 use Rattle.l4_core_model.proofs.Knows.{length-changed}
 use Rattle.l4_core_model.proofs.Remembers.{same_or_apart, apart}
 use Rattle.l4_split.proofs.Entries.{get_other_place}
@@ -24,7 +23,7 @@ use Rattle.l4_split.proofs.Frames.{first_about, leaves_out, takes_in, Spares, lo
 use Rattle.l4_split.proofs.ListFrames.{put_here}
 use Rattle.l4_split.proofs.Moves.{at_home, deleted_phase}
 use Rattle.l4_split.proofs.Going.{Goes, IsHere, home_is}
-use Rattle.l4_split.proofs.Deciding.{notice_as}
+
 use Rattle.l4_split.proofs.Noticing.{notice_goes}
 use Rattle.l4_split.proofs.Receiving.{without, IsLetter, at_work, foreign_place_is, kept_opened}
 use Rattle.l4_split.proofs.Keeping.{changes_here}
@@ -131,9 +130,9 @@ stands_retold m i told v h = record {
     agrees = h.known.agrees;
     row = h.known.row;
     kept = record {
-      at_home = record { good = h.known.kept.at_home.good; armed = h.known.kept.at_home.armed };
-      elsewhere = λ c ne. let e = h.known.kept.elsewhere c ne in record { ready = e.ready; armed = e.armed; gone = e.gone };
-      notices = all-map (IsNotice m i (at_home m i v)) (IsNotice m i (at_home m i (retold told v))) (λ p n. notice_as m i (at_home m i v) (at_home m i (retold told v)) p p.letter.content refl refl n) (notices v.mail) h.known.kept.notices;
+      at_home = h.known.kept.at_home;
+      elsewhere = h.known.kept.elsewhere;
+      notices = h.known.kept.notices;
     };
   };
   ready = h.ready;

@@ -61,7 +61,7 @@ noticed m from cpu i letter s w h lt about late =
         agrees = subst (λ ps. Agrees before.world (learned ps k.clock k.thread)) (sym same_words) stands.known.agrees;
         row = subst (λ ps. Row m i k.thread (seats before) ps k.thread.send) (sym same_words) stands.known.row;
         kept = record {
-          at_home = record { good = stands.known.kept.at_home.good; armed = stands.known.kept.at_home.armed };
+          at_home = stands.known.kept.at_home;
           elsewhere = stands.known.kept.elsewhere;
           notices = subst (AllByRecursion (IsNotice m i k)) (sym new_notices) (all_without (IsNotice m i k) (notices (filter mine f.before)) (notices (filter mine f.after)) p was);
         };
@@ -88,7 +88,7 @@ handles_withdraw m from cpu letter s w x name receiver cause h content is =
     let lt = place_within m name.thread i at_i.0 in
     let about : place_of m (subject letter.content) ≡ Some i = ap (λ c. place_of m (subject c)) content ∙ at_i.0 in
     let n = noticed m from cpu i letter s w h lt about (ap says_where content) in
-    let says : IsWithdrawal m i (at_home m i (view m s w i)) (record { from = from; to = cpu; letter = letter }) name receiver cause =
+    let says : IsWithdrawal m i (at_home m i (view m s w i)).clock (at_home m i (view m s w i)).thread (record { from = from; to = cpu; letter = letter }) name receiver cause =
     subst (IsNoticeOf m i (at_home m i (view m s w i)) (record { from = from; to = cpu; letter = letter })) content n.says in
     let e : Goes m cpu (without from cpu s) w [] y = record { now = w; reaches = refl; relates = n.relates } in
     subst (Goes m cpu (without from cpu s) w []) (some_is _ x rest)
@@ -101,7 +101,7 @@ handles_withdraw m from cpu letter s w x name receiver cause h content is =
     y : Work
     y = at_work cpu letter s
 
-    withdrawn : (i : ℕ) → i < length m.threads → (e : Goes m cpu (without from cpu s) w [] y) → (cause : Cause) → IsWithdrawal m i (at_home m i (view m s w i)) (record { from = from; to = cpu; letter = letter }) name receiver cause →
+    withdrawn : (i : ℕ) → i < length m.threads → (e : Goes m cpu (without from cpu s) w [] y) → (cause : Cause) → IsWithdrawal m i (at_home m i (view m s w i)).clock (at_home m i (view m s w i)).thread (record { from = from; to = cpu; letter = letter }) name receiver cause →
         (thread y.local i).context.begun ≡ name.k → plain.is_queued y.local.lists i ≡ true → Goes m cpu (without from cpu s) w [] (refuses m cpu (refusal_of cause) i y)
     withdrawn i lt e cause says number queued = by cause (subst (λ o. IfSome o (IsCause cause (at_home m i v0).clock (at_home m i v0).thread)) has (says.true_cause number_is))
       where

@@ -13,7 +13,7 @@ use Rattle.l4_core_model.proofs.Fit.{NotIn, all-append}
 use Rattle.l4_core_model.proofs.Beginning.{destination_within}
 use Rattle.l4_core_model.proofs.Remembers.{apart}
 use Rattle.l4_split.proofs.Entries.{filter_last, filter_last_other}
-use Rattle.l4_split.proofs.Views.{Scene, View, kept, view, home, amid, subject, says_where, words, notices}
+use Rattle.l4_split.proofs.Views.{Scene, View, kept, view, home, amid, subject, says_where, words, notices, Kept}
 use Rattle.l4_split.proofs.Rows.{seats, Agrees, learned, Row, IsCause, IsWithdrawal, IsNotice, Stands}
 use Rattle.l4_split.proofs.Relation.{RelatesBut}
 use Rattle.l4_split.proofs.Frames.{first_about, leaves_out, takes_in}
@@ -36,7 +36,7 @@ notice_relates m cpu to i content but s w x rel out lt about late notice =
         agrees = subst (λ ps. Agrees v.world (learned ps (at_home m i v).clock (at_home m i v).thread)) (sym word) h.known.agrees;
         row = subst (λ ps. Row m i (at_home m i v).thread (seats v) ps (at_home m i v).thread.send) (sym word) h.known.row;
         kept = record {
-          at_home = record { good = h.known.kept.at_home.good; armed = h.known.kept.at_home.armed };
+          at_home = h.known.kept.at_home;
           elsewhere = h.known.kept.elsewhere;
           notices = subst (AllByRecursion (IsNotice m i (at_home m i v))) (sym others) (all-append (IsNotice m i (at_home m i v)) (notices v.mail) p h.known.kept.notices notice);
         };
@@ -65,7 +65,7 @@ withdraws_relates m cpu i cause but s w x here rel out just = by (thread x.local
     by (Some send) has = split_cases m cpu send (λ o. RelatesBut m (Stands m) but (amid cpu s (withdraws m cause i o x)) w) rel (λ r to away.
         let was : at_home m i (view m (amid cpu s x) w i) ≡ kept x.local i = home_is m cpu i s x w here.home in
         notice_relates m cpu (home m r) i (WithdrawLetter (last_name m x.local i) (declared m r).id cause) but s w x rel out here.within (here.machine.placed i here.within) refl
-        (subst (λ k. IsWithdrawal m i k (posted cpu (home m r, record { stamp = x.local.stamp; content = WithdrawLetter (last_name m x.local i) (declared m r).id cause })) (last_name m x.local i) (declared m r).id cause) (sym was) (record {
+        (subst (λ (k : Kept). IsWithdrawal m i k.clock k.thread (posted cpu (home m r, record { stamp = x.local.stamp; content = WithdrawLetter (last_name m x.local i) (declared m r).id cause })) (last_name m x.local i) (declared m r).id cause) (sym was) (record {
           r = r;
           place = here.machine.placed r (destination_within m send.to r to);
           split = λ same. away (same ∙ here.home);

@@ -161,16 +161,22 @@ deadlines i phase send = armed_for (armed_period phase send) (since_of phase sen
 abbrev pub IsArmed : ℕ → Thread → List (ℕ × ℕ) → Type 0
 IsArmed i t armed = (armed ≡ deadlines i t.phase t.send) ⊎ (armed ≡ [])
 
-pub record IsKeptAtHome (i : ℕ) (k : Kept) : Type 0 where
-  pub good : IsGood k.clock k.thread
-  pub armed : IsArmed i k.thread k.armed
+pub record IsHomeEntry (i clock : ℕ) (t : Thread) (armed_entries : List (ℕ × ℕ)) : Type 0 where
+  pub good : IsGood clock t
+  pub armed : IsArmed i t armed_entries
+
+abbrev pub IsKeptAtHome : ℕ → Kept → Type 0
+IsKeptAtHome i k = IsHomeEntry i k.clock k.thread k.armed
 
 -- Elsewhere
 
-pub record IsKeptElsewhere (t : Thread) (k : Kept) : Type 0 where
-  pub ready : k.ready ≡ []
-  pub armed : k.armed ≡ []
-  pub gone : is_deleted k.thread.phase ≡ true → is_deleted t.phase ≡ true
+pub record IsForeignEntry (home_phase phase : Phase) (ready_entries : List ℕ) (armed_entries : List (ℕ × ℕ)) : Type 0 where
+  pub ready : ready_entries ≡ []
+  pub armed : armed_entries ≡ []
+  pub gone : is_deleted phase ≡ true → is_deleted home_phase ≡ true
+
+abbrev pub IsKeptElsewhere : Thread → Kept → Type 0
+IsKeptElsewhere t k = IsForeignEntry t.phase k.thread.phase k.ready k.armed
 
 -- Letters that may come late
 
@@ -180,18 +186,21 @@ IsCause ByTimeout clock t send = (has_passed send.period send.since clock ≡ tr
 IsCause ByCancel clock t send = t.cancel_send ≡ true
 IsCause ByDeletion clock t send = t.phase ≡ Deleted
 
-pub record IsWithdrawal (m : Machine) (i : ℕ) (k : Kept) (p : Posted) (s : Name) (receiver : GlobalId) (cause : Cause) : Type 0 where
+pub record IsWithdrawal (m : Machine) (i clock : ℕ) (t : Thread) (p : Posted) (s : Name) (receiver : GlobalId) (cause : Cause) : Type 0 where
   pub r : ℕ
   pub place : place_of m receiver ≡ Some r
   pub split : home m r ≡ home m i → ⊥
   pub to : p.to ≡ home m r
-  pub number : s.k ≤ k.thread.context.begun
-  pub true_cause : s.k ≡ k.thread.context.begun → IfSome k.thread.send (IsCause cause k.clock k.thread)
+  pub number : s.k ≤ t.context.begun
+  pub true_cause : s.k ≡ t.context.begun → IfSome t.send (IsCause cause clock t)
+
+abbrev pub IsNoticeAt : Machine → (i clock : ℕ) → Thread → Posted → Content → Type 0
+IsNoticeAt m i clock t p (WithdrawLetter s receiver cause) = IsWithdrawal m i clock t p s receiver cause
+IsNoticeAt m i clock t p (GoneLetter id) = (t.phase ≡ Deleted) × (p.to ≡ home m i → ⊥)
+IsNoticeAt m i clock t p _ = ⊥
 
 abbrev pub IsNoticeOf : Machine → ℕ → Kept → Posted → Content → Type 0
-IsNoticeOf m i k p (WithdrawLetter s receiver cause) = IsWithdrawal m i k p s receiver cause
-IsNoticeOf m i k p (GoneLetter id) = (k.thread.phase ≡ Deleted) × (p.to ≡ home m i → ⊥)
-IsNoticeOf m i k p _ = ⊥
+IsNoticeOf m i k p c = IsNoticeAt m i k.clock k.thread p c
 
 abbrev pub IsNotice : Machine → ℕ → Kept → Posted → Type 0
 IsNotice m i k p = IsNoticeOf m i k p p.letter.content

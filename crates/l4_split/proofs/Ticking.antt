@@ -19,7 +19,7 @@ use Rattle.l4_core_model.proofs.Remembers.{same_or_apart}
 use Rattle.l4_core_model.proofs.Knows.{blocks}
 use Rattle.l4_split.proofs.Entries.{other_is}
 use Rattle.l4_split.proofs.Views.{Scene, Kept, View, kept, view, home, put, amid, words, notices}
-use Rattle.l4_split.proofs.Rows.{IsCause, IsNotice, IsNoticeOf, Stands}
+use Rattle.l4_split.proofs.Rows.{IsCause, IsNotice, IsNoticeOf, Stands, IsNoticeAt}
 use Rattle.l4_split.proofs.Squares.{learned_later}
 use Rattle.l4_split.proofs.Relation.{IsSized}
 use Rattle.l4_split.proofs.Frames.{put_keeps, put_same}
@@ -38,7 +38,7 @@ cause_later ByDeletion now later t (Some send) le h = h
 abbrev pub later : (ℕ → ℕ) → View → View
 later clocks v = record v { kept = λ cpu. record (v.kept cpu) { clock = clocks cpu } }
 
-notice_later : (m : Machine) (i : ℕ) (k : Kept) (clock : ℕ) (p : Posted) (c : Content) → k.clock ≤ clock → IsNoticeOf m i k p c → IsNoticeOf m i (record k { clock = clock }) p c
+notice_later : (m : Machine) (i : ℕ) (k : Kept) (clock : ℕ) (p : Posted) (c : Content) → k.clock ≤ clock → IsNoticeOf m i k p c → IsNoticeAt m i clock k.thread p c
 notice_later m i k clock p (SendLetter s receiver message zero_timeout) le h = h
 notice_later m i k clock p (DoneLetter s result) le h = h
 notice_later m i k clock p (WithdrawLetter s receiver cause) le h = record { r = h.r; place = h.place; split = h.split; to = h.to; number = h.number; true_cause = λ e. cause_later cause k.clock clock k.thread k.thread.send le (h.true_cause e) }
@@ -59,8 +59,8 @@ stands_later m i clocks v le h =
             good = record { suits = here.good.suits; sends = send_later k.clock (clocks (home m i)) k.thread.send le here.good.sends; receives = phase_later k.clock (clocks (home m i)) k.thread.phase le here.good.receives };
             armed = here.armed;
           };
-          elsewhere = λ cpu ne. let e = h.known.kept.elsewhere cpu ne in record { ready = e.ready; armed = e.armed; gone = e.gone };
-          notices = all-map (IsNotice m i k) (IsNotice m i (record k { clock = clocks (home m i) })) (λ p n. notice_later m i k (clocks (home m i)) p p.letter.content le n) (notices v.mail) h.known.kept.notices;
+          elsewhere = h.known.kept.elsewhere;
+          notices = all-map (IsNotice m i k) (λ p. IsNoticeAt m i (clocks (home m i)) k.thread p p.letter.content) (λ p n. notice_later m i k (clocks (home m i)) p p.letter.content le n) (notices v.mail) h.known.kept.notices;
         };
       };
       ready = h.ready;

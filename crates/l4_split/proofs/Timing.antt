@@ -16,16 +16,16 @@ use Rattle.l4_core_model.specs.Acts.{Work, ◌▷◌, does, refuses, fails_recei
 use Rattle.l4_core_model.specs.Turns.{times_out}
 use Rattle.l4_core_model.specs.Runs.{IsMachine}
 use Rattle.l4_core_model.proofs.Knows.{same_nat}
-use Rattle.l4_core_model.proofs.Fit.{Justifies, all-map, all-drop}
+use Rattle.l4_core_model.proofs.Fit.{Justifies, all-drop}
 use Rattle.l4_core_model.proofs.Remembers.{same_or_apart}
 use Rattle.l4_split.proofs.Entries.{other_is}
-use Rattle.l4_split.proofs.Views.{Scene, Kept, View, kept, view, home, put, amid, notices}
-use Rattle.l4_split.proofs.Rows.{deadlines, IsArmed, IsCause, IsNotice, Stands}
+use Rattle.l4_split.proofs.Views.{Scene, Kept, View, kept, view, home, put, amid}
+use Rattle.l4_split.proofs.Rows.{deadlines, IsArmed, IsCause, Stands}
 use Rattle.l4_split.proofs.Relation.{IsSized}
 use Rattle.l4_split.proofs.Frames.{leaves_out, takes_in, Spares, local_changes}
 use Rattle.l4_split.proofs.ListFrames.{put_here}
 use Rattle.l4_split.proofs.Moves.{at_home}
-use Rattle.l4_split.proofs.Deciding.{notice_as}
+
 use Rattle.l4_split.proofs.Going.{Goes, IsHere, home_is, put_other}
 use Rattle.l4_split.proofs.Failing.{receive_timeout_goes}
 use Rattle.l4_split.proofs.Ending.{queued_here, refuses_timed_goes}
@@ -96,7 +96,7 @@ stands_rearmed m i armed v here none h = record {
     kept = record {
       at_home = record { good = h.known.kept.at_home.good; armed = here };
       elsewhere = λ c ne. let e = h.known.kept.elsewhere c ne in record { ready = e.ready; armed = none c ne; gone = e.gone };
-      notices = all-map (IsNotice m i (at_home m i v)) (IsNotice m i (at_home m i (rearmed armed v))) (λ p n. notice_as m i (at_home m i v) (at_home m i (rearmed armed v)) p p.letter.content refl refl n) (notices v.mail) h.known.kept.notices;
+      notices = h.known.kept.notices;
     };
   };
   ready = h.ready;

@@ -122,11 +122,11 @@ ended_wish (Refused Nobody) clock t send has = cond_both (λ (u : Thread). u.can
 ended_wish (Refused Cancelled) clock t send has = cond_both (λ (u : Thread). u.cancel_send) false (is_alive t.phase) _ (decided t) refl refl
 ended_wish (Refused Dropped) clock t send has = cond_both (λ (u : Thread). u.cancel_send) false (is_alive t.phase) _ (decided t) refl refl
 
-asked_send_same : (what : What) (t : Thread) → (asked what t).send ≡ t.send
-asked_send_same CancelSend t = refl
-asked_send_same CancelReceive t = refl
-asked_send_same CancelBoth t = refl
-asked_send_same Delete t = refl
+pub send_asked : (what : What) (t : Thread) → (asked what t).send ≡ t.send
+send_asked CancelSend t = refl
+send_asked CancelReceive t = refl
+send_asked CancelBoth t = refl
+send_asked Delete t = refl
 
 -- The square for a thread whose decision is under way
 pub asked_while_decided : (what : What) (result : Result) (clock : ℕ) (world t : Thread) (send : Send) → t.send ≡ Some send → t.order ≡ None → Suits t.phase (Some send) t.order → Agrees world (ended result clock t) → Agrees (asked what world) (ended result clock (asked what t))
@@ -140,7 +140,7 @@ asked_while_decided what result clock world t send has order suits a = by what t
     cancelled what ne Ended is s = cc
     cancelled what ne Deleted is s =
         let before : ended result clock t ≡ decided t = ended_deleted result clock t send is has in
-        let after : ended result clock (asked what t) ≡ decided (asked what t) = ended_deleted result clock (asked what t) send (asked_phase what t ne ∙ is) (asked_send_same what t ∙ has) in
+        let after : ended result clock (asked what t) ≡ decided (asked what t) = ended_deleted result clock (asked what t) send (asked_phase what t ne ∙ is) (send_asked what t ∙ has) in
         subst (Agrees (asked what world)) (ap (asked what) before ∙ asked_decided what t ne is ∙ sym after) (asked_agrees what world (ended result clock t) a)
 
     by : (what : What) (p : Phase) → t.phase ≡ p → Suits p (Some send) t.order → Agrees (asked what world) (ended result clock (asked what t))

@@ -1,70 +1,36 @@
 -- What is asked of a thread of this processor is done to it, in the world and here.
+use Rattle.l4_split.proofs.Whereabouts.{where_then}
 use Rattle.std.proofs.Common.{◌≡◌, ℕ, Option, Some, None, List, [], ◌∷◌, refl, ap, sym, ◌∙◌, subst, inr, arith}
 use Rattle.std.specs.Prelude.{IfSome}
 use Rattle.l4_model.specs.Machine.{Machine, What, CancelSend, CancelReceive, CancelBoth, Delete}
 use Rattle.l4_model.specs.World.{Thread, Send, is_alive}
 use Rattle.l4_model.specs.Effects.{asked, obeyed}
-use Rattle.l4_model.specs.Conditions.{is_zero}
 use Rattle.l4_model.proofs.Chains.{cond_both}
-use Rattle.l4_core_model.specs.Letters.{Cause, ByTimeout, ByCancel, ByDeletion, Content, SendLetter, DoneLetter, WithdrawLetter, GoneLetter, OrderLetter, OrderDoneLetter}
-use Rattle.l4_core_model.specs.Local.{declared, readied}
+use Rattle.l4_core_model.specs.Letters.{Cause, ByTimeout, ByCancel, ByDeletion}
+use Rattle.l4_core_model.specs.Local.{readied}
 use Rattle.l4_core_model.specs.Runs.{Posted}
 use Rattle.l4_core_model.proofs.Fit.{IsGood, Suits}
 use Rattle.l4_core_model.proofs.Good.{deletes_good}
 use Rattle.l4_split.proofs.Views.{Kept, View, words}
-use Rattle.l4_split.proofs.Rows.{Seats, seats, Agrees, learns, learned, Row, RowOf, IsSplit, IsOrdering, IsCause, IsKeptAtHome, Known}
+use Rattle.l4_split.proofs.Rows.{seats, Agrees, learns, learned, IsOrdering, IsCause, IsKeptAtHome, Known}
 use Rattle.l4_split.proofs.Moves.{at_home, Carries}
 use Rattle.l4_split.proofs.Waiting.{agrees_send, agrees_begun}
 use Rattle.l4_split.proofs.Ending.{agrees_wish}
 use Rattle.l4_split.proofs.AskedSquares.{agrees_order, asked_agrees, asked_while_decided, asked_obeyed}
 
--- A row says of its thread only what it has sent and ordered.
+-- What is asked of a thread leaves its send and its order as they are.
 
-pub record WantsSame (t after : Thread) : Type 0 where
-  pub send : after.send ≡ t.send
-  pub order : after.order ≡ t.order
-  pub begun : after.context.begun ≡ t.context.begun
+pub order_asked : (what : What) (t : Thread) → (asked what t).order ≡ t.order
+order_asked CancelSend t = refl
+order_asked CancelReceive t = refl
+order_asked CancelBoth t = refl
+order_asked Delete t = refl
 
-pub asked_wants : (what : What) (t : Thread) → WantsSame t (asked what t)
-asked_wants CancelSend t = record { send = refl; order = refl; begun = refl }
-asked_wants CancelReceive t = record { send = refl; order = refl; begun = refl }
-asked_wants CancelBoth t = record { send = refl; order = refl; begun = refl }
-asked_wants Delete t = record { send = refl; order = refl; begun = refl }
-
-abbrev split_as : (m : Machine) (i : ℕ) (t after : Thread) → WantsSame t after → IsSplit m i t → IsSplit m i after
-split_as m i t after same s = record { send = s.send; has = same.send ∙ s.has; order = same.order ∙ s.order; r = s.r; to = s.to; split = s.split }
-
-abbrev ordering_as : (m : Machine) (i : ℕ) (t after : Thread) (v : Seats) → WantsSame t after → IsOrdering m i t v → IsOrdering m i after v
-ordering_as m i t after v same s = record { no_send = same.send ∙ s.no_send; order = s.order; has = same.order ∙ s.has; target = s.target; place = s.place; split = s.split; unplaced = s.unplaced }
-
-row_of_as : (m : Machine) (i : ℕ) (t after : Thread) (v : Seats) (p : Posted) (c : Content) → WantsSame t after → RowOf m i t v p c → RowOf m i after v p c
-row_of_as m i t after v p (SendLetter s receiver message zero_timeout) same row = record {
-  goes = split_as m i t after same row.goes;
-  letter = row.letter ∙ ap (λ k. SendLetter (record { thread = (declared m i).id; k = k }) (declared m row.goes.r).id row.goes.send.message (is_zero row.goes.send.period)) (sym same.begun);
-  from = row.from;
-  to = row.to;
-  unplaced = row.unplaced;
-}
-row_of_as m i t after v p (DoneLetter s result) same row = record { goes = split_as m i t after same row.goes; name = row.name ∙ ap (λ k. record { thread = (declared m i).id; k = k }) (sym same.begun); from = row.from; to = row.to; unplaced = row.unplaced }
-row_of_as m i t after v p (WithdrawLetter s receiver cause) same row = row
-row_of_as m i t after v p (GoneLetter id) same row = row
-row_of_as m i t after v p (OrderLetter caller target what) same row = record { orders = ordering_as m i t after v same row.orders; letter = row.letter; from = row.from; to = row.to }
-row_of_as m i t after v p (OrderDoneLetter caller) same row = record { orders = ordering_as m i t after v same row.orders; from = row.from; to = row.to }
-
-pub row_as : (m : Machine) (i : ℕ) (t after : Thread) (v : Seats) (ps : List Posted) (o : Option Send) → WantsSame t after → Row m i t v ps o → Row m i after v ps o
-row_as m i t after v [] None same row = record { order = same.order ∙ row.order; unplaced = row.unplaced }
-row_as m i t after v [] (Some send) same row = record {
-  order = same.order ∙ row.order;
-  r = row.r;
-  to = row.to;
-  listed = row.listed;
-  other_lists = row.other_lists;
-  elsewhere = row.elsewhere;
-  stand_in = λ split. let s = row.stand_in split in record { has = s.has; number = s.number ∙ sym same.begun };
-  no_other = row.no_other;
-}
-row_as m i t after v (p ∷ []) o same row = row_of_as m i t after v p p.letter.content same row
-row_as m i t after v (p ∷ q ∷ ps) o same row = row
+pub begun_asked : (what : What) (t : Thread) → (asked what t).context.begun ≡ t.context.begun
+begun_asked CancelSend t = refl
+begun_asked CancelReceive t = refl
+begun_asked CancelBoth t = refl
+begun_asked Delete t = refl
 
 -- The world and home agree again, whatever letter is under way.
 
@@ -78,7 +44,14 @@ obeyed_deleted world t a = record {
 }
 
 pub asked_learned : (m : Machine) (i : ℕ) (what : What) (v : View) → Known m i v → Agrees (asked what v.world) (learned (words v.mail) (at_home m i v).clock (asked what (at_home m i v).thread))
-asked_learned m i what v known = by (words v.mail) known.row known.agrees
+asked_learned m i what v known = where_then m i v known
+    (λ quiet none row a. seen (learned_is [] quiet) (asked_agrees what v.world t a))
+    (λ send quiet has row a. seen (learned_is [] quiet) (asked_agrees what v.world t a))
+    (λ p is row a. seen (learned_is (p ∷ []) is ∙ ap (λ c. learns c clock (asked what t)) row.letter) (asked_agrees what v.world t a))
+    (λ p name result is content row a. seen (learned_is (p ∷ []) is ∙ ap (λ c. learns c clock (asked what t)) content)
+    (asked_while_decided what result clock v.world t row.goes.send row.goes.has row.goes.order (subst (λ o. Suits t.phase o t.order) row.goes.has known.kept.at_home.good.suits) a))
+    (λ p is row a. seen (learned_is (p ∷ []) is ∙ ap (λ c. learns c clock (asked what t)) row.letter) (asked_agrees what v.world t a))
+    (λ p caller is content row a. seen (learned_is (p ∷ []) is ∙ ap (λ c. learns c clock (asked what t)) content) (obeyed_square what row.orders a))
   where
     t : Thread
     t = (at_home m i v).thread
@@ -86,27 +59,20 @@ asked_learned m i what v known = by (words v.mail) known.row known.agrees
     clock : ℕ
     clock = (at_home m i v).clock
 
-    cancelled : (what : What) → (what ≡ Delete → ⊥) → IsOrdering m i t (seats v) → Agrees v.world (obeyed t) → Agrees (asked what v.world) (obeyed (asked what t))
+    learned_is : (ps : List Posted) → words v.mail ≡ ps → learned (words v.mail) clock (asked what t) ≡ learned ps clock (asked what t)
+    learned_is ps is = ap (λ ps. learned ps clock (asked what t)) is
+
+    seen : {u : Thread} → learned (words v.mail) clock (asked what t) ≡ u → Agrees (asked what v.world) u → Agrees (asked what v.world) (learned (words v.mail) clock (asked what t))
+    seen is a = subst (Agrees (asked what v.world)) (sym is) a
+
+    cancelled : (what : What) → (what ≡ Delete → ⊥) → IsOrdering m i (seats m i v) → Agrees v.world (obeyed t) → Agrees (asked what v.world) (obeyed (asked what t))
     cancelled what ne row a = subst (Agrees (asked what v.world)) (asked_obeyed what t ne t.phase refl (subst (λ o. Suits t.phase o t.order) row.no_send known.kept.at_home.good.suits) row.order row.has) (asked_agrees what v.world (obeyed t) a)
 
-    obeyed_square : (what : What) → IsOrdering m i t (seats v) → Agrees v.world (obeyed t) → Agrees (asked what v.world) (obeyed (asked what t))
+    obeyed_square : (what : What) → IsOrdering m i (seats m i v) → Agrees v.world (obeyed t) → Agrees (asked what v.world) (obeyed (asked what t))
     obeyed_square Delete row a = obeyed_deleted v.world t a
     obeyed_square CancelSend row a = cancelled CancelSend (λ e. cc) row a
     obeyed_square CancelReceive row a = cancelled CancelReceive (λ e. cc) row a
     obeyed_square CancelBoth row a = cancelled CancelBoth (λ e. cc) row a
-
-    word : (p : Posted) (c : Content) → RowOf m i t (seats v) p c → Agrees v.world (learns c clock t) → Agrees (asked what v.world) (learns c clock (asked what t))
-    word p (SendLetter s receiver message zero_timeout) row a = asked_agrees what v.world t a
-    word p (DoneLetter s result) row a = asked_while_decided what result clock v.world t row.goes.send row.goes.has row.goes.order (subst (λ o. Suits t.phase o t.order) row.goes.has known.kept.at_home.good.suits) a
-    word p (WithdrawLetter s receiver cause) row a = absurd row
-    word p (GoneLetter id) row a = absurd row
-    word p (OrderLetter caller target other) row a = asked_agrees what v.world t a
-    word p (OrderDoneLetter caller) row a = obeyed_square what row.orders a
-
-    by : (ps : List Posted) → Row m i t (seats v) ps t.send → Agrees v.world (learned ps clock t) → Agrees (asked what v.world) (learned ps clock (asked what t))
-    by [] row a = asked_agrees what v.world t a
-    by (p ∷ []) row a = word p p.letter.content row a
-    by (p ∷ q ∷ ps) row a = absurd row
 
 -- All else that is kept of it
 

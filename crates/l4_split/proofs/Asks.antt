@@ -1,4 +1,5 @@
 -- A thread of this processor is asked for something, and all stays related.
+use Rattle.l4_split.proofs.AskedSquares.{send_asked}
 use Rattle.std.proofs.Common.{◌≡◌, ℕ, ◌<◌, List, [], ◌∷◌, filter, length, refl, ap, sym, ◌∙◌, subst, arith}
 use Rattle.std.specs.Prelude.{◌==◌, not, slice_index_or}
 use Rattle.l4_model.specs.Machine.{Machine, What, CancelSend, CancelReceive, CancelBoth, Delete}
@@ -13,12 +14,12 @@ use Rattle.l4_core_model.proofs.Remembers.{same_or_apart, of_other}
 use Rattle.l4_split.proofs.Entries.{filter_kept, filter_out}
 use Rattle.l4_split.proofs.Keeping.{changes_here, changes_other, comes_here, comes_other}
 use Rattle.l4_split.proofs.Views.{Scene, Kept, View, kept, view, home, amid, words, notices, is_of}
-use Rattle.l4_split.proofs.Rows.{seats, Agrees, learned, Row, IsKeptAtHome, Stands}
+use Rattle.l4_split.proofs.Rows.{seats, Agrees, learned, Row, IsKeptAtHome, Stands, Seats}
 use Rattle.l4_split.proofs.Relation.{IsSized, RelatesBut}
 use Rattle.l4_split.proofs.Frames.{first_about, takes_in, world_changes, local_changes, changes_spares, comes_spares}
 use Rattle.l4_split.proofs.Moves.{at_home, Carries, same_alike, Moves, moves_kept}
 use Rattle.l4_split.proofs.Going.{IsHere, home_is, put_other, sized_here}
-use Rattle.l4_split.proofs.Asking.{asked_wants, row_as, asked_learned, asked_kept, asked_at_home, asked_ready, asked_thread, asked_carries}
+use Rattle.l4_split.proofs.Asking.{asked_learned, asked_kept, asked_at_home, asked_ready, asked_thread, asked_carries, begun_asked, order_asked}
 
 -- Its view after it
 
@@ -28,30 +29,26 @@ asked_stands m j what v after world mail here listed clock other h =
     let k : Kept = at_home m j v in
     let t : Thread = k.thread in
     let thread_is : (at_home m j after).thread ≡ asked what t = ap (λ (k : Kept). k.thread) here ∙ asked_thread what j k in
-    let wants = asked_wants what t in
-    let sent : (c : ℕ) → (after.kept c).thread.send ≡ (v.kept c).thread.send = λ c. same_or_apart ((after.kept c).thread.send ≡ (v.kept c).thread.send) c (home m j)
-    (λ e. subst (λ c. (after.kept c).thread.send ≡ (v.kept c).thread.send) (sym e) (ap (λ (t : Thread). t.send) thread_is ∙ wants.send)) (λ ne. ap (λ (k : Kept). k.thread.send) (other c ne)) in
-    let begun : (c : ℕ) → (after.kept c).thread.context.begun ≡ (v.kept c).thread.context.begun = λ c. same_or_apart ((after.kept c).thread.context.begun ≡ (v.kept c).thread.context.begun) c (home m j)
-    (λ e. subst (λ c. (after.kept c).thread.context.begun ≡ (v.kept c).thread.context.begun) (sym e) (ap (λ (t : Thread). t.context.begun) thread_is ∙ wants.begun)) (λ ne. ap (λ (k : Kept). k.thread.context.begun) (other c ne)) in
-    let lists : (c : ℕ) → (after.kept c).listed ≡ (v.kept c).listed = λ c. same_or_apart ((after.kept c).listed ≡ (v.kept c).listed) c (home m j)
-    (λ e. subst (λ c. (after.kept c).listed ≡ (v.kept c).listed) (sym e) listed) (λ ne. ap (λ (k : Kept). k.listed) (other c ne)) in
-    let seats_same : seats after ≡ seats v = λ d. record { sent = λ c. sent c d; begun = λ c. begun c d; listed = λ c. lists c d } in
+    let same_at : (P : ℕ → Type 0) → P (home m j) → ((c : ℕ) → (c ≡ home m j → ⊥) → P c) → (c : ℕ) → P c = λ P at_home away c. same_or_apart (P c) c (home m j) (λ e. subst P (sym e) at_home) (λ ne. away c ne) in
+    let sent = same_at (λ c. (after.kept c).thread.send ≡ (v.kept c).thread.send) (ap (λ (t : Thread). t.send) thread_is ∙ send_asked what t) (λ c ne. ap (λ (k : Kept). k.thread.send) (other c ne)) in
+    let begun = same_at (λ c. (after.kept c).thread.context.begun ≡ (v.kept c).thread.context.begun) (ap (λ (t : Thread). t.context.begun) thread_is ∙ begun_asked what t)
+    (λ c ne. ap (λ (k : Kept). k.thread.context.begun) (other c ne)) in
+    let lists = same_at (λ c. (after.kept c).listed ≡ (v.kept c).listed) listed (λ c ne. ap (λ (k : Kept). k.listed) (other c ne)) in
+    let order = ap (λ (t : Thread). t.order) thread_is ∙ order_asked what t in
+    let seats_same : seats m j after ≡ seats m j v = λ d. record { order = order d; sent = λ c. sent c d; begun = λ c. begun c d; listed = λ c. lists c d } in
     let moves : Moves m j v after = record {
       elsewhere = λ c ne. same_alike (v.kept c) (after.kept c) (other c ne);
       notices = ap notices mail;
       carries = subst (Carries k) (sym here) (asked_carries what j k);
     } in
-    let row : Row m j (asked what t) (seats v) (words v.mail) t.send = row_as m j t (asked what t) (seats v) (words v.mail) t.send wants h.known.row in
     record {
       known = record {
         agrees = subst (λ u. Agrees u (learned (words after.mail) (at_home m j after).clock (at_home m j after).thread)) (sym world)
             (subst (λ mail. Agrees (asked what v.world) (learned (words mail) (at_home m j after).clock (at_home m j after).thread)) (sym mail)
             (subst (λ c. Agrees (asked what v.world) (learned (words v.mail) c (at_home m j after).thread)) (sym clock)
             (subst (λ t. Agrees (asked what v.world) (learned (words v.mail) k.clock t)) (sym thread_is) (asked_learned m j what v h.known))));
-        row = subst (λ mail. Row m j (at_home m j after).thread (seats after) (words mail) (at_home m j after).thread.send) (sym mail)
-            (subst (λ s. Row m j (at_home m j after).thread s (words v.mail) (at_home m j after).thread.send) (sym seats_same)
-            (subst (λ (u : Thread). Row m j u (seats v) (words v.mail) u.send) (sym thread_is)
-            (subst (Row m j (asked what t) (seats v) (words v.mail)) (sym wants.send) row)));
+        row = subst (λ mail. Row m j (seats m j after) (words mail) (at_home m j after).thread.send) (sym mail)
+            (subst (λ (s : Seats). Row m j s (words v.mail) (s.sent (home m j))) (sym seats_same) h.known.row);
         kept = moves_kept m j v after h.known.kept moves (subst (IsKeptAtHome j) (sym here) (asked_at_home what j k h.known.kept.at_home));
       };
       ready = subst (λ (k : Kept). k.ready ≡ readied k.thread.phase j []) (sym here) (asked_ready what j k h.ready);

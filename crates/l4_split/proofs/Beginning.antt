@@ -108,7 +108,7 @@ posted_goes m cpu i r s w x send h here to away =
     } in
     let keeps = moves_kept m i v after at.kept moves at.kept.at_home in
     let suits : Suits (at_home m i v).thread.phase (Some send) (at_home m i v).thread.order = subst (λ o. Suits (at_home m i v).thread.phase o (at_home m i v).thread.order) at.has at.kept.at_home.good.suits in
-    let row : IsSent m i (at_home m i after).thread (seats after) p = record {
+    let row : IsSent m i (seats m i after) p = record {
       goes = record { send = send; has = at.has; order = at.order; r = r; to = to; split = λ same. away (same ∙ here) };
       letter = ap (λ k. SendLetter (record { thread = (declared m i).id; k = k }) (declared m r).id send.message (is_zero send.period)) (sym (ap (λ (k : Kept). k.thread.context.begun) was));
       from = sym here;

@@ -23,7 +23,7 @@ pub record IsCalling (m : Machine) (i : ℕ) (order : Asked) (v : View) : Type 0
   pub send : (at_home m i v).thread.send ≡ None
   pub has : (at_home m i v).thread.order ≡ Some order
   pub quiet : words v.mail ≡ []
-  pub unplaced : IsUnplaced m i (seats v)
+  pub unplaced : IsUnplaced m i (seats m i v)
   pub agrees : Agrees v.world (at_home m i v).thread
 
 -- Its order is done: it goes on.

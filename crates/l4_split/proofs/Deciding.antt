@@ -148,7 +148,7 @@ decided_here m cpu i but s w x result send g here at is relates =
     takes_in m i but (amid cpu s (y ▷ does (comes_to i f))) (change u i g) c.relates (quiet_stands m cpu i but s u y f g here c (record {
       kept = subst (IsKept m i) (sym now) (kept_unlisted m i v at.kept);
       quiet = at.quiet;
-      unplaced = subst (λ u. IsUnplaced m i (seats u)) (sym now) (record { listed = λ p r. refl; stand_in = λ p ne. at.no_other p ne (λ h. ne (sym h ∙ sym here.home)) });
+      unplaced = subst (λ u. IsUnplaced m i (seats m i u)) (sym now) (record { listed = λ p r. refl; stand_in = λ p ne. at.no_other p ne (λ h. ne (sym h ∙ sym here.home)) });
       out = sym (ap (λ (k : Kept). k.ready) was) ∙ at.out;
       send = none.0;
       order = none.1;

@@ -1,6 +1,7 @@
 -- A waiting send is refused, cancelled or dropped on its receiver's processor.
+use Rattle.l4_split.proofs.Whereabouts.{where_then}
 use Rattle.l4_split.proofs.Members.{any_block, any_kept, any_list, none_kept}
-use Rattle.std.proofs.Common.{◌≡◌, ℕ, ◌<◌, true, false, Option, Some, None, List, [], ◌∷◌, length, refl, ap, sym, ◌∙◌, subst, inl}
+use Rattle.std.proofs.Common.{◌≡◌, ℕ, ◌<◌, true, false, Some, [], ◌∷◌, length, refl, ap, sym, ◌∙◌, subst, inl}
 use Rattle.std.specs.Prelude.{◌==◌}
 use Rattle.std.specs.List.{list_any}
 use Rattle.l4_model.specs.Machine.{Machine}
@@ -8,14 +9,14 @@ use Rattle.l4_model.specs.World.{Thread, World, Send, Phase, Ready, Sending, Rec
 use Rattle.l4_model.specs.Conditions.{is_zero, has_passed}
 use Rattle.l4_model.specs.Effects.{decided, refused}
 use Rattle.l4_core_model.specs.Plain as plain
-use Rattle.l4_core_model.specs.Letters.{TimedOut, Nobody, Cancelled, Dropped, Content, SendLetter, DoneLetter, WithdrawLetter, GoneLetter, OrderLetter, OrderDoneLetter}
+use Rattle.l4_core_model.specs.Letters.{TimedOut, Nobody, Cancelled, Dropped}
 use Rattle.l4_core_model.specs.Local.{thread, held}
 use Rattle.l4_core_model.specs.Acts.{Work, entry, refuses, zero_refusable}
-use Rattle.l4_core_model.specs.Runs.{Posted, IsMachine}
+use Rattle.l4_core_model.specs.Runs.{IsMachine}
 use Rattle.l4_core_model.proofs.Beginning.{destination_within, any_at}
 use Rattle.l4_core_model.proofs.Remembers.{same_or_apart}
-use Rattle.l4_split.proofs.Views.{Scene, Kept, View, kept, view, world_thread, home, amid, words, is_of}
-use Rattle.l4_split.proofs.Rows.{seats, AgreesIn, Agrees, learned, Row, RowOf, Known}
+use Rattle.l4_split.proofs.Views.{Scene, Kept, View, kept, view, world_thread, home, amid, is_of}
+use Rattle.l4_split.proofs.Rows.{AgreesIn, Agrees, Known}
 use Rattle.l4_split.proofs.Relation.{senders}
 use Rattle.l4_split.proofs.Frames.{leaves_out}
 use Rattle.l4_split.proofs.Moves.{at_home}
@@ -111,23 +112,21 @@ pub record IsQueuedHere (m : Machine) (cpu i : ℕ) (v : View) : Type 0 where
   pub is : IsEntry m r i v entry
 
 queued_where : (m : Machine) (cpu i q : ℕ) (v : View) → Known m i v → ((v.kept cpu).listed q ≡ [] → ⊥) → IsQueuedHere m cpu i v
-queued_where m cpu i q v known some = by (words v.mail) refl (at_home m i v).thread.send refl known.row known.agrees
-  where
-    word : (p : Posted) (c : Content) → RowOf m i (at_home m i v).thread (seats v) p c → IsQueuedHere m cpu i v
-    word p (SendLetter s receiver message zero_timeout) row = absurd (some (row.unplaced.listed cpu q))
-    word p (DoneLetter s result) row = absurd (some (row.unplaced.listed cpu q))
-    word p (WithdrawLetter s receiver cause) row = absurd row
-    word p (GoneLetter id) row = absurd row
-    word p (OrderLetter caller target what) row = absurd (some (row.orders.unplaced.listed cpu q))
-    word p (OrderDoneLetter caller) row = absurd (some (row.orders.unplaced.listed cpu q))
-
-    by : (ps : List Posted) → words v.mail ≡ ps → (o : Option Send) → (at_home m i v).thread.send ≡ o → Row m i (at_home m i v).thread (seats v) ps o → Agrees v.world (learned ps (at_home m i v).clock (at_home m i v).thread) → IsQueuedHere m cpu i v
-    by [] quiet None has row agrees = absurd (some (row.unplaced.listed cpu q))
-    by [] quiet (Some send) has row agrees = same_or_apart (IsQueuedHere m cpu i v) cpu (home m row.r)
-        (λ same. record { r = row.r; entry = entry m row.r i send; within = destination_within m send.to row.r row.to; here = sym same; is = record { send = send; has = has; quiet = quiet; agrees = agrees; waits = row; receiver = refl; is = refl } })
-        (λ ne. absurd (some (row.elsewhere cpu q ne)))
-    by (p ∷ []) quiet o has row agrees = word p p.letter.content row
-    by (p ∷ q ∷ ps) quiet o has row agrees = absurd row
+queued_where m cpu i q v known some = where_then m i v known
+    (λ quiet none row a. absurd (some (row.unplaced.listed cpu q)))
+    (λ send quiet has row a. same_or_apart (IsQueuedHere m cpu i v) cpu (home m row.r)
+    (λ same. record {
+      r = row.r;
+      entry = entry m row.r i send;
+      within = destination_within m send.to row.r row.to;
+      here = sym same;
+      is = record { send = send; has = has; quiet = quiet; agrees = a; waits = row; receiver = refl; is = refl };
+    })
+    (λ ne. absurd (some (row.elsewhere cpu q ne))))
+    (λ p is row a. absurd (some (row.unplaced.listed cpu q)))
+    (λ p name result is content row a. absurd (some (row.unplaced.listed cpu q)))
+    (λ p is row a. absurd (some (row.orders.unplaced.listed cpu q)))
+    (λ p caller is content row a. absurd (some (row.orders.unplaced.listed cpu q)))
 
 pub queued_here : (m : Machine) (cpu i : ℕ) (s : Scene) (w : World) (x : Work) → cpu < m.cpus → (e : Goes m cpu s w [] x) → IsMachine m → i < length m.threads → plain.is_queued x.local.lists i ≡ true → (r : ℕ) × IsListedSend m cpu r i s w x
 queued_here m cpu i s w x processor e machine lt queued =

@@ -30,13 +30,13 @@ use Rattle.l4_split.proofs.Moves.{at_home, Carries, same_alike, Moves, moves_kep
 use Rattle.l4_split.proofs.Going.{Goes, told, IsHere, home_is, comes}
 use Rattle.l4_split.proofs.Instructions.{Runs, running_is, running_found}
 use Rattle.l4_split.proofs.Finding.{found_is}
-use Rattle.l4_split.proofs.AskedSquares.{agrees_order}
+use Rattle.l4_split.proofs.AskedSquares.{agrees_order, send_asked}
 use Rattle.l4_split.proofs.Obeyed.{caller_unready}
 use Rattle.l4_split.proofs.Asks.{asks_other}
 use Rattle.l4_split.proofs.Obeying.{obeys_relates, obeys_steps}
 use Rattle.l4_split.proofs.Ordered.{obeys_local, obeys_mail}
 use Rattle.l4_core_model.proofs.Orders.{target_declared}
-use Rattle.l4_split.proofs.Asking.{asked_wants, asked_kept, asked_thread, asked_at_home, asked_carries}
+use Rattle.l4_split.proofs.Asking.{asked_kept, asked_thread, asked_at_home, asked_carries, order_asked}
 use Rattle.l4_split.proofs.Asks.{asks_here, asks_sized, asks_clock, asks_lists, kept_lists}
 use Rattle.l4_split.proofs.AskedSquares.{asked_agrees}
 use Rattle.l4_split.proofs.Going.{sized_here, put_other}
@@ -113,7 +113,7 @@ foreign_goes m cpu i j order s w y h at away =
     let moves : Moves m i v after = record { elsewhere = λ q ne. same_alike (v.kept q) (after.kept q) refl; notices = others; carries = record { deleted = λ gone. gone; begun = omega arith; causes = λ cause same old. old } } in
     let keeps = moves_kept m i v after c.kept moves c.kept.at_home in
     let suits : Suits (at_home m i v).thread.phase (at_home m i v).thread.send (Some order) = subst (Suits (at_home m i v).thread.phase (at_home m i v).thread.send) c.has c.kept.at_home.good.suits in
-    let row : IsOrdered m i (at_home m i after).thread (seats after) p = record {
+    let row : IsOrdered m i (seats m i after) p = record {
       orders = record { no_send = c.send; order = order; has = c.has; target = j; place = at; split = λ same. away (same ∙ h.here.home); unplaced = record { listed = c.unplaced.listed; stand_in = c.unplaced.stand_in } };
       letter = refl;
       from = sym h.here.home;
@@ -198,7 +198,6 @@ self_obeyed m cpu i order s w y h =
     let is : at_home m i after ≡ asked_kept what i (at_home m i v) = home_is m cpu i s z u h.here.home ∙ asks_here what y.local i size ∙ sym (ap (asked_kept what i) was) in
     let listed : (at_home m i after).listed ≡ (at_home m i v).listed = ap (λ (k : Kept). k.listed) (home_is m cpu i s z u h.here.home) ∙ kept_lists (asks what i y.local) y.local i (asks_lists what y.local i) ∙ sym (ap (λ (k : Kept). k.listed) was) in
     let thread_is : (at_home m i after).thread ≡ asked what (at_home m i v).thread = ap (λ (k : Kept). k.thread) is ∙ asked_thread what i (at_home m i v) in
-    let wants = asked_wants what (at_home m i v).thread in
     let other = λ (p : ℕ) (ne : p ≡ home m i → ⊥). put_other cpu p i y.local z.local s.locals (λ e. ne (sym e ∙ sym h.here.home)) in
     let relates = world_changes m i (i ∷ []) (amid cpu s z) now (asked what) (first_about i [])
     (local_changes m cpu (i ∷ []) s now y (asks what i) (record { sized = asks_sized m what i [] y.local h.here.within; clock = asks_clock what y.local i; kept = λ j out. asks_other what y.local i j (λ e. out.0 (sym e)) }) (asks_lists what y.local i) rel) in
@@ -207,12 +206,12 @@ self_obeyed m cpu i order s w y h =
       notices = refl;
       carries = subst (Carries (at_home m i v)) (sym is) (asked_carries what i (at_home m i v));
     } in
-    let none : (thread z.local i).send ≡ None = sym (ap (λ (k : Kept). k.thread.send) (home_is m cpu i s z u h.here.home)) ∙ ap (λ (t : Thread). t.send) thread_is ∙ wants.send ∙ c.send in
+    let none : (thread z.local i).send ≡ None = sym (ap (λ (k : Kept). k.thread.send) (home_is m cpu i s z u h.here.home)) ∙ ap (λ (t : Thread). t.send) thread_is ∙ send_asked what (at_home m i v).thread ∙ c.send in
     let calls : IsCalling m i order after = record {
       kept = moves_kept m i v after c.kept moves (subst (IsKeptAtHome i) (sym is) (asked_at_home what i (at_home m i v) c.kept.at_home));
       out = ap (λ (k : Kept). k.ready) is ∙ asked_out what i (at_home m i v) c.out;
-      send = ap (λ (t : Thread). t.send) thread_is ∙ wants.send ∙ c.send;
-      has = ap (λ (t : Thread). t.order) thread_is ∙ wants.order ∙ c.has;
+      send = ap (λ (t : Thread). t.send) thread_is ∙ send_asked what (at_home m i v).thread ∙ c.send;
+      has = ap (λ (t : Thread). t.order) thread_is ∙ order_asked what (at_home m i v).thread ∙ c.has;
       quiet = c.quiet;
       unplaced = record {
         listed = λ p q. same_or_apart ((after.kept p).listed q ≡ []) p (home m i)

@@ -84,7 +84,7 @@ comes m cpu i but s w x f g here r =
 pub record IsQuiet (m : Machine) (i : ℕ) (v : View) (k : Kept) (f : Thread → Thread) (g : Thread → Thread) : Type 0 where
   pub kept : IsKept m i v
   pub quiet : words v.mail ≡ []
-  pub unplaced : IsUnplaced m i (seats v)
+  pub unplaced : IsUnplaced m i (seats m i v)
   pub out : k.ready ≡ []
   pub send : (f k.thread).send ≡ None
   pub order : (f k.thread).order ≡ None

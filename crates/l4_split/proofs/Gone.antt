@@ -17,7 +17,7 @@ use Rattle.l4_core_model.proofs.Knows.{length-changed}
 use Rattle.l4_core_model.proofs.Remembers.{same_or_apart, apart}
 use Rattle.l4_split.proofs.Entries.{get_other_place}
 use Rattle.l4_split.proofs.Views.{Scene, Kept, View, kept, view, home, put, amid, subject, says_where, words, notices}
-use Rattle.l4_split.proofs.Rows.{seats, Agrees, learned, Row, IsKeptAtHome, IsNotice, IsNoticeOf, Stands}
+use Rattle.l4_split.proofs.Rows.{seats, Agrees, learned, Row, IsKeptAtHome, IsNotice, IsNoticeOf, Stands, Seats}
 use Rattle.l4_split.proofs.Relation.{IsSized, RelatesBut}
 use Rattle.l4_split.proofs.Frames.{first_about, leaves_out, takes_in, Spares, local_changes}
 use Rattle.l4_split.proofs.ListFrames.{put_here}
@@ -43,12 +43,13 @@ marked_stands : (m : Machine) (i : ℕ) (v after : View) → ((c : ℕ) → IsMa
 marked_stands m i v after marked same world mail gone h =
     let now : View = record v { kept = after.kept } in
     let k : Kept = at_home m i v in
-    let seats_same : seats v ≡ seats now = λ d. record { sent = λ c. sym (marked c).sent d; begun = λ c. sym (marked c).begun d; listed = λ c. sym (marked c).listed d } in
+    let order = ap (λ (k : Kept). k.thread.order) (sym same) in
+    let seats_same : seats m i v ≡ seats m i now = λ d. record { order = order d; sent = λ c. sym (marked c).sent d; begun = λ c. sym (marked c).begun d; listed = λ c. sym (marked c).listed d } in
     let with_home : (P : Kept → Type 0) → P k → P (at_home m i after) = λ P p. subst P (sym same) p in
     let stands : Stands m i now = record {
       known = record {
         agrees = with_home (λ k. Agrees v.world (learned (words v.mail) k.clock k.thread)) h.known.agrees;
-        row = with_home (λ k. Row m i k.thread (seats now) (words v.mail) k.thread.send) (subst (λ s. Row m i k.thread s (words v.mail) k.thread.send) seats_same h.known.row);
+        row = subst (λ (s : Seats). Row m i s (words v.mail) (s.sent (home m i))) seats_same h.known.row;
         kept = record {
           at_home = with_home (IsKeptAtHome i) h.known.kept.at_home;
           elsewhere = λ c ne. let e = h.known.kept.elsewhere c ne in record {

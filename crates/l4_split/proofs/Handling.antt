@@ -42,8 +42,8 @@ taken_kept m i before v p t =
       carries = subst (Carries (at_home m i before)) (sym here) (same_carries (at_home m i before));
     }) (subst (IsKeptAtHome i) (sym here) t.stands.known.kept.at_home)
 
-pub taken_row : (m : Machine) (i : ℕ) (before v : View) (p : Posted) → IsTakenOut m i before v p → RowOf m i (at_home m i before).thread (seats before) p p.letter.content
-taken_row m i before v p t = subst (λ ps. Row m i (at_home m i before).thread (seats before) ps (at_home m i before).thread.send) t.was t.stands.known.row
+pub taken_row : (m : Machine) (i : ℕ) (before v : View) (p : Posted) → IsTakenOut m i before v p → RowOf m i (seats m i before) p p.letter.content
+taken_row m i before v p t = subst (λ ps. Row m i (seats m i before) ps (at_home m i before).thread.send) t.was t.stands.known.row
 
 pub taken_agrees : (m : Machine) (i : ℕ) (before v : View) (p : Posted) → IsTakenOut m i before v p → Agrees before.world (learned (p ∷ []) (at_home m i before).clock (at_home m i before).thread)
 taken_agrees m i before v p t = subst (λ ps. Agrees before.world (learned ps (at_home m i before).clock (at_home m i before).thread)) t.was t.stands.known.agrees
@@ -60,7 +60,7 @@ pub done_relates : (m : Machine) (cpu i : ℕ) (s : Scene) (w : World) (x : Work
 done_relates m cpu i s w x before p name result here content t rel =
     let v : View = view m (amid cpu s x) w i in
     let f : Thread → Thread = ended result x.local.clock in
-    let row : IsDecided m i (at_home m i before).thread (seats before) p name = subst (RowOf m i (at_home m i before).thread (seats before) p) content (taken_row m i before v p t) in
+    let row : IsDecided m i (seats m i before) p name = subst (RowOf m i (seats m i before) p) content (taken_row m i before v p t) in
     let was : at_home m i before ≡ kept x.local i = sym (ap (λ (f : ℕ → Kept). f (home m i)) t.kept) ∙ home_is m cpu i s x w here.home in
     let has : (thread x.local i).send ≡ Some row.goes.send = sym (ap (λ (k : Kept). k.thread.send) was) ∙ row.goes.has in
     let order : (thread x.local i).order ≡ None = sym (ap (λ (k : Kept). k.thread.order) was) ∙ row.goes.order in
@@ -105,7 +105,7 @@ pub send_goes : (m : Machine) (cpu i r : ℕ) (s : Scene) (w : World) (x : Work)
 send_goes m cpu i r s w x before p name receiver message zero_timeout here to content e t placed lt =
     let now = e.now in
     let v : View = view m (amid cpu s x) now i in
-    let row : IsSent m i (at_home m i before).thread (seats before) p = subst (RowOf m i (at_home m i before).thread (seats before) p) content (taken_row m i before v p t) in
+    let row : IsSent m i (seats m i before) p = subst (RowOf m i (seats m i before) p) content (taken_row m i before v p t) in
     let send : Send = row.goes.send in
     let says = letter_of m i row.goes.r (at_home m i before).thread send name receiver message zero_timeout (sym content ∙ row.letter) in
     let which : row.goes.r ≡ r = some_is row.goes.r r (sym (here.machine.placed row.goes.r (destination_within m send.to row.goes.r row.goes.to)) ∙ sym (ap (place_of m) says.receiver_is) ∙ placed) in

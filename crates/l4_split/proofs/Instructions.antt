@@ -1,19 +1,18 @@
 -- Instructions that concern nobody else, waits, and receive phases that fail.
+use Rattle.l4_split.proofs.Whereabouts.{where_then, not_both}
 use Rattle.l4_model.proofs.Sends.{begun-ran}
-use Rattle.std.proofs.Common.{◌≡◌, ℕ, true, Option, Some, None, List, [], ◌∷◌, refl, ap, ◌∙◌, subst, arith}
+use Rattle.std.proofs.Common.{◌≡◌, ℕ, true, Option, Some, None, [], ◌∷◌, refl, ap, ◌∙◌, subst, arith, sym}
 use Rattle.l4_model.specs.Machine.{Machine, Instr, End}
-use Rattle.l4_model.specs.World.{Thread, World, Send, Receive, is_ready}
+use Rattle.l4_model.specs.World.{Thread, World, Send, Receive, is_ready, Asked}
 use Rattle.l4_model.specs.Steps.{Local as RanLocal, Wait, runs_alone, receive_of}
 use Rattle.l4_model.specs.Conditions.{instruction, act_of, found}
 use Rattle.l4_model.specs.Effects.{runs, waits, phase_after, receives}
-use Rattle.l4_core_model.specs.Letters.{Content, SendLetter, DoneLetter, WithdrawLetter, GoneLetter, OrderLetter, OrderDoneLetter}
 use Rattle.l4_core_model.specs.Local.{declared, thread, held}
 use Rattle.l4_core_model.specs.Acts.{Work, runs_alone_at, waits_at}
-use Rattle.l4_core_model.specs.Runs.{Posted}
 use Rattle.l4_core_model.proofs.Fit.{IsGood}
 use Rattle.l4_core_model.proofs.Good.{ready_has_none, runs_good, waits_good}
 use Rattle.l4_split.proofs.Views.{Scene, Kept, View, kept, view, world_thread, amid, words}
-use Rattle.l4_split.proofs.Rows.{seats, Agrees, learned, Row, RowOf, IsUnplaced, Known}
+use Rattle.l4_split.proofs.Rows.{seats, Agrees, IsUnplaced, Known}
 use Rattle.l4_split.proofs.Squares.{same_agrees, ready_is}
 use Rattle.l4_split.proofs.Moves.{at_home, IsFresh, of_none, ready_is_alive}
 use Rattle.l4_split.proofs.Going.{Goes, IsHere, IsQuiet, home_is, found_here, comes_quiet}
@@ -21,24 +20,20 @@ use Rattle.l4_split.proofs.Going.{Goes, IsHere, IsQuiet, home_is, found_here, co
 -- Of a thread that has neither send nor order no letter is under way, and the world has it as home does.
 pub record IsFree (m : Machine) (i : ℕ) (v : View) : Type 0 where
   pub quiet : words v.mail ≡ []
-  pub unplaced : IsUnplaced m i (seats v)
+  pub unplaced : IsUnplaced m i (seats m i v)
   pub agrees : Agrees v.world (at_home m i v).thread
 
 pub free_is : (m : Machine) (i : ℕ) (v : View) → Known m i v → (at_home m i v).thread.send ≡ None → (at_home m i v).thread.order ≡ None → IsFree m i v
-free_is m i v known no_send no_order = by (words v.mail) refl (subst (Row m i (at_home m i v).thread (seats v) (words v.mail)) no_send known.row) known.agrees
+free_is m i v known no_send no_order = where_then m i v known
+    (λ quiet none row agrees. record { quiet = quiet; unplaced = row.unplaced; agrees = agrees })
+    (λ send quiet has row agrees. not_both _ send has no_send)
+    (λ p is row agrees. not_both _ row.goes.send row.goes.has no_send)
+    (λ p name result is content row agrees. not_both _ row.goes.send row.goes.has no_send)
+    (λ p is row agrees. no_other (sym row.orders.has ∙ no_order))
+    (λ p caller is content row agrees. no_other (sym row.orders.has ∙ no_order))
   where
-    word : (p : Posted) (c : Content) → RowOf m i (at_home m i v).thread (seats v) p c → ⊥
-    word p (SendLetter s receiver message zero_timeout) row = let has = row.goes.has in cc
-    word p (DoneLetter s result) row = let has = row.goes.has in cc
-    word p (WithdrawLetter s receiver cause) row = row
-    word p (GoneLetter id) row = row
-    word p (OrderLetter caller target what) row = let has = row.orders.has in cc
-    word p (OrderDoneLetter caller) row = let has = row.orders.has in cc
-
-    by : (ps : List Posted) → words v.mail ≡ ps → Row m i (at_home m i v).thread (seats v) ps None → Agrees v.world (learned ps (at_home m i v).clock (at_home m i v).thread) → IsFree m i v
-    by [] is row agrees = record { quiet = is; unplaced = row.unplaced; agrees = agrees }
-    by (p ∷ []) is row agrees = absurd (word p p.letter.content row)
-    by (p ∷ q ∷ ps) is row agrees = absurd row
+    no_other : {P : Type 0} {order : Asked} → Some order ≡ None → P
+    no_other h = cc
 
 -- What is known of a thread that runs: it was taken out of the ready ones.
 pub record Runs (m : Machine) (cpu i : ℕ) (s : Scene) (x : Work) (w : World) : Type 0 where

@@ -59,7 +59,7 @@ noticed m from cpu i letter s w h lt about late =
     let left : Stands m i (record before { mail = after.mail }) = record {
       known = record {
         agrees = subst (λ ps. Agrees before.world (learned ps k.clock k.thread)) (sym same_words) stands.known.agrees;
-        row = subst (λ ps. Row m i k.thread (seats before) ps k.thread.send) (sym same_words) stands.known.row;
+        row = subst (λ ps. Row m i (seats m i before) ps k.thread.send) (sym same_words) stands.known.row;
         kept = record {
           at_home = stands.known.kept.at_home;
           elsewhere = stands.known.kept.elsewhere;

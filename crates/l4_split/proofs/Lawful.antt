@@ -38,15 +38,15 @@ pub record IsUnderWay (m : Machine) (i : ℕ) (p : Posted) (mail : List Posted) 
 
 -- Of its thread's letters it is the one that says where, or one of the others.
 
-only_row : (m : Machine) (i : ℕ) (k : Kept) (v : View) (send : Option Send) (xs ys : List Posted) (p : Posted) → Row m i k.thread (seats v) (xs ++ p ∷ ys) send → Agrees v.world (learned (xs ++ p ∷ ys) k.clock k.thread) →
-    RowOf m i k.thread (seats v) p p.letter.content × Agrees v.world (learns p.letter.content k.clock k.thread)
+only_row : (m : Machine) (i : ℕ) (k : Kept) (v : View) (send : Option Send) (xs ys : List Posted) (p : Posted) → Row m i (seats m i v) (xs ++ p ∷ ys) send → Agrees v.world (learned (xs ++ p ∷ ys) k.clock k.thread) →
+    RowOf m i (seats m i v) p p.letter.content × Agrees v.world (learns p.letter.content k.clock k.thread)
 only_row m i k v send [] [] p h a = (h, a)
 only_row m i k v send [] (y ∷ ys) p h a = absurd h
 only_row m i k v send (x ∷ []) ys p h a = absurd h
 only_row m i k v send (x ∷ z ∷ xs) ys p h a = absurd h
 
 word_row : (m : Machine) (i : ℕ) (s : Scene) (w : World) (p : Posted) → IsUnderWay m i p s.mail → says_where p.letter.content ≡ true → Stands m i (view m s w i) →
-    RowOf m i (at_home m i (view m s w i)).thread (seats (view m s w i)) p p.letter.content × Agrees (world_thread w i) (learns p.letter.content (at_home m i (view m s w i)).clock (at_home m i (view m s w i)).thread)
+    RowOf m i (seats m i (view m s w i)) p p.letter.content × Agrees (world_thread w i) (learns p.letter.content (at_home m i (view m s w i)).clock (at_home m i (view m s w i)).thread)
 word_row m i s w p u says stands =
     let v : View = view m s w i in
     let k : Kept = at_home m i v in
@@ -54,7 +54,7 @@ word_row m i s w p u says stands =
     let here = about_place m i i p u.about ∙ same_nat i in
     let at = ap words (ap (filter (is_about m i)) u.is ∙ keeps_one (is_about m i) u.before u.after p here) ∙ keeps_one word (filter (is_about m i) u.before) (filter (is_about m i) u.after) p says in
     only_row m i k v k.thread.send (words (filter (is_about m i) u.before)) (words (filter (is_about m i) u.after)) p
-    (subst (λ ps. Row m i k.thread (seats v) ps k.thread.send) at stands.known.row) (subst (λ ps. Agrees v.world (learned ps k.clock k.thread)) at stands.known.agrees)
+    (subst (λ ps. Row m i (seats m i v) ps k.thread.send) at stands.known.row) (subst (λ ps. Agrees v.world (learned ps k.clock k.thread)) at stands.known.agrees)
 
 late_notice : (m : Machine) (i : ℕ) (s : Scene) (w : World) (p : Posted) → IsUnderWay m i p s.mail → says_where p.letter.content ≡ false → Stands m i (view m s w i) → IsNotice m i (at_home m i (view m s w i)) p
 late_notice m i s w p u late stands =
@@ -81,8 +81,8 @@ letter_lawful m i s w p x c content machine facts u stands at = by c content
     about : (c : Content) → p.letter.content ≡ c → place_of m (subject c) ≡ Some i
     about c content = sym (ap (λ c. place_of m (subject c)) content) ∙ u.about
 
-    row : (c : Content) → p.letter.content ≡ c → says_where c ≡ true → RowOf m i k.thread (seats v) p c × Agrees v.world (learns c k.clock k.thread)
-    row c content says = subst (λ c. RowOf m i k.thread (seats v) p c × Agrees v.world (learns c k.clock k.thread)) content (word_row m i s w p u (ap says_where content ∙ says) stands)
+    row : (c : Content) → p.letter.content ≡ c → says_where c ≡ true → RowOf m i (seats m i v) p c × Agrees v.world (learns c k.clock k.thread)
+    row c content says = subst (λ c. RowOf m i (seats m i v) p c × Agrees v.world (learns c k.clock k.thread)) content (word_row m i s w p u (ap says_where content ∙ says) stands)
 
     notice : (c : Content) → p.letter.content ≡ c → says_where c ≡ false → IsNoticeOf m i k p c
     notice c content late = subst (IsNoticeOf m i k p) content (late_notice m i s w p u (ap says_where content ∙ late) stands)

@@ -38,7 +38,7 @@ send_facts m i send w facts lt has =
     (now, subst (λ o. IfSome o (IsSendOf m (declared m i).id now)) has all.send)
 
 pub sent_lawful : (m : Machine) (i : ℕ) (s : Scene) (w : World) (p : Posted) (x : Work) → IsMachine m → WorldFacts m w → i < length m.threads → x.local.threads ≡ (s.locals p.to).threads →
-    (world_thread w i).send ≡ (at_home m i (view m s w i)).thread.send → IsSent m i (at_home m i (view m s w i)).thread (seats (view m s w i)) p → is_some (handled m p.to p.letter.content x) ≡ true
+    (world_thread w i).send ≡ (at_home m i (view m s w i)).thread.send → IsSent m i (seats m i (view m s w i)) p → is_some (handled m p.to p.letter.content x) ≡ true
 sent_lawful m i s w p x machine facts lt at same row =
     let send = row.goes.send in
     let r = row.goes.r in
@@ -53,7 +53,7 @@ sent_lawful m i s w p x machine facts lt at same row =
     rw (letter, own, foreign, none, actual, shown) refl
 
 pub done_lawful : (m : Machine) (i : ℕ) (s : Scene) (w : World) (p : Posted) (x : Work) (name : _) (result : _) → p.letter.content ≡ DoneLetter name result → IsMachine m → i < length m.threads → x.local.threads ≡ (s.locals p.to).threads →
-    IsDecided m i (at_home m i (view m s w i)).thread (seats (view m s w i)) p name → is_some (handled m p.to p.letter.content x) ≡ true
+    IsDecided m i (seats m i (view m s w i)) p name → is_some (handled m p.to p.letter.content x) ≡ true
 done_lawful m i s w p x name result content machine lt at row =
     let same : thread x.local i ≡ (at_home m i (view m s w i)).thread = ap (λ ts. slice_index_or ts i opening_thread) at ∙ ap (λ c. thread (s.locals c) i) row.to in
     let id = ap (λ n. n.thread) row.name in
@@ -67,7 +67,7 @@ done_lawful m i s w p x name result content machine lt at row =
     rw (content, own, split, k, number) refl
 
 pub ordered_lawful : (m : Machine) (i : ℕ) (s : Scene) (w : World) (p : Posted) (x : Work) → IsMachine m → i < length m.threads →
-    IsOrdered m i (at_home m i (view m s w i)).thread (seats (view m s w i)) p → is_some (handled m p.to p.letter.content x) ≡ true
+    IsOrdered m i (seats m i (view m s w i)) p → is_some (handled m p.to p.letter.content x) ≡ true
 ordered_lawful m i s w p x machine lt row =
     let own = own_is m p.to row.orders.order.target row.orders.target row.orders.place row.to in
     let foreign = foreign_is m p.to (declared m i).id i (machine.placed i lt) (λ e. row.orders.split (sym row.to ∙ sym e)) in
@@ -87,7 +87,7 @@ calls t order has none suits = by t.phase suits
     by Deleted s = refl
 
 pub obeyed_lawful : (m : Machine) (i : ℕ) (s : Scene) (w : World) (p : Posted) (x : Work) (caller : GlobalId) → p.letter.content ≡ OrderDoneLetter caller → place_of m caller ≡ Some i → x.local.threads ≡ (s.locals p.to).threads →
-    Stands m i (view m s w i) → IsObeyed m i (at_home m i (view m s w i)).thread (seats (view m s w i)) p → is_some (handled m p.to p.letter.content x) ≡ true
+    Stands m i (view m s w i) → IsObeyed m i (seats m i (view m s w i)) p → is_some (handled m p.to p.letter.content x) ≡ true
 obeyed_lawful m i s w p x caller content about at stands row =
     let t : Thread = (at_home m i (view m s w i)).thread in
     let same : thread x.local i ≡ t = ap (λ ts. slice_index_or ts i opening_thread) at ∙ ap (λ c. thread (s.locals c) i) row.to in

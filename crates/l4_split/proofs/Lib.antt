@@ -4,6 +4,7 @@ pub mod Views
 pub mod Keeping
 pub mod Rows
 pub mod Relation
+pub mod Whereabouts
 pub mod Opening
 pub mod Squares
 pub mod Frames

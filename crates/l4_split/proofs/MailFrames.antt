@@ -5,7 +5,7 @@ use Rattle.std.proofs.lemmas.Bool.{eqb-true}
 use Rattle.std.proofs.lemmas.List.{map_push}
 use Rattle.std.proofs.lemmas.List.Elements.{filter-append}
 use Rattle.l4_model.specs.Machine.{Machine, place_of}
-use Rattle.l4_model.specs.World.{Thread, World, Send}
+use Rattle.l4_model.specs.World.{World, Send}
 use Rattle.l4_model.proofs.Chains.{some_is}
 use Rattle.l4_core_model.specs.Letters.{Content, Letter}
 use Rattle.l4_core_model.specs.Acts.{Work, ◌▷◌, posts, is_place}
@@ -113,15 +113,15 @@ keeps_one p xs ys x h = filter-append p xs (x ∷ ys) ∙ ap (λ zs. filter p xs
     keep : p x ≡ true → filter p (x ∷ ys) ≡ x ∷ filter p ys
     keep h = rw h refl
 
-only_word : (m : Machine) (i : ℕ) (t : Thread) (v : View) (send : Option Send) (xs ys : List Posted) (p : Posted) → Row m i t (seats v) (xs ++ p ∷ ys) send → (xs ≡ []) × (ys ≡ [])
-only_word m i t v send [] [] p h = (refl, refl)
-only_word m i t v send [] (y ∷ ys) p h = absurd h
-only_word m i t v send (x ∷ []) ys p h = absurd h
-only_word m i t v send (x ∷ z ∷ xs) ys p h = absurd h
+only_word : (m : Machine) (i : ℕ) (v : View) (send : Option Send) (xs ys : List Posted) (p : Posted) → Row m i (seats m i v) (xs ++ p ∷ ys) send → (xs ≡ []) × (ys ≡ [])
+only_word m i v send [] [] p h = (refl, refl)
+only_word m i v send [] (y ∷ ys) p h = absurd h
+only_word m i v send (x ∷ []) ys p h = absurd h
+only_word m i v send (x ∷ z ∷ xs) ys p h = absurd h
 
-pub taken_here : (m : Machine) (from to i : ℕ) (letter : Letter) (mail : List Posted) (t : Thread) (v : View) (send : Option Send) → place_of m (subject letter.content) ≡ Some i → says_where letter.content ≡ true → IsFirst from to letter mail →
-    Row m i t (seats v) (words (filter (is_about m i) mail)) send → IsTaken (record { from = from; to = to; letter = letter }) (filter (is_about m i) mail) (filter (is_about m i) (without_first from to mail))
-taken_here m from to i letter mail t v send is says f row =
+pub taken_here : (m : Machine) (from to i : ℕ) (letter : Letter) (mail : List Posted) (v : View) (send : Option Send) → place_of m (subject letter.content) ≡ Some i → says_where letter.content ≡ true → IsFirst from to letter mail →
+    Row m i (seats m i v) (words (filter (is_about m i) mail)) send → IsTaken (record { from = from; to = to; letter = letter }) (filter (is_about m i) mail) (filter (is_about m i) (without_first from to mail))
+taken_here m from to i letter mail v send is says f row =
     let p : Posted = record { from = from; to = to; letter = letter } in
     let word : Posted → Bool = λ q. says_where q.letter.content in
     let here = about_place m i i p is ∙ same_nat i in
@@ -130,7 +130,7 @@ taken_here m from to i letter mail t v send is says f row =
     let old = ap (filter (is_about m i)) f.is ∙ keeps_one (is_about m i) f.before f.after p here in
     let new = ap (filter (is_about m i)) f.left ∙ filter-append (is_about m i) f.before f.after in
     let at = ap words old ∙ keeps_one word before after p says in
-    let none = only_word m i t v send (words before) (words after) p (subst (λ ps. Row m i t (seats v) ps send) at row) in
+    let none = only_word m i v send (words before) (words after) p (subst (λ ps. Row m i (seats m i v) ps send) at row) in
     record {
       was = at ∙ (λ d. none.0 d ++ p ∷ none.1 d);
       none_left = ap words new ∙ filter-append word before after ∙ (λ d. none.0 d ++ none.1 d);

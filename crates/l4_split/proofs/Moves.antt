@@ -88,21 +88,21 @@ pub moves_kept : (m : Machine) (i : ℕ) (v after : View) → IsKept m i v → M
 moves_kept m i v after known moves here = record { at_home = here; elsewhere = moved_elsewhere m i v after known moves; notices = moved_notices m i v after known moves }
 
 -- It has neither send nor order now, and no letter says where they are.
-pub plain_known : (m : Machine) (i : ℕ) (v : View) → IsKept m i v → IsUnplaced m i (seats v) → words v.mail ≡ [] →
+pub plain_known : (m : Machine) (i : ℕ) (v : View) → IsKept m i v → IsUnplaced m i (seats m i v) → words v.mail ≡ [] →
     (at_home m i v).thread.send ≡ None → (at_home m i v).thread.order ≡ None → Agrees v.world (at_home m i v).thread → Known m i v
 plain_known m i v kept none quiet no_send no_order agrees = record {
   agrees = subst (λ ps. Agrees v.world (learned ps (at_home m i v).clock (at_home m i v).thread)) (sym quiet) agrees;
-  row = subst (λ ps. Row m i (at_home m i v).thread (seats v) ps (at_home m i v).thread.send) (sym quiet)
-      (subst (Row m i (at_home m i v).thread (seats v) []) (sym no_send) (record { order = no_order; unplaced = none }));
+  row = subst (λ ps. Row m i (seats m i v) ps (at_home m i v).thread.send) (sym quiet)
+      (subst (Row m i (seats m i v) []) (sym no_send) (record { order = no_order; unplaced = none }));
   kept = kept;
 }
 
 -- Its send is decided, or an order, or a letter says where it is.
-pub word_known : (m : Machine) (i : ℕ) (v : View) (p : Posted) → IsKept m i v → words v.mail ≡ p ∷ [] → RowOf m i (at_home m i v).thread (seats v) p p.letter.content →
+pub word_known : (m : Machine) (i : ℕ) (v : View) (p : Posted) → IsKept m i v → words v.mail ≡ p ∷ [] → RowOf m i (seats m i v) p p.letter.content →
     Agrees v.world (learned (p ∷ []) (at_home m i v).clock (at_home m i v).thread) → Known m i v
 word_known m i v p kept word row agrees = record {
   agrees = subst (λ ps. Agrees v.world (learned ps (at_home m i v).clock (at_home m i v).thread)) (sym word) agrees;
-  row = subst (λ ps. Row m i (at_home m i v).thread (seats v) ps (at_home m i v).thread.send) (sym word) row;
+  row = subst (λ ps. Row m i (seats m i v) ps (at_home m i v).thread.send) (sym word) row;
   kept = kept;
 }
 

@@ -34,7 +34,7 @@ notice_relates m cpu to i content but s w x rel out lt about late notice =
     takes_in m i but (amid cpu s (posts to content x)) w (letter_posted m cpu to i content (i ∷ but) s w x about (first_about i but) (leaves_out m i but (amid cpu s x) w rel)) (record {
       known = record {
         agrees = subst (λ ps. Agrees v.world (learned ps (at_home m i v).clock (at_home m i v).thread)) (sym word) h.known.agrees;
-        row = subst (λ ps. Row m i (at_home m i v).thread (seats v) ps (at_home m i v).thread.send) (sym word) h.known.row;
+        row = subst (λ ps. Row m i (seats m i v) ps (at_home m i v).thread.send) (sym word) h.known.row;
         kept = record {
           at_home = h.known.kept.at_home;
           elsewhere = h.known.kept.elsewhere;

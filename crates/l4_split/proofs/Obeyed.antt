@@ -60,7 +60,7 @@ obeyed_relates : (m : Machine) (cpu i : ℕ) (s : Scene) (w : World) (x : Work) 
     RelatesBut m (Stands m) (i ∷ []) (amid cpu s x) w → RelatesBut m (Stands m) [] (amid cpu s (x ▷ does (comes_to i obeyed))) w
 obeyed_relates m cpu i s w x before p caller here content t rel =
     let v : View = view m (amid cpu s x) w i in
-    let row : IsObeyed m i (at_home m i before).thread (seats before) p = subst (RowOf m i (at_home m i before).thread (seats before) p) content (taken_row m i before v p t) in
+    let row : IsObeyed m i (seats m i before) p = subst (RowOf m i (seats m i before) p) content (taken_row m i before v p t) in
     let was : at_home m i before ≡ kept x.local i = sym (ap (λ (f : ℕ → Kept). f (home m i)) t.kept) ∙ home_is m cpu i s x w here.home in
     let has : (thread x.local i).order ≡ Some row.orders.order = sym (ap (λ (k : Kept). k.thread.order) was) ∙ row.orders.has in
     let none : (thread x.local i).send ≡ None = sym (ap (λ (k : Kept). k.thread.send) was) ∙ row.orders.no_send in

@@ -1,4 +1,5 @@
 -- A letter brings an order to its target.
+use Rattle.l4_split.proofs.AskedSquares.{send_asked}
 use Rattle.l4_model.proofs.Lists.{or_right}
 use Rattle.std.proofs.Common.{◌≡◌, ℕ, ◌<◌, true, false, Option, Some, None, List, [], ◌∷◌, ◌++◌, length, refl, ap, sym, ◌∙◌, subst, arith}
 use Rattle.std.specs.Prelude.{IfSome}
@@ -19,7 +20,7 @@ use Rattle.l4_split.proofs.Frames.{leaves_out}
 use Rattle.l4_split.proofs.Moves.{at_home}
 use Rattle.l4_split.proofs.Going.{IsHere, home_is, sized_here}
 use Rattle.l4_split.proofs.Noticing.{withdraws_relates, withdraws_steps}
-use Rattle.l4_split.proofs.Asking.{asked_wants, asked_thread}
+use Rattle.l4_split.proofs.Asking.{asked_thread}
 use Rattle.l4_split.proofs.Asks.{asks_here, asks_relates}
 
 -- Why the send of a living thread that was asked is withdrawn is true.
@@ -59,7 +60,7 @@ obeys_relates m cpu j caller what but s w x here out rel =
     (λ gone. asked_now)
     (λ alive. withdraws_for_relates m cpu j what (cause_of what) but s u y refl here asked_now out (λ cause why.
     subst (λ (t : Thread). IfSome t.send (IsCause cause y.local.clock t)) (sym now)
-    (subst (λ o. IfSome o (IsCause cause y.local.clock (asked what (thread x.local j)))) (sym (asked_wants what (thread x.local j)).send)
+    (subst (λ o. IfSome o (IsCause cause y.local.clock (asked what (thread x.local j)))) (sym (send_asked what (thread x.local j)))
     (wished (thread x.local j).phase (thread x.local j) (thread x.local j).send refl refl alive good.suits what cause why y.local.clock))))
 
 pub obeys_steps : (m : Machine) (cpu j : ℕ) (caller : GlobalId) (what : What) (x : Work) → (obeys m cpu caller what j x).steps ≡ x.steps ++ Obey caller ∷ []

@@ -18,7 +18,7 @@ use Rattle.l4_core_model.proofs.Beginning.{place_within}
 use Rattle.l4_core_model.proofs.Fit.{Suits, get_other}
 use Rattle.l4_split.proofs.Entries.{other_is, filter_last, filter_last_other}
 use Rattle.l4_split.proofs.Views.{Scene, Kept, View, kept, view, world_thread, home, amid, subject, says_where, words, notices, is_about}
-use Rattle.l4_split.proofs.Rows.{seats, AgreesIn, Agrees, learns, RowOf, IsOrdering, IsOrdered, IsObeyed, IsKeptAtHome, Stands}
+use Rattle.l4_split.proofs.Rows.{seats, AgreesIn, Agrees, learns, RowOf, IsOrdering, IsOrdered, IsObeyed, IsKeptAtHome, Stands, seats_of}
 use Rattle.l4_split.proofs.Relation.{RelatesBut}
 use Rattle.l4_split.proofs.Frames.{first_about, takes_in, put_same, world_changes}
 use Rattle.l4_split.proofs.MailFrames.{about_place, mail_posted, letter_posted, mail_here}
@@ -81,11 +81,6 @@ obeys_mail m cpu j i caller what s x placed ne =
 
 -- The letter
 
--- the row of a caller, by what processors keep of it
-
-abbrev OrderingBy : Machine → ℕ → (ℕ → Kept) → Type 0
-OrderingBy m i f = IsOrdering m i (f (home m i)).thread (record { sent = λ c. (f c).thread.send; begun = λ c. (f c).thread.context.begun; listed = λ c. (f c).listed })
-
 order_letter : (caller target : GlobalId) (what : What) (id : GlobalId) (order : Asked) → OrderLetter caller target what ≡ OrderLetter id order.target order.what → (target ≡ order.target) × (what ≡ order.what)
 order_letter caller target what id order h = (cc, cc)
 
@@ -93,7 +88,7 @@ pub order_goes : (m : Machine) (cpu i j : ℕ) (s : Scene) (w : World) (x : Work
     IsTakenOut m i before (view m (amid cpu s x) w i) p → RelatesBut m (Stands m) (i ∷ []) (amid cpu s x) w → x.steps ≡ [] → Goes m cpu s w [] (x ▷ obeys m cpu caller what j ▷ posts (home m i) (OrderDoneLetter caller))
 order_goes m cpu i j s w x before p caller target what here lt away at_i at_j to content t rel nothing =
     let v : View = view m (amid cpu s x) w i in
-    let row : IsOrdered m i (at_home m i before).thread (seats before) p = subst (RowOf m i (at_home m i before).thread (seats before) p) content (taken_row m i before v p t) in
+    let row : IsOrdered m i (seats m i before) p = subst (RowOf m i (seats m i before) p) content (taken_row m i before v p t) in
     let o = row.orders in
     let says = order_letter caller target what (declared m i).id o.order (sym content ∙ row.letter) in
     let agrees : Agrees before.world (at_home m i before).thread = subst (λ c. Agrees before.world (learns c (at_home m i before).clock (at_home m i before).thread)) content (taken_agrees m i before v p t) in
@@ -120,10 +115,10 @@ order_goes m cpu i j s w x before p caller target what here lt away at_i at_j to
       notices = others;
       carries = subst (Carries (at_home m i before)) (sym home_same) (same_carries (at_home m i before));
     } in
-    let orders : OrderingBy m i after.kept = subst (OrderingBy m i) (sym same_kept) o in
+    let orders : IsOrdering m i (seats m i after) = subst (λ (f : ℕ → Kept). IsOrdering m i (seats_of m i f)) (sym same_kept) o in
     let which : o.target ≡ j = some_is o.target j (sym o.place ∙ ap (place_of m) (sym says.0) ∙ at_j) in
-    let obeys_row : IsObeyed m i (at_home m i after).thread (seats after) q = record {
-      orders = record { no_send = ap (λ (k : Kept). k.thread.send) home_same ∙ o.no_send; order = o.order; has = ap (λ (k : Kept). k.thread.order) home_same ∙ o.has; target = o.target; place = o.place; split = o.split; unplaced = orders.unplaced };
+    let obeys_row : IsObeyed m i (seats m i after) q = record {
+      orders = record { no_send = orders.no_send; order = o.order; has = orders.has; target = o.target; place = o.place; split = o.split; unplaced = orders.unplaced };
       from = sym to ∙ row.to;
       to = refl;
     } in

@@ -1,6 +1,7 @@
 -- What is promised is kept where a withdrawal is handled: it finds its send, or the send was decided before.
+use Rattle.l4_split.proofs.Whereabouts.{where_then, not_both}
 use Rattle.l4_split.proofs.Members.{any_kept, any_list}
-use Rattle.std.proofs.Common.{◌≡◌, ℕ, ◌<◌, Bool, true, false, Option, Some, None, List, [], ◌∷◌, map, filter, length, refl, ap, sym, ◌∙◌, subst, inl, inr, ◌⊎◌}
+use Rattle.std.proofs.Common.{◌≡◌, ℕ, ◌<◌, Bool, true, false, Some, List, [], ◌∷◌, map, filter, length, refl, ap, sym, ◌∙◌, subst, inl, inr, ◌⊎◌}
 use Rattle.std.specs.Prelude.{◌==◌, ◌&&◌, slice_get}
 use Rattle.std.proofs.lemmas.Bool.{eqb-true}
 use Rattle.std.proofs.lemmas.List.{append-nil}
@@ -9,7 +10,7 @@ use Rattle.l4_model.specs.Machine.{Machine}
 use Rattle.l4_model.specs.World.{Name, World, Send}
 use Rattle.l4_model.proofs.Chains.{bind_then, some_is, cond_keeps}
 use Rattle.l4_core_model.specs.Plain as plain
-use Rattle.l4_core_model.specs.Letters.{Cause, Refused, Content, SendLetter, DoneLetter, WithdrawLetter, GoneLetter, OrderLetter, OrderDoneLetter, Letter, refusal_of, refusal_step}
+use Rattle.l4_core_model.specs.Letters.{Cause, Refused, Content, SendLetter, DoneLetter, WithdrawLetter, GoneLetter, OrderLetter, OrderDoneLetter, Letter, refusal_of, refusal_step, Result}
 use Rattle.l4_core_model.specs.Local.{declared, is_own, thread, destination_place, last_name, relists, changes}
 use Rattle.l4_model.specs.Effects.{decided}
 use Rattle.l4_core_model.specs.Acts.{Work, ◌▷◌, does, posts, tells_send, refuses}
@@ -19,7 +20,7 @@ use Rattle.l4_core_model.proofs.Knows.{same_nat}
 use Rattle.l4_core_model.proofs.Pieces.{both}
 use Rattle.l4_split.proofs.Entries.{other_is}
 use Rattle.l4_split.proofs.Views.{Kept, Scene, View, view, home, amid, says_where, words, is_about, is_of}
-use Rattle.l4_split.proofs.Rows.{Row, RowOf, seats, name_of}
+use Rattle.l4_split.proofs.Rows.{seats, name_of, IsDecided, IsSent, IsWaiting}
 use Rattle.l4_split.proofs.MailFrames.{mail_posted}
 use Rattle.l4_split.proofs.Moves.{at_home}
 use Rattle.l4_split.proofs.Receiving.{without, IsLetter, at_work, foreign_place_is}
@@ -81,9 +82,6 @@ not_behind {P = P} s receiver cause from cpu letter mail content first order h =
 and_true : {P : Type 0} (a b : Bool) → a ≡ true → b ≡ true → (a && b) ≡ false → P
 and_true a b p q h = let p = p in let q = q in cc
 
-pub none_sent : {P : Type 0} (o : Option Send) (send : Send) → o ≡ Some send → o ≡ None → P
-none_sent o send has none = let both = sym has ∙ none in cc
-
 pub withdraw_keeps : (m : Machine) (from cpu : ℕ) (letter : Letter) (s : Scene) (w : World) (x : Work) (name : Name) (receiver : GlobalId) (cause : Cause) → IsLetter m from cpu letter s w → slice_get (letters s.mail from cpu) 0 ≡ Some letter →
     letter.content ≡ WithdrawLetter name receiver cause → Promised m [] s → handled m cpu (WithdrawLetter name receiver cause) (at_work cpu letter s) ≡ Some x → Amid m cpu (without from cpu s) x
 withdraw_keeps m from cpu letter s w x name receiver cause h first content promised is =
@@ -115,7 +113,13 @@ withdraw_keeps m from cpu letter s w x name receiver cause h first content promi
     finds j r send lt foreign has to away named poster here =
         cond_keeps Finds (waits_here y.local j name.k) (refuses m cpu (refusal_of cause) j y) y
         (λ waits. let t = both (plain.is_queued y.local.lists j) _ waits in refused (eqb-true (thread y.local j).context.begun name.k t.1))
-        (λ none. by_words none (words v.mail) refl (subst (Row m j (at_home m j v).thread (seats v) (words v.mail)) has (h.relates.places j lt tt).known.row))
+        (λ none. where_then m j v (h.relates.places j lt tt).known
+        (λ quiet no_send row a. not_both _ send has no_send)
+        (λ other quiet is row a. waits none other (some_is other send (sym is ∙ has)) row)
+        (λ q is row a. sent q is row)
+        (λ q t result is content_is row a. done q t result is content_is row)
+        (λ q is row a. not_both _ send has row.orders.no_send)
+        (λ q caller is content row a. not_both _ send has row.orders.no_send))
       where
         v : View
         v = view m s w j
@@ -137,31 +141,27 @@ withdraw_keeps m from cpu letter s w x name receiver cause h first content promi
         number_is : name.k ≡ (at_home m j v).thread.context.begun
         number_is = ap (λ (n : Name). n.k) (sym named)
 
-        by_word : (q : Posted) (c : Content) → words v.mail ≡ q ∷ [] → q.letter.content ≡ c → RowOf m j (at_home m j v).thread (seats v) q c → Finds y
-        by_word q (DoneLetter t result) is holds row = decided_is (taken_any (λ (p : Posted). IsDoneOf name p.letter.content) from cpu letter s y h.first
+        done : (q : Posted) (t : Name) (result : Result) → words v.mail ≡ q ∷ [] → q.letter.content ≡ DoneLetter t result → IsDecided m j (seats m j v) q t → Finds y
+        done q t result is content_is row = decided_is (taken_any (λ (p : Posted). IsDoneOf name p.letter.content) from cpu letter s y h.first
             (subst (AnyOf (λ (p : Posted). IsDoneOf name p.letter.content)) (sym (append-nil s.mail)) (any_filter _ (is_about m j) s.mail (any_filter _ (λ (p : Posted). says_where p.letter.content) v.mail
-            (subst (AnyOf (λ (p : Posted). IsDoneOf name p.letter.content)) (sym is) (inl (subst (IsDoneOf name) (sym holds) (sym named ∙ sym row.name))))))))
+            (subst (AnyOf (λ (p : Posted). IsDoneOf name p.letter.content)) (sym is) (inl (subst (IsDoneOf name) (sym content_is) (sym named ∙ sym row.name))))))))
           where
             decided_is : IsDoneOf name letter.content ⊎ AnyOf (λ (p : Posted). IsDoneOf name p.letter.content) (amid cpu (without from cpu s) y).mail → Finds y
             decided_is (inl mine) = absurd (subst (IsDoneOf name) content mine)
             decided_is (inr h) = any_map (λ (p : Posted). IsDoneOf name p.letter.content) (IsAnswer name (home m j) (home m r)) (λ p h. done_answers name (home m j) (home m r) p p.letter.content h) (amid cpu (without from cpu s) y).mail h
-        by_word q (SendLetter t other message zero_timeout) is holds row =
+
+        sent : (q : Posted) → words v.mail ≡ q ∷ [] → IsSent m j (seats m j v) q → Finds y
+        sent q is row =
             let same : row.goes.send ≡ send = some_is row.goes.send send (sym row.goes.has ∙ has) in
             let r_is : row.goes.r ≡ r = some_is row.goes.r r (sym row.goes.to ∙ ap (λ (s : Send). destination_place m s.to) same ∙ to) in
             not_behind name receiver cause from cpu letter s.mail content first promised.in_order (any_filter _ (is_about m j) s.mail (any_filter _ (λ (p : Posted). says_where p.letter.content) v.mail
             (subst (AnyOf (IsSendBetween name from cpu)) (sym is) (inl (row.from ∙ sym poster, (row.to ∙ ap (home m) r_is ∙ sym here, subst (IsSendOf name) (sym row.letter) named))))))
-        by_word q (OrderLetter caller target what) is holds row = none_sent (at_home m j v).thread.send send has row.orders.no_send
-        by_word q (OrderDoneLetter caller) is holds row = none_sent (at_home m j v).thread.send send has row.orders.no_send
-        by_word q (WithdrawLetter t other why) is holds row = absurd row
-        by_word q (GoneLetter id) is holds row = absurd row
 
-        by_words : waits_here y.local j name.k ≡ false → (ws : List Posted) → words v.mail ≡ ws → Row m j (at_home m j v).thread (seats v) ws (Some send) → Finds y
-        by_words none [] is row =
-            let r_is : row.r ≡ r = some_is row.r r (sym row.to ∙ to) in
+        waits : waits_here y.local j name.k ≡ false → (other : Send) → other ≡ send → IsWaiting m j other (seats m j v) → Finds y
+        waits none other same row =
+            let r_is : row.r ≡ r = some_is row.r r (sym row.to ∙ ap (λ (s : Send). destination_place m s.to) same ∙ to) in
             let at : home m row.r ≡ cpu = ap (home m) r_is ∙ sym here in
             let listed = sym (ap (λ c. (v.kept c).listed row.r) at) ∙ row.listed in
             let number : (thread y.local j).context.begun ≡ name.k = sym (ap (λ c. (v.kept c).thread.context.begun) at) ∙ (row.stand_in (λ e. away (sym (ap (home m) r_is) ∙ e))).number ∙ sym number_is in
             and_true (plain.is_queued y.local.lists j) ((thread y.local j).context.begun == name.k) (any_list (is_of j) y.local.lists.waiting row.r (any_kept (is_of j) _ [] _ listed))
             (subst (λ n. ((thread y.local j).context.begun == n) ≡ true) number (same_nat (thread y.local j).context.begun)) none
-        by_words none (q ∷ []) is row = by_word q q.letter.content is refl row
-        by_words none (q ∷ p ∷ ps) is row = absurd row

@@ -109,7 +109,7 @@ queued_stands m cpu i r s w x send at free home_is to within =
     let here : after.kept cpu ≡ kept l i = ap (λ l. kept l i) (put_here cpu cpu l s.locals refl) in
     let there : after.kept (home m r) ≡ kept l i = ap after.kept home_is ∙ here in
     let suits : Suits (at_home m i v).thread.phase (Some send) (at_home m i v).thread.order = subst (λ o. Suits (at_home m i v).thread.phase o (at_home m i v).thread.order) at.has at.kept.at_home.good.suits in
-    let row : IsWaiting m i send (at_home m i after).thread (seats after) = record {
+    let row : IsWaiting m i send (seats m i after) = record {
       order = ap (λ (t : Thread). t.order) thread_same ∙ at.order;
       r = r;
       to = to;
@@ -130,8 +130,8 @@ queued_stands m cpu i r s w x send at free home_is to within =
     record {
       known = record {
         agrees = subst (λ ps. Agrees after.world (learned ps (at_home m i after).clock (at_home m i after).thread)) (sym at.quiet) (subst (Agrees v.world) (sym thread_same) at.agrees);
-        row = subst (λ ps. Row m i (at_home m i after).thread (seats after) ps (at_home m i after).thread.send) (sym at.quiet)
-            (subst (Row m i (at_home m i after).thread (seats after) []) (sym (ap (λ (t : Thread). t.send) thread_same ∙ at.has)) row);
+        row = subst (λ ps. Row m i (seats m i after) ps (at_home m i after).thread.send) (sym at.quiet)
+            (subst (Row m i (seats m i after) []) (sym (ap (λ (t : Thread). t.send) thread_same ∙ at.has)) row);
         kept = kept_listed m i after (subst (IsKept m i) (sym same) (kept_unlisted m i v at.kept));
       };
       ready = ready_same ∙ at.out ∙ sym (sender_unready i (at_home m i v).thread.phase send (at_home m i v).thread.order suits) ∙ ap (λ (t : Thread). readied t.phase i []) (sym thread_same);

@@ -1,4 +1,5 @@
 -- Where home refuses a send of timeout zero, the world may: its receiver neither accepts it now nor will once its call is decided.
+use Rattle.l4_split.proofs.Whereabouts.{where_then}
 use Rattle.std.proofs.Common.{◌≡◌, ℕ, suc, ◌+◌, Bool, true, false, cond, Option, Some, None, List, [], ◌∷◌, length, refl, ap, sym, ◌∙◌, subst, arith}
 use Rattle.std.specs.Prelude.{◌&&◌, not, nat_lt, find, slice_get}
 use Rattle.std.specs.List.{position_or_len}
@@ -8,15 +9,14 @@ use Rattle.l4_model.specs.Machine.{Machine, Declaration, place_of, declaration_o
 use Rattle.l4_model.specs.World.{Thread, Send, Receive, Phase, Ready, Sending, Receiving, Ordering, Ended, Deleted, is_ready, is_alive}
 use Rattle.l4_model.specs.Conditions.{Found, is_refusable, may_still_accept, call_accepts, receive_accepts}
 use Rattle.l4_model.specs.Effects.{refused, obeyed, goes_on}
-use Rattle.l4_core_model.specs.Letters.{Result, Delivered, Refused, TimedOut, Nobody, Cancelled, Dropped, Content, SendLetter, DoneLetter, WithdrawLetter, GoneLetter, OrderLetter, OrderDoneLetter}
+use Rattle.l4_core_model.specs.Letters.{Result, Delivered, Refused, TimedOut, Nobody, Cancelled, Dropped}
 use Rattle.l4_core_model.specs.Local.{declared, undeclared, destination_place, ended, was_dropped}
-use Rattle.l4_core_model.specs.Runs.{Posted}
 use Rattle.l4_core_model.proofs.Fit.{Suits}
 use Rattle.l4_core_model.proofs.Beginning.{place_within}
 use Rattle.l4_core_model.proofs.Pieces.{both}
 use Rattle.l4_split.proofs.Entries.{other_is}
-use Rattle.l4_split.proofs.Views.{View, home, words}
-use Rattle.l4_split.proofs.Rows.{seats, AgreesIn, Agrees, learns, learned, Row, RowOf, IsSplit, Known}
+use Rattle.l4_split.proofs.Views.{View, home}
+use Rattle.l4_split.proofs.Rows.{AgreesIn, Agrees, Known}
 use Rattle.l4_split.proofs.Squares.{ready_is}
 use Rattle.l4_split.proofs.Moves.{at_home}
 
@@ -109,17 +109,18 @@ alive_refusable : (m : Machine) (r clock : ℕ) (send : Send) (t : Thread) → i
 alive_refusable m r clock send t h = (both (is_alive t.phase) _ h).0
 
 -- where its own call was decided
-decided_refusable : (m : Machine) (r clock : ℕ) (send : Send) (result : Result) (t world : Thread) → place_of m (declared m r).id ≡ Some r → IsSplit m r t → Suits t.phase t.send t.order → Agrees world (ended result clock t) →
+decided_refusable : (m : Machine) (r clock : ℕ) (send : Send) (result : Result) (t world : Thread) → place_of m (declared m r).id ≡ Some r →
+    (call : Send) (q : ℕ) → t.send ≡ Some call → destination_place m call.to ≡ Some q → (home m q ≡ home m r → ⊥) → Suits t.phase t.send t.order → Agrees world (ended result clock t) →
     is_refusable m send (Some (seen m r clock t)) ≡ true → is_refusable m send (Some (seen m r clock world)) ≡ true
-decided_refusable m r clock send result t world here split suits a h = by result a
+decided_refusable m r clock send result t world here call q has to split suits a h = by result a
   where
     alive : is_alive t.phase ≡ true
     alive = alive_refusable m r clock send t h
 
     sending : t.phase ≡ Sending
-    sending = in_phase t.phase alive (subst (λ o. Suits t.phase o t.order) split.has suits)
+    sending = in_phase t.phase alive (subst (λ o. Suits t.phase o t.order) has suits)
       where
-        in_phase : (p : Phase) → is_alive p ≡ true → Suits p (Some split.send) t.order → p ≡ Sending
+        in_phase : (p : Phase) → is_alive p ≡ true → Suits p (Some call) t.order → p ≡ Sending
         in_phase Ready alive s = cc
         in_phase Sending alive s = refl
         in_phase (Receiving receive since) alive s = cc
@@ -142,9 +143,8 @@ decided_refusable m r clock send result t world here split suits a h = by result
     by (Refused Cancelled) a = fallen (refused 6 t) (refused_ready 6) a
     by (Refused Dropped) a = fallen (was_dropped t) dropped_ready a
     by Delivered a =
-        let has = split.has in
-        let delivered_is : ended Delivered clock t ≡ goes_on split.send.receive clock t = rw (has, alive) refl in
-        goes_on_refusable m r split.r clock clock send split.send t world here split.to split.split sending has (subst (Agrees world) delivered_is a) h
+        let delivered_is : ended Delivered clock t ≡ goes_on call.receive clock t = rw (has, alive) refl in
+        goes_on_refusable m r q clock clock send call t world here to split sending has (subst (Agrees world) delivered_is a) h
 
 obeyed_refusable : (m : Machine) (r clock : ℕ) (send : Send) (t world : Thread) → Agrees world (obeyed t) → is_refusable m send (Some (seen m r clock t)) ≡ true → is_refusable m send (Some (seen m r clock world)) ≡ true
 obeyed_refusable m r clock send t world a h =
@@ -156,23 +156,16 @@ obeyed_refusable m r clock send t world a h =
 pub refusable_known : (m : Machine) (r : ℕ) (send : Send) (v : View) → place_of m (declared m r).id ≡ Some r → Known m r v →
     is_refusable m send (Some (record { at = r; declared = declared m r; now = (at_home m r v).thread; clock = (at_home m r v).clock })) ≡ true →
     is_refusable m send (Some (record { at = r; declared = declared m r; now = v.world; clock = (at_home m r v).clock })) ≡ true
-refusable_known m r send v here known h = by (words v.mail) known.row known.agrees
+refusable_known m r send v here known h = where_then m r v known
+    (λ quiet none row a. same_refusable m r clock send t v.world a h)
+    (λ own quiet has row a. same_refusable m r clock send t v.world a h)
+    (λ p is row a. same_refusable m r clock send t v.world a h)
+    (λ p name result is content row a. decided_refusable m r clock send result t v.world here row.goes.send row.goes.r row.goes.has row.goes.to row.goes.split known.kept.at_home.good.suits a h)
+    (λ p is row a. same_refusable m r clock send t v.world a h)
+    (λ p caller is content row a. obeyed_refusable m r clock send t v.world a h)
   where
     t : Thread
     t = (at_home m r v).thread
 
     clock : ℕ
     clock = (at_home m r v).clock
-
-    word : (p : Posted) (c : Content) → RowOf m r t (seats v) p c → Agrees v.world (learns c clock t) → is_refusable m send (Some (seen m r clock v.world)) ≡ true
-    word p (SendLetter s receiver message zero_timeout) row a = same_refusable m r clock send t v.world a h
-    word p (DoneLetter s result) row a = decided_refusable m r clock send result t v.world here row.goes known.kept.at_home.good.suits a h
-    word p (WithdrawLetter s receiver cause) row a = absurd row
-    word p (GoneLetter id) row a = absurd row
-    word p (OrderLetter caller target what) row a = same_refusable m r clock send t v.world a h
-    word p (OrderDoneLetter caller) row a = obeyed_refusable m r clock send t v.world a h
-
-    by : (ps : List Posted) → Row m r t (seats v) ps t.send → Agrees v.world (learned ps clock t) → is_refusable m send (Some (seen m r clock v.world)) ≡ true
-    by [] row a = same_refusable m r clock send t v.world a h
-    by (p ∷ []) row a = word p p.letter.content row a
-    by (p ∷ q ∷ ps) row a = absurd row

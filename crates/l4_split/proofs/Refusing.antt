@@ -1,6 +1,7 @@
 -- A send on its receiver's processor is refused.
+use Rattle.l4_split.proofs.Whereabouts.{where_then}
 use Rattle.l4_core_model.proofs.Sending.{nowhere_is, zero_passed}
-use Rattle.std.proofs.Common.{◌≡◌, ℕ, ◌<◌, ◌≤◌, true, Some, None, List, [], ◌∷◌, length, refl, ap, sym, ◌∙◌, subst, inl, inr, ◌⊎◌}
+use Rattle.std.proofs.Common.{◌≡◌, ℕ, ◌<◌, ◌≤◌, true, Some, None, [], ◌∷◌, length, refl, ap, sym, ◌∙◌, subst, inl, inr, ◌⊎◌}
 use Rattle.std.specs.Prelude.{◌&&◌, not}
 use Rattle.l4_model.specs.Words.{Id, NilThread, AnyThread, AnyLocalThread, LocalThread, GlobalThread}
 use Rattle.l4_model.specs.Machine.{Machine, place_of}
@@ -9,14 +10,14 @@ use Rattle.l4_model.specs.Conditions.{Found, is_no_destination, is_zero, is_refu
 use Rattle.l4_model.specs.History.{run}
 use Rattle.l4_model.specs.Steps.{next}
 use Rattle.l4_model.specs.Effects.{refused, obeyed}
-use Rattle.l4_core_model.specs.Letters.{Refusal, TimedOut, Nobody, Refused, refusal_step, Content, SendLetter, DoneLetter, WithdrawLetter, GoneLetter, OrderLetter, OrderDoneLetter}
+use Rattle.l4_core_model.specs.Letters.{Refusal, TimedOut, Nobody, Refused, refusal_step}
 use Rattle.l4_core_model.specs.Local.{declared, thread, held, destination_place, last_name, ended}
 use Rattle.l4_core_model.specs.Acts.{Work, ◌▷◌, tells, refuses, zero_refusable}
-use Rattle.l4_core_model.specs.Runs.{Posted, IsMachine}
+use Rattle.l4_core_model.specs.Runs.{IsMachine}
 use Rattle.l4_core_model.proofs.Fit.{SendIsSince}
 use Rattle.l4_core_model.proofs.Pieces.{both}
-use Rattle.l4_split.proofs.Views.{Scene, Kept, View, view, world_thread, home, amid, words}
-use Rattle.l4_split.proofs.Rows.{seats, AgreesIn, Agrees, learns, learned, Row, RowOf, Known}
+use Rattle.l4_split.proofs.Views.{Scene, Kept, View, view, world_thread, home, amid}
+use Rattle.l4_split.proofs.Rows.{AgreesIn, Agrees, Known}
 use Rattle.l4_split.proofs.Squares.{ended_deleted}
 use Rattle.l4_split.proofs.Refusable.{refusable_known, same_refusable}
 use Rattle.l4_split.proofs.Moves.{at_home, deleted_phase}
@@ -54,7 +55,13 @@ nowhere_goes m cpu i s w x send h to not_nil =
 
 -- A thread that is deleted at home is deleted in the world.
 pub deleted_known : (m : Machine) (r : ℕ) (v : View) → Known m r v → (at_home m r v).thread.phase ≡ Deleted → v.world.phase ≡ Deleted
-deleted_known m r v known gone = by (words v.mail) known.row known.agrees
+deleted_known m r v known gone = where_then m r v known
+    (λ quiet none row a. left t gone a)
+    (λ send quiet has row a. left t gone a)
+    (λ p is row a. left t gone a)
+    (λ p name result is content row a. left (ended result clock t) (ap (λ (u : Thread). u.phase) (ended_deleted result clock t row.goes.send gone row.goes.has) ∙ gone) a)
+    (λ p is row a. left t gone a)
+    (λ p caller is content row a. left (obeyed t) obeyed_gone a)
   where
     t : Thread
     t = (at_home m r v).thread
@@ -67,19 +74,6 @@ deleted_known m r v known gone = by (words v.mail) known.row known.agrees
 
     obeyed_gone : (obeyed t).phase ≡ Deleted
     obeyed_gone = rw gone refl
-
-    word : (p : Posted) (c : Content) → RowOf m r t (seats v) p c → Agrees v.world (learns c clock t) → v.world.phase ≡ Deleted
-    word p (SendLetter s receiver message zero_timeout) row a = left t gone a
-    word p (DoneLetter s result) row a = left (ended result clock t) (ap (λ (u : Thread). u.phase) (ended_deleted result clock t row.goes.send gone row.goes.has) ∙ gone) a
-    word p (WithdrawLetter s receiver cause) row a = absurd row
-    word p (GoneLetter id) row a = absurd row
-    word p (OrderLetter caller target what) row a = left t gone a
-    word p (OrderDoneLetter caller) row a = left (obeyed t) obeyed_gone a
-
-    by : (ps : List Posted) → Row m r t (seats v) ps t.send → Agrees v.world (learned ps clock t) → v.world.phase ≡ Deleted
-    by [] row a = left t gone a
-    by (p ∷ []) row a = word p p.letter.content row a
-    by (p ∷ q ∷ ps) row a = absurd row
 
 -- The world has a thread as its home does, now or once the letter under way to it is handled.
 abbrev pub IsSeen : Machine → ℕ → View → Type 0

@@ -49,18 +49,18 @@ own_agrees m s w i rest lt =
 pub own_seen : (m : Machine) (s : Scene) (w : World) (i : ℕ) → IsAtRest m s w → i < length m.threads → IsSeen (world_thread w i) (own m s i)
 own_seen m s w i rest lt = is_seen (world_thread w i) (own m s i) (own_agrees m s w i rest lt)
 
-own_row : (m : Machine) (s : Scene) (w : World) (i : ℕ) → IsAtRest m s w → i < length m.threads → Row m i (own m s i) (seats (view m s w i)) [] (own m s i).send
-own_row m s w i rest lt = subst (λ mail. Row m i (own m s i) (seats (view m s w i)) (words mail) (own m s i).send) (no_mail m s w i rest) (rest.relates.places i lt tt).known.row
+own_row : (m : Machine) (s : Scene) (w : World) (i : ℕ) → IsAtRest m s w → i < length m.threads → Row m i (seats m i (view m s w i)) [] (own m s i).send
+own_row m s w i rest lt = subst (λ mail. Row m i (seats m i (view m s w i)) (words mail) (own m s i).send) (no_mail m s w i rest) (rest.relates.places i lt tt).known.row
 
 -- An undecided send waits.
-pub own_waits : (m : Machine) (s : Scene) (w : World) (i : ℕ) (send : Send) → IsAtRest m s w → i < length m.threads → (own m s i).send ≡ Some send → IsWaiting m i send (own m s i) (seats (view m s w i))
-own_waits m s w i send rest lt has = subst (Row m i (own m s i) (seats (view m s w i)) []) has (own_row m s w i rest lt)
+pub own_waits : (m : Machine) (s : Scene) (w : World) (i : ℕ) (send : Send) → IsAtRest m s w → i < length m.threads → (own m s i).send ≡ Some send → IsWaiting m i send (seats m i (view m s w i))
+own_waits m s w i send rest lt has = subst (Row m i (seats m i (view m s w i)) []) has (own_row m s w i rest lt)
 
 -- No order is undone.
 pub no_order : (m : Machine) (s : Scene) (w : World) (i : ℕ) → IsAtRest m s w → i < length m.threads → (world_thread w i).order ≡ None
 no_order m s w i rest lt = (own_seen m s w i rest lt).order ∙ by (own m s i).send (own_row m s w i rest lt)
   where
-    by : (o : Option Send) → Row m i (own m s i) (seats (view m s w i)) [] o → (own m s i).order ≡ None
+    by : (o : Option Send) → Row m i (seats m i (view m s w i)) [] o → (own m s i).order ≡ None
     by None row = row.order
     by (Some send) row = row.order
 

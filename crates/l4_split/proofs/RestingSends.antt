@@ -30,7 +30,7 @@ record IsHere (m : Machine) (s : Scene) (w : World) (i : ℕ) (send : Send) : Ty
   rest : IsAtRest m s w
   within : i < length m.threads
   has : (own m s i).send ≡ Some send
-  row : IsWaiting m i send (own m s i) (seats (view m s w i))
+  row : IsWaiting m i send (seats m i (view m s w i))
 
 to_within : (m : Machine) (s : Scene) (w : World) (i : ℕ) (send : Send) → (h : IsHere m s w i send) → h.row.r < length m.threads
 to_within m s w i send h = destination_within m send.to h.row.r h.row.to

@@ -53,98 +53,118 @@ learned (p ∷ ps) clock t = learns p.letter.content clock t
 abbrev pub name_of : Machine → ℕ → Thread → Name
 name_of m i t = record { thread = (declared m i).id; k = t.context.begun }
 
--- Where a send can be: in a list, or in its sender's place elsewhere.
+-- What the processors have of a thread's order and send: the order at home, and on each of them the send in the thread's entry, with
+-- its number, and the thread's entries in the list of each receiver.
 pub record Seats : Type 0 where
+  pub order : Option Asked
   pub sent : (cpu : ℕ) → Option Send
   pub begun : (cpu : ℕ) → ℕ
   pub listed : (cpu receiver : ℕ) → List plain.Waiting
 
-abbrev pub seats : View → Seats
-seats v = record { sent = λ cpu. (v.kept cpu).thread.send; begun = λ cpu. (v.kept cpu).thread.context.begun; listed = λ cpu. (v.kept cpu).listed }
+abbrev pub seats_of : Machine → ℕ → ((cpu : ℕ) → Kept) → Seats
+seats_of m i kept =
+    record {
+      order = (kept (home m i)).thread.order;
+      sent = λ cpu. (kept cpu).thread.send;
+      begun = λ cpu. (kept cpu).thread.context.begun;
+      listed = λ cpu. (kept cpu).listed;
+    }
 
--- It stands in no list, and has no stand-in.
+abbrev pub seats : Machine → ℕ → View → Seats
+seats m i v = seats_of m i v.kept
+
+-- The name of its last send.
+abbrev pub name_at : Machine → ℕ → Seats → Name
+name_at m i v = record { thread = (declared m i).id; k = v.begun (home m i) }
+
+-- Its send stands in no list, and nothing stands in its place elsewhere.
 pub record IsUnplaced (m : Machine) (i : ℕ) (v : Seats) : Type 0 where
   pub listed : (cpu r : ℕ) → v.listed cpu r ≡ []
   pub stand_in : (cpu : ℕ) → (cpu ≡ home m i → ⊥) → v.sent cpu ≡ None
 
-pub record IsPlain (m : Machine) (i : ℕ) (t : Thread) (v : Seats) : Type 0 where
-  pub order : t.order ≡ None
+-- It has neither send nor order.
+pub record IsPlain (m : Machine) (i : ℕ) (v : Seats) : Type 0 where
+  pub order : v.order ≡ None
   pub unplaced : IsUnplaced m i v
 
+-- Another processor has in its place what came in the letter.
 pub record IsStandIn (m : Machine) (r : ℕ) (send : Send) (k : ℕ) (sent : Option Send) (begun : ℕ) : Type 0 where
   pub has : sent ≡ Some (stand_in (declared m r).id send.message (is_zero send.period))
   pub number : begun ≡ k
 
 -- Its send waits in the list of its receiver, and nowhere else.
-pub record IsWaiting (m : Machine) (i : ℕ) (send : Send) (t : Thread) (v : Seats) : Type 0 where
-  pub order : t.order ≡ None
+pub record IsWaiting (m : Machine) (i : ℕ) (send : Send) (v : Seats) : Type 0 where
+  pub order : v.order ≡ None
   pub r : ℕ
   pub to : destination_place m send.to ≡ Some r
   pub listed : v.listed (home m r) r ≡ entry m r i send ∷ []
   pub other_lists : (q : ℕ) → (r ≡ q → ⊥) → v.listed (home m r) q ≡ []
   pub elsewhere : (cpu q : ℕ) → (cpu ≡ home m r → ⊥) → v.listed cpu q ≡ []
-  pub stand_in : (home m r ≡ home m i → ⊥) → IsStandIn m r send t.context.begun (v.sent (home m r)) (v.begun (home m r))
+  pub stand_in : (home m r ≡ home m i → ⊥) → IsStandIn m r send (v.begun (home m i)) (v.sent (home m r)) (v.begun (home m r))
   pub no_other : (cpu : ℕ) → (cpu ≡ home m i → ⊥) → (cpu ≡ home m r → ⊥) → v.sent cpu ≡ None
 
 -- Its send goes to a thread of another processor.
-pub record IsSplit (m : Machine) (i : ℕ) (t : Thread) : Type 0 where
+pub record IsSplit (m : Machine) (i : ℕ) (v : Seats) : Type 0 where
   pub send : Send
-  pub has : t.send ≡ Some send
-  pub order : t.order ≡ None
+  pub has : v.sent (home m i) ≡ Some send
+  pub order : v.order ≡ None
   pub r : ℕ
   pub to : destination_place m send.to ≡ Some r
   pub split : home m r ≡ home m i → ⊥
 
--- It is under way.
-pub record IsSent (m : Machine) (i : ℕ) (t : Thread) (v : Seats) (p : Posted) : Type 0 where
-  pub goes : IsSplit m i t
-  pub letter : p.letter.content ≡ SendLetter (name_of m i t) (declared m goes.r).id goes.send.message (is_zero goes.send.period)
+-- Such a send is under way.
+pub record IsSent (m : Machine) (i : ℕ) (v : Seats) (p : Posted) : Type 0 where
+  pub goes : IsSplit m i v
+  pub letter : p.letter.content ≡ SendLetter (name_at m i v) (declared m goes.r).id goes.send.message (is_zero goes.send.period)
   pub from : p.from ≡ home m i
   pub to : p.to ≡ home m goes.r
   pub unplaced : IsUnplaced m i v
 
 -- It is decided, and the letter that says so is under way.
-pub record IsDecided (m : Machine) (i : ℕ) (t : Thread) (v : Seats) (p : Posted) (s : Name) : Type 0 where
-  pub goes : IsSplit m i t
-  pub name : s ≡ name_of m i t
+pub record IsDecided (m : Machine) (i : ℕ) (v : Seats) (p : Posted) (s : Name) : Type 0 where
+  pub goes : IsSplit m i v
+  pub name : s ≡ name_at m i v
   pub from : p.from ≡ home m goes.r
   pub to : p.to ≡ home m i
   pub unplaced : IsUnplaced m i v
 
--- An order is under way, or the letter that says that it is done.
-pub record IsOrdering (m : Machine) (i : ℕ) (t : Thread) (v : Seats) : Type 0 where
-  pub no_send : t.send ≡ None
+-- It has an order for a thread of another processor.
+pub record IsOrdering (m : Machine) (i : ℕ) (v : Seats) : Type 0 where
+  pub no_send : v.sent (home m i) ≡ None
   pub order : Asked
-  pub has : t.order ≡ Some order
+  pub has : v.order ≡ Some order
   pub target : ℕ
   pub place : place_of m order.target ≡ Some target
   pub split : home m target ≡ home m i → ⊥
   pub unplaced : IsUnplaced m i v
 
-pub record IsOrdered (m : Machine) (i : ℕ) (t : Thread) (v : Seats) (p : Posted) : Type 0 where
-  pub orders : IsOrdering m i t v
+-- Such an order is under way.
+pub record IsOrdered (m : Machine) (i : ℕ) (v : Seats) (p : Posted) : Type 0 where
+  pub orders : IsOrdering m i v
   pub letter : p.letter.content ≡ OrderLetter (declared m i).id orders.order.target orders.order.what
   pub from : p.from ≡ home m i
   pub to : p.to ≡ home m orders.target
 
-pub record IsObeyed (m : Machine) (i : ℕ) (t : Thread) (v : Seats) (p : Posted) : Type 0 where
-  pub orders : IsOrdering m i t v
+-- It is done, and the letter that says so is under way.
+pub record IsObeyed (m : Machine) (i : ℕ) (v : Seats) (p : Posted) : Type 0 where
+  pub orders : IsOrdering m i v
   pub from : p.from ≡ home m orders.target
   pub to : p.to ≡ home m i
 
-abbrev pub RowOf : Machine → ℕ → Thread → Seats → Posted → Content → Type 0
-RowOf m i t v p (SendLetter s receiver message zero_timeout) = IsSent m i t v p
-RowOf m i t v p (DoneLetter s result) = IsDecided m i t v p s
-RowOf m i t v p (OrderLetter caller target what) = IsOrdered m i t v p
-RowOf m i t v p (OrderDoneLetter caller) = IsObeyed m i t v p
-RowOf m i t v p _ = ⊥
+abbrev pub RowOf : Machine → ℕ → Seats → Posted → Content → Type 0
+RowOf m i v p (SendLetter s receiver message zero_timeout) = IsSent m i v p
+RowOf m i v p (DoneLetter s result) = IsDecided m i v p s
+RowOf m i v p (OrderLetter caller target what) = IsOrdered m i v p
+RowOf m i v p (OrderDoneLetter caller) = IsObeyed m i v p
+RowOf m i v p _ = ⊥
 
--- The row is told by the letter, or where there is none by the send.
-abbrev pub Row : Machine → ℕ → Thread → Seats → List Posted → Option Send → Type 0
-Row m i t v [] None = IsPlain m i t v
-Row m i t v [] (Some send) = IsWaiting m i send t v
-Row m i t v (p ∷ []) send = RowOf m i t v p p.letter.content
-Row m i t v (p ∷ q ∷ ps) send = ⊥
+-- The row of the table of where a send or an order is (docs/MODEL.md). It is told by the letter under way that says so, or where
+-- there is none by the send.
+abbrev pub Row : Machine → ℕ → Seats → List Posted → Option Send → Type 0
+Row m i v [] None = IsPlain m i v
+Row m i v [] (Some send) = IsWaiting m i send v
+Row m i v (p ∷ []) send = RowOf m i v p p.letter.content
+Row m i v (p ∷ q ∷ ps) send = ⊥
 
 -- At home
 
@@ -214,7 +234,7 @@ pub record IsKept (m : Machine) (i : ℕ) (v : View) : Type 0 where
 -- All that is said of one place, but for its entry among the ready ones.
 pub record Known (m : Machine) (i : ℕ) (v : View) : Type 0 where
   pub agrees : Agrees v.world (learned (words v.mail) (v.kept (home m i)).clock (v.kept (home m i)).thread)
-  pub row : Row m i (v.kept (home m i)).thread (seats v) (words v.mail) (v.kept (home m i)).thread.send
+  pub row : Row m i (seats m i v) (words v.mail) (v.kept (home m i)).thread.send
   pub kept : IsKept m i v
 
 -- A ready thread stands among the ready ones once, any other one does not.

@@ -1,5 +1,6 @@
 -- What stands in the list of a receiver is so in the world, and the first that it accepts is the same.
-use Rattle.std.proofs.Common.{◌≡◌, ℕ, ◌<◌, ◌≤◌, Bool, true, false, cond, Option, Some, None, List, [], ◌∷◌, length, filter, refl, ap, sym, ◌∙◌, subst, inl, inr, ◌⊎◌, arith}
+use Rattle.l4_split.proofs.Whereabouts.{where_then}
+use Rattle.std.proofs.Common.{◌≡◌, ℕ, ◌<◌, ◌≤◌, Bool, true, false, cond, Some, List, [], ◌∷◌, length, filter, refl, ap, sym, ◌∙◌, subst, inl, inr, ◌⊎◌, arith}
 use Rattle.std.specs.Prelude.{◌==◌, find, slice_get}
 use Rattle.std.specs.Option.{option_map}
 use Rattle.std.specs.List.{AllByRecursion}
@@ -11,16 +12,15 @@ use Rattle.l4_model.specs.World.{Thread, World, Send, Phase, Ready, Sending, Rec
 use Rattle.l4_model.specs.Conditions.{Found, shows_accepted, first_accepted}
 use Rattle.l4_model.specs.Rules.{takes}
 use Rattle.l4_core_model.specs.Plain as plain
-use Rattle.l4_core_model.specs.Letters.{Content, SendLetter, DoneLetter, WithdrawLetter, GoneLetter, OrderLetter, OrderDoneLetter}
 use Rattle.l4_core_model.specs.Local.{declared}
 use Rattle.l4_core_model.specs.Acts.{entry}
-use Rattle.l4_core_model.specs.Runs.{Posted, IsMachine}
+use Rattle.l4_core_model.specs.Runs.{IsMachine}
 use Rattle.l4_core_model.proofs.Knows.{blocks}
 use Rattle.l4_core_model.proofs.Fit.{Suits, all-map}
 use Rattle.l4_core_model.proofs.Remembers.{same_or_apart}
 use Rattle.l4_split.proofs.Entries.{other_is, all_by_place}
 use Rattle.l4_split.proofs.Views.{Scene, View, view, world_thread, home, words, is_of}
-use Rattle.l4_split.proofs.Rows.{seats, AgreesIn, Agrees, learned, Row, RowOf, IsUnplaced, IsWaiting, IsStandIn, Known, Stands}
+use Rattle.l4_split.proofs.Rows.{seats, AgreesIn, Agrees, IsUnplaced, IsWaiting, IsStandIn, Known, Stands}
 use Rattle.l4_split.proofs.Relation.{RelatesBut, senders}
 use Rattle.l4_split.proofs.Moves.{at_home}
 use Rattle.l4_split.proofs.Deciding.{IsAt, sender_unready}
@@ -56,7 +56,7 @@ pub record IsEntry (m : Machine) (r i : ℕ) (v : View) (e : plain.Waiting) : Ty
   pub has : (at_home m i v).thread.send ≡ Some send
   pub quiet : words v.mail ≡ []
   pub agrees : Agrees v.world (at_home m i v).thread
-  pub waits : IsWaiting m i send (at_home m i v).thread (seats v)
+  pub waits : IsWaiting m i send (seats m i v)
   pub receiver : waits.r ≡ r
   pub is : e ≡ entry m r i send
 
@@ -64,29 +64,20 @@ none_listed : (m : Machine) (r i : ℕ) (v : View) (es : List plain.Waiting) →
 none_listed m r i v es none = subst (AllByRecursion (IsEntry m r i v)) (sym none) tt
 
 pub entries_of : (m : Machine) (r i : ℕ) (v : View) → Known m i v → AllByRecursion (IsEntry m r i v) ((v.kept (home m r)).listed r)
-entries_of m r i v known = by (words v.mail) refl (at_home m i v).thread.send refl known.row known.agrees
+entries_of m r i v known = where_then m i v known
+    (λ quiet none row agrees. unplaced row.unplaced)
+    (λ send quiet has row agrees. same_or_apart (AllByRecursion (IsEntry m r i v) ((v.kept (home m r)).listed r)) row.r r
+    (λ same. let listed = subst (λ q. (v.kept (home m q)).listed q ≡ entry m q i send ∷ []) same row.listed in
+    subst (AllByRecursion (IsEntry m r i v)) (sym listed) (record { send = send; has = has; quiet = quiet; agrees = agrees; waits = row; receiver = same; is = refl }, tt))
+    (λ apart. none_listed m r i v ((v.kept (home m r)).listed r)
+    (same_or_apart ((v.kept (home m r)).listed r ≡ []) (home m r) (home m row.r) (λ h. subst (λ c. (v.kept c).listed r ≡ []) (sym h) (row.other_lists r apart)) (λ ne. row.elsewhere (home m r) r ne))))
+    (λ p is row agrees. unplaced row.unplaced)
+    (λ p name result is content row agrees. unplaced row.unplaced)
+    (λ p is row agrees. unplaced row.orders.unplaced)
+    (λ p caller is content row agrees. unplaced row.orders.unplaced)
   where
-    unplaced : IsUnplaced m i (seats v) → AllByRecursion (IsEntry m r i v) ((v.kept (home m r)).listed r)
+    unplaced : IsUnplaced m i (seats m i v) → AllByRecursion (IsEntry m r i v) ((v.kept (home m r)).listed r)
     unplaced none = none_listed m r i v ((v.kept (home m r)).listed r) (none.listed (home m r) r)
-
-    word : (p : Posted) (c : Content) → RowOf m i (at_home m i v).thread (seats v) p c → AllByRecursion (IsEntry m r i v) ((v.kept (home m r)).listed r)
-    word p (SendLetter s receiver message zero_timeout) row = unplaced row.unplaced
-    word p (DoneLetter s result) row = unplaced row.unplaced
-    word p (WithdrawLetter s receiver cause) row = absurd row
-    word p (GoneLetter id) row = absurd row
-    word p (OrderLetter caller target what) row = unplaced row.orders.unplaced
-    word p (OrderDoneLetter caller) row = unplaced row.orders.unplaced
-
-    by : (ps : List Posted) → words v.mail ≡ ps → (o : Option Send) → (at_home m i v).thread.send ≡ o → Row m i (at_home m i v).thread (seats v) ps o → Agrees v.world (learned ps (at_home m i v).clock (at_home m i v).thread) →
-        AllByRecursion (IsEntry m r i v) ((v.kept (home m r)).listed r)
-    by [] quiet None has row agrees = unplaced row.unplaced
-    by [] quiet (Some send) has row agrees = same_or_apart (AllByRecursion (IsEntry m r i v) ((v.kept (home m r)).listed r)) row.r r
-        (λ same. let listed = subst (λ q. (v.kept (home m q)).listed q ≡ entry m q i send ∷ []) same row.listed in
-        subst (AllByRecursion (IsEntry m r i v)) (sym listed) (record { send = send; has = has; quiet = quiet; agrees = agrees; waits = row; receiver = same; is = refl }, tt))
-        (λ apart. none_listed m r i v ((v.kept (home m r)).listed r)
-        (same_or_apart ((v.kept (home m r)).listed r ≡ []) (home m r) (home m row.r) (λ h. subst (λ c. (v.kept c).listed r ≡ []) (sym h) (row.other_lists r apart)) (λ ne. row.elsewhere (home m r) r ne)))
-    by (p ∷ []) quiet o has row agrees = word p p.letter.content row
-    by (p ∷ q ∷ ps) quiet o has row agrees = absurd row
 
 -- A waiting send is on its receiver's processor.
 pub entry_at : (m : Machine) (r i : ℕ) (v : View) (e : plain.Waiting) → Stands m i v → (w : IsEntry m r i v e) → IsAt m (home m r) i w.send v

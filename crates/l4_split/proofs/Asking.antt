@@ -1,4 +1,5 @@
 -- What is asked of a thread of this processor is done to it, in the world and here.
+use Rattle.l4_model.proofs.Sends.{Status, status-asked}
 use Rattle.l4_split.proofs.Whereabouts.{where_then}
 use Rattle.std.proofs.Common.{◌≡◌, ℕ, Option, Some, None, List, [], ◌∷◌, refl, ap, sym, ◌∙◌, subst, inr, arith}
 use Rattle.std.specs.Prelude.{IfSome}
@@ -20,17 +21,8 @@ use Rattle.l4_split.proofs.AskedSquares.{agrees_order, asked_agrees, asked_while
 
 -- What is asked of a thread leaves its send and its order as they are.
 
-pub order_asked : (what : What) (t : Thread) → (asked what t).order ≡ t.order
-order_asked CancelSend t = refl
-order_asked CancelReceive t = refl
-order_asked CancelBoth t = refl
-order_asked Delete t = refl
-
 pub begun_asked : (what : What) (t : Thread) → (asked what t).context.begun ≡ t.context.begun
-begun_asked CancelSend t = refl
-begun_asked CancelReceive t = refl
-begun_asked CancelBoth t = refl
-begun_asked Delete t = refl
+begun_asked what t = ap (λ (s : Status). s.begun) (status-asked what t)
 
 -- The world and home agree again, whatever letter is under way.
 

@@ -1,4 +1,5 @@
 -- A thread of this processor is asked for something, and all stays related.
+use Rattle.l4_model.proofs.Keeping.{order-asked}
 use Rattle.l4_split.proofs.AskedSquares.{send_asked}
 use Rattle.std.proofs.Common.{◌≡◌, ℕ, ◌<◌, List, [], ◌∷◌, filter, length, refl, ap, sym, ◌∙◌, subst, arith}
 use Rattle.std.specs.Prelude.{◌==◌, not, slice_index_or}
@@ -19,7 +20,7 @@ use Rattle.l4_split.proofs.Relation.{IsSized, RelatesBut}
 use Rattle.l4_split.proofs.Frames.{first_about, takes_in, world_changes, local_changes, changes_spares, comes_spares}
 use Rattle.l4_split.proofs.Moves.{at_home, Carries, same_alike, Moves, moves_kept}
 use Rattle.l4_split.proofs.Going.{IsHere, home_is, put_other, sized_here}
-use Rattle.l4_split.proofs.Asking.{asked_learned, asked_kept, asked_at_home, asked_ready, asked_thread, asked_carries, begun_asked, order_asked}
+use Rattle.l4_split.proofs.Asking.{asked_learned, asked_kept, asked_at_home, asked_ready, asked_thread, asked_carries, begun_asked}
 
 -- Its view after it
 
@@ -34,7 +35,7 @@ asked_stands m j what v after world mail here listed clock other h =
     let begun = same_at (λ c. (after.kept c).thread.context.begun ≡ (v.kept c).thread.context.begun) (ap (λ (t : Thread). t.context.begun) thread_is ∙ begun_asked what t)
     (λ c ne. ap (λ (k : Kept). k.thread.context.begun) (other c ne)) in
     let lists = same_at (λ c. (after.kept c).listed ≡ (v.kept c).listed) listed (λ c ne. ap (λ (k : Kept). k.listed) (other c ne)) in
-    let order = ap (λ (t : Thread). t.order) thread_is ∙ order_asked what t in
+    let order = ap (λ (t : Thread). t.order) thread_is ∙ order-asked what t in
     let seats_same : seats m j after ≡ seats m j v = λ d. record { order = order d; sent = λ c. sent c d; begun = λ c. begun c d; listed = λ c. lists c d } in
     let moves : Moves m j v after = record {
       elsewhere = λ c ne. same_alike (v.kept c) (after.kept c) (other c ne);

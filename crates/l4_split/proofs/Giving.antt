@@ -1,4 +1,5 @@
 -- An instruction gives an order.
+use Rattle.l4_model.proofs.Keeping.{order-asked}
 use Rattle.std.proofs.Common.{◌≡◌, ℕ, ◌<◌, Bool, true, false, cond, Option, Some, None, [], ◌∷◌, ◌++◌, length, refl, ap, sym, ◌∙◌, subst, arith}
 use Rattle.std.specs.Prelude.{◌==◌, not}
 use Rattle.std.proofs.lemmas.Bool.{eqb-true}
@@ -36,7 +37,7 @@ use Rattle.l4_split.proofs.Asks.{asks_other}
 use Rattle.l4_split.proofs.Obeying.{obeys_relates, obeys_steps}
 use Rattle.l4_split.proofs.Ordered.{obeys_local, obeys_mail}
 use Rattle.l4_core_model.proofs.Orders.{target_declared}
-use Rattle.l4_split.proofs.Asking.{asked_kept, asked_thread, asked_at_home, asked_carries, order_asked}
+use Rattle.l4_split.proofs.Asking.{asked_kept, asked_thread, asked_at_home, asked_carries}
 use Rattle.l4_split.proofs.Asks.{asks_here, asks_sized, asks_clock, asks_lists, kept_lists}
 use Rattle.l4_split.proofs.AskedSquares.{asked_agrees}
 use Rattle.l4_split.proofs.Going.{sized_here, put_other}
@@ -211,7 +212,7 @@ self_obeyed m cpu i order s w y h =
       kept = moves_kept m i v after c.kept moves (subst (IsKeptAtHome i) (sym is) (asked_at_home what i (at_home m i v) c.kept.at_home));
       out = ap (λ (k : Kept). k.ready) is ∙ asked_out what i (at_home m i v) c.out;
       send = ap (λ (t : Thread). t.send) thread_is ∙ send_asked what (at_home m i v).thread ∙ c.send;
-      has = ap (λ (t : Thread). t.order) thread_is ∙ order_asked what (at_home m i v).thread ∙ c.has;
+      has = ap (λ (t : Thread). t.order) thread_is ∙ order-asked what (at_home m i v).thread ∙ c.has;
       quiet = c.quiet;
       unplaced = record {
         listed = λ p q. same_or_apart ((after.kept p).listed q ≡ []) p (home m i)

@@ -1,6 +1,6 @@
 -- An event of a core run: a processor handles a letter, has a turn, or ticks.
-use Rattle.l4_split.proofs.Entries.{get_other_place}
-use Rattle.l4_split.proofs.Choices.{turn_then}
+use Rattle.l4_split.proofs.Lists.{get_other_place}
+use Rattle.l4_split.proofs.Turns.Choices.{turn_then}
 use Rattle.std.specs.Option.{option_map}
 use Rattle.l4_core_model.specs.Local.{Local}
 use Rattle.l4_core_model.proofs.Knows.{get-changed}
@@ -10,7 +10,7 @@ use Rattle.l4_core_model.specs.Mail.{handle}
 use Rattle.l4_core_model.proofs.Remembers.{apart}
 use Rattle.l4_model.proofs.Chains.{bind_then, guard_then, some_is}
 use Rattle.l4_model.specs.Machine.{Machine}
-use Rattle.l4_split.proofs.Views.{amid, nowhere, scene}
+use Rattle.l4_split.proofs.Relation.Views.{amid, nowhere, scene}
 use Rattle.std.specs.Prelude.{nat_lt, slice_get, slice_index_or, ◌==◌}
 use Rattle.l4_core_model.specs.Turns.{advance, clock_is, opened, turn}
 use Rattle.l4_core_model.specs.Acts.{Work, does, tells, ◌▷◌}

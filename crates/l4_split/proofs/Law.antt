@@ -1,52 +1,61 @@
--- What is true of a run stays true event by event.
-use Rattle.l4_split.proofs.Members.{all_join, all_without}
+-- What any letter brings about is possible.
+use Rattle.std.proofs.Common.{◌≡◌, ℕ, Some, [], List, ap, arith, length, map, refl, subst, sym, true, ◌<◌, ◌∙◌, ◌∷◌}
+use Rattle.l4_model.specs.Machine.{Machine}
+use Rattle.l4_model.specs.World.{World, opening}
+use Rattle.l4_core_model.specs.Letters.{Content, SendLetter, DoneLetter, WithdrawLetter, GoneLetter, OrderLetter, OrderDoneLetter, Letter}
+use Rattle.l4_core_model.specs.Acts.{Work, tells}
+use Rattle.l4_core_model.specs.Mail.{handled, handle}
+use Rattle.l4_split.proofs.Relation.Views.{Scene, scene}
+use Rattle.l4_split.proofs.Frames.Going.{Goes, opened_goes}
+use Rattle.l4_split.proofs.Letters.Receiving.{without, IsLetter, at_work, handles_send, handles_done}
+use Rattle.l4_split.proofs.Letters.Late.{handles_withdraw}
+use Rattle.l4_split.proofs.Letters.Gone.{handles_gone}
+use Rattle.l4_split.proofs.Orders.Ordered.{handles_order}
+use Rattle.l4_split.proofs.Orders.Obeyed.{handles_order_done}
+use Rattle.l4_split.proofs.Lists.{all_join, all_without}
 use Rattle.l4_core_model.proofs.Law.{run-append, told-last}
-use Rattle.l4_core_model.specs.Runs.{told}
+use Rattle.l4_core_model.specs.Runs.{told, Happened, Happening, IsMachine, Posted, Run, System, at_rest, core_run, done, happens, letters, opening_run, posted, taken, then_event}
 use Rattle.std.proofs.lemmas.List.FromFn.{length-map-range_with_len}
 use Rattle.l4_model.proofs.Lawful.{lawful}
-use Rattle.l4_split.proofs.Choosing.{turn_goes}
-use Rattle.l4_split.proofs.Ticking.{tick_goes}
+use Rattle.l4_split.proofs.Turns.Choosing.{turn_goes}
+use Rattle.l4_split.proofs.Turns.Ticking.{tick_goes}
 use Rattle.l4_core_model.specs.Local.{Local, opening_local}
 use Rattle.l4_core_model.specs.Laws.{IsCoreRun}
-use Rattle.l4_split.proofs.Opened.{opened_goes}
 use Rattle.std.specs.Prelude.{slice_get}
-use Rattle.l4_split.proofs.AddressedTurns.{turn_addressed}
-use Rattle.l4_split.proofs.Views.{Scene, scene}
-use Rattle.l4_split.proofs.AddressedLetters.{handled_addressed}
-use Rattle.l4_core_model.specs.Mail.{handle}
-use Rattle.l4_split.proofs.Going.{Goes}
-use Rattle.l4_split.proofs.PledgeChoosing.{turn_keeps}
-use Rattle.l4_split.proofs.Lawful.{all_lawful, first_lawful, AreAddressed}
+use Rattle.l4_split.proofs.Letters.AddressedEvents.{turn_addressed, handled_addressed}
+use Rattle.l4_split.proofs.Promises.Choosing.{turn_keeps}
+use Rattle.l4_split.proofs.Letters.Lawful.{all_lawful, first_lawful, AreAddressed}
 use Rattle.l4_core_model.proofs.Knows.{length-changed}
-use Rattle.l4_split.proofs.Rows.{Stands}
-use Rattle.l4_core_model.specs.Letters.{Letter}
+use Rattle.l4_split.proofs.Relation.Rows.{Stands}
 use Rattle.l4_split.specs.Laws.{IsLawfulRun, LettersAreLawful}
-use Rattle.l4_split.proofs.PledgeOpening.{opening_promised}
-use Rattle.l4_split.proofs.Opening.{opening_relates}
+use Rattle.l4_split.proofs.Relation.Opening.{opening_promised, opening_relates}
 use Rattle.l4_model.specs.Steps.{Tick}
 use Rattle.l4_model.specs.Conditions.{◌>>=◌}
 use Rattle.l4_model.specs.History.{reached, run}
-use Rattle.l4_split.proofs.RestIsStill.{resting_still}
-use Rattle.l4_model.specs.Machine.{Machine}
+use Rattle.l4_split.proofs.Rest.RestIsStill.{resting_still}
 use Rattle.l4_core_model.specs.Turns.{advance, opened, turn}
-use Rattle.l4_split.proofs.Handles.{letter_goes}
 use Rattle.std.specs.List.{AllByRecursion}
 use Rattle.l4_model.specs.Still.{IsStill}
-use Rattle.l4_split.proofs.Addressed.{IsAddressed, IsAddressedTo}
-use Rattle.l4_split.proofs.Receiving.{IsLetter}
+use Rattle.l4_split.proofs.Letters.Addressed.{IsAddressed, IsAddressedTo}
 use Rattle.l4_model.proofs.Chains.{bind_then, some_is}
 use Rattle.l4_model.proofs.Worlds.{reached_facts}
-use Rattle.l4_core_model.specs.Acts.{Work, tells}
-use Rattle.l4_split.proofs.Promised.{Promised}
+use Rattle.l4_split.proofs.Promises.Promised.{Promised}
 use Rattle.l4_split.proofs.Events.{advance_then, done_scene, event_then}
-use Rattle.l4_split.proofs.PledgeActs.{Amid}
-use Rattle.l4_split.proofs.PledgeTurns.{opened_keeps, ticks_keeps}
-use Rattle.l4_model.specs.World.{World, opening}
-use Rattle.l4_split.proofs.PledgeHandles.{letter_keeps}
-use Rattle.l4_split.proofs.Relation.{Relates, RelatesBut}
-use Rattle.l4_split.proofs.MailFrames.{first_is}
-use Rattle.std.proofs.Common.{List, Some, [], ap, arith, length, map, refl, subst, sym, true, ℕ, ◌<◌, ◌∙◌, ◌∷◌, ◌≡◌}
-use Rattle.l4_core_model.specs.Runs.{Happened, Happening, IsMachine, Posted, Run, System, at_rest, core_run, done, happens, letters, opening_run, posted, taken, then_event}
+use Rattle.l4_split.proofs.Promises.Acts.{Amid}
+use Rattle.l4_split.proofs.Promises.Turns.{opened_keeps, ticks_keeps}
+use Rattle.l4_split.proofs.Promises.Handling.{letter_keeps}
+use Rattle.l4_split.proofs.Relation.Relates.{Relates, RelatesBut}
+use Rattle.l4_split.proofs.Frames.Mail.{first_is}
+
+pub letter_goes : (m : Machine) (from cpu : ℕ) (letter : Letter) (s : Scene) (w : World) (x : Work) (c : Content) → IsLetter m from cpu letter s w → letter.content ≡ c → handled m cpu c (at_work cpu letter s) ≡ Some x → Goes m cpu (without from cpu s) w [] x
+letter_goes m from cpu letter s w x (SendLetter name receiver message zero_timeout) h content is = handles_send m from cpu letter s w x name receiver message zero_timeout h content is
+letter_goes m from cpu letter s w x (DoneLetter name result) h content is = handles_done m from cpu letter s w x name result h content is
+letter_goes m from cpu letter s w x (WithdrawLetter name receiver cause) h content is = handles_withdraw m from cpu letter s w x name receiver cause h content is
+letter_goes m from cpu letter s w x (GoneLetter id) h content is = handles_gone m from cpu letter s w x id h content is
+letter_goes m from cpu letter s w x (OrderLetter caller target what) h content is = handles_order m from cpu letter s w x caller target what h content is
+letter_goes m from cpu letter s w x (OrderDoneLetter caller) h content is = handles_order_done m from cpu letter s w x caller h content is
+
+-- What is true of a run stays true event by event.
 
 -- Letters
 

@@ -1,0 +1,7 @@
+pub mod Receiving
+pub mod Noticing
+pub mod Late
+pub mod Gone
+pub mod Addressed
+pub mod AddressedEvents
+pub mod Lawful

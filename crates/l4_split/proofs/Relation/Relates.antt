@@ -1,0 +1,45 @@
+-- The relation between the processors and the world.
+use Rattle.std.specs.Prelude.{ℕ, ◌<◌, ◌≡◌, List, [], length, slice_index_or}
+use Rattle.std.specs.List.{AllByRecursion}
+use Rattle.l4_model.specs.Machine.{Machine}
+use Rattle.l4_model.specs.World.{World}
+use Rattle.l4_model.specs.Reached.{list_at}
+use Rattle.l4_core_model.specs.Plain as plain
+use Rattle.l4_core_model.specs.Local.{Local}
+use Rattle.l4_core_model.specs.Runs.{System}
+use Rattle.l4_core_model.proofs.Knows.{blocks}
+use Rattle.l4_core_model.proofs.Fit.{NotIn}
+use Rattle.l4_split.proofs.Relation.Views.{Scene, View, view, home, scene}
+use Rattle.l4_split.proofs.Relation.Rows.{Stands}
+
+abbrev pub AreWithin : Machine → List ℕ → Type 0
+AreWithin m places = AllByRecursion (λ i. i < length m.threads) places
+
+-- A processor has an entry for each place, and none past them.
+pub record IsSized (m : Machine) (l : Local) : Type 0 where
+  pub threads : length l.threads ≡ length m.threads
+  pub lists : length l.lists.waiting ≡ length m.threads
+  pub told : length l.told ≡ length m.threads
+  pub ready : AreWithin m l.lists.ready
+  pub armed : AllByRecursion (λ (e : ℕ × ℕ). e.1 < length m.threads) l.lists.armed
+  pub listed : (r : ℕ) → AllByRecursion (λ (e : plain.Waiting). e.block < length m.threads) (plain.list_of l.lists r)
+
+pub record IsSizedWorld (m : Machine) (w : World) : Type 0 where
+  pub threads : length w.threads ≡ length m.threads
+  pub lists : length w.waiting ≡ length m.threads
+  pub clocks : length w.clocks ≡ m.cpus
+
+-- The list of a receiver, as its processor has it.
+abbrev pub senders : Machine → Scene → (receiver : ℕ) → List plain.Waiting
+senders m s r = plain.list_of (s.locals (home m r)).lists r
+
+-- What is known of all but the places that an act is about, and what is said of each of the others.
+pub record RelatesBut (m : Machine) (Says : ℕ → View → Type 0) (but : List ℕ) (s : Scene) (w : World) : Type 0 where
+  pub sized : (cpu : ℕ) → cpu < m.cpus → IsSized m (s.locals cpu)
+  pub sized_world : IsSizedWorld m w
+  pub clocks : (cpu : ℕ) → cpu < m.cpus → slice_index_or w.clocks cpu 0 ≡ (s.locals cpu).clock
+  pub lists : (r : ℕ) → r < length m.threads → list_at w.waiting r ≡ blocks (senders m s r)
+  pub places : (i : ℕ) → i < length m.threads → NotIn i but → Says i (view m s w i)
+
+abbrev pub Relates : Machine → System → World → Type 0
+Relates m g w = RelatesBut m (Stands m) [] (scene g) w

@@ -1,0 +1,7 @@
+pub mod Choices
+pub mod Instructions
+pub mod Failing
+pub mod Ending
+pub mod Timing
+pub mod Choosing
+pub mod Ticking

@@ -26,7 +26,7 @@ use Rattle.l4_split.proofs.Letters.AddressedEvents.{turn_addressed, handled_addr
 use Rattle.l4_split.proofs.Promises.Choosing.{turn_keeps}
 use Rattle.l4_split.proofs.Letters.Lawful.{all_lawful, first_lawful, AreAddressed}
 use Rattle.l4_core_model.proofs.Knows.{length-changed}
-use Rattle.l4_split.proofs.Relation.Rows.{Stands}
+use Rattle.l4_split.proofs.Relation.Rows.{Matches}
 use Rattle.l4_split.specs.Laws.{IsLawfulRun, LettersAreLawful}
 use Rattle.l4_split.proofs.Relation.Opening.{opening_promised, opening_relates}
 use Rattle.l4_model.specs.Steps.{Tick}
@@ -41,11 +41,11 @@ use Rattle.l4_model.proofs.Chains.{bind_then, some_is}
 use Rattle.l4_model.proofs.Worlds.{reached_facts}
 use Rattle.l4_split.proofs.Promises.Promised.{Promised}
 use Rattle.l4_split.proofs.Events.{advance_then, done_scene, event_then}
-use Rattle.l4_split.proofs.Promises.Acts.{Amid}
+use Rattle.l4_split.proofs.Promises.Acts.{StaysPromised}
 use Rattle.l4_split.proofs.Promises.Turns.{opened_keeps, ticks_keeps}
 use Rattle.l4_split.proofs.Promises.Handling.{letter_keeps}
-use Rattle.l4_split.proofs.Relation.Relates.{Relates, RelatesBut}
-use Rattle.l4_split.proofs.Frames.Mail.{first_is}
+use Rattle.l4_split.proofs.Relation.Relates.{Relates, RelatesExcept}
+use Rattle.l4_split.proofs.Frames.Mail.{first_letter}
 
 pub letter_goes : (m : Machine) (from cpu : ℕ) (letter : Letter) (s : Scene) (w : World) (x : Work) (c : Content) → IsLetter m from cpu letter s w → letter.content ≡ c → handled m cpu c (at_work cpu letter s) ≡ Some x → Goes m cpu (without from cpu s) w [] x
 letter_goes m from cpu letter s w x (SendLetter name receiver message zero_timeout) h content is = handles_send m from cpu letter s w x name receiver message zero_timeout h content is
@@ -74,7 +74,7 @@ pub record RunFacts (m : Machine) (r : Run) : Type 0 where
 
 -- An event of a processor
 event_facts : (m : Machine) (r : Run) (cpu : ℕ) (g : System) (x : Work) → (f : RunFacts m r) → g.locals ≡ r.system.locals → cpu < m.cpus →
-    AreAddressed m g.mail → Goes m cpu (scene g) f.world [] x → Amid m cpu (scene g) x → IsAddressed m x → RunFacts m (then_event r (done cpu g x))
+    AreAddressed m g.mail → Goes m cpu (scene g) f.world [] x → StaysPromised m cpu (scene g) x → IsAddressed m x → RunFacts m (then_event r (done cpu g x))
 event_facts m r cpu g x f same lt mail e p a =
     let before = f.reaches in
     let after = e.reaches in
@@ -85,7 +85,7 @@ event_facts m r cpu g x f same lt mail e p a =
       world = e.now;
       reaches = ap (run m (opening m)) all ∙ run-append m (told r.events) x.steps (opening m) ∙ ap (λ o. o >>= λ v. run m v x.steps) before ∙ after;
       counted = length-changed (λ l. x.local) g.locals cpu ∙ size;
-      relates = subst (λ s. RelatesBut m (Stands m) [] s e.now) (done_scene cpu g x within) e.relates;
+      relates = subst (λ s. RelatesExcept m (Matches m) [] s e.now) (done_scene cpu g x within) e.relates;
       promised = subst (Promised m []) (done_scene cpu g x within) p;
       addressed = all_join (λ (p : Posted). IsAddressedTo m p.to p.letter.content) g.mail (map (posted cpu) x.letters) mail (all_posted m cpu x.letters a);
     }
@@ -98,7 +98,7 @@ step_facts m r e h machine f is = event_then m r.system e h (λ h. RunFacts m (t
 
     handles : (cpu from : ℕ) (letter : Letter) (x : Work) → cpu < m.cpus → slice_get (letters r.system.mail from cpu) 0 ≡ Some letter → handle m cpu (s.locals cpu) letter ≡ Some x → RunFacts m (then_event r (done cpu (taken from cpu r.system) x))
     handles cpu from letter x lt first is =
-        let at = first_is from cpu letter r.system.mail first in
+        let at = first_letter from cpu letter r.system.mail first in
         let l : IsLetter m from cpu letter s f.world = record { machine = machine; processor = lt; relates = f.relates; first = at } in
         let left = all_without (λ (p : Posted). IsAddressedTo m p.to p.letter.content) at.before at.after _ (subst (AreAddressed m) at.is f.addressed) in
         event_facts m r cpu (taken from cpu r.system) x f refl lt (subst (AreAddressed m) (sym at.left) left)

@@ -15,7 +15,7 @@ use Rattle.l4_core_model.proofs.Remembers.{apart}
 use Rattle.l4_split.proofs.Lists.{changed_cases}
 use Rattle.l4_split.proofs.Frames.Locals.{unqueued_other, unqueued_here, queued_other, list_queued, list_unqueued}
 use Rattle.l4_split.proofs.Relation.Views.{Scene, View, kept, view, home, put, amid, is_of}
-use Rattle.l4_split.proofs.Relation.Relates.{IsSized, RelatesBut, senders}
+use Rattle.l4_split.proofs.Relation.Relates.{IsSized, RelatesExcept, senders}
 use Rattle.l4_split.proofs.Frames.Places.{put_same, IsAbout, Spares, both_change}
 
 -- Lists of blocks
@@ -32,8 +32,8 @@ filter_stays i (e ∷ es) h = by (i == e.block) h (filter_stays i es)
 
 -- A send leaves its list. On other processors it stands in none.
 
-unqueued_spares : (m : Machine) (i : ℕ) (but : List ℕ) (l : Local) → IsAbout i but → Spares m but l (relists (plain.unqueued i) l)
-unqueued_spares m i but l about = record {
+unqueued_spares : (m : Machine) (i : ℕ) (except : List ℕ) (l : Local) → IsAbout i except → Spares m except l (relists (plain.unqueued i) l)
+unqueued_spares m i except l about = record {
   sized = λ z. record {
     threads = z.threads;
     lists = length-map l.lists.waiting (filter (λ (e : plain.Waiting). not (i == e.block))) ∙ z.lists;
@@ -56,21 +56,21 @@ put_without cpu c i q l locals elsewhere = by (cpu == c) (λ h. elsewhere (apart
     by true none is = list_unqueued l i q
     by false none is = sym (filter_stays i (plain.list_of (locals c).lists q) (subst (λ b. filter (is_of i) (plain.list_of (cond b l (locals c)).lists q) ≡ []) is (none is)))
 
-pub unqueues : {P : ℕ → View → Type 0} (m : Machine) (cpu i : ℕ) (but : List ℕ) (s : Scene) (w : World) (x : Work) → IsAbout i but →
+pub unqueues : {P : ℕ → View → Type 0} (m : Machine) (cpu i : ℕ) (except : List ℕ) (s : Scene) (w : World) (x : Work) → IsAbout i except →
     ((c q : ℕ) → (cpu ≡ c → ⊥) → ((view m (amid cpu s x) w i).kept c).listed q ≡ []) →
-    RelatesBut m P but (amid cpu s x) w → RelatesBut m P but (amid cpu s (x ▷ does (relists (plain.unqueued i)))) (unqueued w i)
-unqueues m cpu i but s w x about elsewhere r =
-    both_change m cpu but s w x (relists (plain.unqueued i)) (unqueued w i).waiting (unqueued_spares m i but x.local about) (length-map w.waiting (filter (λ x. not (i == x))) ∙ r.sized_world.lists)
+    RelatesExcept m P except (amid cpu s x) w → RelatesExcept m P except (amid cpu s (x ▷ does (relists (plain.unqueued i)))) (unqueued w i)
+unqueues m cpu i except s w x about elsewhere r =
+    both_change m cpu except s w x (relists (plain.unqueued i)) (unqueued w i).waiting (unqueued_spares m i except x.local about) (length-map w.waiting (filter (λ x. not (i == x))) ∙ r.sized_world.lists)
     (λ q lt. get_or-map (filter (λ x. not (i == x))) w.waiting q [] ∙ ap (filter (λ x. not (i == x))) (r.lists q lt) ∙ filter-blocks (λ x. not (i == x)) (senders m (amid cpu s x) q)
     ∙ ap blocks (sym (put_without cpu (home m q) i q x.local s.locals (elsewhere (home m q) q)))) r
 
 -- Of its sender, all else is as it was.
 
-abbrev pub unlisted : View → View
-unlisted v = record v { kept = λ c. record (v.kept c) { listed = λ q. [] } }
+abbrev pub without_lists : View → View
+without_lists v = record v { kept = λ c. record (v.kept c) { listed = λ q. [] } }
 
 pub view_unqueued : (m : Machine) (cpu i : ℕ) (s : Scene) (w : World) (x : Work) → ((c q : ℕ) → (cpu ≡ c → ⊥) → ((view m (amid cpu s x) w i).kept c).listed q ≡ []) →
-    view m (amid cpu s (x ▷ does (relists (plain.unqueued i)))) (unqueued w i) i ≡ unlisted (view m (amid cpu s x) w i)
+    view m (amid cpu s (x ▷ does (relists (plain.unqueued i)))) (unqueued w i) i ≡ without_lists (view m (amid cpu s x) w i)
 view_unqueued m cpu i s w x elsewhere =
     let at = λ (c : ℕ). by c (cpu == c) refl in
     λ d. record (view m (amid cpu s x) w i) { kept = λ c. at c d }
@@ -84,8 +84,8 @@ view_unqueued m cpu i s w x elsewhere =
 
 -- A send enters the list of a receiver of this processor.
 
-queued_spares : (m : Machine) (r : ℕ) (e : plain.Waiting) (but : List ℕ) (l : Local) → r < length l.lists.waiting → e.block < length m.threads → IsAbout e.block but → Spares m but l (relists (plain.queued r e) l)
-queued_spares m r e but l within lt about = record {
+queued_spares : (m : Machine) (r : ℕ) (e : plain.Waiting) (except : List ℕ) (l : Local) → r < length l.lists.waiting → e.block < length m.threads → IsAbout e.block except → Spares m except l (relists (plain.queued r e) l)
+queued_spares m r e except l within lt about = record {
   sized = λ z. record {
     threads = z.threads;
     lists = length-changed (λ es. es ++ e ∷ []) l.lists.waiting r ∙ z.lists;
@@ -102,10 +102,10 @@ queued_spares m r e but l within lt about = record {
 pub put_here : (cpu c : ℕ) (l : Local) (locals : ℕ → Local) → cpu ≡ c → put cpu l locals c ≡ l
 put_here cpu c l locals e = let is = same_nat c in rw (e, is) refl
 
-pub queues : {P : ℕ → View → Type 0} (m : Machine) (cpu r : ℕ) (e : plain.Waiting) (but : List ℕ) (s : Scene) (w : World) (x : Work) → cpu ≡ home m r → cpu < m.cpus → r < length m.threads → e.block < length m.threads → IsAbout e.block but →
-    RelatesBut m P but (amid cpu s x) w → RelatesBut m P but (amid cpu s (x ▷ does (relists (plain.queued r e)))) (queued w r e.block)
-queues m cpu r e but s w x here cpu_lt r_lt lt about rel =
-    both_change m cpu but s w x (relists (plain.queued r e)) (queued w r e.block).waiting (queued_spares m r e but x.local within lt about) (length-changed (λ xs. xs ++ e.block ∷ []) w.waiting r ∙ rel.sized_world.lists)
+pub queues : {P : ℕ → View → Type 0} (m : Machine) (cpu r : ℕ) (e : plain.Waiting) (except : List ℕ) (s : Scene) (w : World) (x : Work) → cpu ≡ home m r → cpu < m.cpus → r < length m.threads → e.block < length m.threads → IsAbout e.block except →
+    RelatesExcept m P except (amid cpu s x) w → RelatesExcept m P except (amid cpu s (x ▷ does (relists (plain.queued r e)))) (queued w r e.block)
+queues m cpu r e except s w x here cpu_lt r_lt lt about rel =
+    both_change m cpu except s w x (relists (plain.queued r e)) (queued w r e.block).waiting (queued_spares m r e except x.local within lt about) (length-changed (λ xs. xs ++ e.block ∷ []) w.waiting r ∙ rel.sized_world.lists)
     (λ q q_lt. changed_cases (λ xs. xs ≡ blocks (senders m (amid cpu s (x ▷ does (relists (plain.queued r e)))) q)) (λ xs. xs ++ e.block ∷ []) w.waiting r q [] in_world
     (λ is. ap (λ xs. xs ++ e.block ∷ []) (rel.lists q q_lt) ∙ sym (map_push (λ (x : plain.Waiting). x.block) (senders m (amid cpu s x) q) e) ∙ ap blocks (sym (grown q is)))
     (λ ne. rel.lists q q_lt ∙ ap blocks (sym (left q ne)))) rel

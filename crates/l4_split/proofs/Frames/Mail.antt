@@ -14,15 +14,15 @@ use Rattle.l4_core_model.proofs.Knows.{same_nat}
 use Rattle.l4_core_model.proofs.Fit.{NotIn}
 use Rattle.l4_core_model.proofs.Pieces.{both}
 use Rattle.l4_split.proofs.Lists.{other_is, filter_last, filter_last_other}
-use Rattle.l4_split.proofs.Relation.Views.{Scene, View, view, amid, subject, says_where, words, notices, is_about}
+use Rattle.l4_split.proofs.Relation.Views.{Scene, View, view, amid, subject, is_locator, notices, is_about, locators}
 use Rattle.l4_split.proofs.Relation.Rows.{seats, Row}
-use Rattle.l4_split.proofs.Relation.Relates.{RelatesBut}
+use Rattle.l4_split.proofs.Relation.Relates.{RelatesExcept}
 use Rattle.l4_split.proofs.Frames.Places.{IsAbout}
 
 -- The mail changes, but not that about other places.
-mail_changes : {P : ℕ → View → Type 0} (m : Machine) (but : List ℕ) (s : Scene) (w : World) (mail : List Posted) → ((j : ℕ) → NotIn j but → filter (is_about m j) mail ≡ filter (is_about m j) s.mail) →
-    RelatesBut m P but s w → RelatesBut m P but (record s { mail = mail }) w
-mail_changes {P = P} m but s w mail same r = record {
+mail_changes : {P : ℕ → View → Type 0} (m : Machine) (except : List ℕ) (s : Scene) (w : World) (mail : List Posted) → ((j : ℕ) → NotIn j except → filter (is_about m j) mail ≡ filter (is_about m j) s.mail) →
+    RelatesExcept m P except s w → RelatesExcept m P except (record s { mail = mail }) w
+mail_changes {P = P} m except s w mail same r = record {
   sized = r.sized;
   sized_world = r.sized_world;
   clocks = r.clocks;
@@ -39,10 +39,10 @@ pub mail_posted : (cpu to : ℕ) (content : Content) (s : Scene) (x : Work) → 
 mail_posted cpu to content s x =
     ap (λ ps. s.mail ++ ps) (map_push (posted cpu) x.letters (to, record { stamp = x.local.stamp; content = content })) ∙ sym (append_assoc s.mail (map (posted cpu) x.letters) _)
 
-pub letter_posted : {P : ℕ → View → Type 0} (m : Machine) (cpu to i : ℕ) (content : Content) (but : List ℕ) (s : Scene) (w : World) (x : Work) → place_of m (subject content) ≡ Some i → IsAbout i but →
-    RelatesBut m P but (amid cpu s x) w → RelatesBut m P but (amid cpu s (x ▷ posts to content)) w
-letter_posted m cpu to i content but s w x is about r =
-    mail_changes m but (amid cpu s x) w (amid cpu s (x ▷ posts to content)).mail
+pub letter_posted : {P : ℕ → View → Type 0} (m : Machine) (cpu to i : ℕ) (content : Content) (except : List ℕ) (s : Scene) (w : World) (x : Work) → place_of m (subject content) ≡ Some i → IsAbout i except →
+    RelatesExcept m P except (amid cpu s x) w → RelatesExcept m P except (amid cpu s (x ▷ posts to content)) w
+letter_posted m cpu to i content except s w x is about r =
+    mail_changes m except (amid cpu s x) w (amid cpu s (x ▷ posts to content)).mail
     (λ j out. ap (filter (is_about m j)) (mail_posted cpu to content s x)
     ∙ filter_last_other (is_about m j) (amid cpu s x).mail _ (about_place m i j (posted cpu (to, record { stamp = x.local.stamp; content = content })) is ∙ other_is i j (about j out))) r
 
@@ -55,7 +55,7 @@ mail_here m cpu to i content s w x is =
 -- Taking out
 
 -- The first letter of a pair stands somewhere, and the others stay.
-pub record IsFirst (from to : ℕ) (letter : Letter) (mail : List Posted) : Type 0 where
+pub record IsFirstLetter (from to : ℕ) (letter : Letter) (mail : List Posted) : Type 0 where
   pub before : List Posted
   pub after : List Posted
   pub is : mail ≡ before ++ record { from = from; to = to; letter = letter } ∷ after
@@ -68,12 +68,12 @@ between_is from to p h =
     let b = eqb-true p.to to is.1 in
     λ d. record { from = a d; to = b d; letter = p.letter }
 
-pub first_is : (from to : ℕ) (letter : Letter) (mail : List Posted) → slice_get (letters mail from to) 0 ≡ Some letter → IsFirst from to letter mail
-first_is from to letter [] h = cc
-first_is from to letter (p ∷ ps) h = by (is_between from to p) refl h (first_is from to letter ps)
+pub first_letter : (from to : ℕ) (letter : Letter) (mail : List Posted) → slice_get (letters mail from to) 0 ≡ Some letter → IsFirstLetter from to letter mail
+first_letter from to letter [] h = cc
+first_letter from to letter (p ∷ ps) h = by (is_between from to p) refl h (first_letter from to letter ps)
   where
     by : (b : Bool) → is_between from to p ≡ b → slice_get (map (λ (q : Posted). q.letter) (cond b (p ∷ filter (is_between from to) ps) (filter (is_between from to) ps))) 0 ≡ Some letter →
-        (slice_get (letters ps from to) 0 ≡ Some letter → IsFirst from to letter ps) → IsFirst from to letter (p ∷ ps)
+        (slice_get (letters ps from to) 0 ≡ Some letter → IsFirstLetter from to letter ps) → IsFirstLetter from to letter (p ∷ ps)
     by true is h rest = record {
       before = [];
       after = ps;
@@ -93,18 +93,18 @@ filter_skips p xs ys x h = filter-append p xs (x ∷ ys) ∙ ap (λ zs. filter p
     skip : p x ≡ false → filter p (x ∷ ys) ≡ filter p ys
     skip h = rw h refl
 
-pub letter_taken : {P : ℕ → View → Type 0} (m : Machine) (from to i : ℕ) (letter : Letter) (but : List ℕ) (s : Scene) (w : World) → place_of m (subject letter.content) ≡ Some i → IsAbout i but → IsFirst from to letter s.mail →
-    RelatesBut m P but s w → RelatesBut m P but (record s { mail = without_first from to s.mail }) w
-letter_taken m from to i letter but s w is about f r =
-    mail_changes m but s w (without_first from to s.mail)
+pub letter_taken : {P : ℕ → View → Type 0} (m : Machine) (from to i : ℕ) (letter : Letter) (except : List ℕ) (s : Scene) (w : World) → place_of m (subject letter.content) ≡ Some i → IsAbout i except → IsFirstLetter from to letter s.mail →
+    RelatesExcept m P except s w → RelatesExcept m P except (record s { mail = without_first from to s.mail }) w
+letter_taken m from to i letter except s w is about f r =
+    mail_changes m except s w (without_first from to s.mail)
     (λ j out. ap (filter (is_about m j)) f.left
     ∙ sym (filter_skips (is_about m j) f.before f.after _ (about_place m i j (record { from = from; to = to; letter = letter }) is ∙ other_is i j (about j out))) ∙ sym (ap (filter (is_about m j)) f.is)) r
 
 -- Of its own thread, it was the letter that says where its send or order is, and no such letter is left.
 
 pub record IsTaken (p : Posted) (mail after : List Posted) : Type 0 where
-  pub was : words mail ≡ p ∷ []
-  pub none_left : words after ≡ []
+  pub was : locators mail ≡ p ∷ []
+  pub none_left : locators after ≡ []
   pub others : notices after ≡ notices mail
 
 pub keeps_one : (p : Posted → Bool) (xs ys : List Posted) (x : Posted) → p x ≡ true → filter p (xs ++ x ∷ ys) ≡ filter p xs ++ x ∷ filter p ys
@@ -113,26 +113,26 @@ keeps_one p xs ys x h = filter-append p xs (x ∷ ys) ∙ ap (λ zs. filter p xs
     keep : p x ≡ true → filter p (x ∷ ys) ≡ x ∷ filter p ys
     keep h = rw h refl
 
-only_word : (m : Machine) (i : ℕ) (v : View) (send : Option Send) (xs ys : List Posted) (p : Posted) → Row m i (seats m i v) (xs ++ p ∷ ys) send → (xs ≡ []) × (ys ≡ [])
-only_word m i v send [] [] p h = (refl, refl)
-only_word m i v send [] (y ∷ ys) p h = absurd h
-only_word m i v send (x ∷ []) ys p h = absurd h
-only_word m i v send (x ∷ z ∷ xs) ys p h = absurd h
+only_locator : (m : Machine) (i : ℕ) (v : View) (send : Option Send) (xs ys : List Posted) (p : Posted) → Row m i (seats m i v) (xs ++ p ∷ ys) send → (xs ≡ []) × (ys ≡ [])
+only_locator m i v send [] [] p h = (refl, refl)
+only_locator m i v send [] (y ∷ ys) p h = absurd h
+only_locator m i v send (x ∷ []) ys p h = absurd h
+only_locator m i v send (x ∷ z ∷ xs) ys p h = absurd h
 
-pub taken_here : (m : Machine) (from to i : ℕ) (letter : Letter) (mail : List Posted) (v : View) (send : Option Send) → place_of m (subject letter.content) ≡ Some i → says_where letter.content ≡ true → IsFirst from to letter mail →
-    Row m i (seats m i v) (words (filter (is_about m i) mail)) send → IsTaken (record { from = from; to = to; letter = letter }) (filter (is_about m i) mail) (filter (is_about m i) (without_first from to mail))
+pub taken_here : (m : Machine) (from to i : ℕ) (letter : Letter) (mail : List Posted) (v : View) (send : Option Send) → place_of m (subject letter.content) ≡ Some i → is_locator letter.content ≡ true → IsFirstLetter from to letter mail →
+    Row m i (seats m i v) (locators (filter (is_about m i) mail)) send → IsTaken (record { from = from; to = to; letter = letter }) (filter (is_about m i) mail) (filter (is_about m i) (without_first from to mail))
 taken_here m from to i letter mail v send is says f row =
     let p : Posted = record { from = from; to = to; letter = letter } in
-    let word : Posted → Bool = λ q. says_where q.letter.content in
+    let word : Posted → Bool = λ q. is_locator q.letter.content in
     let here = about_place m i i p is ∙ same_nat i in
     let before = filter (is_about m i) f.before in
     let after = filter (is_about m i) f.after in
     let old = ap (filter (is_about m i)) f.is ∙ keeps_one (is_about m i) f.before f.after p here in
     let new = ap (filter (is_about m i)) f.left ∙ filter-append (is_about m i) f.before f.after in
-    let at = ap words old ∙ keeps_one word before after p says in
-    let none = only_word m i v send (words before) (words after) p (subst (λ ps. Row m i (seats m i v) ps send) at row) in
+    let at = ap locators old ∙ keeps_one word before after p says in
+    let none = only_locator m i v send (locators before) (locators after) p (subst (λ ps. Row m i (seats m i v) ps send) at row) in
     record {
       was = at ∙ (λ d. none.0 d ++ p ∷ none.1 d);
-      none_left = ap words new ∙ filter-append word before after ∙ (λ d. none.0 d ++ none.1 d);
+      none_left = ap locators new ∙ filter-append word before after ∙ (λ d. none.0 d ++ none.1 d);
       others = ap notices new ∙ sym (ap notices old ∙ filter_skips (λ q. not (word q)) before after p (rw says refl));
     }

@@ -9,14 +9,14 @@ use Rattle.l4_core_model.specs.Local.{armed_for, armed_period}
 use Rattle.l4_core_model.specs.Runs.{Posted}
 use Rattle.l4_core_model.proofs.Fit.{IsGood, all-map}
 use Rattle.l4_split.proofs.Frames.Locals.{come}
-use Rattle.l4_split.proofs.Relation.Views.{Kept, View, kept, home, words, notices}
+use Rattle.l4_split.proofs.Relation.Views.{Kept, View, kept, home, notices, locators}
 use Rattle.l4_split.proofs.Relation.Rows.{seats, Agrees, learned, Row, RowOf, IsKept, IsUnplaced, IsKeptAtHome, IsKeptElsewhere, deadlines, IsCause, IsNotice, IsNoticeOf, Known}
 
 abbrev pub at_home : Machine → ℕ → View → Kept
 at_home m i v = v.kept (home m i)
 
 -- What is said of a thread by others is true of it later: it stays deleted, and no earlier send begins again.
-pub record Carries (k after : Kept) : Type 0 where
+pub record StaysTrue (k after : Kept) : Type 0 where
   pub deleted : k.thread.phase ≡ Deleted → after.thread.phase ≡ Deleted
   pub begun : k.thread.context.begun ≤ after.thread.context.begun
   pub causes : (cause : Cause) → k.thread.context.begun ≡ after.thread.context.begun → IfSome k.thread.send (IsCause cause k.clock k.thread) → IfSome after.thread.send (IsCause cause after.clock after.thread)
@@ -34,7 +34,7 @@ same_alike k after e = record { ready = ap (λ (k : Kept). k.ready) e; armed = a
 pub record Moves (m : Machine) (i : ℕ) (v after : View) : Type 0 where
   pub elsewhere : (cpu : ℕ) → (cpu ≡ home m i → ⊥) → IsAlike (v.kept cpu) (after.kept cpu)
   pub notices : notices after.mail ≡ notices v.mail
-  pub carries : Carries (at_home m i v) (at_home m i after)
+  pub stays_true : StaysTrue (at_home m i v) (at_home m i after)
 
 pub deleted_phase : (p : Phase) → is_deleted p ≡ true → p ≡ Deleted
 deleted_phase Ready h = cc
@@ -59,36 +59,36 @@ moved_elsewhere m i v after known moves cpu ne =
     record {
       ready = same.ready ∙ old.ready;
       armed = same.armed ∙ old.armed;
-      gone = λ h. ap is_deleted (moves.carries.deleted (deleted_phase _ (old.gone (sym (ap is_deleted same.phase) ∙ h))));
+      gone = λ h. ap is_deleted (moves.stays_true.deleted (deleted_phase _ (old.gone (sym (ap is_deleted same.phase) ∙ h))));
     }
 
-pub moved_notice : (m : Machine) (i : ℕ) (k after : Kept) (p : Posted) (c : Content) → Carries k after → IsNoticeOf m i k p c → IsNoticeOf m i after p c
-moved_notice m i k after p (SendLetter s receiver message zero_timeout) carries h = h
-moved_notice m i k after p (DoneLetter s result) carries h = h
-moved_notice m i k after p (WithdrawLetter s receiver cause) carries h = record {
+pub moved_notice : (m : Machine) (i : ℕ) (k after : Kept) (p : Posted) (c : Content) → StaysTrue k after → IsNoticeOf m i k p c → IsNoticeOf m i after p c
+moved_notice m i k after p (SendLetter s receiver message zero_timeout) stays_true h = h
+moved_notice m i k after p (DoneLetter s result) stays_true h = h
+moved_notice m i k after p (WithdrawLetter s receiver cause) stays_true h = record {
   r = h.r;
   place = h.place;
   split = h.split;
   to = h.to;
-  number = let a = h.number in let b = carries.begun in omega arith;
-  true_cause = λ e. let a = h.number in let b = carries.begun in
+  number = let a = h.number in let b = stays_true.begun in omega arith;
+  true_cause = λ e. let a = h.number in let b = stays_true.begun in
       let same : k.thread.context.begun ≡ after.thread.context.begun = omega arith in
-      carries.causes cause same (h.true_cause (omega arith));
+      stays_true.causes cause same (h.true_cause (omega arith));
 }
-moved_notice m i k after p (GoneLetter id) carries h = (carries.deleted h.0, h.1)
-moved_notice m i k after p (OrderLetter caller target what) carries h = h
-moved_notice m i k after p (OrderDoneLetter caller) carries h = h
+moved_notice m i k after p (GoneLetter id) stays_true h = (stays_true.deleted h.0, h.1)
+moved_notice m i k after p (OrderLetter caller target what) stays_true h = h
+moved_notice m i k after p (OrderDoneLetter caller) stays_true h = h
 
 moved_notices : (m : Machine) (i : ℕ) (v after : View) → IsKept m i v → Moves m i v after → AllByRecursion (IsNotice m i (at_home m i after)) (notices after.mail)
 moved_notices m i v after known moves =
     subst (AllByRecursion (IsNotice m i (at_home m i after))) (sym moves.notices)
-    (all-map (IsNotice m i (at_home m i v)) (IsNotice m i (at_home m i after)) (λ p h. moved_notice m i (at_home m i v) (at_home m i after) p p.letter.content moves.carries h) (notices v.mail) known.notices)
+    (all-map (IsNotice m i (at_home m i v)) (IsNotice m i (at_home m i after)) (λ p h. moved_notice m i (at_home m i v) (at_home m i after) p p.letter.content moves.stays_true h) (notices v.mail) known.notices)
 
 pub moves_kept : (m : Machine) (i : ℕ) (v after : View) → IsKept m i v → Moves m i v after → IsKeptAtHome i (at_home m i after) → IsKept m i after
 moves_kept m i v after known moves here = record { at_home = here; elsewhere = moved_elsewhere m i v after known moves; notices = moved_notices m i v after known moves }
 
 -- It has neither send nor order now, and no letter says where they are.
-pub plain_known : (m : Machine) (i : ℕ) (v : View) → IsKept m i v → IsUnplaced m i (seats m i v) → words v.mail ≡ [] →
+pub plain_known : (m : Machine) (i : ℕ) (v : View) → IsKept m i v → IsUnplaced m i (seats m i v) → locators v.mail ≡ [] →
     (at_home m i v).thread.send ≡ None → (at_home m i v).thread.order ≡ None → Agrees v.world (at_home m i v).thread → Known m i v
 plain_known m i v kept none quiet no_send no_order agrees = record {
   agrees = subst (λ ps. Agrees v.world (learned ps (at_home m i v).clock (at_home m i v).thread)) (sym quiet) agrees;
@@ -98,9 +98,9 @@ plain_known m i v kept none quiet no_send no_order agrees = record {
 }
 
 -- Its send is decided, or an order, or a letter says where it is.
-pub word_known : (m : Machine) (i : ℕ) (v : View) (p : Posted) → IsKept m i v → words v.mail ≡ p ∷ [] → RowOf m i (seats m i v) p p.letter.content →
+pub located_known : (m : Machine) (i : ℕ) (v : View) (p : Posted) → IsKept m i v → locators v.mail ≡ p ∷ [] → RowOf m i (seats m i v) p p.letter.content →
     Agrees v.world (learned (p ∷ []) (at_home m i v).clock (at_home m i v).thread) → Known m i v
-word_known m i v p kept word row agrees = record {
+located_known m i v p kept word row agrees = record {
   agrees = subst (λ ps. Agrees v.world (learned ps (at_home m i v).clock (at_home m i v).thread)) (sym word) agrees;
   row = subst (λ ps. Row m i (seats m i v) ps (at_home m i v).thread.send) (sym word) row;
   kept = kept;

@@ -14,7 +14,7 @@ use Rattle.l4_core_model.proofs.Fit.{NotIn, get_other, all-append, all-filter}
 use Rattle.l4_core_model.proofs.Remembers.{same_or_apart}
 use Rattle.l4_split.proofs.Frames.Locals.{changes_other, comes_other}
 use Rattle.l4_split.proofs.Relation.Views.{Scene, View, kept, view, home, put, amid}
-use Rattle.l4_split.proofs.Relation.Relates.{AreWithin, IsSized, RelatesBut, senders}
+use Rattle.l4_split.proofs.Relation.Relates.{AreWithin, IsSized, RelatesExcept, senders}
 
 -- Of one processor's local state, and of the others'
 
@@ -34,18 +34,18 @@ put_same g cpu other l after locals e = by (cpu == other)
 
 -- The places that an act is about are among those that are left out.
 abbrev pub IsAbout : ℕ → List ℕ → Type 0
-IsAbout i but = (j : ℕ) → NotIn j but → i ≡ j → ⊥
+IsAbout i except = (j : ℕ) → NotIn j except → i ≡ j → ⊥
 
-pub first_about : (i : ℕ) (but : List ℕ) → IsAbout i (i ∷ but)
-first_about i but j out e = out.0 (sym e)
+pub first_about : (i : ℕ) (except : List ℕ) → IsAbout i (i ∷ except)
+first_about i except j out e = out.0 (sym e)
 
 -- Leaving out, and taking in again
 
-pub leaves_out : {P : ℕ → View → Type 0} (m : Machine) (i : ℕ) (but : List ℕ) (s : Scene) (w : World) → RelatesBut m P but s w → RelatesBut m P (i ∷ but) s w
-leaves_out m i but s w r = record { sized = r.sized; sized_world = r.sized_world; clocks = r.clocks; lists = r.lists; places = λ j lt out. r.places j lt out.1 }
+pub leaves_out : {P : ℕ → View → Type 0} (m : Machine) (i : ℕ) (except : List ℕ) (s : Scene) (w : World) → RelatesExcept m P except s w → RelatesExcept m P (i ∷ except) s w
+leaves_out m i except s w r = record { sized = r.sized; sized_world = r.sized_world; clocks = r.clocks; lists = r.lists; places = λ j lt out. r.places j lt out.1 }
 
-pub takes_in : {P : ℕ → View → Type 0} (m : Machine) (i : ℕ) (but : List ℕ) (s : Scene) (w : World) → RelatesBut m P (i ∷ but) s w → P i (view m s w i) → RelatesBut m P but s w
-takes_in {P = P} m i but s w r here = record {
+pub takes_in : {P : ℕ → View → Type 0} (m : Machine) (i : ℕ) (except : List ℕ) (s : Scene) (w : World) → RelatesExcept m P (i ∷ except) s w → P i (view m s w i) → RelatesExcept m P except s w
+takes_in {P = P} m i except s w r here = record {
   sized = r.sized;
   sized_world = r.sized_world;
   clocks = r.clocks;
@@ -56,8 +56,8 @@ takes_in {P = P} m i but s w r here = record {
 -- In the world
 
 -- A thread of the world changes.
-pub world_changes : {P : ℕ → View → Type 0} (m : Machine) (i : ℕ) (but : List ℕ) (s : Scene) (w : World) (f : Thread → Thread) → IsAbout i but → RelatesBut m P but s w → RelatesBut m P but s (change w i f)
-world_changes {P = P} m i but s w f about r = record {
+pub world_changes : {P : ℕ → View → Type 0} (m : Machine) (i : ℕ) (except : List ℕ) (s : Scene) (w : World) (f : Thread → Thread) → IsAbout i except → RelatesExcept m P except s w → RelatesExcept m P except s (change w i f)
+world_changes {P = P} m i except s w f about r = record {
   sized = r.sized;
   sized_world = record { threads = length-changed f w.threads i ∙ r.sized_world.threads; lists = r.sized_world.lists; clocks = r.sized_world.clocks };
   clocks = r.clocks;
@@ -69,16 +69,16 @@ world_changes {P = P} m i but s w f about r = record {
 -- On a processor
 
 -- What a piece of an event leaves of a local state, beside its lists.
-pub record Spares (m : Machine) (but : List ℕ) (l after : Local) : Type 0 where
+pub record Spares (m : Machine) (except : List ℕ) (l after : Local) : Type 0 where
   pub sized : IsSized m l → IsSized m after
   pub clock : after.clock ≡ l.clock
-  pub kept : (j : ℕ) → NotIn j but → kept after j ≡ kept l j
+  pub kept : (j : ℕ) → NotIn j except → kept after j ≡ kept l j
 
 -- The lists change in the world and on a processor.
-pub both_change : {P : ℕ → View → Type 0} (m : Machine) (cpu : ℕ) (but : List ℕ) (s : Scene) (w : World) (x : Work) (f : Local → Local) (lists : List (List ℕ)) → Spares m but x.local (f x.local) → length lists ≡ length m.threads →
+pub both_change : {P : ℕ → View → Type 0} (m : Machine) (cpu : ℕ) (except : List ℕ) (s : Scene) (w : World) (x : Work) (f : Local → Local) (lists : List (List ℕ)) → Spares m except x.local (f x.local) → length lists ≡ length m.threads →
     ((q : ℕ) → q < length m.threads → list_at lists q ≡ blocks (senders m (amid cpu s (x ▷ does f)) q)) →
-    RelatesBut m P but (amid cpu s x) w → RelatesBut m P but (amid cpu s (x ▷ does f)) (record w { waiting = lists })
-both_change {P = P} m cpu but s w x f lists spares size are r = record {
+    RelatesExcept m P except (amid cpu s x) w → RelatesExcept m P except (amid cpu s (x ▷ does f)) (record w { waiting = lists })
+both_change {P = P} m cpu except s w x f lists spares size are r = record {
   sized = λ c lt. put_keeps (IsSized m) cpu c x.local (f x.local) s.locals spares.sized (r.sized c lt);
   sized_world = record { threads = r.sized_world.threads; lists = size; clocks = r.sized_world.clocks };
   clocks = λ c lt. r.clocks c lt ∙ sym (put_same (λ l. l.clock) cpu c x.local (f x.local) s.locals spares.clock);
@@ -88,16 +88,16 @@ both_change {P = P} m cpu but s w x f lists spares size are r = record {
 }
 
 -- The lists stay.
-pub local_changes : {P : ℕ → View → Type 0} (m : Machine) (cpu : ℕ) (but : List ℕ) (s : Scene) (w : World) (x : Work) (f : Local → Local) → Spares m but x.local (f x.local) → (f x.local).lists.waiting ≡ x.local.lists.waiting →
-    RelatesBut m P but (amid cpu s x) w → RelatesBut m P but (amid cpu s (x ▷ does f)) w
-local_changes m cpu but s w x f spares same r =
-    both_change m cpu but s w x f w.waiting spares r.sized_world.lists
+pub local_changes : {P : ℕ → View → Type 0} (m : Machine) (cpu : ℕ) (except : List ℕ) (s : Scene) (w : World) (x : Work) (f : Local → Local) → Spares m except x.local (f x.local) → (f x.local).lists.waiting ≡ x.local.lists.waiting →
+    RelatesExcept m P except (amid cpu s x) w → RelatesExcept m P except (amid cpu s (x ▷ does f)) w
+local_changes m cpu except s w x f spares same r =
+    both_change m cpu except s w x f w.waiting spares r.sized_world.lists
     (λ q lt. r.lists q lt ∙ ap (λ ess. blocks (slice_index_or ess q [])) (sym (put_same (λ l. l.lists.waiting) cpu (home m q) x.local (f x.local) s.locals same))) r
 
 -- A thread changes, or comes to a phase.
 
-pub changes_spares : (m : Machine) (i : ℕ) (but : List ℕ) (l : Local) (f : Thread → Thread) → IsAbout i but → Spares m but l (changes i f l)
-changes_spares m i but l f about = record {
+pub changes_spares : (m : Machine) (i : ℕ) (except : List ℕ) (l : Local) (f : Thread → Thread) → IsAbout i except → Spares m except l (changes i f l)
+changes_spares m i except l f about = record {
   sized = λ z. record { threads = length-changed f l.threads i ∙ z.threads; lists = z.lists; told = z.told; ready = z.ready; armed = z.armed; listed = z.listed };
   clock = refl;
   kept = λ j out. changes_other l i j f (about j out);
@@ -133,5 +133,5 @@ comes_sized m i l f lt z = record {
   listed = z.listed;
 }
 
-pub comes_spares : (m : Machine) (i : ℕ) (but : List ℕ) (l : Local) (f : Thread → Thread) → i < length m.threads → IsAbout i but → Spares m but l (comes_to i f l)
-comes_spares m i but l f lt about = record { sized = comes_sized m i l f lt; clock = refl; kept = λ j out. comes_other l i j f (about j out) }
+pub comes_spares : (m : Machine) (i : ℕ) (except : List ℕ) (l : Local) (f : Thread → Thread) → i < length m.threads → IsAbout i except → Spares m except l (comes_to i f l)
+comes_spares m i except l f lt about = record { sized = comes_sized m i l f lt; clock = refl; kept = λ j out. comes_other l i j f (about j out) }

@@ -1,6 +1,5 @@
 -- The letters that a turn posts are about declared threads: all that it does is done to places of the machine.
 use Rattle.l4_core_model.specs.Plain.{Waiting, armed, popped_due}
-use Rattle.l4_split.proofs.Frames.Going.{told}
 use Rattle.std.proofs.Common.{◌≡◌, ℕ, ◌+◌, ◌<◌, Bool, true, false, cond, Option, Some, None, List, length, refl, subst, ap}
 use Rattle.std.specs.Prelude.{is_some, find, slice_index_or, ◌==◌, nat_lt, ◌||◌, is_none}
 use Rattle.std.specs.Option.{option_map}
@@ -18,7 +17,7 @@ use Rattle.l4_core_model.specs.Turns.{Duty, DropsOwn, RefusesFirst, TellsGone, C
 use Rattle.l4_core_model.specs.Runs.{IsMachine}
 use Rattle.l4_core_model.proofs.Duties.{all_find}
 use Rattle.std.proofs.lemmas.Bool.{ltb-true}
-use Rattle.l4_split.proofs.Turns.Choices.{IsDuty, IsEntryOf, entry_of_all, IsChoice, turn_then}
+use Rattle.l4_split.proofs.Turns.Choices.{IsDuty, StandsIn, entry_of_all, IsChoice, turn_then}
 use Rattle.l4_split.proofs.Relation.Relates.{IsSized}
 use Rattle.l4_split.proofs.Letters.Addressed.{IsAddressed, IsThread, is_known, posts_addressed, refuses_addressed, delivers_addressed, withdraws_addressed, acts_addressed, arrives_addressed, home_below, obeys_addressed, thread_at}
 use Rattle.l4_model.proofs.Rows.Writing.{id}
@@ -28,7 +27,7 @@ use Rattle.l4_split.proofs.Letters.Receiving.{own_place_is, foreign_place_is}
 
 -- The sender of an entry of a list, and of the first that is accepted
 
-entry_thread : (m : Machine) (l : Local) (r i : ℕ) (e : plain.Waiting) → IsMachine m → IsSized m l → IsEntryOf e (plain.list_of l.lists r) → e.block ≡ i → IsThread m i
+entry_thread : (m : Machine) (l : Local) (r i : ℕ) (e : plain.Waiting) → IsMachine m → IsSized m l → StandsIn e (plain.list_of l.lists r) → e.block ≡ i → IsThread m i
 entry_thread m l r i e machine z at same = record { machine = machine; within = subst (λ i. i < length m.threads) same (entry_of_all (λ (e : plain.Waiting). e.block < length m.threads) e (plain.list_of l.lists r) at (z.listed r)) }
 
 first_within : (m : Machine) (p : plain.Waiting → Bool) (es : List plain.Waiting) (i : ℕ) → AllByRecursion (λ (e : plain.Waiting). e.block < length m.threads) es → option_map (λ (e : plain.Waiting). e.block) (find p es) ≡ Some i → i < length m.threads

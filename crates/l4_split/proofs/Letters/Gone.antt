@@ -16,9 +16,9 @@ use Rattle.l4_core_model.proofs.Beginning.{place_within}
 use Rattle.l4_core_model.proofs.Knows.{length-changed}
 use Rattle.l4_core_model.proofs.Remembers.{same_or_apart, apart}
 use Rattle.l4_split.proofs.Lists.{get_other_place}
-use Rattle.l4_split.proofs.Relation.Views.{Scene, Kept, View, kept, view, home, put, amid, subject, says_where, words, notices}
-use Rattle.l4_split.proofs.Relation.Rows.{seats, Agrees, learned, Row, IsKeptAtHome, IsNotice, IsNoticeOf, Stands, Seats}
-use Rattle.l4_split.proofs.Relation.Relates.{IsSized, RelatesBut}
+use Rattle.l4_split.proofs.Relation.Views.{Scene, Kept, View, kept, view, home, put, amid, subject, is_locator, notices, locators}
+use Rattle.l4_split.proofs.Relation.Rows.{seats, Agrees, learned, Row, IsKeptAtHome, IsNotice, IsNoticeOf, Matches, Seats}
+use Rattle.l4_split.proofs.Relation.Relates.{IsSized, RelatesExcept}
 use Rattle.l4_split.proofs.Frames.Places.{first_about, leaves_out, takes_in, Spares, local_changes, changes_spares}
 use Rattle.l4_split.proofs.Frames.Lists.{put_here}
 use Rattle.l4_split.proofs.Frames.Moves.{at_home, deleted_phase}
@@ -36,17 +36,17 @@ record IsMarked (k after : Kept) : Type 0 where
   pub ready : after.ready ≡ k.ready
   pub armed : after.armed ≡ k.armed
 
-marked_stands : (m : Machine) (i : ℕ) (v after : View) → ((c : ℕ) → IsMarked (v.kept c) (after.kept c)) → at_home m i after ≡ at_home m i v → after.world ≡ v.world → after.mail ≡ v.mail → (at_home m i v).thread.phase ≡ Deleted → Stands m i v → Stands m i after
-marked_stands m i v after marked same world mail gone h =
+marked_matches : (m : Machine) (i : ℕ) (v after : View) → ((c : ℕ) → IsMarked (v.kept c) (after.kept c)) → at_home m i after ≡ at_home m i v → after.world ≡ v.world → after.mail ≡ v.mail → (at_home m i v).thread.phase ≡ Deleted → Matches m i v → Matches m i after
+marked_matches m i v after marked same world mail gone h =
     let now : View = record v { kept = after.kept } in
     let k : Kept = at_home m i v in
     let order = ap (λ (k : Kept). k.thread.order) (sym same) in
     let seats_same : seats m i v ≡ seats m i now = λ d. record { order = order d; sent = λ c. sym (marked c).sent d; begun = λ c. sym (marked c).begun d; listed = λ c. sym (marked c).listed d } in
     let with_home : (P : Kept → Type 0) → P k → P (at_home m i after) = λ P p. subst P (sym same) p in
-    let stands : Stands m i now = record {
+    let stands : Matches m i now = record {
       known = record {
-        agrees = with_home (λ k. Agrees v.world (learned (words v.mail) k.clock k.thread)) h.known.agrees;
-        row = subst (λ (s : Seats). Row m i s (words v.mail) (s.sent (home m i))) seats_same h.known.row;
+        agrees = with_home (λ k. Agrees v.world (learned (locators v.mail) k.clock k.thread)) h.known.agrees;
+        row = subst (λ (s : Seats). Row m i s (locators v.mail) (s.sent (home m i))) seats_same h.known.row;
         kept = record {
           at_home = with_home (IsKeptAtHome i) h.known.kept.at_home;
           elsewhere = λ c ne. let e = h.known.kept.elsewhere c ne in record {
@@ -59,7 +59,7 @@ marked_stands m i v after marked same world mail gone h =
       };
       ready = with_home (λ k. k.ready ≡ readied k.thread.phase i []) h.ready;
     } in
-    subst (Stands m i) (λ d. record { world = sym world d; kept = after.kept; mail = sym mail d }) stands
+    subst (Matches m i) (λ d. record { world = sym world d; kept = after.kept; mail = sym mail d }) stands
 
 pub handles_gone : (m : Machine) (from cpu : ℕ) (letter : Letter) (s : Scene) (w : World) (x : Work) (id : GlobalId) → IsLetter m from cpu letter s w → letter.content ≡ GoneLetter id →
     handled m cpu (GoneLetter id) (at_work cpu letter s) ≡ Some x → Goes m cpu (without from cpu s) w [] x
@@ -68,7 +68,7 @@ handles_gone m from cpu letter s w x id h content is =
     let at_i = foreign_place_is m cpu id i foreign in
     let lt = place_within m id i at_i.0 in
     let about : place_of m (subject letter.content) ≡ Some i = ap (λ c. place_of m (subject c)) content ∙ at_i.0 in
-    let n = noticed m from cpu i letter s w h lt about (ap says_where content) in
+    let n = noticed m from cpu i letter s w h lt about (ap is_locator content) in
     let says = subst (IsNoticeOf m i (at_home m i (view m s w i)) (record { from = from; to = cpu; letter = letter })) content n.says in
     subst (Goes m cpu (without from cpu s) w []) (some_is _ x rest) (record { now = w; reaches = refl; relates = marked i lt at_i.1 n.relates says.0 })
   where
@@ -78,7 +78,7 @@ handles_gone m from cpu letter s w x id h content is =
     scene_now : Scene
     scene_now = without from cpu s
 
-    marked : (i : ℕ) → i < length m.threads → (home m i ≡ cpu → ⊥) → RelatesBut m (Stands m) [] (amid cpu scene_now y) w → (at_home m i (view m s w i)).thread.phase ≡ Deleted → RelatesBut m (Stands m) [] (amid cpu scene_now (y ▷ does (changes i is_gone_now))) w
+    marked : (i : ℕ) → i < length m.threads → (home m i ≡ cpu → ⊥) → RelatesExcept m (Matches m) [] (amid cpu scene_now y) w → (at_home m i (view m s w i)).thread.phase ≡ Deleted → RelatesExcept m (Matches m) [] (amid cpu scene_now (y ▷ does (changes i is_gone_now))) w
     marked i lt away rel gone =
         let z : Work = y ▷ does (changes i is_gone_now) in
         let v : View = view m (amid cpu scene_now y) w i in
@@ -92,7 +92,7 @@ handles_gone m from cpu letter s w x id h content is =
         (λ e. subst (λ c. IsMarked (v.kept c) (after.kept c)) e (subst (λ k. IsMarked k (after.kept cpu)) (sym old) (subst (IsMarked (kept y.local i)) (sym new) (record { sent = refl; begun = refl; listed = refl; ready = refl; armed = refl }))))
         (λ ne. subst (IsMarked (v.kept c)) (sym (other c ne)) (record { sent = refl; begun = refl; listed = refl; ready = refl; armed = refl })) in
         takes_in m i [] (amid cpu scene_now z) w (local_changes m cpu (i ∷ []) scene_now w y (changes i is_gone_now) (changes_spares m i (i ∷ []) y.local is_gone_now (first_about i [])) refl (leaves_out m i [] (amid cpu scene_now y) w rel))
-        (marked_stands m i v after all (other (home m i) (λ e. away (sym e))) refl refl (ap (λ (k : Kept). k.thread.phase) (kept_opened cpu letter.stamp i s (home m i)) ∙ gone) (rel.places i lt tt))
+        (marked_matches m i v after all (other (home m i) (λ e. away (sym e))) refl refl (ap (λ (k : Kept). k.thread.phase) (kept_opened cpu letter.stamp i s (home m i)) ∙ gone) (rel.places i lt tt))
 
 -- It is told to one more.
 
@@ -119,11 +119,11 @@ told_spares m to i l = record {
 
 -- Nothing is said of who was told.
 
-abbrev retold : (ℕ → ℕ) → View → View
-retold told v = record v { kept = λ cpu. record (v.kept cpu) { told = told cpu } }
+abbrev with_told : (ℕ → ℕ) → View → View
+with_told told v = record v { kept = λ cpu. record (v.kept cpu) { told = told cpu } }
 
-stands_retold : (m : Machine) (i : ℕ) (told : ℕ → ℕ) (v : View) → Stands m i v → Stands m i (retold told v)
-stands_retold m i told v h = record {
+matches_with_told : (m : Machine) (i : ℕ) (told : ℕ → ℕ) (v : View) → Matches m i v → Matches m i (with_told told v)
+matches_with_told m i told v h = record {
   known = record {
     agrees = h.known.agrees;
     row = h.known.row;
@@ -142,7 +142,7 @@ tells_gone_goes m cpu to i s w x here processor e gone untold =
     let y : Work = x ▷ does (has_told to i) in
     let v : View = view m (amid cpu s y) e.now i in
     let rel = takes_in m i [] (amid cpu s y) e.now (local_changes m cpu (i ∷ []) s e.now x (has_told to i) (told_spares m to i x.local) refl (leaves_out m i [] (amid cpu s x) e.now e.relates))
-    (subst (Stands m i) (sym seen) (stands_retold m i (λ c. (kept (put cpu (has_told to i x.local) s.locals c) i).told) (view m (amid cpu s x) e.now i) (e.relates.places i here.within tt))) in
+    (subst (Matches m i) (sym seen) (matches_with_told m i (λ c. (kept (put cpu (has_told to i x.local) s.locals c) i).told) (view m (amid cpu s x) e.now i) (e.relates.places i here.within tt))) in
     let was : at_home m i v ≡ kept y.local i = home_is m cpu i s y e.now here.home in
     notice_goes m cpu to i (GoneLetter (declared m i).id) s w y (record { now = e.now; reaches = e.reaches; relates = rel }) here.within (here.machine.placed i here.within) refl
     (ap (λ (k : Kept). k.thread.phase) was ∙ deleted_phase (thread x.local i).phase gone, λ h. next_untold_other m cpu (slice_index_or x.local.told i 0) to untold (h ∙ here.home))
@@ -151,5 +151,5 @@ tells_gone_goes m cpu to i s w x here processor e gone untold =
     seen_at c true = refl
     seen_at c false = refl
 
-    seen : view m (amid cpu s (x ▷ does (has_told to i))) e.now i ≡ retold (λ c. (kept (put cpu (has_told to i x.local) s.locals c) i).told) (view m (amid cpu s x) e.now i)
+    seen : view m (amid cpu s (x ▷ does (has_told to i))) e.now i ≡ with_told (λ c. (kept (put cpu (has_told to i x.local) s.locals c) i).told) (view m (amid cpu s x) e.now i)
     seen = λ d. record (view m (amid cpu s x) e.now i) { kept = λ c. seen_at c (cpu == c) d }

@@ -21,9 +21,9 @@ use Rattle.l4_core_model.specs.Runs.{Posted, without_first}
 use Rattle.l4_core_model.proofs.Beginning.{place_within}
 use Rattle.l4_core_model.proofs.Pieces.{both}
 use Rattle.l4_core_model.proofs.Knows.{same_nat}
-use Rattle.l4_split.proofs.Relation.Views.{Scene, Kept, View, view, home, amid, subject, says_where, words, notices, is_about}
-use Rattle.l4_split.proofs.Relation.Rows.{seats, Agrees, learned, Row, IsCause, IsWithdrawal, IsNotice, IsNoticeOf, Stands}
-use Rattle.l4_split.proofs.Relation.Relates.{RelatesBut}
+use Rattle.l4_split.proofs.Relation.Views.{Scene, Kept, View, view, home, amid, subject, is_locator, notices, is_about, locators}
+use Rattle.l4_split.proofs.Relation.Rows.{seats, Agrees, learned, Row, IsCause, IsWithdrawal, IsNotice, IsNoticeOf, Matches}
+use Rattle.l4_split.proofs.Relation.Relates.{RelatesExcept}
 use Rattle.l4_split.proofs.Frames.Places.{first_about, leaves_out, takes_in}
 use Rattle.l4_split.proofs.Frames.Mail.{letter_taken, about_place, keeps_one, filter_skips}
 use Rattle.l4_split.proofs.Frames.Moves.{at_home}
@@ -35,27 +35,27 @@ use Rattle.l4_split.proofs.Letters.Receiving.{without, IsLetter, at_work, foreig
 -- A late letter is taken out: what it says is true, and all else is as it was.
 
 pub record IsNoticed (m : Machine) (from cpu i : ℕ) (letter : Letter) (s : Scene) (w : World) : Type 0 where
-  pub relates : RelatesBut m (Stands m) [] (amid cpu (without from cpu s) (at_work cpu letter s)) w
+  pub relates : RelatesExcept m (Matches m) [] (amid cpu (without from cpu s) (at_work cpu letter s)) w
   pub says : IsNotice m i (at_home m i (view m s w i)) (record { from = from; to = cpu; letter = letter })
 
-pub noticed : (m : Machine) (from cpu i : ℕ) (letter : Letter) (s : Scene) (w : World) → IsLetter m from cpu letter s w → i < length m.threads → place_of m (subject letter.content) ≡ Some i → says_where letter.content ≡ false → IsNoticed m from cpu i letter s w
+pub noticed : (m : Machine) (from cpu i : ℕ) (letter : Letter) (s : Scene) (w : World) → IsLetter m from cpu letter s w → i < length m.threads → place_of m (subject letter.content) ≡ Some i → is_locator letter.content ≡ false → IsNoticed m from cpu i letter s w
 noticed m from cpu i letter s w h lt about late =
     let p : Posted = record { from = from; to = cpu; letter = letter } in
     let f = h.first in
     let mine : Posted → Bool = is_about m i in
-    let word : Posted → Bool = λ q. says_where q.letter.content in
+    let word : Posted → Bool = λ q. is_locator q.letter.content in
     let before : View = view m s w i in
     let after : View = view m (amid cpu (without from cpu s) (at_work cpu letter s)) w i in
     let stands = h.relates.places i lt tt in
     let here = about_place m i i p about ∙ same_nat i in
     let old : before.mail ≡ filter mine f.before ++ p ∷ filter mine f.after = ap (filter mine) f.is ∙ keeps_one mine f.before f.after p here in
     let new : after.mail ≡ filter mine f.before ++ filter mine f.after = ap (filter mine) (append-nil (without_first from cpu s.mail) ∙ f.left) ∙ filter-append mine f.before f.after in
-    let same_words : words after.mail ≡ words before.mail = ap words new ∙ sym (filter_skips word (filter mine f.before) (filter mine f.after) p late) ∙ sym (ap words old) in
+    let same_words : locators after.mail ≡ locators before.mail = ap locators new ∙ sym (filter_skips word (filter mine f.before) (filter mine f.after) p late) ∙ sym (ap locators old) in
     let old_notices : notices before.mail ≡ notices (filter mine f.before) ++ p ∷ notices (filter mine f.after) = ap notices old ∙ keeps_one (λ q. not (word q)) (filter mine f.before) (filter mine f.after) p (rw late refl) in
     let new_notices : notices after.mail ≡ notices (filter mine f.before) ++ notices (filter mine f.after) = ap notices new ∙ filter-append (λ q. not (word q)) (filter mine f.before) (filter mine f.after) in
     let k : Kept = at_home m i before in
     let was = subst (AllByRecursion (IsNotice m i k)) old_notices stands.known.kept.notices in
-    let left : Stands m i (record before { mail = after.mail }) = record {
+    let left : Matches m i (record before { mail = after.mail }) = record {
       known = record {
         agrees = subst (λ ps. Agrees before.world (learned ps k.clock k.thread)) (sym same_words) stands.known.agrees;
         row = subst (λ ps. Row m i (seats m i before) ps k.thread.send) (sym same_words) stands.known.row;
@@ -71,7 +71,7 @@ noticed m from cpu i letter s w h lt about late =
     record {
       relates = takes_in m i [] (amid cpu (without from cpu s) (at_work cpu letter s)) w
           (opened_relates m cpu letter.stamp (i ∷ []) (without from cpu s) w (letter_taken m from cpu i letter (i ∷ []) s w about (first_about i []) f (leaves_out m i [] s w h.relates)))
-          (subst (Stands m i) (λ d. record { world = before.world; kept = λ c. sym (kept_same c) d; mail = after.mail }) left);
+          (subst (Matches m i) (λ d. record { world = before.world; kept = λ c. sym (kept_same c) d; mail = after.mail }) left);
       says = one_of (IsNotice m i k) (notices (filter mine f.before)) (notices (filter mine f.after)) p was;
     }
 
@@ -86,7 +86,7 @@ handles_withdraw m from cpu letter s w x name receiver cause h content is =
     let at_i = foreign_place_is m cpu name.thread i foreign in
     let lt = place_within m name.thread i at_i.0 in
     let about : place_of m (subject letter.content) ≡ Some i = ap (λ c. place_of m (subject c)) content ∙ at_i.0 in
-    let n = noticed m from cpu i letter s w h lt about (ap says_where content) in
+    let n = noticed m from cpu i letter s w h lt about (ap is_locator content) in
     let says : IsWithdrawal m i (at_home m i (view m s w i)).clock (at_home m i (view m s w i)).thread (record { from = from; to = cpu; letter = letter }) name receiver cause =
     subst (IsNoticeOf m i (at_home m i (view m s w i)) (record { from = from; to = cpu; letter = letter })) content n.says in
     let e : Goes m cpu (without from cpu s) w [] y = record { now = w; reaches = refl; relates = n.relates } in

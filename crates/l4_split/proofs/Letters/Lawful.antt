@@ -15,8 +15,8 @@ use Rattle.l4_core_model.proofs.Knows.{same_nat, same_ids}
 use Rattle.l4_core_model.proofs.Beginning.{destination_within, place_within}
 use Rattle.l4_core_model.proofs.Fit.{Suits}
 use Rattle.l4_split.proofs.Lists.{other_is, one_of}
-use Rattle.l4_split.proofs.Relation.Views.{Scene, view, world_thread, home, Kept, View, nowhere, scene, subject, says_where, words, notices, is_about}
-use Rattle.l4_split.proofs.Relation.Rows.{seats, IsSent, IsDecided, IsOrdered, IsObeyed, Stands, Agrees, learns, learned, Row, RowOf, IsNotice, IsNoticeOf}
+use Rattle.l4_split.proofs.Relation.Views.{Scene, view, world_thread, home, Kept, View, nowhere, scene, subject, is_locator, notices, is_about, locators}
+use Rattle.l4_split.proofs.Relation.Rows.{seats, IsSent, IsDecided, IsOrdered, IsObeyed, Matches, Agrees, learns, learned, Row, RowOf, IsNotice, IsNoticeOf}
 use Rattle.l4_split.proofs.Frames.Moves.{at_home}
 use Rattle.l4_split.specs.Laws.{IsLawfulLetter}
 use Rattle.l4_model.specs.Still.{late}
@@ -25,8 +25,8 @@ use Rattle.l4_model.proofs.Rows.Writing.{id, send}
 use Rattle.l4_split.proofs.Letters.Addressed.{IsAddressedTo}
 use Rattle.std.specs.List.{AllByRecursion}
 use Rattle.l4_core_model.specs.Turns.{opened}
-use Rattle.l4_split.proofs.Relation.Relates.{RelatesBut, Relates}
-use Rattle.l4_split.proofs.Frames.Mail.{about_place, keeps_one, first_is}
+use Rattle.l4_split.proofs.Relation.Relates.{RelatesExcept, Relates}
+use Rattle.l4_split.proofs.Frames.Mail.{about_place, keeps_one, first_letter}
 use Rattle.l4_split.proofs.Sends.Waiting.{agrees_send}
 
 -- Looking a thread up where a letter is handled
@@ -97,7 +97,7 @@ calls t order has none suits = by t.phase suits
     by Deleted s = refl
 
 pub obeyed_lawful : (m : Machine) (i : ℕ) (s : Scene) (w : World) (p : Posted) (x : Work) (caller : GlobalId) → p.letter.content ≡ OrderDoneLetter caller → place_of m caller ≡ Some i → x.local.threads ≡ (s.locals p.to).threads →
-    Stands m i (view m s w i) → IsObeyed m i (seats m i (view m s w i)) p → is_some (handled m p.to p.letter.content x) ≡ true
+    Matches m i (view m s w i) → IsObeyed m i (seats m i (view m s w i)) p → is_some (handled m p.to p.letter.content x) ≡ true
 obeyed_lawful m i s w p x caller content about at stands row =
     let t : Thread = (at_home m i (view m s w i)).thread in
     let same : thread x.local i ≡ t = ap (λ ts. slice_index_or ts i opening_thread) at ∙ ap (λ c. thread (s.locals c) i) row.to in
@@ -124,28 +124,28 @@ only_row m i k v send [] (y ∷ ys) p h a = absurd h
 only_row m i k v send (x ∷ []) ys p h a = absurd h
 only_row m i k v send (x ∷ z ∷ xs) ys p h a = absurd h
 
-word_row : (m : Machine) (i : ℕ) (s : Scene) (w : World) (p : Posted) → IsUnderWay m i p s.mail → says_where p.letter.content ≡ true → Stands m i (view m s w i) →
+locator_row : (m : Machine) (i : ℕ) (s : Scene) (w : World) (p : Posted) → IsUnderWay m i p s.mail → is_locator p.letter.content ≡ true → Matches m i (view m s w i) →
     RowOf m i (seats m i (view m s w i)) p p.letter.content × Agrees (world_thread w i) (learns p.letter.content (at_home m i (view m s w i)).clock (at_home m i (view m s w i)).thread)
-word_row m i s w p u says stands =
+locator_row m i s w p u says stands =
     let v : View = view m s w i in
     let k : Kept = at_home m i v in
-    let word : Posted → Bool = λ q. says_where q.letter.content in
+    let word : Posted → Bool = λ q. is_locator q.letter.content in
     let here = about_place m i i p u.about ∙ same_nat i in
-    let at = ap words (ap (filter (is_about m i)) u.is ∙ keeps_one (is_about m i) u.before u.after p here) ∙ keeps_one word (filter (is_about m i) u.before) (filter (is_about m i) u.after) p says in
-    only_row m i k v k.thread.send (words (filter (is_about m i) u.before)) (words (filter (is_about m i) u.after)) p
+    let at = ap locators (ap (filter (is_about m i)) u.is ∙ keeps_one (is_about m i) u.before u.after p here) ∙ keeps_one word (filter (is_about m i) u.before) (filter (is_about m i) u.after) p says in
+    only_row m i k v k.thread.send (locators (filter (is_about m i) u.before)) (locators (filter (is_about m i) u.after)) p
     (subst (λ ps. Row m i (seats m i v) ps k.thread.send) at stands.known.row) (subst (λ ps. Agrees v.world (learned ps k.clock k.thread)) at stands.known.agrees)
 
-late_notice : (m : Machine) (i : ℕ) (s : Scene) (w : World) (p : Posted) → IsUnderWay m i p s.mail → says_where p.letter.content ≡ false → Stands m i (view m s w i) → IsNotice m i (at_home m i (view m s w i)) p
+late_notice : (m : Machine) (i : ℕ) (s : Scene) (w : World) (p : Posted) → IsUnderWay m i p s.mail → is_locator p.letter.content ≡ false → Matches m i (view m s w i) → IsNotice m i (at_home m i (view m s w i)) p
 late_notice m i s w p u late stands =
     let v : View = view m s w i in
-    let other : Posted → Bool = λ q. not (says_where q.letter.content) in
+    let other : Posted → Bool = λ q. not (is_locator q.letter.content) in
     let here = about_place m i i p u.about ∙ same_nat i in
     let at = ap notices (ap (filter (is_about m i)) u.is ∙ keeps_one (is_about m i) u.before u.after p here) ∙ keeps_one other (filter (is_about m i) u.before) (filter (is_about m i) u.after) p (rw late refl) in
     one_of (IsNotice m i (at_home m i v)) (notices (filter (is_about m i) u.before)) (notices (filter (is_about m i) u.after)) p (subst (AllByRecursion (IsNotice m i (at_home m i v))) at stands.known.kept.notices)
 
 -- Any letter under way
 
-letter_lawful : (m : Machine) (i : ℕ) (s : Scene) (w : World) (p : Posted) (x : Work) (c : Content) → p.letter.content ≡ c → IsMachine m → WorldFacts m w → IsUnderWay m i p s.mail → Stands m i (view m s w i) → x.local.threads ≡ (s.locals p.to).threads → is_some (handled m p.to p.letter.content x) ≡ true
+letter_lawful : (m : Machine) (i : ℕ) (s : Scene) (w : World) (p : Posted) (x : Work) (c : Content) → p.letter.content ≡ c → IsMachine m → WorldFacts m w → IsUnderWay m i p s.mail → Matches m i (view m s w i) → x.local.threads ≡ (s.locals p.to).threads → is_some (handled m p.to p.letter.content x) ≡ true
 letter_lawful m i s w p x c content machine facts u stands at = by c content
   where
     lt : i < length m.threads
@@ -160,11 +160,11 @@ letter_lawful m i s w p x c content machine facts u stands at = by c content
     about : (c : Content) → p.letter.content ≡ c → place_of m (subject c) ≡ Some i
     about c content = sym (ap (λ c. place_of m (subject c)) content) ∙ u.about
 
-    row : (c : Content) → p.letter.content ≡ c → says_where c ≡ true → RowOf m i (seats m i v) p c × Agrees v.world (learns c k.clock k.thread)
-    row c content says = subst (λ c. RowOf m i (seats m i v) p c × Agrees v.world (learns c k.clock k.thread)) content (word_row m i s w p u (ap says_where content ∙ says) stands)
+    row : (c : Content) → p.letter.content ≡ c → is_locator c ≡ true → RowOf m i (seats m i v) p c × Agrees v.world (learns c k.clock k.thread)
+    row c content says = subst (λ c. RowOf m i (seats m i v) p c × Agrees v.world (learns c k.clock k.thread)) content (locator_row m i s w p u (ap is_locator content ∙ says) stands)
 
-    notice : (c : Content) → p.letter.content ≡ c → says_where c ≡ false → IsNoticeOf m i k p c
-    notice c content late = subst (IsNoticeOf m i k p) content (late_notice m i s w p u (ap says_where content ∙ late) stands)
+    notice : (c : Content) → p.letter.content ≡ c → is_locator c ≡ false → IsNoticeOf m i k p c
+    notice c content late = subst (IsNoticeOf m i k p) content (late_notice m i s w p u (ap is_locator content ∙ late) stands)
 
     by : (c : Content) → p.letter.content ≡ c → is_some (handled m p.to p.letter.content x) ≡ true
     by (SendLetter name receiver message zero_timeout) content =
@@ -190,7 +190,7 @@ placed m id h = by (place_of m id) h
     by None h = cc
     by (Some i) h = (i, refl)
 
-under_way_lawful : (m : Machine) (s : Scene) (w : World) (p : Posted) (before after : List Posted) (stamp : ℕ) → IsMachine m → RelatesBut m (Stands m) [] s w → WorldFacts m w → is_declared m (subject p.letter.content) ≡ true →
+under_way_lawful : (m : Machine) (s : Scene) (w : World) (p : Posted) (before after : List Posted) (stamp : ℕ) → IsMachine m → RelatesExcept m (Matches m) [] s w → WorldFacts m w → is_declared m (subject p.letter.content) ≡ true →
     s.mail ≡ before ++ p ∷ after → is_some (handled m p.to p.letter.content (opened stamp (s.locals p.to))) ≡ true
 under_way_lawful m s w p before after stamp machine rel facts declared at =
     let here = placed m (subject p.letter.content) declared in
@@ -216,7 +216,7 @@ all_lawful m g w machine counted rel facts addressed = by [] g.mail refl address
 pub first_lawful : (m : Machine) (g : System) (w : World) (from cpu : ℕ) (letter : Letter) (l : Local) → IsMachine m → Relates m g w → WorldFacts m w → AreAddressed m g.mail →
     slice_get (letters g.mail from cpu) 0 ≡ Some letter → slice_get g.locals cpu ≡ Some l → is_some (handle m cpu l letter) ≡ true
 first_lawful m g w from cpu letter l machine rel facts addressed first at =
-    let f = first_is from cpu letter g.mail first in
+    let f = first_letter from cpu letter g.mail first in
     let about = one_of (λ (p : Posted). IsAddressedTo m p.to p.letter.content) f.before f.after _ (subst (AreAddressed m) f.is addressed) in
     let handled_there = under_way_lawful m (scene g) w (record { from = from; to = cpu; letter = letter }) f.before f.after letter.stamp machine rel facts about.0 f.is in
     subst (λ k. is_some (handle m cpu k letter) ≡ true) (local_at g.locals cpu l at).1 handled_there

@@ -15,11 +15,11 @@ use Rattle.l4_core_model.specs.Mail.{own_place, foreign_place, handled}
 use Rattle.l4_core_model.specs.Runs.{without_first, IsMachine}
 use Rattle.l4_core_model.proofs.Beginning.{place_within}
 use Rattle.l4_core_model.proofs.Remembers.{apart}
-use Rattle.l4_split.proofs.Relation.Views.{Scene, kept, view, home, put, amid, subject, says_where, words, notices, is_about}
-use Rattle.l4_split.proofs.Relation.Rows.{Stands}
-use Rattle.l4_split.proofs.Relation.Relates.{RelatesBut}
+use Rattle.l4_split.proofs.Relation.Views.{Scene, kept, view, home, put, amid, subject, is_locator, notices, is_about, locators}
+use Rattle.l4_split.proofs.Relation.Rows.{Matches}
+use Rattle.l4_split.proofs.Relation.Relates.{RelatesExcept}
 use Rattle.l4_split.proofs.Frames.Places.{first_about, leaves_out}
-use Rattle.l4_split.proofs.Frames.Mail.{IsFirst, letter_taken, taken_here}
+use Rattle.l4_split.proofs.Frames.Mail.{IsFirstLetter, letter_taken, taken_here}
 use Rattle.l4_split.proofs.Frames.Going.{Goes, opened_relates}
 use Rattle.l4_split.proofs.Sends.Coming.{IsTakenOut, done_relates, send_goes}
 
@@ -31,8 +31,8 @@ without from cpu s = record s { mail = without_first from cpu s.mail }
 pub record IsLetter (m : Machine) (from cpu : ℕ) (letter : Letter) (s : Scene) (w : World) : Type 0 where
   pub machine : IsMachine m
   pub processor : cpu < m.cpus
-  pub relates : RelatesBut m (Stands m) [] s w
-  pub first : IsFirst from cpu letter s.mail
+  pub relates : RelatesExcept m (Matches m) [] s w
+  pub first : IsFirstLetter from cpu letter s.mail
 
 abbrev pub at_work : (cpu : ℕ) → Letter → Scene → Work
 at_work cpu letter s = opened letter.stamp (s.locals cpu)
@@ -64,7 +64,7 @@ kept_opened cpu stamp i s c = by (cpu == c) refl
     by true is = ap (λ p. kept (s.locals p) i) (eqb-true cpu c is)
     by false is = refl
 
-pub taken_out : (m : Machine) (from cpu i : ℕ) (letter : Letter) (s : Scene) (w : World) → IsLetter m from cpu letter s w → i < length m.threads → place_of m (subject letter.content) ≡ Some i → says_where letter.content ≡ true →
+pub taken_out : (m : Machine) (from cpu i : ℕ) (letter : Letter) (s : Scene) (w : World) → IsLetter m from cpu letter s w → i < length m.threads → place_of m (subject letter.content) ≡ Some i → is_locator letter.content ≡ true →
     IsTakenOut m i (view m s w i) (view m (amid cpu (without from cpu s) (at_work cpu letter s)) w i) (record { from = from; to = cpu; letter = letter })
 taken_out m from cpu i letter s w h lt about says =
     let stands = h.relates.places i lt tt in
@@ -73,13 +73,13 @@ taken_out m from cpu i letter s w h lt about says =
     record {
       stands = stands;
       was = t.was;
-      quiet = ap (λ mail. words (filter (is_about m i) mail)) nil ∙ t.none_left;
+      quiet = ap (λ mail. locators (filter (is_about m i) mail)) nil ∙ t.none_left;
       notices = ap (λ mail. notices (filter (is_about m i) mail)) nil ∙ t.others;
       kept = λ d c. kept_opened cpu letter.stamp i s c d;
       world = refl;
     }
 
-pub taken_relates : (m : Machine) (from cpu i : ℕ) (letter : Letter) (s : Scene) (w : World) → IsLetter m from cpu letter s w → place_of m (subject letter.content) ≡ Some i → RelatesBut m (Stands m) (i ∷ []) (amid cpu (without from cpu s) (at_work cpu letter s)) w
+pub taken_relates : (m : Machine) (from cpu i : ℕ) (letter : Letter) (s : Scene) (w : World) → IsLetter m from cpu letter s w → place_of m (subject letter.content) ≡ Some i → RelatesExcept m (Matches m) (i ∷ []) (amid cpu (without from cpu s) (at_work cpu letter s)) w
 taken_relates m from cpu i letter s w h about =
     opened_relates m cpu letter.stamp (i ∷ []) (without from cpu s) w (letter_taken m from cpu i letter (i ∷ []) s w about (first_about i []) h.first (leaves_out m i [] s w h.relates))
 
@@ -99,7 +99,7 @@ handles_send m from cpu letter s w x name receiver message zero_timeout h conten
     let lt = place_within m name.thread i at_i.0 in
     let about : place_of m (subject letter.content) ≡ Some i = ap (λ c. place_of m (subject c)) content ∙ at_i.0 in
     let rel = taken_relates m from cpu i letter s w h about in
-    let t = taken_out m from cpu i letter s w h lt about (ap says_where content) in
+    let t = taken_out m from cpu i letter s w h lt about (ap is_locator content) in
     subst (Goes m cpu (without from cpu s) w []) (some_is _ x rest)
     (send_goes m cpu i r (without from cpu s) w y (view m s w i) (record { from = from; to = cpu; letter = letter }) name receiver message zero_timeout
     (record { machine = h.machine; processor = h.processor; within = lt; away = at_i.1 }) refl content (record { now = w; reaches = refl; relates = rel }) t at_r.0 (place_within m receiver r at_r.0))
@@ -117,7 +117,7 @@ handles_done m from cpu letter s w x name result h content is =
     let lt = place_within m name.thread i at.0 in
     let about : place_of m (subject letter.content) ≡ Some i = ap (λ c. place_of m (subject c)) content ∙ at.0 in
     let rel = taken_relates m from cpu i letter s w h about in
-    let t = taken_out m from cpu i letter s w h lt about (ap says_where content) in
+    let t = taken_out m from cpu i letter s w h lt about (ap is_locator content) in
     subst (Goes m cpu (without from cpu s) w []) (some_is _ x rest)
     (record {
       now = w;

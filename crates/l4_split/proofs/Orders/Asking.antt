@@ -12,9 +12,9 @@ use Rattle.l4_core_model.specs.Local.{readied, Local, relists}
 use Rattle.l4_core_model.specs.Runs.{Posted}
 use Rattle.l4_core_model.proofs.Fit.{IsGood, Suits, all-filter}
 use Rattle.l4_core_model.proofs.Good.{deletes_good}
-use Rattle.l4_split.proofs.Relation.Views.{Kept, View, words, Scene, kept, view, home, amid, notices, is_of}
-use Rattle.l4_split.proofs.Relation.Rows.{seats, Agrees, learns, learned, IsOrdering, IsCause, IsKeptAtHome, Known, Row, Stands, Seats}
-use Rattle.l4_split.proofs.Frames.Moves.{at_home, Carries, same_alike, Moves, moves_kept}
+use Rattle.l4_split.proofs.Relation.Views.{Kept, View, Scene, kept, view, home, amid, notices, is_of, locators}
+use Rattle.l4_split.proofs.Relation.Rows.{seats, Agrees, learns, learned, IsOrdering, IsCause, IsKeptAtHome, Known, Row, Matches, Seats}
+use Rattle.l4_split.proofs.Frames.Moves.{at_home, StaysTrue, same_alike, Moves, moves_kept}
 use Rattle.l4_split.proofs.Sends.Waiting.{agrees_send, agrees_begun}
 use Rattle.l4_split.proofs.Turns.Ending.{agrees_wish}
 use Rattle.l4_split.proofs.Orders.Asked.{agrees_order, asked_agrees, asked_while_decided, asked_obeyed, send_asked}
@@ -25,7 +25,7 @@ use Rattle.l4_core_model.proofs.Knows.{get-changed}
 use Rattle.l4_core_model.proofs.Remembers.{same_or_apart, of_other}
 use Rattle.l4_split.proofs.Lists.{filter_kept, filter_out}
 use Rattle.l4_split.proofs.Frames.Locals.{changes_here, changes_other, comes_here, comes_other}
-use Rattle.l4_split.proofs.Relation.Relates.{IsSized, RelatesBut}
+use Rattle.l4_split.proofs.Relation.Relates.{IsSized, RelatesExcept}
 use Rattle.l4_split.proofs.Frames.Places.{first_about, takes_in, world_changes, local_changes, changes_spares, comes_spares}
 use Rattle.l4_split.proofs.Frames.Going.{IsHere, home_is, put_other, sized_here}
 
@@ -45,7 +45,7 @@ obeyed_deleted world t a = record {
   cancel_send = agrees_wish world (obeyed t) a ∙ cond_both (λ (u : Thread). u.cancel_send) t.cancel_send (is_alive t.phase) _ _ refl refl;
 }
 
-pub asked_learned : (m : Machine) (i : ℕ) (what : What) (v : View) → Known m i v → Agrees (asked what v.world) (learned (words v.mail) (at_home m i v).clock (asked what (at_home m i v).thread))
+pub asked_learned : (m : Machine) (i : ℕ) (what : What) (v : View) → Known m i v → Agrees (asked what v.world) (learned (locators v.mail) (at_home m i v).clock (asked what (at_home m i v).thread))
 asked_learned m i what v known = where_then m i v known
     (λ quiet none row a. seen (learned_is [] quiet) (asked_agrees what v.world t a))
     (λ send quiet has row a. seen (learned_is [] quiet) (asked_agrees what v.world t a))
@@ -61,10 +61,10 @@ asked_learned m i what v known = where_then m i v known
     clock : ℕ
     clock = (at_home m i v).clock
 
-    learned_is : (ps : List Posted) → words v.mail ≡ ps → learned (words v.mail) clock (asked what t) ≡ learned ps clock (asked what t)
+    learned_is : (ps : List Posted) → locators v.mail ≡ ps → learned (locators v.mail) clock (asked what t) ≡ learned ps clock (asked what t)
     learned_is ps is = ap (λ ps. learned ps clock (asked what t)) is
 
-    seen : {u : Thread} → learned (words v.mail) clock (asked what t) ≡ u → Agrees (asked what v.world) u → Agrees (asked what v.world) (learned (words v.mail) clock (asked what t))
+    seen : {u : Thread} → learned (locators v.mail) clock (asked what t) ≡ u → Agrees (asked what v.world) u → Agrees (asked what v.world) (learned (locators v.mail) clock (asked what t))
     seen is a = subst (Agrees (asked what v.world)) (sym is) a
 
     cancelled : (what : What) → (what ≡ Delete → ⊥) → IsOrdering m i (seats m i v) → Agrees v.world (obeyed t) → Agrees (asked what v.world) (obeyed (asked what t))
@@ -122,19 +122,19 @@ asked_thread CancelReceive j k = refl
 asked_thread CancelBoth j k = refl
 asked_thread Delete j k = refl
 
-pub asked_carries : (what : What) (j : ℕ) (k : Kept) → Carries k (asked_kept what j k)
-asked_carries CancelSend j k = record { deleted = λ gone. gone; begun = omega arith; causes = λ cause same old. asked_causes cause CancelSend k.clock k.thread k.thread.send old }
-asked_carries CancelReceive j k = record { deleted = λ gone. gone; begun = omega arith; causes = λ cause same old. asked_causes cause CancelReceive k.clock k.thread k.thread.send old }
-asked_carries CancelBoth j k = record { deleted = λ gone. gone; begun = omega arith; causes = λ cause same old. asked_causes cause CancelBoth k.clock k.thread k.thread.send old }
-asked_carries Delete j k = record { deleted = λ gone. refl; begun = omega arith; causes = λ cause same old. asked_causes cause Delete k.clock k.thread k.thread.send old }
+pub asked_stays_true : (what : What) (j : ℕ) (k : Kept) → StaysTrue k (asked_kept what j k)
+asked_stays_true CancelSend j k = record { deleted = λ gone. gone; begun = omega arith; causes = λ cause same old. asked_causes cause CancelSend k.clock k.thread k.thread.send old }
+asked_stays_true CancelReceive j k = record { deleted = λ gone. gone; begun = omega arith; causes = λ cause same old. asked_causes cause CancelReceive k.clock k.thread k.thread.send old }
+asked_stays_true CancelBoth j k = record { deleted = λ gone. gone; begun = omega arith; causes = λ cause same old. asked_causes cause CancelBoth k.clock k.thread k.thread.send old }
+asked_stays_true Delete j k = record { deleted = λ gone. refl; begun = omega arith; causes = λ cause same old. asked_causes cause Delete k.clock k.thread k.thread.send old }
 
 -- A thread of this processor is asked for something, and all stays related.
 
 -- Its view after it
 
-asked_stands : (m : Machine) (j : ℕ) (what : What) (v after : View) → after.world ≡ asked what v.world → after.mail ≡ v.mail → at_home m j after ≡ asked_kept what j (at_home m j v) → (at_home m j after).listed ≡ (at_home m j v).listed → (at_home m j after).clock ≡ (at_home m j v).clock →
-    ((c : ℕ) → (c ≡ home m j → ⊥) → after.kept c ≡ v.kept c) → Stands m j v → Stands m j after
-asked_stands m j what v after world mail here listed clock other h =
+asked_matches : (m : Machine) (j : ℕ) (what : What) (v after : View) → after.world ≡ asked what v.world → after.mail ≡ v.mail → at_home m j after ≡ asked_kept what j (at_home m j v) → (at_home m j after).listed ≡ (at_home m j v).listed → (at_home m j after).clock ≡ (at_home m j v).clock →
+    ((c : ℕ) → (c ≡ home m j → ⊥) → after.kept c ≡ v.kept c) → Matches m j v → Matches m j after
+asked_matches m j what v after world mail here listed clock other h =
     let k : Kept = at_home m j v in
     let t : Thread = k.thread in
     let thread_is : (at_home m j after).thread ≡ asked what t = ap (λ (k : Kept). k.thread) here ∙ asked_thread what j k in
@@ -148,16 +148,16 @@ asked_stands m j what v after world mail here listed clock other h =
     let moves : Moves m j v after = record {
       elsewhere = λ c ne. same_alike (v.kept c) (after.kept c) (other c ne);
       notices = ap notices mail;
-      carries = subst (Carries k) (sym here) (asked_carries what j k);
+      stays_true = subst (StaysTrue k) (sym here) (asked_stays_true what j k);
     } in
     record {
       known = record {
-        agrees = subst (λ u. Agrees u (learned (words after.mail) (at_home m j after).clock (at_home m j after).thread)) (sym world)
-            (subst (λ mail. Agrees (asked what v.world) (learned (words mail) (at_home m j after).clock (at_home m j after).thread)) (sym mail)
-            (subst (λ c. Agrees (asked what v.world) (learned (words v.mail) c (at_home m j after).thread)) (sym clock)
-            (subst (λ t. Agrees (asked what v.world) (learned (words v.mail) k.clock t)) (sym thread_is) (asked_learned m j what v h.known))));
-        row = subst (λ mail. Row m j (seats m j after) (words mail) (at_home m j after).thread.send) (sym mail)
-            (subst (λ (s : Seats). Row m j s (words v.mail) (s.sent (home m j))) (sym seats_same) h.known.row);
+        agrees = subst (λ u. Agrees u (learned (locators after.mail) (at_home m j after).clock (at_home m j after).thread)) (sym world)
+            (subst (λ mail. Agrees (asked what v.world) (learned (locators mail) (at_home m j after).clock (at_home m j after).thread)) (sym mail)
+            (subst (λ c. Agrees (asked what v.world) (learned (locators v.mail) c (at_home m j after).thread)) (sym clock)
+            (subst (λ t. Agrees (asked what v.world) (learned (locators v.mail) k.clock t)) (sym thread_is) (asked_learned m j what v h.known))));
+        row = subst (λ mail. Row m j (seats m j after) (locators mail) (at_home m j after).thread.send) (sym mail)
+            (subst (λ (s : Seats). Row m j s (locators v.mail) (s.sent (home m j))) (sym seats_same) h.known.row);
         kept = moves_kept m j v after h.known.kept moves (subst (IsKeptAtHome j) (sym here) (asked_at_home what j k h.known.kept.at_home));
       };
       ready = subst (λ (k : Kept). k.ready ≡ readied k.thread.phase j []) (sym here) (asked_ready what j k h.ready);
@@ -186,11 +186,11 @@ asks_other Delete l j i ne = comes_other (relists (plain.dropped j) l) j i (aske
 dropped_sized : (m : Machine) (j : ℕ) (l : Local) → IsSized m l → IsSized m (relists (plain.dropped j) l)
 dropped_sized m j l z = record { threads = z.threads; lists = z.lists; told = z.told; ready = all-filter (λ i. i < length m.threads) (λ i. not (j == i)) l.lists.ready z.ready; armed = z.armed; listed = z.listed }
 
-pub asks_sized : (m : Machine) (what : What) (j : ℕ) (but : List ℕ) (l : Local) → j < length m.threads → IsSized m l → IsSized m (asks what j l)
-asks_sized m CancelSend j but l lt z = (changes_spares m j (j ∷ but) l (asked CancelSend) (first_about j but)).sized z
-asks_sized m CancelReceive j but l lt z = (changes_spares m j (j ∷ but) l (asked CancelReceive) (first_about j but)).sized z
-asks_sized m CancelBoth j but l lt z = (changes_spares m j (j ∷ but) l (asked CancelBoth) (first_about j but)).sized z
-asks_sized m Delete j but l lt z = (comes_spares m j (j ∷ but) (relists (plain.dropped j) l) (asked Delete) lt (first_about j but)).sized (dropped_sized m j l z)
+pub asks_sized : (m : Machine) (what : What) (j : ℕ) (except : List ℕ) (l : Local) → j < length m.threads → IsSized m l → IsSized m (asks what j l)
+asks_sized m CancelSend j except l lt z = (changes_spares m j (j ∷ except) l (asked CancelSend) (first_about j except)).sized z
+asks_sized m CancelReceive j except l lt z = (changes_spares m j (j ∷ except) l (asked CancelReceive) (first_about j except)).sized z
+asks_sized m CancelBoth j except l lt z = (changes_spares m j (j ∷ except) l (asked CancelBoth) (first_about j except)).sized z
+asks_sized m Delete j except l lt z = (comes_spares m j (j ∷ except) (relists (plain.dropped j) l) (asked Delete) lt (first_about j except)).sized (dropped_sized m j l z)
 
 pub asks_clock : (what : What) (l : Local) (j : ℕ) → (asks what j l).clock ≡ l.clock
 asks_clock CancelSend l j = refl
@@ -207,22 +207,22 @@ asks_lists Delete l j = refl
 pub kept_lists : (a b : Local) (j : ℕ) → a.lists.waiting ≡ b.lists.waiting → (kept a j).listed ≡ (kept b j).listed
 kept_lists a b j e = ap (λ ess. λ r. filter (is_of j) (slice_index_or ess r [])) e
 
-pub asks_relates : (m : Machine) (cpu j : ℕ) (what : What) (but : List ℕ) (s : Scene) (w : World) (x : Work) → IsHere m cpu j → Stands m j (view m (amid cpu s x) w j) → RelatesBut m (Stands m) (j ∷ but) (amid cpu s x) w →
-    RelatesBut m (Stands m) but (amid cpu s (x ▷ does (asks what j))) (change w j (asked what))
-asks_relates m cpu j what but s w x here stands rel =
+pub asks_relates : (m : Machine) (cpu j : ℕ) (what : What) (except : List ℕ) (s : Scene) (w : World) (x : Work) → IsHere m cpu j → Matches m j (view m (amid cpu s x) w j) → RelatesExcept m (Matches m) (j ∷ except) (amid cpu s x) w →
+    RelatesExcept m (Matches m) except (amid cpu s (x ▷ does (asks what j))) (change w j (asked what))
+asks_relates m cpu j what except s w x here stands rel =
     let y : Work = x ▷ does (asks what j) in
     let u : World = change w j (asked what) in
     let v : View = view m (amid cpu s x) w j in
     let after : View = view m (amid cpu s y) u j in
-    let z = sized_here m cpu j (j ∷ but) s w x here rel in
+    let z = sized_here m cpu j (j ∷ except) s w x here rel in
     let size : j < length x.local.threads = omega (arith, z.threads, here.within) in
     let in_world : j < length w.threads = omega (arith, rel.sized_world.threads, here.within) in
     let was : at_home m j v ≡ kept x.local j = home_is m cpu j s x w here.home in
     let is : at_home m j after ≡ kept y.local j = home_is m cpu j s y u here.home in
-    takes_in m j but (amid cpu s y) u
-    (world_changes m j (j ∷ but) (amid cpu s y) w (asked what) (first_about j but)
-    (local_changes m cpu (j ∷ but) s w x (asks what j) (record { sized = asks_sized m what j but x.local here.within; clock = asks_clock what x.local j; kept = λ i out. asks_other what x.local j i (λ e. out.0 (sym e)) }) (asks_lists what x.local j) rel))
-    (asked_stands m j what v after (get-changed (asked what) w.threads j opening_thread in_world) refl (is ∙ asks_here what x.local j size ∙ sym (ap (asked_kept what j) was))
+    takes_in m j except (amid cpu s y) u
+    (world_changes m j (j ∷ except) (amid cpu s y) w (asked what) (first_about j except)
+    (local_changes m cpu (j ∷ except) s w x (asks what j) (record { sized = asks_sized m what j except x.local here.within; clock = asks_clock what x.local j; kept = λ i out. asks_other what x.local j i (λ e. out.0 (sym e)) }) (asks_lists what x.local j) rel))
+    (asked_matches m j what v after (get-changed (asked what) w.threads j opening_thread in_world) refl (is ∙ asks_here what x.local j size ∙ sym (ap (asked_kept what j) was))
     (ap (λ (k : Kept). k.listed) is ∙ kept_lists (asks what j x.local) x.local j (asks_lists what x.local j) ∙ sym (ap (λ (k : Kept). k.listed) was))
     (ap (λ (k : Kept). k.clock) is ∙ asks_clock what x.local j ∙ sym (ap (λ (k : Kept). k.clock) was))
     (λ c ne. put_other cpu c j x.local y.local s.locals (λ h. ne (sym h ∙ sym here.home))) stands)

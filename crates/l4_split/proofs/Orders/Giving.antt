@@ -21,19 +21,19 @@ use Rattle.l4_core_model.proofs.Fit.{Suits, get_other}
 use Rattle.l4_core_model.proofs.Good.{orders_good}
 use Rattle.l4_core_model.proofs.Remembers.{apart, same_or_apart}
 use Rattle.l4_split.proofs.Lists.{filter_last, filter_last_other}
-use Rattle.l4_split.proofs.Relation.Views.{Scene, Kept, View, kept, view, world_thread, home, amid, says_where, words, notices}
-use Rattle.l4_split.proofs.Relation.Rows.{seats, Agrees, IsOrdered, IsKeptAtHome, Stands}
-use Rattle.l4_split.proofs.Relation.Relates.{RelatesBut}
+use Rattle.l4_split.proofs.Relation.Views.{Scene, Kept, View, kept, view, world_thread, home, amid, is_locator, notices, locators}
+use Rattle.l4_split.proofs.Relation.Rows.{seats, Agrees, IsOrdered, IsKeptAtHome, Matches}
+use Rattle.l4_split.proofs.Relation.Relates.{RelatesExcept}
 use Rattle.l4_split.proofs.Frames.Places.{first_about, takes_in, put_same, world_changes, local_changes}
 use Rattle.l4_split.proofs.Frames.Mail.{letter_posted, mail_here}
 use Rattle.l4_split.proofs.Relation.Agreement.{same_agrees}
-use Rattle.l4_split.proofs.Frames.Moves.{at_home, Carries, same_alike, Moves, moves_kept, word_known, come_kept, of_none, ready_is_alive}
-use Rattle.l4_split.proofs.Frames.Going.{Goes, told, IsHere, home_is, comes, sized_here, put_other}
-use Rattle.l4_split.proofs.Turns.Instructions.{Runs, running_is, running_found}
+use Rattle.l4_split.proofs.Frames.Moves.{at_home, StaysTrue, same_alike, Moves, moves_kept, located_known, come_kept, of_none, ready_is_alive}
+use Rattle.l4_split.proofs.Frames.Going.{Goes, one_more_told, IsHere, home_is, comes, sized_here, put_other}
+use Rattle.l4_split.proofs.Turns.Instructions.{IsPicked, running_is, running_found}
 use Rattle.l4_split.proofs.Sends.Finding.{found_is}
 use Rattle.l4_split.proofs.Orders.Asked.{agrees_order, send_asked, asked_agrees}
 use Rattle.l4_split.proofs.Orders.Obeyed.{caller_unready, IsCalling, obeyed_here}
-use Rattle.l4_split.proofs.Orders.Asking.{asks_other, asked_kept, asked_thread, asked_at_home, asked_carries, asks_here, asks_sized, asks_clock, asks_lists, kept_lists}
+use Rattle.l4_split.proofs.Orders.Asking.{asks_other, asked_kept, asked_thread, asked_at_home, asked_stays_true, asks_here, asks_sized, asks_clock, asks_lists, kept_lists}
 use Rattle.l4_split.proofs.Orders.Obeying.{obeys_relates, obeys_steps}
 use Rattle.l4_split.proofs.Orders.Ordered.{obeys_local, obeys_mail}
 use Rattle.l4_core_model.proofs.Orders.{target_declared}
@@ -46,7 +46,7 @@ pub record HasCalled (m : Machine) (cpu i : ℕ) (order : Asked) (s : Scene) (w 
   pub goes : Goes m cpu s w (i ∷ []) y
   pub calls : IsCalling m i order (view m (amid cpu s y) goes.now i)
 
-calls_goes : (m : Machine) (cpu i : ℕ) (order : Asked) (s : Scene) (w : World) (x : Work) → (e : Goes m cpu s w (i ∷ []) x) → Runs m cpu i s x e.now → act_of m (held m x.local i) ≡ Orders order → HasCalled m cpu i order s w (given m i order x)
+calls_goes : (m : Machine) (cpu i : ℕ) (order : Asked) (s : Scene) (w : World) (x : Work) → (e : Goes m cpu s w (i ∷ []) x) → IsPicked m cpu i s x e.now → act_of m (held m x.local i) ≡ Orders order → HasCalled m cpu i order s w (given m i order x)
 calls_goes m cpu i order s w x e r act_is =
     let now = e.now in
     let f : Thread → Thread = orders order in
@@ -68,7 +68,7 @@ calls_goes m cpu i order s w x e r act_is =
     let moves : Moves m i v after = record {
       elsewhere = λ p ne. same_alike (v.kept p) (after.kept p) (c.elsewhere p ne);
       notices = refl;
-      carries = subst (λ a. Carries a (at_home m i after)) (sym was) (subst (Carries k) (sym c.here) (record {
+      stays_true = subst (λ a. StaysTrue a (at_home m i after)) (sym was) (subst (StaysTrue k) (sym c.here) (record {
         deleted = λ gone. ready_is_alive (thread x.local i).phase gone ready;
         begun = omega arith;
         causes = λ cause same old. of_none _ (thread x.local i).send running.send;
@@ -76,7 +76,7 @@ calls_goes m cpu i order s w x e r act_is =
     } in
     record {
       here = r.here;
-      goes = record { now = u; reaches = told m w now u x.steps (Order (declared m i).id order.target order.what) e.reaches possible; relates = c.relates };
+      goes = record { now = u; reaches = one_more_told m w now u x.steps (Order (declared m i).id order.target order.what) e.reaches possible; relates = c.relates };
       calls = record {
         kept = moves_kept m i v after r.known.kept moves (subst (IsKeptAtHome i) (sym c.here) (come_kept i f k good tt));
         out = ap (λ (k : Kept). k.ready) c.here ∙ r.out;
@@ -104,9 +104,9 @@ foreign_goes m cpu i j order s w y h at away =
     let p : Posted = posted cpu (home m j, record { stamp = y.local.stamp; content = OrderLetter (declared m i).id order.target order.what }) in
     let placed = h.here.machine.placed i h.here.within in
     let mail : after.mail ≡ v.mail ++ p ∷ [] = mail_here m cpu (home m j) i (OrderLetter (declared m i).id order.target order.what) s e.now y placed in
-    let word : words after.mail ≡ p ∷ [] = ap words mail ∙ filter_last (λ (q : Posted). says_where q.letter.content) v.mail p refl ∙ ap (λ ps. ps ++ p ∷ []) c.quiet in
-    let others : notices after.mail ≡ notices v.mail = ap notices mail ∙ filter_last_other (λ (q : Posted). not (says_where q.letter.content)) v.mail p refl in
-    let moves : Moves m i v after = record { elsewhere = λ q ne. same_alike (v.kept q) (after.kept q) refl; notices = others; carries = record { deleted = λ gone. gone; begun = omega arith; causes = λ cause same old. old } } in
+    let word : locators after.mail ≡ p ∷ [] = ap locators mail ∙ filter_last (λ (q : Posted). is_locator q.letter.content) v.mail p refl ∙ ap (λ ps. ps ++ p ∷ []) c.quiet in
+    let others : notices after.mail ≡ notices v.mail = ap notices mail ∙ filter_last_other (λ (q : Posted). not (is_locator q.letter.content)) v.mail p refl in
+    let moves : Moves m i v after = record { elsewhere = λ q ne. same_alike (v.kept q) (after.kept q) refl; notices = others; stays_true = record { deleted = λ gone. gone; begun = omega arith; causes = λ cause same old. old } } in
     let keeps = moves_kept m i v after c.kept moves c.kept.at_home in
     let suits : Suits (at_home m i v).thread.phase (at_home m i v).thread.send (Some order) = subst (Suits (at_home m i v).thread.phase (at_home m i v).thread.send) c.has c.kept.at_home.good.suits in
     let row : IsOrdered m i (seats m i after) p = record {
@@ -119,14 +119,14 @@ foreign_goes m cpu i j order s w y h at away =
       now = e.now;
       reaches = e.reaches;
       relates = takes_in m i [] (amid cpu s a) e.now (letter_posted m cpu (home m j) i (OrderLetter (declared m i).id order.target order.what) (i ∷ []) s e.now y placed (first_about i []) e.relates)
-          (record { known = word_known m i after p keeps word row c.agrees; ready = c.out ∙ sym (caller_unready i (at_home m i v).thread.phase (at_home m i v).thread.send order suits) });
+          (record { known = located_known m i after p keeps word row c.agrees; ready = c.out ∙ sym (caller_unready i (at_home m i v).thread.phase (at_home m i v).thread.send order suits) });
     }
 
 -- To a thread of this processor
 
 -- What the caller is after its target has obeyed, and that all else is related
 pub record HasObeyed (m : Machine) (cpu i j : ℕ) (order : Asked) (s : Scene) (w : World) (y : Work) : Type 0 where
-  pub relates : RelatesBut m (Stands m) (i ∷ []) (amid cpu s (obeys m cpu (declared m i).id order.what j y)) (change w j (asked order.what))
+  pub relates : RelatesExcept m (Matches m) (i ∷ []) (amid cpu s (obeys m cpu (declared m i).id order.what j y)) (change w j (asked order.what))
   pub calls : IsCalling m i order (view m (amid cpu s (obeys m cpu (declared m i).id order.what j y)) (change w j (asked order.what)) i)
 
 own_goes : (m : Machine) (cpu i j : ℕ) (order : Asked) (s : Scene) (w : World) (y : Work) → (h : HasCalled m cpu i order s w y) → place_of m order.target ≡ Some j → HasObeyed m cpu i j order s h.goes.now y → Goes m cpu s w [] (y ▷ obeys m cpu (declared m i).id order.what j ▷ does (comes_to i obeyed))
@@ -141,7 +141,7 @@ own_goes m cpu i j order s w y h at o =
     let steps = obeys_steps m cpu j (declared m i).id order.what y in
     record {
       now = u;
-      reaches = ap (run m w) steps ∙ told m w now u y.steps (Obey (declared m i).id) h.goes.reaches possible;
+      reaches = ap (run m w) steps ∙ one_more_told m w now u y.steps (Obey (declared m i).id) h.goes.reaches possible;
       relates = obeyed_here m cpu i order s (change now j (asked order.what)) z h.here o.calls o.relates;
     }
 
@@ -200,7 +200,7 @@ self_obeyed m cpu i order s w y h =
     let moves : Moves m i v after = record {
       elsewhere = λ p ne. same_alike (v.kept p) (after.kept p) (other p ne);
       notices = refl;
-      carries = subst (Carries (at_home m i v)) (sym is) (asked_carries what i (at_home m i v));
+      stays_true = subst (StaysTrue (at_home m i v)) (sym is) (asked_stays_true what i (at_home m i v));
     } in
     let none : (thread z.local i).send ≡ None = sym (ap (λ (k : Kept). k.thread.send) (home_is m cpu i s z u h.here.home)) ∙ ap (λ (t : Thread). t.send) thread_is ∙ send_asked what (at_home m i v).thread ∙ c.send in
     let calls : IsCalling m i order after = record {
@@ -219,12 +219,12 @@ self_obeyed m cpu i order s w y h =
     } in
     let work : (y ▷ tells (Obey (declared m i).id) ▷ does (asks what i)) ≡ obeys m cpu (declared m i).id what i y = sym (self_work m cpu i what y none) in
     record {
-      relates = subst (λ a. RelatesBut m (Stands m) (i ∷ []) (amid cpu s a) u) work relates;
+      relates = subst (λ a. RelatesExcept m (Matches m) (i ∷ []) (amid cpu s a) u) work relates;
       calls = subst (λ a. IsCalling m i order (view m (amid cpu s a) u i)) work calls;
     }
 
 -- An order, wherever its target is
-pub gives_goes : (m : Machine) (cpu i : ℕ) (s : Scene) (w : World) (x : Work) → (e : Goes m cpu s w (i ∷ []) x) → Runs m cpu i s x e.now → (order : Asked) → act_of m (held m x.local i) ≡ Orders order → Goes m cpu s w [] (gives_order m cpu i order x)
+pub gives_goes : (m : Machine) (cpu i : ℕ) (s : Scene) (w : World) (x : Work) → (e : Goes m cpu s w (i ∷ []) x) → IsPicked m cpu i s x e.now → (order : Asked) → act_of m (held m x.local i) ≡ Orders order → Goes m cpu s w [] (gives_order m cpu i order x)
 gives_goes m cpu i s w x e r order act_is = by (place_of m order.target) refl
   where
     y : Work

@@ -14,12 +14,12 @@ use Rattle.l4_core_model.specs.Runs.{Posted}
 use Rattle.l4_core_model.proofs.Beginning.{place_within}
 use Rattle.l4_core_model.proofs.Fit.{IsGood, Suits}
 use Rattle.l4_core_model.proofs.Good.{obeyed_good}
-use Rattle.l4_split.proofs.Relation.Views.{Scene, Kept, View, kept, view, home, amid, subject, says_where, words}
-use Rattle.l4_split.proofs.Relation.Rows.{seats, Agrees, learns, RowOf, IsObeyed, Stands, IsUnplaced, IsKept}
-use Rattle.l4_split.proofs.Relation.Relates.{RelatesBut}
+use Rattle.l4_split.proofs.Relation.Views.{Scene, Kept, View, kept, view, home, amid, subject, is_locator, locators}
+use Rattle.l4_split.proofs.Relation.Rows.{seats, Agrees, learns, RowOf, IsObeyed, Matches, IsUnplaced, IsKept}
+use Rattle.l4_split.proofs.Relation.Relates.{RelatesExcept}
 use Rattle.l4_split.proofs.Frames.Places.{takes_in}
 use Rattle.l4_split.proofs.Frames.Moves.{at_home, IsFresh, of_none}
-use Rattle.l4_split.proofs.Frames.Going.{Goes, IsHere, IsQuiet, home_is, comes, quiet_stands}
+use Rattle.l4_split.proofs.Frames.Going.{Goes, IsHere, IsQuiet, home_is, comes, quiet_matches}
 use Rattle.l4_split.proofs.Sends.Coming.{IsTakenOut, taken_kept, taken_row, taken_agrees, unchanged}
 use Rattle.l4_split.proofs.Letters.Receiving.{without, IsLetter, at_work, own_place_is, taken_out, taken_relates}
 use Rattle.l4_split.proofs.Orders.Ordered.{obeyed_agrees}
@@ -58,7 +58,7 @@ caller_unready i Ended send order s = refl
 caller_unready i Deleted send order s = refl
 
 obeyed_relates : (m : Machine) (cpu i : ℕ) (s : Scene) (w : World) (x : Work) (before : View) (p : Posted) (caller : GlobalId) → IsHere m cpu i → p.letter.content ≡ OrderDoneLetter caller → IsTakenOut m i before (view m (amid cpu s x) w i) p →
-    RelatesBut m (Stands m) (i ∷ []) (amid cpu s x) w → RelatesBut m (Stands m) [] (amid cpu s (x ▷ does (comes_to i obeyed))) w
+    RelatesExcept m (Matches m) (i ∷ []) (amid cpu s x) w → RelatesExcept m (Matches m) [] (amid cpu s (x ▷ does (comes_to i obeyed))) w
 obeyed_relates m cpu i s w x before p caller here content t rel =
     let v : View = view m (amid cpu s x) w i in
     let row : IsObeyed m i (seats m i before) p = subst (RowOf m i (seats m i before) p) content (taken_row m i before v p t) in
@@ -80,14 +80,14 @@ obeyed_relates m cpu i s w x before p caller here content t rel =
       agrees = subst (λ u. Agrees u (obeyed (thread x.local i))) (sym t.world) agrees;
       good = obeyed_good x.local.clock (thread x.local i) row.orders.order has good;
       fresh = obeyed_fresh x.local.clock (thread x.local i);
-      carries = record {
+      stays_true = record {
         deleted = λ gone. obeyed_deleted (thread x.local i) gone;
         begun = let same = obeyed_begun (thread x.local i) in omega arith;
         causes = λ cause same old. of_none _ (obeyed (thread x.local i)).send (obeyed_send (thread x.local i) ∙ none);
       };
     } in
-    subst (RelatesBut m (Stands m) [] (amid cpu s (x ▷ does (comes_to i obeyed)))) (ap (λ ts. record w { threads = ts }) (unchanged w.threads i))
-    (takes_in m i [] (amid cpu s (x ▷ does (comes_to i obeyed))) (change w i (λ t. t)) c.relates (quiet_stands m cpu i [] s w x obeyed (λ t. t) here c q))
+    subst (RelatesExcept m (Matches m) [] (amid cpu s (x ▷ does (comes_to i obeyed)))) (ap (λ ts. record w { threads = ts }) (unchanged w.threads i))
+    (takes_in m i [] (amid cpu s (x ▷ does (comes_to i obeyed))) (change w i (λ t. t)) c.relates (quiet_matches m cpu i [] s w x obeyed (λ t. t) here c q))
 
 pub handles_order_done : (m : Machine) (from cpu : ℕ) (letter : Letter) (s : Scene) (w : World) (x : Work) (caller : GlobalId) → IsLetter m from cpu letter s w → letter.content ≡ OrderDoneLetter caller →
     handled m cpu (OrderDoneLetter caller) (at_work cpu letter s) ≡ Some x → Goes m cpu (without from cpu s) w [] x
@@ -99,7 +99,7 @@ handles_order_done m from cpu letter s w x caller h content is =
     let lt = place_within m caller i at.0 in
     let about : place_of m (subject letter.content) ≡ Some i = ap (λ c. place_of m (subject c)) content ∙ at.0 in
     let rel = taken_relates m from cpu i letter s w h about in
-    let t = taken_out m from cpu i letter s w h lt about (ap says_where content) in
+    let t = taken_out m from cpu i letter s w h lt about (ap is_locator content) in
     subst (Goes m cpu (without from cpu s) w []) (some_is _ x rest) (record {
       now = w;
       reaches = refl;
@@ -114,13 +114,13 @@ pub record IsCalling (m : Machine) (i : ℕ) (order : Asked) (v : View) : Type 0
   pub out : (at_home m i v).ready ≡ []
   pub send : (at_home m i v).thread.send ≡ None
   pub has : (at_home m i v).thread.order ≡ Some order
-  pub quiet : words v.mail ≡ []
+  pub quiet : locators v.mail ≡ []
   pub unplaced : IsUnplaced m i (seats m i v)
   pub agrees : Agrees v.world (at_home m i v).thread
 
 -- Its order is done: it goes on.
-pub obeyed_here : (m : Machine) (cpu i : ℕ) (order : Asked) (s : Scene) (w : World) (x : Work) → IsHere m cpu i → IsCalling m i order (view m (amid cpu s x) w i) → RelatesBut m (Stands m) (i ∷ []) (amid cpu s x) w →
-    RelatesBut m (Stands m) [] (amid cpu s (x ▷ does (comes_to i obeyed))) (change w i obeyed)
+pub obeyed_here : (m : Machine) (cpu i : ℕ) (order : Asked) (s : Scene) (w : World) (x : Work) → IsHere m cpu i → IsCalling m i order (view m (amid cpu s x) w i) → RelatesExcept m (Matches m) (i ∷ []) (amid cpu s x) w →
+    RelatesExcept m (Matches m) [] (amid cpu s (x ▷ does (comes_to i obeyed))) (change w i obeyed)
 obeyed_here m cpu i order s w x here c rel =
     let v : View = view m (amid cpu s x) w i in
     let t : Thread = thread x.local i in
@@ -140,10 +140,10 @@ obeyed_here m cpu i order s w x here c rel =
       agrees = obeyed_agrees v.world t order has suits (subst (λ (k : Kept). Agrees v.world k.thread) was c.agrees);
       good = obeyed_good x.local.clock t order has good;
       fresh = obeyed_fresh x.local.clock t;
-      carries = record {
+      stays_true = record {
         deleted = λ gone. obeyed_deleted t gone;
         begun = let same = obeyed_begun t in omega arith;
         causes = λ cause same old. of_none _ (obeyed t).send (obeyed_send t ∙ none);
       };
     } in
-    takes_in m i [] (amid cpu s (x ▷ does (comes_to i obeyed))) (change w i obeyed) k.relates (quiet_stands m cpu i [] s w x obeyed obeyed here k q)
+    takes_in m i [] (amid cpu s (x ▷ does (comes_to i obeyed))) (change w i obeyed) k.relates (quiet_matches m cpu i [] s w x obeyed obeyed here k q)

@@ -14,8 +14,8 @@ use Rattle.l4_core_model.specs.Local.{thread}
 use Rattle.l4_core_model.specs.Acts.{Work, ◌▷◌, tells, does, asks, withdraws_for, obeys}
 use Rattle.l4_core_model.proofs.Fit.{NotIn, IsGood, Suits}
 use Rattle.l4_split.proofs.Relation.Views.{Scene, Kept, View, kept, view, amid}
-use Rattle.l4_split.proofs.Relation.Rows.{IsCause, Stands}
-use Rattle.l4_split.proofs.Relation.Relates.{RelatesBut}
+use Rattle.l4_split.proofs.Relation.Rows.{IsCause, Matches}
+use Rattle.l4_split.proofs.Relation.Relates.{RelatesExcept}
 use Rattle.l4_split.proofs.Frames.Places.{leaves_out}
 use Rattle.l4_split.proofs.Frames.Moves.{at_home}
 use Rattle.l4_split.proofs.Frames.Going.{IsHere, home_is, sized_here}
@@ -35,29 +35,29 @@ wished Sending t (Some send) is has alive suits CancelReceive cause why clock = 
 wished Sending t (Some send) is has alive suits CancelBoth cause why clock = subst (λ c. IsCause c clock (asked CancelBoth t) send) (some_is ByCancel cause why) (rw is (or_right t.cancel_send true refl))
 wished Sending t (Some send) is has alive suits Delete cause why clock = subst (λ c. IsCause c clock (asked Delete t) send) (some_is ByDeletion cause why) refl
 
-withdraws_for_relates : (m : Machine) (cpu j : ℕ) (what : What) (o : Option Cause) (but : List ℕ) (s : Scene) (w : World) (y : Work) → cause_of what ≡ o → IsHere m cpu j → RelatesBut m (Stands m) but (amid cpu s y) w → NotIn j but →
-    ((cause : Cause) → cause_of what ≡ Some cause → IfSome (thread y.local j).send (IsCause cause y.local.clock (thread y.local j))) → RelatesBut m (Stands m) but (amid cpu s (withdraws_for m cpu j o y)) w
-withdraws_for_relates m cpu j what None but s w y is here rel out just = rel
-withdraws_for_relates m cpu j what (Some cause) but s w y is here rel out just = withdraws_relates m cpu j cause but s w y here rel out (just cause is)
+withdraws_for_relates : (m : Machine) (cpu j : ℕ) (what : What) (o : Option Cause) (except : List ℕ) (s : Scene) (w : World) (y : Work) → cause_of what ≡ o → IsHere m cpu j → RelatesExcept m (Matches m) except (amid cpu s y) w → NotIn j except →
+    ((cause : Cause) → cause_of what ≡ Some cause → IfSome (thread y.local j).send (IsCause cause y.local.clock (thread y.local j))) → RelatesExcept m (Matches m) except (amid cpu s (withdraws_for m cpu j o y)) w
+withdraws_for_relates m cpu j what None except s w y is here rel out just = rel
+withdraws_for_relates m cpu j what (Some cause) except s w y is here rel out just = withdraws_relates m cpu j cause except s w y here rel out (just cause is)
 
 -- The target of an order obeys.
-pub obeys_relates : (m : Machine) (cpu j : ℕ) (caller : GlobalId) (what : What) (but : List ℕ) (s : Scene) (w : World) (x : Work) → IsHere m cpu j → NotIn j but → RelatesBut m (Stands m) but (amid cpu s x) w →
-    RelatesBut m (Stands m) but (amid cpu s (obeys m cpu caller what j x)) (change w j (asked what))
-obeys_relates m cpu j caller what but s w x here out rel =
+pub obeys_relates : (m : Machine) (cpu j : ℕ) (caller : GlobalId) (what : What) (except : List ℕ) (s : Scene) (w : World) (x : Work) → IsHere m cpu j → NotIn j except → RelatesExcept m (Matches m) except (amid cpu s x) w →
+    RelatesExcept m (Matches m) except (amid cpu s (obeys m cpu caller what j x)) (change w j (asked what))
+obeys_relates m cpu j caller what except s w x here out rel =
     let z : Work = x ▷ tells (Obey caller) in
     let y : Work = z ▷ does (asks what j) in
     let u : World = change w j (asked what) in
     let stands = rel.places j here.within out in
     let v : View = view m (amid cpu s x) w j in
-    let asked_now : RelatesBut m (Stands m) but (amid cpu s y) u = asks_relates m cpu j what but s w z here stands (leaves_out m j but (amid cpu s x) w rel) in
-    let sized = sized_here m cpu j but s w x here rel in
+    let asked_now : RelatesExcept m (Matches m) except (amid cpu s y) u = asks_relates m cpu j what except s w z here stands (leaves_out m j except (amid cpu s x) w rel) in
+    let sized = sized_here m cpu j except s w x here rel in
     let size : j < length x.local.threads = omega (arith, sized.threads, here.within) in
     let was : at_home m j v ≡ kept x.local j = home_is m cpu j s x w here.home in
     let good = subst (λ (k : Kept). IsGood k.clock k.thread) was stands.known.kept.at_home.good in
     let now : (thread y.local j) ≡ asked what (thread x.local j) = ap (λ (k : Kept). k.thread) (asks_here what x.local j size) ∙ asked_thread what j (kept x.local j) in
-    cond_keeps (λ a. RelatesBut m (Stands m) but (amid cpu s a) u) (is_deleted (thread x.local j).phase) y (withdraws_for m cpu j (cause_of what) y)
+    cond_keeps (λ a. RelatesExcept m (Matches m) except (amid cpu s a) u) (is_deleted (thread x.local j).phase) y (withdraws_for m cpu j (cause_of what) y)
     (λ gone. asked_now)
-    (λ alive. withdraws_for_relates m cpu j what (cause_of what) but s u y refl here asked_now out (λ cause why.
+    (λ alive. withdraws_for_relates m cpu j what (cause_of what) except s u y refl here asked_now out (λ cause why.
     subst (λ (t : Thread). IfSome t.send (IsCause cause y.local.clock t)) (sym now)
     (subst (λ o. IfSome o (IsCause cause y.local.clock (asked what (thread x.local j)))) (sym (send_asked what (thread x.local j)))
     (wished (thread x.local j).phase (thread x.local j) (thread x.local j).send refl refl alive good.suits what cause why y.local.clock))))

@@ -17,15 +17,15 @@ use Rattle.l4_core_model.proofs.Knows.{get-changed}
 use Rattle.l4_core_model.proofs.Beginning.{place_within}
 use Rattle.l4_core_model.proofs.Fit.{Suits, get_other}
 use Rattle.l4_split.proofs.Lists.{other_is, filter_last, filter_last_other}
-use Rattle.l4_split.proofs.Relation.Views.{Scene, Kept, View, kept, view, world_thread, home, amid, subject, says_where, words, notices, is_about}
-use Rattle.l4_split.proofs.Relation.Rows.{seats, AgreesIn, Agrees, learns, RowOf, IsOrdering, IsOrdered, IsObeyed, IsKeptAtHome, Stands, seats_of}
-use Rattle.l4_split.proofs.Relation.Relates.{RelatesBut}
+use Rattle.l4_split.proofs.Relation.Views.{Scene, Kept, View, kept, view, world_thread, home, amid, subject, is_locator, notices, is_about, locators}
+use Rattle.l4_split.proofs.Relation.Rows.{seats, AgreesIn, Agrees, learns, RowOf, IsOrdering, IsOrdered, IsObeyed, IsKeptAtHome, Matches, seats_of}
+use Rattle.l4_split.proofs.Relation.Relates.{RelatesExcept}
 use Rattle.l4_split.proofs.Frames.Places.{first_about, takes_in, put_same, world_changes}
 use Rattle.l4_split.proofs.Frames.Mail.{about_place, mail_posted, letter_posted, mail_here}
 use Rattle.l4_split.proofs.Relation.Agreement.{same_agrees}
-use Rattle.l4_split.proofs.Frames.Moves.{at_home, Carries, same_alike, Moves, moves_kept, word_known}
-use Rattle.l4_split.proofs.Frames.Going.{Goes, told, IsHere}
-use Rattle.l4_split.proofs.Sends.Answering.{same_carries}
+use Rattle.l4_split.proofs.Frames.Moves.{at_home, StaysTrue, same_alike, Moves, moves_kept, located_known}
+use Rattle.l4_split.proofs.Frames.Going.{Goes, one_more_told, IsHere}
+use Rattle.l4_split.proofs.Sends.Answering.{same_stays_true}
 use Rattle.l4_split.proofs.Sends.Finding.{found_at_is}
 use Rattle.l4_split.proofs.Sends.Coming.{IsTakenOut, taken_row, taken_agrees}
 use Rattle.l4_split.proofs.Letters.Receiving.{without, IsLetter, at_work, own_place_is, foreign_place_is, taken_out, taken_relates}
@@ -85,7 +85,7 @@ order_letter : (caller target : GlobalId) (what : What) (id : GlobalId) (order :
 order_letter caller target what id order h = (cc, cc)
 
 pub order_goes : (m : Machine) (cpu i j : ℕ) (s : Scene) (w : World) (x : Work) (before : View) (p : Posted) (caller target : GlobalId) (what : What) → IsHere m cpu j → i < length m.threads → (home m i ≡ cpu → ⊥) → place_of m caller ≡ Some i → place_of m target ≡ Some j → p.to ≡ cpu → p.letter.content ≡ OrderLetter caller target what →
-    IsTakenOut m i before (view m (amid cpu s x) w i) p → RelatesBut m (Stands m) (i ∷ []) (amid cpu s x) w → x.steps ≡ [] → Goes m cpu s w [] (x ▷ obeys m cpu caller what j ▷ posts (home m i) (OrderDoneLetter caller))
+    IsTakenOut m i before (view m (amid cpu s x) w i) p → RelatesExcept m (Matches m) (i ∷ []) (amid cpu s x) w → x.steps ≡ [] → Goes m cpu s w [] (x ▷ obeys m cpu caller what j ▷ posts (home m i) (OrderDoneLetter caller))
 order_goes m cpu i j s w x before p caller target what here lt away at_i at_j to content t rel nothing =
     let v : View = view m (amid cpu s x) w i in
     let row : IsOrdered m i (seats m i before) p = subst (RowOf m i (seats m i before) p) content (taken_row m i before v p t) in
@@ -104,8 +104,8 @@ order_goes m cpu i j s w x before p caller target what here lt away at_i at_j to
     let same_local : kept y.local i ≡ kept x.local i = ap (λ l. kept l i) (obeys_local m cpu j caller what x) ∙ asks_other what x.local j i ne in
     let same_kept : after.kept ≡ before.kept = λ d c. (put_same (λ l. kept l i) cpu c x.local y.local s.locals same_local ∙ ap (λ (f : ℕ → Kept). f c) t.kept) d in
     let mail : after.mail ≡ v.mail ++ q ∷ [] = mail_here m cpu (home m i) i (OrderDoneLetter caller) s u2 y at_i ∙ ap (λ ps. ps ++ q ∷ []) (obeys_mail m cpu j i caller what s x (here.machine.placed j here.within) ne) in
-    let word : words after.mail ≡ q ∷ [] = ap words mail ∙ filter_last (λ (a : Posted). says_where a.letter.content) v.mail q refl ∙ ap (λ ps. ps ++ q ∷ []) t.quiet in
-    let others : notices after.mail ≡ notices before.mail = ap notices mail ∙ filter_last_other (λ (a : Posted). not (says_where a.letter.content)) v.mail q refl ∙ t.notices in
+    let word : locators after.mail ≡ q ∷ [] = ap locators mail ∙ filter_last (λ (a : Posted). is_locator a.letter.content) v.mail q refl ∙ ap (λ ps. ps ++ q ∷ []) t.quiet in
+    let others : notices after.mail ≡ notices before.mail = ap notices mail ∙ filter_last_other (λ (a : Posted). not (is_locator a.letter.content)) v.mail q refl ∙ t.notices in
     let home_same : at_home m i after ≡ at_home m i before = ap (λ (f : ℕ → Kept). f (home m i)) same_kept in
     let in_world : i < length u1.threads = let size = rel1.sized_world.threads in omega arith in
     let world : after.world ≡ obeyed before.world = get-changed obeyed u1.threads i opening_thread in_world ∙ ap obeyed (get_other (asked what) w.threads j i ne ∙ t.world) in
@@ -113,7 +113,7 @@ order_goes m cpu i j s w x before p caller target what here lt away at_i at_j to
     let moves : Moves m i before after = record {
       elsewhere = λ c away. same_alike (before.kept c) (after.kept c) (ap (λ (f : ℕ → Kept). f c) same_kept);
       notices = others;
-      carries = subst (Carries (at_home m i before)) (sym home_same) (same_carries (at_home m i before));
+      stays_true = subst (StaysTrue (at_home m i before)) (sym home_same) (same_stays_true (at_home m i before));
     } in
     let orders : IsOrdering m i (seats m i after) = subst (λ (f : ℕ → Kept). IsOrdering m i (seats_of m i f)) (sym same_kept) o in
     let which : o.target ≡ j = some_is o.target j (sym o.place ∙ ap (place_of m) (sym says.0) ∙ at_j) in
@@ -129,9 +129,9 @@ order_goes m cpu i j s w x before p caller target what here lt away at_i at_j to
     let steps : z.steps ≡ Obey caller ∷ [] = obeys_steps m cpu j caller what x ∙ ap (λ ss. ss ++ Obey caller ∷ []) nothing in
     record {
       now = u2;
-      reaches = ap (run m w) steps ∙ told m w w u2 [] (Obey caller) refl (possible ∙ ap (λ k. Some (change (change w j (asked k)) i obeyed)) (sym says.1));
+      reaches = ap (run m w) steps ∙ one_more_told m w w u2 [] (Obey caller) refl (possible ∙ ap (λ k. Some (change (change w j (asked k)) i obeyed)) (sym says.1));
       relates = takes_in m i [] (amid cpu s z) u2 rel3 (record {
-        known = word_known m i after q (moves_kept m i before after t.stands.known.kept moves (subst (IsKeptAtHome i) (sym home_same) t.stands.known.kept.at_home)) word obeys_row
+        known = located_known m i after q (moves_kept m i before after t.stands.known.kept moves (subst (IsKeptAtHome i) (sym home_same) t.stands.known.kept.at_home)) word obeys_row
             (subst (λ (k : Kept). Agrees after.world (obeyed k.thread)) (sym home_same) (subst (λ u. Agrees u (obeyed (at_home m i before).thread)) (sym world) (obeyed_agrees before.world (at_home m i before).thread o.order o.has suits agrees)));
         ready = subst (λ (k : Kept). k.ready ≡ readied k.thread.phase i []) (sym home_same) t.stands.ready;
       });
@@ -148,6 +148,6 @@ handles_order m from cpu letter s w x caller target what h content is =
     let lt = place_within m caller i at_i.0 in
     let about : place_of m (subject letter.content) ≡ Some i = ap (λ c. place_of m (subject c)) content ∙ at_i.0 in
     let rel = taken_relates m from cpu i letter s w h about in
-    let t = taken_out m from cpu i letter s w h lt about (ap says_where content) in
+    let t = taken_out m from cpu i letter s w h lt about (ap is_locator content) in
     subst (Goes m cpu (without from cpu s) w []) (some_is _ x rest)
     (order_goes m cpu i j (without from cpu s) w y (view m s w i) (record { from = from; to = cpu; letter = letter }) caller target what (record { machine = h.machine; within = place_within m target j at_j.0; home = at_j.1 }) lt at_i.1 at_i.0 at_j.0 refl content t rel refl)

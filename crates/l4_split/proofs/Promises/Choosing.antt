@@ -8,8 +8,8 @@ use Rattle.l4_model.specs.Machine.{Machine, place_of}
 use Rattle.l4_model.specs.World.{World, Send, Name, is_ready}
 use Rattle.l4_core_model.specs.Plain as plain
 use Rattle.l4_core_model.proofs.Remembers.{same_or_apart}
-use Rattle.l4_split.proofs.Relation.Views.{Scene, View, view, home, is_of, Kept, kept, subject, says_where, is_about}
-use Rattle.l4_split.proofs.Relation.Rows.{seats, IsSplit, Stands, IsWaiting, IsNotice, IsNoticeOf}
+use Rattle.l4_split.proofs.Relation.Views.{Scene, View, view, home, is_of, Kept, kept, subject, is_locator, is_about}
+use Rattle.l4_split.proofs.Relation.Rows.{seats, IsSplit, Matches, IsWaiting, IsNotice, IsNoticeOf}
 use Rattle.l4_split.proofs.Promises.Promised.{IsSplitSend, IsNotWithdrawalOf, Promised}
 use Rattle.l4_split.proofs.Promises.Turns.{IsListedHere, opened_keeps, due_keeps, duty_keeps}
 use Rattle.std.specs.Prelude.{not}
@@ -24,17 +24,17 @@ use Rattle.l4_core_model.specs.Turns.{Choice, ByDuty, ByDue, ByReady, does_choic
 use Rattle.l4_core_model.specs.Runs.{Posted, IsMachine}
 use Rattle.l4_core_model.proofs.Knows.{same_nat}
 use Rattle.l4_split.proofs.Turns.Choices.{IsChoice, turn_then}
-use Rattle.l4_split.proofs.Relation.Relates.{RelatesBut}
+use Rattle.l4_split.proofs.Relation.Relates.{RelatesExcept}
 use Rattle.l4_split.proofs.Frames.Locals.{comes_here}
 use Rattle.l4_split.proofs.Frames.Moves.{at_home}
 use Rattle.l4_split.proofs.Frames.Going.{IsHere, opened_goes}
 use Rattle.l4_split.proofs.Turns.Timing.{due_goes}
 use Rattle.l4_split.proofs.Turns.Choosing.{ready_goes}
 use Rattle.l4_split.proofs.Promises.Locals.{size_now, relists_keeps}
-use Rattle.l4_split.proofs.Promises.Acts.{Amid, begins_keeps, runs_keeps, waits_keeps}
+use Rattle.l4_split.proofs.Promises.Acts.{StaysPromised, begins_keeps, runs_keeps, waits_keeps}
 use Rattle.l4_split.proofs.Promises.Giving.{gives_keeps}
 
-pub listed_here : (m : Machine) (i : ℕ) (s : Scene) (w : World) → Stands m i (view m s w i) → IsListedHere m i (s.locals (home m i))
+pub listed_here : (m : Machine) (i : ℕ) (s : Scene) (w : World) → Matches m i (view m s w i) → IsListedHere m i (s.locals (home m i))
 listed_here m i s w stands send has whole = where_then m i v stands.known
     (λ quiet none row a. not_both _ send has none)
     (λ other quiet is row a. waits other (some_is other send (sym is ∙ has)) row)
@@ -69,11 +69,11 @@ all_of_filtered P Q p out kept (x ∷ xs) h = by (p x) refl h (all_of_filtered P
     by true is h rest = (kept x h.0, rest h.1)
     by false is h rest = (out x is, rest h)
 
-none_of_next : (m : Machine) (i : ℕ) (s : Scene) (w : World) (name : Name) → place_of m name.thread ≡ Some i → (at_home m i (view m s w i)).thread.context.begun < name.k → Stands m i (view m s w i) →
+none_of_next : (m : Machine) (i : ℕ) (s : Scene) (w : World) (name : Name) → place_of m name.thread ≡ Some i → (at_home m i (view m s w i)).thread.context.begun < name.k → Matches m i (view m s w i) →
     AllByRecursion (λ (q : Posted). IsNotWithdrawalOf name q.letter.content) s.mail
 none_of_next m i s w name place above stands =
     all_of_filtered Not Not (is_about m i) (λ q out. not_about q q.letter.content out) (λ q h. h) s.mail
-    (all_of_filtered (IsNotice m i k) Not (λ (q : Posted). not (says_where q.letter.content)) (λ q out. not_late q.letter.content out) (λ q h. by q q.letter.content h) (filter (is_about m i) s.mail) stands.known.kept.notices)
+    (all_of_filtered (IsNotice m i k) Not (λ (q : Posted). not (is_locator q.letter.content)) (λ q out. not_late q.letter.content out) (λ q h. by q q.letter.content h) (filter (is_about m i) s.mail) stands.known.kept.notices)
   where
     k : Kept
     k = at_home m i (view m s w i)
@@ -91,7 +91,7 @@ none_of_next m i s w name place above stands =
     not_about q (OrderLetter caller target what) out = tt
     not_about q (OrderDoneLetter caller) out = tt
 
-    not_late : (c : Content) → not (says_where c) ≡ false → IsNotWithdrawalOf name c
+    not_late : (c : Content) → not (is_locator c) ≡ false → IsNotWithdrawalOf name c
     not_late (WithdrawLetter t receiver cause) out = cc
     not_late (SendLetter t receiver message zero_timeout) out = tt
     not_late (DoneLetter t result) out = tt
@@ -108,14 +108,14 @@ none_of_next m i s w name place above stands =
     by q (OrderDoneLetter caller) h = tt
 
 -- The first ready thread goes on.
-acts_keeps : (m : Machine) (cpu i : ℕ) (s : Scene) (w : World) (l : Local) → l ≡ s.locals cpu → cpu < m.cpus → IsHere m cpu i → is_ready (thread l i).phase ≡ true → Stands m i (view m s w i) →
-    Amid m cpu s (opened 0 l ▷ does (relists plain.popped)) → Amid m cpu s (acts m cpu i (act_of m (held m l i)) (opened 0 l ▷ does (relists plain.popped)))
+acts_keeps : (m : Machine) (cpu i : ℕ) (s : Scene) (w : World) (l : Local) → l ≡ s.locals cpu → cpu < m.cpus → IsHere m cpu i → is_ready (thread l i).phase ≡ true → Matches m i (view m s w i) →
+    StaysPromised m cpu s (opened 0 l ▷ does (relists plain.popped)) → StaysPromised m cpu s (acts m cpu i (act_of m (held m l i)) (opened 0 l ▷ does (relists plain.popped)))
 acts_keeps m cpu i s w l is processor here ready stands p = by (act_of m (held m l i))
   where
     x : Work
     x = opened 0 l ▷ does (relists plain.popped)
 
-    by : (a : Act) → Amid m cpu s (acts m cpu i a x)
+    by : (a : Act) → StaysPromised m cpu s (acts m cpu i a x)
     by RunsAlone = runs_keeps m cpu i s x processor here.home ready p
     by (Sends send) =
         let size = size_now m cpu [] s x processor p in
@@ -129,15 +129,15 @@ acts_keeps m cpu i s w l is processor here ready stands p = by (act_of m (held m
     by (Orders order) = gives_keeps m cpu i order s x processor here.within here.home ready p
 
 -- The choice
-choice_keeps : (m : Machine) (cpu : ℕ) (s : Scene) (w : World) (c : Choice) → IsMachine m → cpu < m.cpus → RelatesBut m (Stands m) [] s w → Amid m cpu s (opened 0 (s.locals cpu)) → IsChoice m cpu (s.locals cpu) c →
-    Amid m cpu s (does_choice m cpu c (opened 0 (s.locals cpu)))
+choice_keeps : (m : Machine) (cpu : ℕ) (s : Scene) (w : World) (c : Choice) → IsMachine m → cpu < m.cpus → RelatesExcept m (Matches m) [] s w → StaysPromised m cpu s (opened 0 (s.locals cpu)) → IsChoice m cpu (s.locals cpu) c →
+    StaysPromised m cpu s (does_choice m cpu c (opened 0 (s.locals cpu)))
 choice_keeps m cpu s w (ByDuty i duty) machine processor rel p c = duty_keeps m cpu i s (opened 0 (s.locals cpu)) duty processor c.0.home p c.1
 choice_keeps m cpu s w (ByDue i) machine processor rel p c =
     let due = due_goes m cpu s w (opened 0 (s.locals cpu)) (c.0, i) c.1.0 machine processor (opened_goes m cpu 0 [] s w rel) c.1.1.0 in
     due_keeps m cpu s (opened 0 (s.locals cpu)) (c.0, i) c.1.0 processor due.here.home (subst (λ c. IsListedHere m i (s.locals c)) due.here.home (listed_here m i s w (rel.places i due.here.within tt))) c.1.1.0 p
 choice_keeps m cpu s w (ByReady i) machine processor rel p c =
     let r = ready_goes m cpu s w (opened 0 (s.locals cpu)) i c.0 machine processor (opened_goes m cpu 0 [] s w rel) c.1 in
-    acts_keeps m cpu i s w (s.locals cpu) refl processor r.runs.here r.runs.ready (rel.places i r.runs.here.within tt) (relists_keeps m cpu [] s (opened 0 (s.locals cpu)) plain.popped processor refl p)
+    acts_keeps m cpu i s w (s.locals cpu) refl processor r.picked.here r.picked.ready (rel.places i r.picked.here.within tt) (relists_keeps m cpu [] s (opened 0 (s.locals cpu)) plain.popped processor refl p)
 
-pub turn_keeps : (m : Machine) (cpu : ℕ) (s : Scene) (w : World) (x : Work) → IsMachine m → cpu < m.cpus → RelatesBut m (Stands m) [] s w → Promised m [] s → turn m cpu (s.locals cpu) ≡ Some x → Amid m cpu s x
-turn_keeps m cpu s w x machine processor rel promised h = turn_then m cpu (s.locals cpu) x (Amid m cpu s) h λ c is. choice_keeps m cpu s w c machine processor rel (opened_keeps m cpu 0 [] s processor promised) is
+pub turn_keeps : (m : Machine) (cpu : ℕ) (s : Scene) (w : World) (x : Work) → IsMachine m → cpu < m.cpus → RelatesExcept m (Matches m) [] s w → Promised m [] s → turn m cpu (s.locals cpu) ≡ Some x → StaysPromised m cpu s x
+turn_keeps m cpu s w x machine processor rel promised h = turn_then m cpu (s.locals cpu) x (StaysPromised m cpu s) h λ c is. choice_keeps m cpu s w c machine processor rel (opened_keeps m cpu 0 [] s processor promised) is

@@ -11,13 +11,13 @@ use Rattle.l4_core_model.proofs.Remembers.{same_or_apart}
 use Rattle.l4_split.proofs.Relation.Views.{Scene, home, amid}
 use Rattle.l4_split.proofs.Relation.Rows.{name_of}
 use Rattle.l4_split.proofs.Frames.Mail.{mail_posted}
-use Rattle.l4_split.proofs.Promises.Promised.{AnyOf, MayFollow, InOrder, IsAnswer, IsGone, IsRearmed, IsAnswered, kept_at, phases, Promised}
+use Rattle.l4_split.proofs.Promises.Promised.{AnyOf, MayFollow, InOrder, IsAnswer, IsGone, IsArmedUnlessSplit, IsAnswered, kept_at, phases, Promised}
 use Rattle.l4_split.proofs.Promises.Letters.{any_append, order_append}
 
 -- Leaving out, and taking in again
 
-pub leaves_one : (m : Machine) (i : ℕ) (but : List ℕ) (s : Scene) → Promised m but s → Promised m (i ∷ but) s
-leaves_one m i but s p = record {
+pub leaves_one : (m : Machine) (i : ℕ) (except : List ℕ) (s : Scene) → Promised m except s → Promised m (i ∷ except) s
+leaves_one m i except s p = record {
   threads = p.threads;
   told_ones = p.told_ones;
   in_order = p.in_order;
@@ -27,22 +27,22 @@ leaves_one m i but s p = record {
   answered = λ j lt out. p.answered j lt out.1;
 }
 
-pub takes_one : (m : Machine) (i : ℕ) (but : List ℕ) (s : Scene) → Promised m (i ∷ but) s → (i < length m.threads → IsRearmed m i (kept_at s (home m i) i)) → (i < length m.threads → IsAnswered m i (kept_at s (home m i) i) s.mail) → Promised m but s
-takes_one m i but s p armed answered = record {
+pub takes_one : (m : Machine) (i : ℕ) (except : List ℕ) (s : Scene) → Promised m (i ∷ except) s → (i < length m.threads → IsArmedUnlessSplit m i (kept_at s (home m i) i)) → (i < length m.threads → IsAnswered m i (kept_at s (home m i) i) s.mail) → Promised m except s
+takes_one m i except s p armed answered = record {
   threads = p.threads;
   told_ones = p.told_ones;
   in_order = p.in_order;
   told = p.told;
   calm = p.calm;
-  armed = λ j lt out. same_or_apart (IsRearmed m j (kept_at s (home m j) j)) i j (λ e. subst (λ j. j < length m.threads → IsRearmed m j (kept_at s (home m j) j)) e armed lt) (λ ne. p.armed j lt ((λ e. ne (sym e)), out));
+  armed = λ j lt out. same_or_apart (IsArmedUnlessSplit m j (kept_at s (home m j) j)) i j (λ e. subst (λ j. j < length m.threads → IsArmedUnlessSplit m j (kept_at s (home m j) j)) e armed lt) (λ ne. p.armed j lt ((λ e. ne (sym e)), out));
   answered = λ j lt out. same_or_apart (IsAnswered m j (kept_at s (home m j) j) s.mail) i j (λ e. subst (λ j. j < length m.threads → IsAnswered m j (kept_at s (home m j) j) s.mail) e answered lt) (λ ne. p.answered j lt ((λ e. ne (sym e)), out));
 }
 
 -- A letter is posted.
 
-pub posts_keeps : (m : Machine) (cpu to : ℕ) (content : Content) (but : List ℕ) (s : Scene) (x : Work) → AllByRecursion (λ (q : Posted). MayFollow content q.letter.content) (amid cpu s x).mail →
-    Promised m but (amid cpu s x) → Promised m but (amid cpu s (x ▷ posts to content))
-posts_keeps m cpu to content but s x may p =
+pub posts_keeps : (m : Machine) (cpu to : ℕ) (content : Content) (except : List ℕ) (s : Scene) (x : Work) → AllByRecursion (λ (q : Posted). MayFollow content q.letter.content) (amid cpu s x).mail →
+    Promised m except (amid cpu s x) → Promised m except (amid cpu s (x ▷ posts to content))
+posts_keeps m cpu to content except s x may p =
     let mail = mail_posted cpu to content s x in
     let last : Posted = posted cpu (to, record { stamp = x.local.stamp; content = content }) in
     record {

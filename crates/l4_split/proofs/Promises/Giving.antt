@@ -19,16 +19,16 @@ use Rattle.l4_split.proofs.Frames.Locals.{comes_here, comes_other, changes_here,
 use Rattle.l4_split.proofs.Promises.Promised.{MayFollow}
 use Rattle.l4_split.proofs.Promises.Frames.{posts_keeps}
 use Rattle.l4_split.proofs.Promises.Locals.{size_now, comes_on}
-use Rattle.l4_split.proofs.Promises.Phases.{ordering_free, orders_settles, obeyed_settles}
-use Rattle.l4_split.proofs.Promises.Acts.{Amid}
+use Rattle.l4_split.proofs.Promises.Phases.{ordering_wishless, orders_afresh, obeyed_afresh}
+use Rattle.l4_split.proofs.Promises.Acts.{StaysPromised}
 use Rattle.l4_split.proofs.Promises.Orders.{comes_dead, obeys_keeps}
 
 -- The caller hears that what it asked for is done.
 abbrev pub HasAsked : Thread → Type 0
 HasAsked t = (t.phase ≡ Ordering) ⊎ (t.phase ≡ Deleted)
 
-pub obeyed_keeps : (m : Machine) (cpu i : ℕ) (s : Scene) (x : Work) → cpu < m.cpus → home m i ≡ cpu → HasAsked (thread x.local i) → Amid m cpu s x → Amid m cpu s (x ▷ does (comes_to i obeyed))
-obeyed_keeps m cpu i s x processor here (inl waits) p = comes_on m cpu i s x obeyed processor here (obeyed_settles (thread x.local i) (ordering_free (thread x.local i).phase waits)) p
+pub obeyed_keeps : (m : Machine) (cpu i : ℕ) (s : Scene) (x : Work) → cpu < m.cpus → home m i ≡ cpu → HasAsked (thread x.local i) → StaysPromised m cpu s x → StaysPromised m cpu s (x ▷ does (comes_to i obeyed))
+obeyed_keeps m cpu i s x processor here (inl waits) p = comes_on m cpu i s x obeyed processor here (obeyed_afresh (thread x.local i) (ordering_wishless (thread x.local i).phase waits)) p
 obeyed_keeps m cpu i s x processor here (inr dead) p =
     let t : Thread = thread x.local i in
     let not_alive : is_alive t.phase ≡ false = ap is_alive dead in
@@ -68,21 +68,21 @@ obeys_asked m cpu i j caller what x lt is =
     (λ gone. asks_asked what i j x.local lt is)
     (λ alive. subst (λ l. HasAsked (thread l i)) (sym (withdraws_local m cpu j (cause_of what) y)) (asks_asked what i j x.local lt is))
 
-pub gives_keeps : (m : Machine) (cpu i : ℕ) (order : Asked) (s : Scene) (x : Work) → cpu < m.cpus → i < length m.threads → home m i ≡ cpu → is_ready (thread x.local i).phase ≡ true → Amid m cpu s x → Amid m cpu s (gives_order m cpu i order x)
+pub gives_keeps : (m : Machine) (cpu i : ℕ) (order : Asked) (s : Scene) (x : Work) → cpu < m.cpus → i < length m.threads → home m i ≡ cpu → is_ready (thread x.local i).phase ≡ true → StaysPromised m cpu s x → StaysPromised m cpu s (gives_order m cpu i order x)
 gives_keeps m cpu i order s x processor lt here ready p = by (place_of m order.target)
   where
     y : Work
     y = x ▷ does (comes_to i (orders order)) ▷ tells (Order (declared m i).id order.target order.what)
 
-    q : Amid m cpu s y
-    q = comes_on m cpu i s x (orders order) processor here (orders_settles order (thread x.local i) ready) p
+    q : StaysPromised m cpu s y
+    q = comes_on m cpu i s x (orders order) processor here (orders_afresh order (thread x.local i) ready) p
 
     waits : (thread y.local i).phase ≡ Ordering
     waits = let size = size_now m cpu [] s x processor p in ap (λ (k : Kept). k.thread.phase) (comes_here x.local i (orders order) (omega arith))
 
-    by : (o : Option ℕ) → Amid m cpu s (order_goes_to m cpu i order o y)
+    by : (o : Option ℕ) → StaysPromised m cpu s (order_goes_to m cpu i order o y)
     by None = q
-    by (Some j) = cond_keeps (Amid m cpu s) (is_own m cpu j) _ _
+    by (Some j) = cond_keeps (StaysPromised m cpu s) (is_own m cpu j) _ _
         (λ own. let size = size_now m cpu [] s y processor q in
         obeyed_keeps m cpu i s (obeys m cpu (declared m i).id order.what j y) processor here (obeys_asked m cpu i j (declared m i).id order.what y (omega arith) waits)
         (obeys_keeps m cpu j (declared m i).id order.what s y processor (eqb-true (home m j) cpu own) q))

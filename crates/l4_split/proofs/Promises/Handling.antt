@@ -21,8 +21,8 @@ use Rattle.l4_split.proofs.Letters.Receiving.{without, IsLetter, at_work, own_pl
 use Rattle.l4_split.proofs.Promises.Promised.{MayFollow, IsAnswerIn, IsGoneIn, kept_at, phases, Promised}
 use Rattle.l4_split.proofs.Promises.Frames.{posts_keeps}
 use Rattle.l4_split.proofs.Promises.Locals.{here_local, size_now, changes_away, comes_on}
-use Rattle.l4_split.proofs.Promises.Phases.{ended_settles, ended_none}
-use Rattle.l4_split.proofs.Promises.Acts.{Amid, arrives_keeps}
+use Rattle.l4_split.proofs.Promises.Phases.{ended_afresh, ended_none}
+use Rattle.l4_split.proofs.Promises.Acts.{StaysPromised, arrives_keeps}
 use Rattle.l4_split.proofs.Promises.Orders.{obeys_keeps}
 use Rattle.l4_split.proofs.Promises.Giving.{obeyed_keeps}
 use Rattle.l4_split.proofs.Promises.Turns.{opened_keeps}
@@ -35,7 +35,7 @@ has_asked Ordering h = inl refl
 has_asked Ended h = cc
 has_asked Deleted h = inr refl
 
-pub letter_keeps : (m : Machine) (from cpu : ℕ) (letter : Letter) (s : Scene) (w : World) (x : Work) (c : Content) → IsLetter m from cpu letter s w → slice_get (letters s.mail from cpu) 0 ≡ Some letter → letter.content ≡ c → Promised m [] s → handled m cpu c (at_work cpu letter s) ≡ Some x → Amid m cpu (without from cpu s) x
+pub letter_keeps : (m : Machine) (from cpu : ℕ) (letter : Letter) (s : Scene) (w : World) (x : Work) (c : Content) → IsLetter m from cpu letter s w → slice_get (letters s.mail from cpu) 0 ≡ Some letter → letter.content ≡ c → Promised m [] s → handled m cpu c (at_work cpu letter s) ≡ Some x → StaysPromised m cpu (without from cpu s) x
 letter_keeps m from cpu letter s w x (SendLetter name receiver message zero_timeout) h first content promised is =
     let y : Work = at_work cpu letter s in
     bind_then (own_place m cpu receiver) _ x is λ r own rest.
@@ -45,7 +45,7 @@ letter_keeps m from cpu letter s w x (SendLetter name receiver message zero_time
     guard_then (is_declared m message.shown) _ x rest λ shown rest.
     let p = opened_keeps m cpu letter.stamp [] s h.processor promised in
     taken_keeps m from cpu letter s x h.first (silent_spent m from cpu letter s x _ content ((λ s a b p h. h), (λ id to p h. h)))
-    (subst (Amid m cpu s) (some_is _ x rest) (arrives_keeps m cpu r i s (y ▷ does (changes i (stands_in name.k (stand_in receiver message zero_timeout)))) h.processor (own_place_is m cpu receiver r own).1
+    (subst (StaysPromised m cpu s) (some_is _ x rest) (arrives_keeps m cpu r i s (y ▷ does (changes i (stands_in name.k (stand_in receiver message zero_timeout)))) h.processor (own_place_is m cpu receiver r own).1
     (changes_away m cpu i [] s y (stands_in name.k (stand_in receiver message zero_timeout)) h.processor (foreign_place_is m cpu name.thread i foreign).1 (λ h. h) p)))
 letter_keeps m from cpu letter s w x (DoneLetter name result) h first content promised is =
     let y : Work = at_work cpu letter s in
@@ -55,7 +55,7 @@ letter_keeps m from cpu letter s w x (DoneLetter name result) h first content pr
     let at = own_place_is m cpu name.thread i own in
     let p = opened_keeps m cpu letter.stamp [] s h.processor promised in
     let f : Thread → Thread = ended result y.local.clock in
-    subst (Amid m cpu (without from cpu s)) (some_is _ x rest) (taken_keeps m from cpu letter s (y ▷ does (comes_to i f)) h.first (record {
+    subst (StaysPromised m cpu (without from cpu s)) (some_is _ x rest) (taken_keeps m from cpu letter s (y ▷ does (comes_to i f)) h.first (record {
       gone = λ j to lt g. absurd (subst (IsGoneIn (declared m j).id to (record { from = from; to = cpu; letter = letter })) content g);
       answer = λ j r send lt has to away answer.
           let same = subst (IsAnswerIn _ (home m j) (home m r) (record { from = from; to = cpu; letter = letter })) content answer in
@@ -66,7 +66,7 @@ letter_keeps m from cpu letter s w x (DoneLetter name result) h first content pr
           let none : (kept (comes_to i f y.local) j).thread.send ≡ None = subst (λ j. j < length m.threads → (kept (comes_to i f y.local) j).thread.send ≡ None) is_j
           (λ lt. ap (λ (k : Kept). k.thread.send) (comes_here y.local i f (omega arith)) ∙ ended_none result y.local.clock (thread y.local i)) lt in
           some_none send (sym has ∙ ap (λ (k : Kept). k.thread.send) now ∙ none);
-    }) (comes_on m cpu i s y f h.processor at.1 (ended_settles result y.local.clock (thread y.local i)) p))
+    }) (comes_on m cpu i s y f h.processor at.1 (ended_afresh result y.local.clock (thread y.local i)) p))
   where
     some_none : {P : Type 0} (send : Send) → Some send ≡ None → P
     some_none send e = cc
@@ -76,7 +76,7 @@ letter_keeps m from cpu letter s w x (GoneLetter id) h first content promised is
     bind_then (foreign_place m cpu id) _ x is λ i foreign rest.
     let at = foreign_place_is m cpu id i foreign in
     let p = opened_keeps m cpu letter.stamp [] s h.processor promised in
-    subst (Amid m cpu (without from cpu s)) (some_is _ x rest) (taken_keeps m from cpu letter s (y ▷ does (changes i is_gone_now)) h.first (record {
+    subst (StaysPromised m cpu (without from cpu s)) (some_is _ x rest) (taken_keeps m from cpu letter s (y ▷ does (changes i is_gone_now)) h.first (record {
       gone = λ j to lt g.
           let same = subst (IsGoneIn (declared m j).id to (record { from = from; to = cpu; letter = letter })) content g in
           let size = size_now m cpu [] s y h.processor p in
@@ -93,7 +93,7 @@ letter_keeps m from cpu letter s w x (OrderLetter caller target what) h first co
     let p = opened_keeps m cpu letter.stamp [] s h.processor promised in
     let z : Work = y ▷ obeys m cpu caller what j in
     taken_keeps m from cpu letter s x h.first (silent_spent m from cpu letter s x _ content ((λ s a b p h. h), (λ id to p h. h)))
-    (subst (Amid m cpu s) (some_is _ x rest) (posts_keeps m cpu (declared m i).cpu (OrderDoneLetter caller) [] s z (all_true (λ (q : Posted). MayFollow (OrderDoneLetter caller) q.letter.content) (λ q. tt) (amid cpu s z).mail)
+    (subst (StaysPromised m cpu s) (some_is _ x rest) (posts_keeps m cpu (declared m i).cpu (OrderDoneLetter caller) [] s z (all_true (λ (q : Posted). MayFollow (OrderDoneLetter caller) q.letter.content) (λ q. tt) (amid cpu s z).mail)
     (obeys_keeps m cpu j caller what s y h.processor (own_place_is m cpu target j own).1 p)))
 letter_keeps m from cpu letter s w x (OrderDoneLetter caller) h first content promised is =
     let y : Work = at_work cpu letter s in
@@ -101,4 +101,4 @@ letter_keeps m from cpu letter s w x (OrderDoneLetter caller) h first content pr
     guard_then (is_deleted (thread y.local i).phase || is_ordering (thread y.local i).phase) _ x rest λ asked rest.
     let p = opened_keeps m cpu letter.stamp [] s h.processor promised in
     taken_keeps m from cpu letter s x h.first (silent_spent m from cpu letter s x _ content ((λ s a b p h. h), (λ id to p h. h)))
-    (subst (Amid m cpu s) (some_is _ x rest) (obeyed_keeps m cpu i s y h.processor (own_place_is m cpu caller i own).1 (has_asked (thread y.local i).phase asked) p))
+    (subst (StaysPromised m cpu s) (some_is _ x rest) (obeyed_keeps m cpu i s y h.processor (own_place_is m cpu caller i own).1 (has_asked (thread y.local i).phase asked) p))

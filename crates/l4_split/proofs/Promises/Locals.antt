@@ -15,45 +15,45 @@ use Rattle.l4_split.proofs.Relation.Views.{Kept, Scene, kept, home, put, amid}
 use Rattle.l4_split.proofs.Frames.Locals.{come, comes_here, comes_other, changes_here, changes_other}
 use Rattle.l4_split.proofs.Frames.Places.{put_keeps}
 use Rattle.l4_split.proofs.Frames.Going.{put_home, put_other}
-use Rattle.l4_split.proofs.Promises.Promised.{AnyOf, IsAnswer, IsGone, IsRearmed, IsCalm, IsLate, IsWished, IsAnswered, kept_at, phases, Promised}
+use Rattle.l4_split.proofs.Promises.Promised.{AnyOf, IsAnswer, IsGone, IsArmedUnlessSplit, IsCalm, IsLate, IsWished, IsAnswered, kept_at, phases, Promised}
 use Rattle.l4_split.proofs.Promises.Frames.{leaves_one, takes_one}
 
 -- What home keeps of a thread changes, and what was promised of it is still true.
-pub record Steadies (m : Machine) (i : ℕ) (k after : Kept) : Type 0 where
-  pub armed : IsRearmed m i k → IsRearmed m i after
+pub record IsSteady (m : Machine) (i : ℕ) (k after : Kept) : Type 0 where
+  pub armed : IsArmedUnlessSplit m i k → IsArmedUnlessSplit m i after
   pub ending : (send : Send) → after.thread.send ≡ Some send → IsLate after ⊎ IsWished after.thread → (k.thread.send ≡ Some send) × ((IsLate k ⊎ IsWished k.thread) × (k.thread.context.begun ≡ after.thread.context.begun))
 
-pub same_steady : (m : Machine) (i : ℕ) (k after : Kept) → after ≡ k → Steadies m i k after
-same_steady m i k after e = subst (Steadies m i k) (sym e) (record { armed = λ h. h; ending = λ send has ending. (has, (ending, refl)) })
+pub same_steady : (m : Machine) (i : ℕ) (k after : Kept) → after ≡ k → IsSteady m i k after
+same_steady m i k after e = subst (IsSteady m i k) (sym e) (record { armed = λ h. h; ending = λ send has ending. (has, (ending, refl)) })
 
-steady_answered : (m : Machine) (i : ℕ) (k after : Kept) (mail : List Posted) → Steadies m i k after → IsAnswered m i k mail → IsAnswered m i after mail
+steady_answered : (m : Machine) (i : ℕ) (k after : Kept) (mail : List Posted) → IsSteady m i k after → IsAnswered m i k mail → IsAnswered m i after mail
 steady_answered m i k after mail steady h send r has to away ending =
     let old = steady.ending send has ending in
     subst (λ b. AnyOf (IsAnswer (record { thread = (declared m i).id; k = b }) (home m i) (home m r)) mail) old.1.1 (h send r old.0 to away old.1.0)
 
-pub record Spared (m : Machine) (cpu : ℕ) (but : List ℕ) (l after : Local) : Type 0 where
+pub record IsHarmless (m : Machine) (cpu : ℕ) (except : List ℕ) (l after : Local) : Type 0 where
   pub threads : length after.threads ≡ length l.threads
   pub told_ones : length after.told ≡ length l.told
   pub told : (i : ℕ) → (kept after i).told ≡ (kept l i).told
   pub calm : (i : ℕ) → i < length l.threads → home m i ≡ cpu → IsCalm (thread l i) → IsCalm (thread after i)
-  pub steady : (i : ℕ) → i < length l.threads → home m i ≡ cpu → NotIn i but → Steadies m i (kept l i) (kept after i)
+  pub steady : (i : ℕ) → i < length l.threads → home m i ≡ cpu → NotIn i except → IsSteady m i (kept l i) (kept after i)
   pub away : (i : ℕ) → i < length l.threads → (home m i ≡ cpu → ⊥) → (thread l i).phase ≡ Deleted → (thread after i).phase ≡ Deleted
 
 -- The processor's own state, under way
 pub here_local : (cpu : ℕ) (s : Scene) (l : Local) → put cpu l s.locals cpu ≡ l
 here_local cpu s l = let same = same_nat cpu in rw same refl
 
-pub size_now : (m : Machine) (cpu : ℕ) (but : List ℕ) (s : Scene) (x : Work) → cpu < m.cpus → Promised m but (amid cpu s x) → length x.local.threads ≡ length m.threads
-size_now m cpu but s x lt p = subst (λ (l : Local). length l.threads ≡ length m.threads) (here_local cpu s x.local) (p.threads cpu lt)
+pub size_now : (m : Machine) (cpu : ℕ) (except : List ℕ) (s : Scene) (x : Work) → cpu < m.cpus → Promised m except (amid cpu s x) → length x.local.threads ≡ length m.threads
+size_now m cpu except s x lt p = subst (λ (l : Local). length l.threads ≡ length m.threads) (here_local cpu s x.local) (p.threads cpu lt)
 
-pub local_keeps : (m : Machine) (cpu : ℕ) (but : List ℕ) (s : Scene) (x : Work) (f : Local → Local) → cpu < m.cpus → Spared m cpu but x.local (f x.local) → Promised m but (amid cpu s x) → Promised m but (amid cpu s (x ▷ does f))
-local_keeps m cpu but s x f processor spared p = record {
+pub local_keeps : (m : Machine) (cpu : ℕ) (except : List ℕ) (s : Scene) (x : Work) (f : Local → Local) → cpu < m.cpus → IsHarmless m cpu except x.local (f x.local) → Promised m except (amid cpu s x) → Promised m except (amid cpu s (x ▷ does f))
+local_keeps m cpu except s x f processor spared p = record {
   threads = λ c lt. put_keeps (λ (l : Local). length l.threads ≡ length m.threads) cpu c x.local (f x.local) s.locals (λ h. spared.threads ∙ h) (p.threads c lt);
   told_ones = λ c lt. put_keeps (λ (l : Local). length l.told ≡ length m.threads) cpu c x.local (f x.local) s.locals (λ h. spared.told_ones ∙ h) (p.told_ones c lt);
   in_order = p.in_order;
   told = λ i lt c c_lt away below. by i lt c away (p.told i lt c c_lt away (subst (λ n. c < n) (told_same i) below));
   calm = λ i lt. at_home i (λ k. IsCalm k.thread) (λ here. spared.calm i (within i lt) here) (p.calm i lt);
-  armed = λ i lt out. at_home i (IsRearmed m i) (λ here. (spared.steady i (within i lt) here out).armed) (p.armed i lt out);
+  armed = λ i lt out. at_home i (IsArmedUnlessSplit m i) (λ here. (spared.steady i (within i lt) here out).armed) (p.armed i lt out);
   answered = λ i lt out. at_home i (λ k. IsAnswered m i k (amid cpu s x).mail) (λ here. steady_answered m i (kept x.local i) (kept (f x.local) i) (amid cpu s x).mail (spared.steady i (within i lt) here out)) (p.answered i lt out);
 }
   where
@@ -61,7 +61,7 @@ local_keeps m cpu but s x f processor spared p = record {
     after = amid cpu s (x ▷ does f)
 
     within : (i : ℕ) → i < length m.threads → i < length x.local.threads
-    within i lt = let size = size_now m cpu but s x processor p in omega arith
+    within i lt = let size = size_now m cpu except s x processor p in omega arith
 
     at_home : (i : ℕ) (P : Kept → Type 0) → (home m i ≡ cpu → P (kept x.local i) → P (kept (f x.local) i)) → P (kept_at (amid cpu s x) (home m i) i) → P (kept_at after (home m i) i)
     at_home i P g h = same_or_apart (P (kept_at after (home m i) i)) (home m i) cpu
@@ -83,8 +83,8 @@ local_keeps m cpu but s x f processor spared p = record {
     by i lt c away (inr h) = inr h
 
 -- Lists change that no deadline stands in.
-pub relists_keeps : (m : Machine) (cpu : ℕ) (but : List ℕ) (s : Scene) (x : Work) (g : plain.Plain → plain.Plain) → cpu < m.cpus → (g x.local.lists).armed ≡ x.local.lists.armed → Promised m but (amid cpu s x) → Promised m but (amid cpu s (x ▷ does (relists g)))
-relists_keeps m cpu but s x g processor same p = local_keeps m cpu but s x (relists g) processor (record {
+pub relists_keeps : (m : Machine) (cpu : ℕ) (except : List ℕ) (s : Scene) (x : Work) (g : plain.Plain → plain.Plain) → cpu < m.cpus → (g x.local.lists).armed ≡ x.local.lists.armed → Promised m except (amid cpu s x) → Promised m except (amid cpu s (x ▷ does (relists g)))
+relists_keeps m cpu except s x g processor same p = local_keeps m cpu except s x (relists g) processor (record {
   threads = refl;
   told_ones = refl;
   told = λ i. refl;
@@ -103,9 +103,9 @@ relists_keeps m cpu but s x g processor same p = local_keeps m cpu but s x (reli
 -- A thread changes.
 
 -- An entry elsewhere: its home says all that is promised of it.
-pub changes_away : (m : Machine) (cpu j : ℕ) (but : List ℕ) (s : Scene) (x : Work) (f : Thread → Thread) → cpu < m.cpus → (home m j ≡ cpu → ⊥) → ((thread x.local j).phase ≡ Deleted → (f (thread x.local j)).phase ≡ Deleted) →
-    Promised m but (amid cpu s x) → Promised m but (amid cpu s (x ▷ does (changes j f)))
-changes_away m cpu j but s x f processor other gone p = local_keeps m cpu but s x (changes j f) processor (record {
+pub changes_away : (m : Machine) (cpu j : ℕ) (except : List ℕ) (s : Scene) (x : Work) (f : Thread → Thread) → cpu < m.cpus → (home m j ≡ cpu → ⊥) → ((thread x.local j).phase ≡ Deleted → (f (thread x.local j)).phase ≡ Deleted) →
+    Promised m except (amid cpu s x) → Promised m except (amid cpu s (x ▷ does (changes j f)))
+changes_away m cpu j except s x f processor other gone p = local_keeps m cpu except s x (changes j f) processor (record {
   threads = length-changed f x.local.threads j;
   told_ones = refl;
   told = λ i. refl;
@@ -117,7 +117,7 @@ changes_away m cpu j but s x f processor other gone p = local_keeps m cpu but s 
 }) p
 
 -- A thread comes to a phase in which its send, if it has one, is not to end.
-pub record Settles (t after : Thread) : Type 0 where
+pub record StartsAfresh (t after : Thread) : Type 0 where
   pub calm : IsCalm t → IsCalm after
   pub send : IsCalm t → (after.send ≡ None) ⊎ ((after.cancel_send ≡ false) × (after.phase ≡ Deleted → ⊥))
 
@@ -125,8 +125,8 @@ none_armed : (period : Period) (clock i : ℕ) → armed_for period clock i [] �
 none_armed None clock i h = refl
 none_armed (Some n) clock i h = cc
 
-pub come_rearmed : (m : Machine) (i : ℕ) (f : Thread → Thread) (k : Kept) → IsRearmed m i (come i f k)
-come_rearmed m i f k other none = none_armed _ k.clock i none
+pub come_armed : (m : Machine) (i : ℕ) (f : Thread → Thread) (k : Kept) → IsArmedUnlessSplit m i (come i f k)
+come_armed m i f k other none = none_armed _ k.clock i none
 
 come_not_late : {P : Type 0} (i : ℕ) (f : Thread → Thread) (k : Kept) → IsLate (come i f k) → P
 come_not_late i f k late = absurd (late.1 (none_armed _ k.clock i late.0))
@@ -138,8 +138,8 @@ come_answered m i f k mail (inr quiet) send r has to away (inr (inl wish)) = let
 come_answered m i f k mail (inr quiet) send r has to away (inr (inr gone)) = absurd (quiet.1 gone)
 
 -- It is left out, and nothing is said of its send.
-pub comes_spared : (m : Machine) (cpu j : ℕ) (but : List ℕ) (l : Local) (f : Thread → Thread) → home m j ≡ cpu → (IsCalm (thread l j) → IsCalm (f (thread l j))) → Spared m cpu (j ∷ but) l (comes_to j f l)
-comes_spared m cpu j but l f here calm = record {
+pub comes_harmless : (m : Machine) (cpu j : ℕ) (except : List ℕ) (l : Local) (f : Thread → Thread) → home m j ≡ cpu → (IsCalm (thread l j) → IsCalm (f (thread l j))) → IsHarmless m cpu (j ∷ except) l (comes_to j f l)
+comes_harmless m cpu j except l f here calm = record {
   threads = length-changed f l.threads j;
   told_ones = refl;
   told = λ i. refl;
@@ -150,18 +150,18 @@ comes_spared m cpu j but l f here calm = record {
   away = λ i lt away h. ap (λ (k : Kept). k.thread.phase) (comes_other l j i f (λ e. away (sym (ap (home m) e) ∙ here))) ∙ h;
 }
 
-pub comes_keeps : (m : Machine) (cpu j : ℕ) (but : List ℕ) (s : Scene) (x : Work) (f : Thread → Thread) → cpu < m.cpus → home m j ≡ cpu → Settles (thread x.local j) (f (thread x.local j)) →
-    Promised m (j ∷ but) (amid cpu s x) → Promised m but (amid cpu s (x ▷ does (comes_to j f)))
-comes_keeps m cpu j but s x f processor here settles p =
-    let size : length x.local.threads ≡ length m.threads = size_now m cpu (j ∷ but) s x processor p in
-    let now = local_keeps m cpu (j ∷ but) s x (comes_to j f) processor (comes_spared m cpu j but x.local f here settles.calm) p in
+pub comes_keeps : (m : Machine) (cpu j : ℕ) (except : List ℕ) (s : Scene) (x : Work) (f : Thread → Thread) → cpu < m.cpus → home m j ≡ cpu → StartsAfresh (thread x.local j) (f (thread x.local j)) →
+    Promised m (j ∷ except) (amid cpu s x) → Promised m except (amid cpu s (x ▷ does (comes_to j f)))
+comes_keeps m cpu j except s x f processor here settles p =
+    let size : length x.local.threads ≡ length m.threads = size_now m cpu (j ∷ except) s x processor p in
+    let now = local_keeps m cpu (j ∷ except) s x (comes_to j f) processor (comes_harmless m cpu j except x.local f here settles.calm) p in
     let is : j < length m.threads → kept_at (amid cpu s (x ▷ does (comes_to j f))) (home m j) j ≡ come j f (kept x.local j) = λ lt. ap (λ l. kept l j) (put_home m cpu j s (comes_to j f x.local) here) ∙ comes_here x.local j f (omega arith) in
     let calm : j < length m.threads → IsCalm (thread x.local j) = λ lt. subst IsCalm (ap (λ l. thread l j) (put_home m cpu j s x.local here)) (p.calm j lt) in
-    takes_one m j but (amid cpu s (x ▷ does (comes_to j f))) now
-    (λ lt. subst (IsRearmed m j) (sym (is lt)) (come_rearmed m j f (kept x.local j)))
+    takes_one m j except (amid cpu s (x ▷ does (comes_to j f))) now
+    (λ lt. subst (IsArmedUnlessSplit m j) (sym (is lt)) (come_armed m j f (kept x.local j)))
     (λ lt. subst (λ k. IsAnswered m j k (amid cpu s x).mail) (sym (is lt)) (come_answered m j f (kept x.local j) (amid cpu s x).mail (settles.send (calm lt))))
 
 -- The same from a state in which nothing is amiss with it.
-pub comes_on : (m : Machine) (cpu j : ℕ) (s : Scene) (x : Work) (f : Thread → Thread) → cpu < m.cpus → home m j ≡ cpu → Settles (thread x.local j) (f (thread x.local j)) →
+pub comes_on : (m : Machine) (cpu j : ℕ) (s : Scene) (x : Work) (f : Thread → Thread) → cpu < m.cpus → home m j ≡ cpu → StartsAfresh (thread x.local j) (f (thread x.local j)) →
     Promised m [] (amid cpu s x) → Promised m [] (amid cpu s (x ▷ does (comes_to j f)))
 comes_on m cpu j s x f processor here settles p = comes_keeps m cpu j [] s x f processor here settles (leaves_one m j [] (amid cpu s x) p)

@@ -6,76 +6,76 @@ use Rattle.l4_model.specs.Effects.{phase_after, runs, begins, waits, fails, deci
 use Rattle.l4_model.proofs.Chains.{cond_both, cond_keeps}
 use Rattle.l4_core_model.specs.Letters.{TimedOut, Nobody, Cancelled, Dropped, Result, Delivered, Refused}
 use Rattle.l4_core_model.specs.Local.{was_delivered, was_dropped, ended}
-use Rattle.l4_split.proofs.Promises.Locals.{Settles}
+use Rattle.l4_split.proofs.Promises.Locals.{StartsAfresh}
 
 -- From a phase that has no wish
-pub record IsFree (p : Phase) : Type 0 where
+pub record IsWishless (p : Phase) : Type 0 where
   pub unsent : p ≡ Sending → ⊥
   pub alive : p ≡ Deleted → ⊥
 
-pub ready_free : (p : Phase) → is_ready p ≡ true → IsFree p
-ready_free p ready = record {
+pub ready_wishless : (p : Phase) → is_ready p ≡ true → IsWishless p
+ready_wishless p ready = record {
   unsent = λ e. let h : is_ready Sending ≡ true = subst (λ p. is_ready p ≡ true) e ready in cc;
   alive = λ e. let h : is_ready Deleted ≡ true = subst (λ p. is_ready p ≡ true) e ready in cc;
 }
 
-pub receiving_free : (p : Phase) (receive : Receive) (since : ℕ) → p ≡ Receiving receive since → IsFree p
-receiving_free p receive since is = record {
+pub receiving_wishless : (p : Phase) (receive : Receive) (since : ℕ) → p ≡ Receiving receive since → IsWishless p
+receiving_wishless p receive since is = record {
   unsent = λ e. let h : Receiving receive since ≡ Sending = sym is ∙ e in cc;
   alive = λ e. let h : Receiving receive since ≡ Deleted = sym is ∙ e in cc;
 }
 
-pub ordering_free : (p : Phase) → p ≡ Ordering → IsFree p
-ordering_free p is = record {
+pub ordering_wishless : (p : Phase) → p ≡ Ordering → IsWishless p
+ordering_wishless p is = record {
   unsent = λ e. let h : Ordering ≡ Sending = sym is ∙ e in cc;
   alive = λ e. let h : Ordering ≡ Deleted = sym is ∙ e in cc;
 }
 
-free_settles : (t after : Thread) → IsFree t.phase → after.cancel_send ≡ t.cancel_send → (after.phase ≡ Deleted → ⊥) → Settles t after
-free_settles t after free same alive = record {
+wishless_afresh : (t after : Thread) → IsWishless t.phase → after.cancel_send ≡ t.cancel_send → (after.phase ≡ Deleted → ⊥) → StartsAfresh t after
+wishless_afresh t after free same alive = record {
   calm = λ h unsent living. same ∙ h free.unsent free.alive;
   send = λ h. inr (same ∙ h free.unsent free.alive, alive);
 }
 
-pub runs_settles : (i : Instr) (t : Thread) → is_ready t.phase ≡ true → Settles t (runs i t)
-runs_settles i t ready = free_settles t (runs i t) (ready_free t.phase ready) refl (λ e. by i e)
+pub runs_afresh : (i : Instr) (t : Thread) → is_ready t.phase ≡ true → StartsAfresh t (runs i t)
+runs_afresh i t ready = wishless_afresh t (runs i t) (ready_wishless t.phase ready) refl (λ e. by i e)
   where
     by : (i : Instr) → phase_after i ≡ Deleted → ⊥
     by End e = cc
     by _ e = cc
 
-pub waits_settles : (receive : Receive) (now : ℕ) (t : Thread) → is_ready t.phase ≡ true → Settles t (waits receive now t)
-waits_settles receive now t ready = free_settles t (waits receive now t) (ready_free t.phase ready) refl (λ e. cc)
+pub waits_afresh : (receive : Receive) (now : ℕ) (t : Thread) → is_ready t.phase ≡ true → StartsAfresh t (waits receive now t)
+waits_afresh receive now t ready = wishless_afresh t (waits receive now t) (ready_wishless t.phase ready) refl (λ e. cc)
 
-pub begins_settles : (send : Send) (t : Thread) → is_ready t.phase ≡ true → Settles t (begins send t)
-begins_settles send t ready = let free = ready_free t.phase ready in record {
+pub begins_afresh : (send : Send) (t : Thread) → is_ready t.phase ≡ true → StartsAfresh t (begins send t)
+begins_afresh send t ready = let free = ready_wishless t.phase ready in record {
   calm = λ h unsent living. absurd (unsent refl);
   send = λ h. inr (h free.unsent free.alive, λ e. cc);
 }
 
-pub orders_settles : (order : Asked) (t : Thread) → is_ready t.phase ≡ true → Settles t (orders order t)
-orders_settles order t ready = free_settles t (orders order t) (ready_free t.phase ready) refl (λ e. cc)
+pub orders_afresh : (order : Asked) (t : Thread) → is_ready t.phase ≡ true → StartsAfresh t (orders order t)
+orders_afresh order t ready = wishless_afresh t (orders order t) (ready_wishless t.phase ready) refl (λ e. cc)
 
-pub receives_settles : (message : Message) (tag : ℕ) (t : Thread) → IsFree t.phase → Settles t (receives message tag t)
-receives_settles message tag t free = free_settles t (receives message tag t) free refl (λ e. cc)
+pub receives_afresh : (message : Message) (tag : ℕ) (t : Thread) → IsWishless t.phase → StartsAfresh t (receives message tag t)
+receives_afresh message tag t free = wishless_afresh t (receives message tag t) free refl (λ e. cc)
 
 ready_alive : Ready ≡ Deleted → ⊥
 ready_alive e = cc
 
-pub fails_settles : (code : ℕ) (t : Thread) → IsFree t.phase → Settles t (fails code t)
-fails_settles code t free = free_settles t (fails code t) free (cond_both (λ (x : Thread). x.cancel_send) t.cancel_send (is_alive t.phase) _ t refl refl)
+pub fails_afresh : (code : ℕ) (t : Thread) → IsWishless t.phase → StartsAfresh t (fails code t)
+fails_afresh code t free = wishless_afresh t (fails code t) free (cond_both (λ (x : Thread). x.cancel_send) t.cancel_send (is_alive t.phase) _ t refl refl)
     (cond_keeps (λ (a : Thread). a.phase ≡ Deleted → ⊥) (is_alive t.phase) _ t (λ living e. ready_alive e) (λ dead e. free.alive e))
 
-pub obeyed_settles : (t : Thread) → IsFree t.phase → Settles t (obeyed t)
-obeyed_settles t free = free_settles t (obeyed t) free (cond_both (λ (x : Thread). x.cancel_send) t.cancel_send (is_alive t.phase) _ _ refl refl)
+pub obeyed_afresh : (t : Thread) → IsWishless t.phase → StartsAfresh t (obeyed t)
+obeyed_afresh t free = wishless_afresh t (obeyed t) free (cond_both (λ (x : Thread). x.cancel_send) t.cancel_send (is_alive t.phase) _ _ refl refl)
     (cond_keeps (λ (a : Thread). a.phase ≡ Deleted → ⊥) (is_alive t.phase) _ _ (λ living e. ready_alive e) (λ dead e. free.alive e))
 
 -- A send that was decided leaves neither send nor wish.
 abbrev IsUndone : Thread → Type 0
 IsUndone t = (t.send ≡ None) × (t.cancel_send ≡ false)
 
-undone_settles : (t after : Thread) → IsUndone after → Settles t after
-undone_settles t after undone = record { calm = λ h unsent living. undone.1; send = λ h. inl undone.0 }
+undone_afresh : (t after : Thread) → IsUndone after → StartsAfresh t after
+undone_afresh t after undone = record { calm = λ h unsent living. undone.1; send = λ h. inl undone.0 }
 
 refused_undone : (code : ℕ) (t : Thread) → IsUndone (refused code t)
 refused_undone code t = cond_keeps IsUndone (is_alive (decided t).phase) _ (decided t) (λ living. (refl, refl)) (λ dead. (refl, refl))
@@ -84,16 +84,16 @@ goes_on_undone : (receive : Option Receive) (now : ℕ) (t : Thread) → IsUndon
 goes_on_undone None now t = (refl, refl)
 goes_on_undone (Some receive) now t = (refl, refl)
 
-pub ended_settles : (result : Result) (now : ℕ) (t : Thread) → Settles t (ended result now t)
-ended_settles Delivered now t = by t.send refl
+pub ended_afresh : (result : Result) (now : ℕ) (t : Thread) → StartsAfresh t (ended result now t)
+ended_afresh Delivered now t = by t.send refl
   where
-    by : (o : Option Send) → t.send ≡ o → Settles t (was_delivered o now t)
+    by : (o : Option Send) → t.send ≡ o → StartsAfresh t (was_delivered o now t)
     by None is = record { calm = λ h. h; send = λ h. inl is }
-    by (Some send) is = undone_settles t (delivered send now t) (cond_keeps IsUndone (is_alive t.phase) _ (decided t) (λ living. goes_on_undone send.receive now t) (λ dead. (refl, refl)))
-ended_settles (Refused TimedOut) now t = undone_settles t (refused 2 t) (refused_undone 2 t)
-ended_settles (Refused Nobody) now t = undone_settles t (refused 4 t) (refused_undone 4 t)
-ended_settles (Refused Cancelled) now t = undone_settles t (refused 6 t) (refused_undone 6 t)
-ended_settles (Refused Dropped) now t = undone_settles t (was_dropped t) (cond_keeps IsUndone (is_alive t.phase) _ (decided t) (λ living. (refl, refl)) (λ dead. (refl, refl)))
+    by (Some send) is = undone_afresh t (delivered send now t) (cond_keeps IsUndone (is_alive t.phase) _ (decided t) (λ living. goes_on_undone send.receive now t) (λ dead. (refl, refl)))
+ended_afresh (Refused TimedOut) now t = undone_afresh t (refused 2 t) (refused_undone 2 t)
+ended_afresh (Refused Nobody) now t = undone_afresh t (refused 4 t) (refused_undone 4 t)
+ended_afresh (Refused Cancelled) now t = undone_afresh t (refused 6 t) (refused_undone 6 t)
+ended_afresh (Refused Dropped) now t = undone_afresh t (was_dropped t) (cond_keeps IsUndone (is_alive t.phase) _ (decided t) (λ living. (refl, refl)) (λ dead. (refl, refl)))
 
 pub ended_none : (result : Result) (now : ℕ) (t : Thread) → (ended result now t).send ≡ None
 ended_none Delivered now t = by t.send refl

@@ -51,8 +51,8 @@ abbrev pub IsSplitSend : Machine → ℕ → Option Send → Type 0
 IsSplitSend m i None = ⊥
 IsSplitSend m i (Some send) = (r : ℕ) × ((destination_place m send.to ≡ Some r) × (home m r ≡ home m i → ⊥))
 
-abbrev pub IsRearmed : Machine → ℕ → Kept → Type 0
-IsRearmed m i k = (IsSplitSend m i k.thread.send → ⊥) → k.armed ≡ [] → armed_period k.thread.phase k.thread.send ≡ None
+abbrev pub IsArmedUnlessSplit : Machine → ℕ → Kept → Type 0
+IsArmedUnlessSplit m i k = (IsSplitSend m i k.thread.send → ⊥) → k.armed ≡ [] → armed_period k.thread.phase k.thread.send ≡ None
 
 -- Only a send has the wish that it be cancelled.
 abbrev pub IsCalm : Thread → Type 0
@@ -79,11 +79,11 @@ kept_at s cpu i = kept (s.locals cpu) i
 abbrev pub phases : Scene → (i cpu : ℕ) → Phase
 phases s i cpu = (kept_at s cpu i).thread.phase
 
-pub record Promised (m : Machine) (but : List ℕ) (s : Scene) : Type 0 where
+pub record Promised (m : Machine) (except : List ℕ) (s : Scene) : Type 0 where
   pub threads : (cpu : ℕ) → cpu < m.cpus → length (s.locals cpu).threads ≡ length m.threads
   pub told_ones : (cpu : ℕ) → cpu < m.cpus → length (s.locals cpu).told ≡ length m.threads
   pub in_order : InOrder s.mail
   pub told : (i : ℕ) → i < length m.threads → IsTold m i (kept_at s (home m i) i).told (phases s i) s.mail
   pub calm : (i : ℕ) → i < length m.threads → IsCalm (kept_at s (home m i) i).thread
-  pub armed : (i : ℕ) → i < length m.threads → NotIn i but → IsRearmed m i (kept_at s (home m i) i)
-  pub answered : (i : ℕ) → i < length m.threads → NotIn i but → IsAnswered m i (kept_at s (home m i) i) s.mail
+  pub armed : (i : ℕ) → i < length m.threads → NotIn i except → IsArmedUnlessSplit m i (kept_at s (home m i) i)
+  pub answered : (i : ℕ) → i < length m.threads → NotIn i except → IsAnswered m i (kept_at s (home m i) i) s.mail

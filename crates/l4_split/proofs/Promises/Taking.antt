@@ -11,10 +11,10 @@ use Rattle.l4_core_model.specs.Acts.{Work}
 use Rattle.l4_core_model.specs.Runs.{Posted, posted, IsMachine}
 use Rattle.l4_split.proofs.Relation.Views.{Scene, home, amid}
 use Rattle.l4_split.proofs.Relation.Rows.{name_of}
-use Rattle.l4_split.proofs.Frames.Mail.{IsFirst}
+use Rattle.l4_split.proofs.Frames.Mail.{IsFirstLetter}
 use Rattle.l4_split.proofs.Letters.Receiving.{without}
 use Rattle.l4_split.proofs.Promises.Promised.{AnyOf, MayFollow, InOrder, IsAnswer, IsAnswerIn, IsGone, IsGoneIn, kept_at, phases}
-use Rattle.l4_split.proofs.Promises.Acts.{Amid}
+use Rattle.l4_split.proofs.Promises.Acts.{StaysPromised}
 
 -- Taking out
 
@@ -35,7 +35,7 @@ order_skip : (xs ys zs : List Posted) (y : Posted) → InOrder ((xs ++ y ∷ ys)
 order_skip [] ys zs y h = h.1
 order_skip (x ∷ xs) ys zs y h = (all_skip (λ (q : Posted). MayFollow q.letter.content x.letter.content) xs ys zs y h.0, order_skip xs ys zs y h.1)
 
-pub taken_any : (P : Posted → Type 0) (from cpu : ℕ) (letter : Letter) (s : Scene) (x : Work) → IsFirst from cpu letter s.mail → AnyOf P (amid cpu s x).mail → P (record { from = from; to = cpu; letter = letter }) ⊎ AnyOf P (amid cpu (without from cpu s) x).mail
+pub taken_any : (P : Posted → Type 0) (from cpu : ℕ) (letter : Letter) (s : Scene) (x : Work) → IsFirstLetter from cpu letter s.mail → AnyOf P (amid cpu s x).mail → P (record { from = from; to = cpu; letter = letter }) ⊎ AnyOf P (amid cpu (without from cpu s) x).mail
 taken_any P from cpu letter s x f h = by (any_split P f.before f.after (map (posted cpu) x.letters) p (subst (λ ms. AnyOf P (ms ++ map (posted cpu) x.letters)) f.is h))
   where
     p : Posted
@@ -52,7 +52,7 @@ pub record IsSpent (m : Machine) (from cpu : ℕ) (letter : Letter) (s : Scene) 
       IsAnswer (name_of m i (kept_at (amid cpu s x) (home m i) i).thread) (home m i) (home m r) (record { from = from; to = cpu; letter = letter }) →
       AnyOf (IsAnswer (name_of m i (kept_at (amid cpu s x) (home m i) i).thread) (home m i) (home m r)) (amid cpu (without from cpu s) x).mail
 
-pub taken_keeps : (m : Machine) (from cpu : ℕ) (letter : Letter) (s : Scene) (x : Work) → IsFirst from cpu letter s.mail → IsSpent m from cpu letter s x → Amid m cpu s x → Amid m cpu (without from cpu s) x
+pub taken_keeps : (m : Machine) (from cpu : ℕ) (letter : Letter) (s : Scene) (x : Work) → IsFirstLetter from cpu letter s.mail → IsSpent m from cpu letter s x → StaysPromised m cpu s x → StaysPromised m cpu (without from cpu s) x
 taken_keeps m from cpu letter s x f spent p = record {
   threads = p.threads;
   told_ones = p.told_ones;

@@ -18,10 +18,10 @@ use Rattle.l4_split.proofs.Relation.Rows.{name_of}
 use Rattle.l4_split.proofs.Frames.Places.{put_keeps, put_same}
 use Rattle.l4_split.proofs.Frames.Mail.{mail_posted}
 use Rattle.l4_split.proofs.Frames.Going.{put_home}
-use Rattle.l4_split.proofs.Promises.Promised.{AnyOf, MayFollow, InOrder, IsAnswer, IsGone, IsRearmed, IsCalm, IsAnswered, IsTold, kept_at, phases}
+use Rattle.l4_split.proofs.Promises.Promised.{AnyOf, MayFollow, InOrder, IsAnswer, IsGone, IsArmedUnlessSplit, IsCalm, IsAnswered, IsTold, kept_at, phases}
 use Rattle.l4_split.proofs.Promises.Letters.{any_append, any_last, order_append}
 use Rattle.l4_split.proofs.Promises.Locals.{here_local}
-use Rattle.l4_split.proofs.Promises.Acts.{Amid}
+use Rattle.l4_split.proofs.Promises.Acts.{StaysPromised}
 
 -- Who is told now was told before, or is the next one.
 told_now : (m : Machine) (cpu told to : ℕ) → next_untold m cpu told ≡ Some to → (c : ℕ) → c < to + 1 → (c ≡ cpu → ⊥) → (c < told) ⊎ (c ≡ to)
@@ -50,8 +50,8 @@ told_now m cpu told to h c lt away = by (told == cpu) refl h
         bounded false h = cc
         bounded true h = which b is (some_is _ to h)
 
-pub tells_keeps : (m : Machine) (cpu to i : ℕ) (s : Scene) (x : Work) → cpu < m.cpus → home m i ≡ cpu → next_untold m cpu (slice_index_or x.local.told i 0) ≡ Some to → Amid m cpu s x →
-    Amid m cpu s (x ▷ does (has_told to i) ▷ posts to (GoneLetter (declared m i).id))
+pub tells_keeps : (m : Machine) (cpu to i : ℕ) (s : Scene) (x : Work) → cpu < m.cpus → home m i ≡ cpu → next_untold m cpu (slice_index_or x.local.told i 0) ≡ Some to → StaysPromised m cpu s x →
+    StaysPromised m cpu s (x ▷ does (has_told to i) ▷ posts to (GoneLetter (declared m i).id))
 tells_keeps m cpu to i s x processor here untold p = record {
   threads = λ c lt. put_keeps (λ (l : Local). length l.threads ≡ length m.threads) cpu c x.local (has_told to i x.local) s.locals (λ h. h) (p.threads c lt);
   told_ones = λ c lt. put_keeps (λ (l : Local). length l.told ≡ length m.threads) cpu c x.local (has_told to i x.local) s.locals (λ h. length-changed (λ n. to + 1) x.local.told i ∙ h) (p.told_ones c lt);
@@ -60,7 +60,7 @@ tells_keeps m cpu to i s x processor here untold p = record {
       (λ e. subst (λ j. j < length m.threads → IsTold m j (kept_at after (home m j) j).told (phases after j) after.mail) e told_here lt)
       (λ ne. told_other j lt ne);
   calm = λ j lt. put_keeps (λ l. IsCalm (thread l j)) cpu (home m j) x.local (has_told to i x.local) s.locals (λ h. h) (p.calm j lt);
-  armed = λ j lt out. put_keeps (λ l. IsRearmed m j (kept l j)) cpu (home m j) x.local (has_told to i x.local) s.locals (λ h. h) (p.armed j lt out);
+  armed = λ j lt out. put_keeps (λ l. IsArmedUnlessSplit m j (kept l j)) cpu (home m j) x.local (has_told to i x.local) s.locals (λ h. h) (p.armed j lt out);
   answered = λ j lt out. put_keeps (λ l. IsAnswered m j (kept l j) after.mail) cpu (home m j) x.local (has_told to i x.local) s.locals (λ h. h)
       (λ send r has away_to away ending. subst (AnyOf (IsAnswer (name_of m j (kept_at (amid cpu s x) (home m j) j).thread) (home m j) (home m r))) (sym mail) (any_append _ (amid cpu s x).mail last (p.answered j lt out send r has away_to away ending)));
 }

@@ -18,14 +18,14 @@ use Rattle.l4_core_model.specs.Mail.{own_place, foreign_place, waits_here, withd
 use Rattle.l4_core_model.specs.Runs.{Posted, is_between, letters}
 use Rattle.l4_core_model.proofs.Knows.{same_nat}
 use Rattle.l4_core_model.proofs.Pieces.{both}
-use Rattle.l4_split.proofs.Relation.Views.{Kept, Scene, View, view, home, amid, says_where, words, is_about, is_of}
+use Rattle.l4_split.proofs.Relation.Views.{Kept, Scene, View, view, home, amid, is_locator, is_about, is_of, locators}
 use Rattle.l4_split.proofs.Relation.Rows.{seats, name_of, IsDecided, IsSent, IsWaiting}
 use Rattle.l4_split.proofs.Frames.Mail.{mail_posted}
 use Rattle.l4_split.proofs.Frames.Moves.{at_home}
 use Rattle.l4_split.proofs.Letters.Receiving.{without, IsLetter, at_work, foreign_place_is}
 use Rattle.l4_split.proofs.Promises.Promised.{AnyOf, MayFollow, IsNotWithdrawalOf, InOrder, IsAnswer, IsAnswerIn, IsGoneIn, kept_at, Promised}
 use Rattle.l4_split.proofs.Promises.Letters.{any_last, any_map, any_filter, any_filtered, none_and_all, order_filter}
-use Rattle.l4_split.proofs.Promises.Acts.{Amid, refuses_keeps}
+use Rattle.l4_split.proofs.Promises.Acts.{StaysPromised, refuses_keeps}
 use Rattle.l4_split.proofs.Promises.Turns.{opened_keeps}
 use Rattle.l4_split.proofs.Promises.Taking.{taken_any, taken_keeps, same_place}
 
@@ -82,14 +82,14 @@ and_true : {P : Type 0} (a b : Bool) → a ≡ true → b ≡ true → (a && b) 
 and_true a b p q h = let p = p in let q = q in cc
 
 pub withdraw_keeps : (m : Machine) (from cpu : ℕ) (letter : Letter) (s : Scene) (w : World) (x : Work) (name : Name) (receiver : GlobalId) (cause : Cause) → IsLetter m from cpu letter s w → slice_get (letters s.mail from cpu) 0 ≡ Some letter →
-    letter.content ≡ WithdrawLetter name receiver cause → Promised m [] s → handled m cpu (WithdrawLetter name receiver cause) (at_work cpu letter s) ≡ Some x → Amid m cpu (without from cpu s) x
+    letter.content ≡ WithdrawLetter name receiver cause → Promised m [] s → handled m cpu (WithdrawLetter name receiver cause) (at_work cpu letter s) ≡ Some x → StaysPromised m cpu (without from cpu s) x
 withdraw_keeps m from cpu letter s w x name receiver cause h first content promised is =
     bind_then (own_place m cpu receiver) _ x is λ r own rest.
     bind_then (foreign_place m cpu name.thread) _ x rest λ i foreign rest.
     let at = foreign_place_is m cpu name.thread i foreign in
     let p = opened_keeps m cpu letter.stamp [] s h.processor promised in
     let z : Work = withdraws_here m cpu i name.k cause y in
-    subst (Amid m cpu (without from cpu s)) (some_is z x rest) (taken_keeps m from cpu letter s z h.first (record {
+    subst (StaysPromised m cpu (without from cpu s)) (some_is z x rest) (taken_keeps m from cpu letter s z h.first (record {
       gone = λ j to lt g. absurd (subst (IsGoneIn (declared m j).id to last) content g);
       answer = λ j r send lt has to away answer.
           let a = subst (IsAnswerIn (name_of m j (kept_at (amid cpu s z) (home m j) j).thread) (home m j) (home m r) last) content answer in
@@ -99,7 +99,7 @@ withdraw_keeps m from cpu letter s w x name receiver cause h first content promi
           subst (λ n. AnyOf (IsAnswer n (home m j) (home m r)) (amid cpu (without from cpu s) z).mail) (sym a.0)
           (subst (λ i. AnyOf (IsAnswer name (home m j) (home m r)) (amid cpu (without from cpu s) (withdraws_here m cpu i name.k cause y)).mail) (sym is_j)
           (finds j r send lt (λ e. at.1 (ap (home m) is_j ∙ e)) (sym (ap (λ (k : Kept). k.thread.send) old) ∙ has) to away named a.1.0 a.1.1));
-    }) (cond_keeps (Amid m cpu s) (waits_here y.local i name.k) _ y (λ waits. refuses_keeps m cpu i (refusal_of cause) s y h.processor p) (λ none. p)))
+    }) (cond_keeps (StaysPromised m cpu s) (waits_here y.local i name.k) _ y (λ waits. refuses_keeps m cpu i (refusal_of cause) s y h.processor p) (λ none. p)))
   where
     y : Work
     y = at_work cpu letter s
@@ -140,20 +140,20 @@ withdraw_keeps m from cpu letter s w x name receiver cause h first content promi
         number_is : name.k ≡ (at_home m j v).thread.context.begun
         number_is = ap (λ (n : Name). n.k) (sym named)
 
-        done : (q : Posted) (t : Name) (result : Result) → words v.mail ≡ q ∷ [] → q.letter.content ≡ DoneLetter t result → IsDecided m j (seats m j v) q t → Finds y
+        done : (q : Posted) (t : Name) (result : Result) → locators v.mail ≡ q ∷ [] → q.letter.content ≡ DoneLetter t result → IsDecided m j (seats m j v) q t → Finds y
         done q t result is content_is row = decided_is (taken_any (λ (p : Posted). IsDoneOf name p.letter.content) from cpu letter s y h.first
-            (subst (AnyOf (λ (p : Posted). IsDoneOf name p.letter.content)) (sym (append-nil s.mail)) (any_filter _ (is_about m j) s.mail (any_filter _ (λ (p : Posted). says_where p.letter.content) v.mail
+            (subst (AnyOf (λ (p : Posted). IsDoneOf name p.letter.content)) (sym (append-nil s.mail)) (any_filter _ (is_about m j) s.mail (any_filter _ (λ (p : Posted). is_locator p.letter.content) v.mail
             (subst (AnyOf (λ (p : Posted). IsDoneOf name p.letter.content)) (sym is) (inl (subst (IsDoneOf name) (sym content_is) (sym named ∙ sym row.name))))))))
           where
             decided_is : IsDoneOf name letter.content ⊎ AnyOf (λ (p : Posted). IsDoneOf name p.letter.content) (amid cpu (without from cpu s) y).mail → Finds y
             decided_is (inl mine) = absurd (subst (IsDoneOf name) content mine)
             decided_is (inr h) = any_map (λ (p : Posted). IsDoneOf name p.letter.content) (IsAnswer name (home m j) (home m r)) (λ p h. done_answers name (home m j) (home m r) p p.letter.content h) (amid cpu (without from cpu s) y).mail h
 
-        sent : (q : Posted) → words v.mail ≡ q ∷ [] → IsSent m j (seats m j v) q → Finds y
+        sent : (q : Posted) → locators v.mail ≡ q ∷ [] → IsSent m j (seats m j v) q → Finds y
         sent q is row =
             let same : row.goes.send ≡ send = some_is row.goes.send send (sym row.goes.has ∙ has) in
             let r_is : row.goes.r ≡ r = some_is row.goes.r r (sym row.goes.to ∙ ap (λ (s : Send). destination_place m s.to) same ∙ to) in
-            not_behind name receiver cause from cpu letter s.mail content first promised.in_order (any_filter _ (is_about m j) s.mail (any_filter _ (λ (p : Posted). says_where p.letter.content) v.mail
+            not_behind name receiver cause from cpu letter s.mail content first promised.in_order (any_filter _ (is_about m j) s.mail (any_filter _ (λ (p : Posted). is_locator p.letter.content) v.mail
             (subst (AnyOf (IsSendBetween name from cpu)) (sym is) (inl (row.from ∙ sym poster, (row.to ∙ ap (home m) r_is ∙ sym here, subst (IsSendOf name) (sym row.letter) named))))))
 
         waits : waits_here y.local j name.k ≡ false → (other : Send) → other ≡ send → IsWaiting m j other (seats m j v) → Finds y

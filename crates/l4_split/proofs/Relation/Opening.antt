@@ -17,9 +17,9 @@ use Rattle.l4_core_model.proofs.Fit.{all-map, all-filter}
 use Rattle.l4_core_model.proofs.Remembers.{same_or_apart}
 use Rattle.l4_split.proofs.Lists.{filter_kept, filter_out, filter_range, other_is}
 use Rattle.l4_split.proofs.Relation.Views.{Kept, View, kept, view, home, nowhere, scene}
-use Rattle.l4_split.proofs.Relation.Rows.{Stands}
+use Rattle.l4_split.proofs.Relation.Rows.{Matches}
 use Rattle.l4_split.proofs.Relation.Relates.{IsSized, Relates, senders}
-use Rattle.l4_split.proofs.Promises.Promised.{IsRearmed, IsCalm, IsAnswered, Promised}
+use Rattle.l4_split.proofs.Promises.Promised.{IsArmedUnlessSplit, IsCalm, IsAnswered, Promised}
 
 at_range : {A : Type 0} (f : ℕ → A) (d : A) (a n i : ℕ) → i < n → slice_index_or (map f (range_with_len a n)) i d ≡ f (a + i)
 at_range f d a zero i lt = absurd (omega arith)
@@ -72,8 +72,8 @@ other_kept : (m : Machine) (cpu i : ℕ) → (cpu ≡ home m i → ⊥) → kept
 other_kept m cpu i ne = at_processor m (λ l. kept l i ≡ opened i []) cpu (λ lt. opening_kept m cpu i ∙ ap (opened i) (other_entry m cpu i ne)) refl
 
 -- Where nothing has happened, all is as it is to be.
-opened_stands : (m : Machine) (i : ℕ) (v : View) → v.world ≡ opening_thread → v.mail ≡ [] → v.kept (home m i) ≡ opened i (i ∷ []) → ((cpu : ℕ) → (cpu ≡ home m i → ⊥) → v.kept cpu ≡ opened i []) → Stands m i v
-opened_stands m i v world mail here other = record {
+opening_matches : (m : Machine) (i : ℕ) (v : View) → v.world ≡ opening_thread → v.mail ≡ [] → v.kept (home m i) ≡ opened i (i ∷ []) → ((cpu : ℕ) → (cpu ≡ home m i → ⊥) → v.kept cpu ≡ opened i []) → Matches m i v
+opening_matches m i v world mail here other = record {
   known = record {
     agrees = rw (mail, here) world;
     row = rw (mail, here) (record { order = ap (λ (k : Kept). k.thread.order) here; unplaced = record { listed = λ cpu r. listed cpu r; stand_in = λ cpu ne. ap (λ (k : Kept). k.thread.send) (other cpu ne) } });
@@ -111,7 +111,7 @@ opening_relates m is = record {
   sized_world = record { threads = length-map m.threads (λ d. opening_thread); lists = length-map m.threads (λ d. []); clocks = length-replicate m.cpus 0 };
   clocks = λ cpu lt. get_or-replicate m.cpus cpu 0 0 lt ∙ at_processor m (λ l. 0 ≡ l.clock) cpu (λ here. refl) refl;
   lists = λ r lt. opening_list m r;
-  places = λ i lt but. opened_stands m i (view m (scene (opening_system m)) (opening m) i) (get-same opening_thread m.threads i) refl (home_kept m i is lt) (λ cpu ne. other_kept m cpu i ne);
+  places = λ i lt except. opening_matches m i (view m (scene (opening_system m)) (opening m) i) (get-same opening_thread m.threads i) refl (home_kept m i is lt) (λ cpu ne. other_kept m cpu i ne);
 }
 
 -- What is promised holds at the opening.
@@ -123,7 +123,7 @@ opening_promised m machine = record {
   in_order = tt;
   told = λ i lt c c_lt away below. let none = ap (λ (k : Kept). k.told) (home_kept m i machine lt) in absurd (omega arith);
   calm = λ i lt. subst (λ (k : Kept). IsCalm k.thread) (sym (home_kept m i machine lt)) (λ unsent living. refl);
-  armed = λ i lt out. subst (IsRearmed m i) (sym (home_kept m i machine lt)) (λ unsent empty. refl);
+  armed = λ i lt out. subst (IsArmedUnlessSplit m i) (sym (home_kept m i machine lt)) (λ unsent empty. refl);
   answered = λ i lt out. subst (λ k. IsAnswered m i k []) (sym (home_kept m i machine lt)) (λ send r has to away ending. none_sent send has);
 }
   where

@@ -10,7 +10,7 @@ use Rattle.l4_core_model.specs.Runs.{System}
 use Rattle.l4_core_model.proofs.Knows.{blocks}
 use Rattle.l4_core_model.proofs.Fit.{NotIn}
 use Rattle.l4_split.proofs.Relation.Views.{Scene, View, view, home, scene}
-use Rattle.l4_split.proofs.Relation.Rows.{Stands}
+use Rattle.l4_split.proofs.Relation.Rows.{Matches}
 
 abbrev pub AreWithin : Machine → List ℕ → Type 0
 AreWithin m places = AllByRecursion (λ i. i < length m.threads) places
@@ -34,12 +34,12 @@ abbrev pub senders : Machine → Scene → (receiver : ℕ) → List plain.Waiti
 senders m s r = plain.list_of (s.locals (home m r)).lists r
 
 -- What is known of all but the places that an act is about, and what is said of each of the others.
-pub record RelatesBut (m : Machine) (Says : ℕ → View → Type 0) (but : List ℕ) (s : Scene) (w : World) : Type 0 where
+pub record RelatesExcept (m : Machine) (Fact : ℕ → View → Type 0) (except : List ℕ) (s : Scene) (w : World) : Type 0 where
   pub sized : (cpu : ℕ) → cpu < m.cpus → IsSized m (s.locals cpu)
   pub sized_world : IsSizedWorld m w
   pub clocks : (cpu : ℕ) → cpu < m.cpus → slice_index_or w.clocks cpu 0 ≡ (s.locals cpu).clock
   pub lists : (r : ℕ) → r < length m.threads → list_at w.waiting r ≡ blocks (senders m s r)
-  pub places : (i : ℕ) → i < length m.threads → NotIn i but → Says i (view m s w i)
+  pub places : (i : ℕ) → i < length m.threads → NotIn i except → Fact i (view m s w i)
 
 abbrev pub Relates : Machine → System → World → Type 0
-Relates m g w = RelatesBut m (Stands m) [] (scene g) w
+Relates m g w = RelatesExcept m (Matches m) [] (scene g) w

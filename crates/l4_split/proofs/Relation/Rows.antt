@@ -12,7 +12,7 @@ use Rattle.l4_core_model.specs.Local.{declared, destination_place, armed_period,
 use Rattle.l4_core_model.specs.Acts.{entry}
 use Rattle.l4_core_model.specs.Runs.{Posted}
 use Rattle.l4_core_model.proofs.Fit.{IsGood}
-use Rattle.l4_split.proofs.Relation.Views.{Kept, View, home, words, notices}
+use Rattle.l4_split.proofs.Relation.Views.{Kept, View, home, notices, locators}
 
 -- The thread in the world
 
@@ -233,11 +233,11 @@ pub record IsKept (m : Machine) (i : ℕ) (v : View) : Type 0 where
 
 -- All that is said of one place, but for its entry among the ready ones.
 pub record Known (m : Machine) (i : ℕ) (v : View) : Type 0 where
-  pub agrees : Agrees v.world (learned (words v.mail) (v.kept (home m i)).clock (v.kept (home m i)).thread)
-  pub row : Row m i (seats m i v) (words v.mail) (v.kept (home m i)).thread.send
+  pub agrees : Agrees v.world (learned (locators v.mail) (v.kept (home m i)).clock (v.kept (home m i)).thread)
+  pub row : Row m i (seats m i v) (locators v.mail) (v.kept (home m i)).thread.send
   pub kept : IsKept m i v
 
 -- A ready thread stands among the ready ones once, any other one does not.
-pub record Stands (m : Machine) (i : ℕ) (v : View) : Type 0 where
+pub record Matches (m : Machine) (i : ℕ) (v : View) : Type 0 where
   pub known : Known m i v
   pub ready : (v.kept (home m i)).ready ≡ readied (v.kept (home m i)).thread.phase i []

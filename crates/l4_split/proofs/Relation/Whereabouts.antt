@@ -10,19 +10,19 @@ use Rattle.l4_split.proofs.Relation.Rows.{Agrees, IsDecided, IsObeyed, IsOrdered
 use Rattle.l4_model.specs.Effects.{decided, obeyed, waits}
 use Rattle.std.proofs.Common.{List, None, Option, Some, [], refl, sym, ℕ, ◌∙◌, ◌∷◌, ◌≡◌}
 use Rattle.l4_core_model.specs.Letters.{Content, DoneLetter, GoneLetter, OrderDoneLetter, OrderLetter, Result, SendLetter, WithdrawLetter}
-use Rattle.l4_split.proofs.Relation.Views.{View, home, words}
+use Rattle.l4_split.proofs.Relation.Views.{View, home, locators}
 
 -- It has neither; its send waits; it is under way; it is decided; its order is under way; it is done.
 pub where_then : {G : Type 0} (m : Machine) (i : ℕ) (v : View) → Known m i v →
-    (words v.mail ≡ [] → (v.kept (home m i)).thread.send ≡ None → IsPlain m i (seats m i v) → Agrees v.world (v.kept (home m i)).thread → G) →
-    ((send : Send) → words v.mail ≡ [] → (v.kept (home m i)).thread.send ≡ Some send → IsWaiting m i send (seats m i v) → Agrees v.world (v.kept (home m i)).thread → G) →
-    ((p : Posted) → words v.mail ≡ p ∷ [] → IsSent m i (seats m i v) p → Agrees v.world (v.kept (home m i)).thread → G) →
-    ((p : Posted) (s : Name) (result : Result) → words v.mail ≡ p ∷ [] → p.letter.content ≡ DoneLetter s result → IsDecided m i (seats m i v) p s →
+    (locators v.mail ≡ [] → (v.kept (home m i)).thread.send ≡ None → IsPlain m i (seats m i v) → Agrees v.world (v.kept (home m i)).thread → G) →
+    ((send : Send) → locators v.mail ≡ [] → (v.kept (home m i)).thread.send ≡ Some send → IsWaiting m i send (seats m i v) → Agrees v.world (v.kept (home m i)).thread → G) →
+    ((p : Posted) → locators v.mail ≡ p ∷ [] → IsSent m i (seats m i v) p → Agrees v.world (v.kept (home m i)).thread → G) →
+    ((p : Posted) (s : Name) (result : Result) → locators v.mail ≡ p ∷ [] → p.letter.content ≡ DoneLetter s result → IsDecided m i (seats m i v) p s →
     Agrees v.world (ended result (v.kept (home m i)).clock (v.kept (home m i)).thread) → G) →
-    ((p : Posted) → words v.mail ≡ p ∷ [] → IsOrdered m i (seats m i v) p → Agrees v.world (v.kept (home m i)).thread → G) →
-    ((p : Posted) (caller : GlobalId) → words v.mail ≡ p ∷ [] → p.letter.content ≡ OrderDoneLetter caller → IsObeyed m i (seats m i v) p →
+    ((p : Posted) → locators v.mail ≡ p ∷ [] → IsOrdered m i (seats m i v) p → Agrees v.world (v.kept (home m i)).thread → G) →
+    ((p : Posted) (caller : GlobalId) → locators v.mail ≡ p ∷ [] → p.letter.content ≡ OrderDoneLetter caller → IsObeyed m i (seats m i v) p →
     Agrees v.world (obeyed (v.kept (home m i)).thread) → G) → G
-where_then {G = G} m i v known plain waits sent decided ordered done = by (words v.mail) refl t.send refl known.row known.agrees
+where_then {G = G} m i v known plain waits sent decided ordered done = by (locators v.mail) refl t.send refl known.row known.agrees
   where
     t : Thread
     t = (v.kept (home m i)).thread
@@ -30,7 +30,7 @@ where_then {G = G} m i v known plain waits sent decided ordered done = by (words
     clock : ℕ
     clock = (v.kept (home m i)).clock
 
-    letter : (p : Posted) (c : Content) → words v.mail ≡ p ∷ [] → p.letter.content ≡ c → RowOf m i (seats m i v) p c → Agrees v.world (learns c clock t) → G
+    letter : (p : Posted) (c : Content) → locators v.mail ≡ p ∷ [] → p.letter.content ≡ c → RowOf m i (seats m i v) p c → Agrees v.world (learns c clock t) → G
     letter p (SendLetter s receiver message zero_timeout) is content row a = sent p is row a
     letter p (DoneLetter s result) is content row a = decided p s result is content row a
     letter p (WithdrawLetter s receiver cause) is content row a = absurd row
@@ -38,7 +38,7 @@ where_then {G = G} m i v known plain waits sent decided ordered done = by (words
     letter p (OrderLetter caller target what) is content row a = ordered p is row a
     letter p (OrderDoneLetter caller) is content row a = done p caller is content row a
 
-    by : (ps : List Posted) → words v.mail ≡ ps → (o : Option Send) → t.send ≡ o → Row m i (seats m i v) ps o → Agrees v.world (learned ps clock t) → G
+    by : (ps : List Posted) → locators v.mail ≡ ps → (o : Option Send) → t.send ≡ o → Row m i (seats m i v) ps o → Agrees v.world (learned ps clock t) → G
     by [] is None has row a = plain is has row a
     by [] is (Some send) has row a = waits send is has row a
     by (p ∷ []) is o has row a = letter p p.letter.content is refl row a

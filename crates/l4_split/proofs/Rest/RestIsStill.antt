@@ -23,47 +23,47 @@ use Rattle.l4_split.proofs.Relation.Relates.{senders, Relates}
 use Rattle.l4_split.proofs.Frames.Moves.{deleted_phase}
 use Rattle.l4_split.proofs.Rest.Seen.{refusable_at_home}
 use Rattle.l4_split.proofs.Rest.Settled.{IsSettledSend, there, IsSettledReceive, IsSettledThread, settled_still}
-use Rattle.l4_split.proofs.Rest.Resting.{IsAtRest, own, own_agrees, own_seen, own_waits, no_deadline, none_armed, none_ending, is_at_rest, no_order, unready, known_gone}
+use Rattle.l4_split.proofs.Rest.Resting.{IsAtRest, own, own_agrees, own_shown, own_waits, no_deadline, none_armed, none_ending, is_at_rest, no_order, unready, known_gone}
 use Rattle.std.specs.Option.{option_map}
 use Rattle.l4_model.specs.Words.{Id, NilThread, AnyThread, AnyLocalThread, LocalThread, GlobalThread}
 use Rattle.l4_model.specs.Still.{IsStill}
 use Rattle.l4_core_model.specs.Runs.{System, at_rest, IsMachine}
 use Rattle.l4_core_model.proofs.Duties.{receiving_is}
 use Rattle.l4_core_model.proofs.Good.{receiving_has_none}
-use Rattle.l4_split.proofs.Sends.Waiting.{first_is}
+use Rattle.l4_split.proofs.Sends.Waiting.{first_accepted_is}
 
 -- A send that waits, at home or elsewhere
-record IsHere (m : Machine) (s : Scene) (w : World) (i : ℕ) (send : Send) : Type 0 where
+record WaitsAtRest (m : Machine) (s : Scene) (w : World) (i : ℕ) (send : Send) : Type 0 where
   rest : IsAtRest m s w
   within : i < length m.threads
   has : (own m s i).send ≡ Some send
   row : IsWaiting m i send (seats m i (view m s w i))
 
-to_within : (m : Machine) (s : Scene) (w : World) (i : ℕ) (send : Send) → (h : IsHere m s w i send) → h.row.r < length m.threads
+to_within : (m : Machine) (s : Scene) (w : World) (i : ℕ) (send : Send) → (h : WaitsAtRest m s w i send) → h.row.r < length m.threads
 to_within m s w i send h = destination_within m send.to h.row.r h.row.to
 
 -- It does not go to another processor's thread.
-not_split : (m : Machine) (s : Scene) (w : World) (i : ℕ) (send : Send) → (h : IsHere m s w i send) → home m h.row.r ≡ home m i → IsSplitSend m i (own m s i).send → ⊥
+not_split : (m : Machine) (s : Scene) (w : World) (i : ℕ) (send : Send) → (h : WaitsAtRest m s w i send) → home m h.row.r ≡ home m i → IsSplitSend m i (own m s i).send → ⊥
 not_split m s w i send h same split =
     let q : IsSplitSend m i (Some send) = subst (IsSplitSend m i) h.has split in
     q.1.1 (ap (home m) (some_is q.0 h.row.r (sym q.1.0 ∙ h.row.to)) ∙ same)
 
-stands_at_home : (m : Machine) (s : Scene) (w : World) (i : ℕ) (send : Send) → (h : IsHere m s w i send) → home m h.row.r ≡ home m i → plain.is_queued (s.locals (home m i)).lists i ≡ true
+stands_at_home : (m : Machine) (s : Scene) (w : World) (i : ℕ) (send : Send) → (h : WaitsAtRest m s w i send) → home m h.row.r ≡ home m i → plain.is_queued (s.locals (home m i)).lists i ≡ true
 stands_at_home m s w i send h same =
     let e : plain.Waiting = entry m h.row.r i send in
     any_list (is_of i) (s.locals (home m i)).lists.waiting h.row.r (any_kept (is_of i) _ [] e (subst (λ c. filter (is_of i) (plain.list_of (s.locals c).lists h.row.r) ≡ e ∷ []) same h.row.listed))
 
-no_drop : (m : Machine) (s : Scene) (w : World) (i : ℕ) (send : Send) → IsHere m s w i send → is_deleted (own m s i).phase ≡ true → ⊥
+no_drop : (m : Machine) (s : Scene) (w : World) (i : ℕ) (send : Send) → WaitsAtRest m s w i send → is_deleted (own m s i).phase ≡ true → ⊥
 no_drop m s w i send h gone = same_or_apart ⊥ (home m h.row.r) (home m i)
     (λ same. (h.rest.idle i h.within).no_drop gone (stands_at_home m s w i send h same))
     (λ ne. none_ending m s w i h.row.r send h.rest h.within h.has h.row.to ne (inr (inr (deleted_phase (own m s i).phase gone))))
 
-no_wish : (m : Machine) (s : Scene) (w : World) (i : ℕ) (send : Send) → IsHere m s w i send → (own m s i).cancel_send ≡ true → ⊥
+no_wish : (m : Machine) (s : Scene) (w : World) (i : ℕ) (send : Send) → WaitsAtRest m s w i send → (own m s i).cancel_send ≡ true → ⊥
 no_wish m s w i send h wish = same_or_apart ⊥ (home m h.row.r) (home m i)
     (λ same. (h.rest.idle i h.within).no_cancel (stands_at_home m s w i send h same) wish)
     (λ ne. none_ending m s w i h.row.r send h.rest h.within h.has h.row.to ne (inr (inl wish)))
 
-endless : (m : Machine) (s : Scene) (w : World) (i n : ℕ) (send : Send) → IsHere m s w i send → send.period ≡ Some n → is_zero send.period ≡ false → ⊥
+endless : (m : Machine) (s : Scene) (w : World) (i n : ℕ) (send : Send) → WaitsAtRest m s w i send → send.period ≡ Some n → is_zero send.period ≡ false → ⊥
 endless m s w i n send h period not_zero = by (own m s i).phase refl (subst (λ o. Suits (own m s i).phase o (own m s i).order) h.has (h.rest.relates.places i h.within tt).known.kept.at_home.good.suits)
   where
     timed : (own m s i).phase ≡ Sending → armed_period (own m s i).phase (own m s i).send ≡ None → ⊥
@@ -82,14 +82,14 @@ endless m s w i n send h period not_zero = by (own m s i).phase refl (subst (λ 
 -- Its receiver has no duty to refuse it.
 
 -- what is kept of it where it waits
-at_receiver : (m : Machine) (s : Scene) (w : World) (i : ℕ) (send : Send) (clock : ℕ) → (h : IsHere m s w i send) → is_zero send.period ≡ true →
+at_receiver : (m : Machine) (s : Scene) (w : World) (i : ℕ) (send : Send) (clock : ℕ) → (h : WaitsAtRest m s w i send) → is_zero send.period ≡ true →
     is_refusable m send (Some (record { at = h.row.r; declared = declared m h.row.r; now = own m s h.row.r; clock = clock })) ≡ true →
     zero_refusable m (record { at = h.row.r; declared = declared m h.row.r; now = own m s h.row.r; clock = clock }) (thread (s.locals (home m h.row.r)) i).send ≡ true
 at_receiver m s w i send clock h at_once refusable = same_or_apart _ (home m h.row.r) (home m i)
     (λ same. let has : (thread (s.locals (home m h.row.r)) i).send ≡ Some send = ap (λ c. (thread (s.locals c) i).send) same ∙ h.has in rw (has, at_once) refusable)
     (λ ne. let has = (h.row.stand_in ne).has in rw (has, at_once) refusable)
 
-stays : (m : Machine) (s : Scene) (w : World) (i : ℕ) (send : Send) (clocks : List ℕ) → (h : IsHere m s w i send) → is_zero send.period ≡ true → is_refusable m send (Some (there m w clocks h.row.r)) ≡ true → ⊥
+stays : (m : Machine) (s : Scene) (w : World) (i : ℕ) (send : Send) (clocks : List ℕ) → (h : WaitsAtRest m s w i send) → is_zero send.period ≡ true → is_refusable m send (Some (there m w clocks h.row.r)) ≡ true → ⊥
 stays m s w i send clocks h at_once refusable =
     let r = h.row.r in
     let l : Local = s.locals (home m r) in
@@ -100,19 +100,19 @@ stays m s w i send clocks h at_once refusable =
     let some = at_receiver m s w i send l.clock h at_once here in
     cc (none, some)
 
-receiver_alive : (m : Machine) (s : Scene) (w : World) (i : ℕ) (send : Send) → (h : IsHere m s w i send) → is_deleted (world_thread w h.row.r).phase ≡ true → ⊥
+receiver_alive : (m : Machine) (s : Scene) (w : World) (i : ℕ) (send : Send) → (h : WaitsAtRest m s w i send) → is_deleted (world_thread w h.row.r).phase ≡ true → ⊥
 receiver_alive m s w i send h gone =
     let lt = to_within m s w i send h in
-    let empty = (h.rest.idle h.row.r lt).no_refusal (sym (own_seen m s w h.row.r h.rest lt).deleted ∙ gone) in
+    let empty = (h.rest.idle h.row.r lt).no_refusal (sym (own_shown m s w h.row.r h.rest lt).deleted ∙ gone) in
     let none = ap (filter (is_of i)) empty in
     let one = h.row.listed in
     cc (none, one)
 
 pub settled_send : (m : Machine) (s : Scene) (w : World) (i : ℕ) (send : Send) → IsAtRest m s w → i < length m.threads → (world_thread w i).send ≡ Some send → IsSettledSend m w i send
 settled_send m s w i send rest lt has_there =
-    let seen = own_seen m s w i rest lt in
+    let seen = own_shown m s w i rest lt in
     let has = sym seen.send ∙ has_there in
-    let h : IsHere m s w i send = record { rest = rest; within = lt; has = has; row = own_waits m s w i send rest lt has } in
+    let h : WaitsAtRest m s w i send = record { rest = rest; within = lt; has = has; row = own_waits m s w i send rest lt has } in
     let r = h.row.r in
     let e : plain.Waiting = entry m r i send in
     record {
@@ -142,7 +142,7 @@ nobody_here m s w cpu clocks (GlobalThread t) rest lt h = by (place_of m t) refl
 
 settled_receive : (m : Machine) (s : Scene) (w : World) (i : ℕ) (receive : Receive) → IsAtRest m s w → i < length m.threads → receive_now (world_thread w i).phase ≡ Some receive → IsSettledReceive m w i receive
 settled_receive m s w i receive rest lt receiving_there =
-    let seen = own_seen m s w i rest lt in
+    let seen = own_shown m s w i rest lt in
     let receiving = sym seen.receives ∙ receiving_there in
     let now = receiving_is (own m s i) receive receiving in
     let is = now.is in
@@ -150,7 +150,7 @@ settled_receive m s w i receive rest lt receiving_there =
     let idle = rest.idle i lt in
     record {
       endless = λ n period. finite n period now.since is none.0;
-      none = λ clocks. first_is m s w i receive.from (there m w clocks i) rest.machine lt refl refl rest.relates ∙ accepts now.since is idle.no_delivery;
+      none = λ clocks. first_accepted_is m s w i receive.from (there m w clocks i) rest.machine lt refl refl rest.relates ∙ accepts now.since is idle.no_delivery;
       somebody = λ clocks nobody. idle.no_close receive receiving (nobody_here m s w (home m i) clocks receive.from rest (rest.machine.homed i lt) nobody);
       no_wish = λ wish. idle.no_wish receive receiving (sym (seen.cancel_receive receive receiving_there) ∙ wish);
     }

@@ -1,6 +1,5 @@
 -- What is known of each thread at rest: no letter is under way, so the world has it as its home does.
 use Rattle.l4_model.proofs.Places.{known}
-use Rattle.l4_split.proofs.Frames.Going.{told}
 use Rattle.l4_model.proofs.Rows.Writing.{send}
 use Rattle.std.proofs.Common.{◌≡◌, ℕ, ◌+◌, ◌<◌, Bool, true, false, cond, Option, Some, None, [], filter, length, refl, ap, sym, ◌∙◌, subst, arith, inl, inr, ◌⊎◌}
 use Rattle.std.specs.Prelude.{◌==◌, nat_lt}
@@ -12,16 +11,16 @@ use Rattle.l4_core_model.specs.Local.{declared, thread, readied, armed_period, d
 use Rattle.l4_core_model.specs.Turns.{next_untold}
 use Rattle.l4_core_model.specs.Runs.{System, at_rest, IsMachine}
 use Rattle.l4_core_model.proofs.Remembers.{same_or_apart}
-use Rattle.l4_split.proofs.Relation.Views.{Scene, view, world_thread, home, scene, words, is_about}
-use Rattle.l4_split.proofs.Relation.Rows.{seats, Agrees, learned, Row, IsWaiting, Stands, name_of}
+use Rattle.l4_split.proofs.Relation.Views.{Scene, view, world_thread, home, scene, is_about, locators}
+use Rattle.l4_split.proofs.Relation.Rows.{seats, Agrees, learned, Row, IsWaiting, Matches, name_of}
 use Rattle.l4_split.proofs.Promises.Promised.{AnyOf, IsAnswer, IsGone, IsSplitSend, IsLate, IsWished, kept_at, phases, Promised}
-use Rattle.l4_split.proofs.Relation.Relates.{RelatesBut, Relates}
-use Rattle.l4_split.proofs.Rest.Seen.{IsSeen, is_seen}
+use Rattle.l4_split.proofs.Relation.Relates.{RelatesExcept, Relates}
+use Rattle.l4_split.proofs.Rest.Seen.{IsShown, is_shown}
 use Rattle.l4_split.proofs.Rest.Idle.{IsIdle, is_idle, none_posted}
 
 pub record IsAtRest (m : Machine) (s : Scene) (w : World) : Type 0 where
   pub machine : IsMachine m
-  pub relates : RelatesBut m (Stands m) [] s w
+  pub relates : RelatesExcept m (Matches m) [] s w
   pub promised : Promised m [] s
   pub quiet : s.mail ≡ []
   pub idle : (i : ℕ) → i < length m.threads → IsIdle m (home m i) (s.locals (home m i)) i
@@ -44,13 +43,13 @@ no_mail m s w i rest = ap (filter (is_about m i)) rest.quiet
 
 pub own_agrees : (m : Machine) (s : Scene) (w : World) (i : ℕ) → IsAtRest m s w → i < length m.threads → Agrees (world_thread w i) (own m s i)
 own_agrees m s w i rest lt =
-    subst (λ mail. Agrees (world_thread w i) (learned (words mail) (s.locals (home m i)).clock (own m s i))) (no_mail m s w i rest) (rest.relates.places i lt tt).known.agrees
+    subst (λ mail. Agrees (world_thread w i) (learned (locators mail) (s.locals (home m i)).clock (own m s i))) (no_mail m s w i rest) (rest.relates.places i lt tt).known.agrees
 
-pub own_seen : (m : Machine) (s : Scene) (w : World) (i : ℕ) → IsAtRest m s w → i < length m.threads → IsSeen (world_thread w i) (own m s i)
-own_seen m s w i rest lt = is_seen (world_thread w i) (own m s i) (own_agrees m s w i rest lt)
+pub own_shown : (m : Machine) (s : Scene) (w : World) (i : ℕ) → IsAtRest m s w → i < length m.threads → IsShown (world_thread w i) (own m s i)
+own_shown m s w i rest lt = is_shown (world_thread w i) (own m s i) (own_agrees m s w i rest lt)
 
 own_row : (m : Machine) (s : Scene) (w : World) (i : ℕ) → IsAtRest m s w → i < length m.threads → Row m i (seats m i (view m s w i)) [] (own m s i).send
-own_row m s w i rest lt = subst (λ mail. Row m i (seats m i (view m s w i)) (words mail) (own m s i).send) (no_mail m s w i rest) (rest.relates.places i lt tt).known.row
+own_row m s w i rest lt = subst (λ mail. Row m i (seats m i (view m s w i)) (locators mail) (own m s i).send) (no_mail m s w i rest) (rest.relates.places i lt tt).known.row
 
 -- An undecided send waits.
 pub own_waits : (m : Machine) (s : Scene) (w : World) (i : ℕ) (send : Send) → IsAtRest m s w → i < length m.threads → (own m s i).send ≡ Some send → IsWaiting m i send (seats m i (view m s w i))
@@ -58,7 +57,7 @@ own_waits m s w i send rest lt has = subst (Row m i (seats m i (view m s w i)) [
 
 -- No order is undone.
 pub no_order : (m : Machine) (s : Scene) (w : World) (i : ℕ) → IsAtRest m s w → i < length m.threads → (world_thread w i).order ≡ None
-no_order m s w i rest lt = (own_seen m s w i rest lt).order ∙ by (own m s i).send (own_row m s w i rest lt)
+no_order m s w i rest lt = (own_shown m s w i rest lt).order ∙ by (own m s i).send (own_row m s w i rest lt)
   where
     by : (o : Option Send) → Row m i (seats m i (view m s w i)) [] o → (own m s i).order ≡ None
     by None row = row.order
@@ -67,7 +66,7 @@ no_order m s w i rest lt = (own_seen m s w i rest lt).order ∙ by (own m s i).s
 -- No thread is ready.
 pub unready : (m : Machine) (s : Scene) (w : World) (i : ℕ) → IsAtRest m s w → i < length m.threads → is_ready (world_thread w i).phase ≡ true → ⊥
 unready m s w i rest lt ready =
-    none (own m s i).phase (sym (rest.relates.places i lt tt).ready ∙ ap (filter (λ j. i == j)) (rest.idle i lt).none_ready) (sym (own_seen m s w i rest lt).ready ∙ ready)
+    none (own m s i).phase (sym (rest.relates.places i lt tt).ready ∙ ap (filter (λ j. i == j)) (rest.idle i lt).none_ready) (sym (own_shown m s w i rest lt).ready ∙ ready)
   where
     none : (p : Phase) → readied p i [] ≡ [] → is_ready p ≡ true → ⊥
     none Ready h is = cc
@@ -109,7 +108,7 @@ told_all m cpu here told h lt ne = by (told == here) refl h
 
 pub known_gone : (m : Machine) (s : Scene) (w : World) (j cpu : ℕ) → IsAtRest m s w → j < length m.threads → cpu < m.cpus → is_deleted (world_thread w j).phase ≡ true → is_deleted (thread (s.locals cpu) j).phase ≡ true
 known_gone m s w j cpu rest lt processor gone =
-    let at_home : is_deleted (own m s j).phase ≡ true = sym (own_seen m s w j rest lt).deleted ∙ gone in
+    let at_home : is_deleted (own m s j).phase ≡ true = sym (own_shown m s w j rest lt).deleted ∙ gone in
     same_or_apart (is_deleted (thread (s.locals cpu) j).phase ≡ true) cpu (home m j)
     (λ same. ap (λ c. is_deleted (thread (s.locals c) j).phase) same ∙ at_home)
     (λ ne. by (rest.promised.told j lt cpu processor ne (told_all m cpu (home m j) _ ((rest.idle j lt).all_told at_home) processor ne)))

@@ -8,7 +8,7 @@ use Rattle.l4_model.specs.Conditions.{is_refusable, call_accepts}
 use Rattle.l4_split.proofs.Relation.Rows.{Agrees, AgreesIn}
 use Rattle.l4_split.proofs.Sends.Refusable.{seen}
 
-pub record IsSeen (world t : Thread) : Type 0 where
+pub record IsShown (world t : Thread) : Type 0 where
   pub ready : is_ready world.phase ≡ is_ready t.phase
   pub deleted : is_deleted world.phase ≡ is_deleted t.phase
   pub receives : receive_now world.phase ≡ receive_now t.phase
@@ -17,8 +17,8 @@ pub record IsSeen (world t : Thread) : Type 0 where
   pub cancel_send : world.cancel_send ≡ t.cancel_send
   pub cancel_receive : (receive : Receive) → receive_now world.phase ≡ Some receive → world.cancel_receive ≡ t.cancel_receive
 
-same_seen : (world t : Thread) → world ≡ t → IsSeen world t
-same_seen world t e = record {
+same_shown : (world t : Thread) → world ≡ t → IsShown world t
+same_shown world t e = record {
   ready = ap (λ (t : Thread). is_ready t.phase) e;
   deleted = ap (λ (t : Thread). is_deleted t.phase) e;
   receives = ap (λ (t : Thread). receive_now t.phase) e;
@@ -28,12 +28,12 @@ same_seen world t e = record {
   cancel_receive = λ receive is. ap (λ (t : Thread). t.cancel_receive) e;
 }
 
-pub is_seen : (world t : Thread) → Agrees world t → IsSeen world t
-is_seen world t a = by t.phase refl a
+pub is_shown : (world t : Thread) → Agrees world t → IsShown world t
+is_shown world t a = by t.phase refl a
   where
-    by : (p : Phase) → t.phase ≡ p → AgreesIn p world t → IsSeen world t
-    by Ready is a = same_seen world t a
-    by Sending is a = same_seen world t a
+    by : (p : Phase) → t.phase ≡ p → AgreesIn p world t → IsShown world t
+    by Ready is a = same_shown world t a
+    by Sending is a = same_shown world t a
     by (Receiving receive since) is a = record {
       ready = ap (λ (t : Thread). is_ready t.phase) a.same ∙ sym (ap is_ready is);
       deleted = ap (λ (t : Thread). is_deleted t.phase) a.same ∙ sym (ap is_deleted is);
@@ -43,8 +43,8 @@ is_seen world t a = by t.phase refl a
       cancel_send = ap (λ (t : Thread). t.cancel_send) a.same;
       cancel_receive = λ r h. ap (λ (t : Thread). t.cancel_receive) a.same;
     }
-    by Ordering is a = same_seen world t a
-    by Ended is a = same_seen world t a
+    by Ordering is a = same_shown world t a
+    by Ended is a = same_shown world t a
     by Deleted is a = record {
       ready = ap is_ready a.deleted ∙ sym (ap is_ready is);
       deleted = ap is_deleted a.deleted ∙ sym (ap is_deleted is);

@@ -18,14 +18,14 @@ use Rattle.l4_core_model.proofs.Good.{begins_good}
 use Rattle.l4_core_model.proofs.Beginning.{destination_within}
 use Rattle.l4_core_model.proofs.Remembers.{apart}
 use Rattle.l4_split.proofs.Lists.{filter_last, filter_last_other}
-use Rattle.l4_split.proofs.Relation.Views.{Scene, Kept, View, kept, view, home, amid, says_where, words, notices}
+use Rattle.l4_split.proofs.Relation.Views.{Scene, Kept, View, kept, view, home, amid, is_locator, notices, locators}
 use Rattle.l4_split.proofs.Relation.Rows.{seats, Agrees, IsKeptAtHome, IsSent}
 use Rattle.l4_split.proofs.Relation.Agreement.{same_agrees}
 use Rattle.l4_split.proofs.Frames.Places.{first_about, takes_in}
 use Rattle.l4_split.proofs.Frames.Mail.{letter_posted, mail_here}
-use Rattle.l4_split.proofs.Frames.Moves.{at_home, Carries, same_alike, Moves, moves_kept, word_known, come_kept, ready_is_alive}
-use Rattle.l4_split.proofs.Frames.Going.{Goes, told, home_is, sized_here, comes}
-use Rattle.l4_split.proofs.Turns.Instructions.{Runs, running_is, running_found}
+use Rattle.l4_split.proofs.Frames.Moves.{at_home, StaysTrue, same_alike, Moves, moves_kept, located_known, come_kept, ready_is_alive}
+use Rattle.l4_split.proofs.Frames.Going.{Goes, one_more_told, home_is, sized_here, comes}
+use Rattle.l4_split.proofs.Turns.Instructions.{IsPicked, running_is, running_found}
 use Rattle.l4_split.proofs.Sends.Deciding.{sender_unready}
 use Rattle.l4_split.proofs.Sends.Refusing.{nowhere_goes}
 use Rattle.l4_split.proofs.Sends.Queueing.{IsInHand, none_listed}
@@ -34,7 +34,7 @@ use Rattle.l4_split.proofs.Sends.Delivering.{arrives_goes}
 abbrev begun : Machine → ℕ → Send → Work → Work
 begun m i send x = x ▷ does (comes_to i (begins send)) ▷ tells (Begin (last_name m (comes_to i (begins send) x.local) i))
 
-begin_goes : (m : Machine) (cpu i : ℕ) (s : Scene) (w : World) (x : Work) (send : Send) → cpu < m.cpus → (e : Goes m cpu s w (i ∷ []) x) → Runs m cpu i s x e.now → send_of (act_of m (held m x.local i)) ≡ Some send → send.since ≡ x.local.clock →
+begin_goes : (m : Machine) (cpu i : ℕ) (s : Scene) (w : World) (x : Work) (send : Send) → cpu < m.cpus → (e : Goes m cpu s w (i ∷ []) x) → IsPicked m cpu i s x e.now → send_of (act_of m (held m x.local i)) ≡ Some send → send.since ≡ x.local.clock →
     IsInHand m cpu i s w (begun m i send x) send
 begin_goes m cpu i s w x send processor e r sends since =
     let now = e.now in
@@ -59,7 +59,7 @@ begin_goes m cpu i s w x send processor e r sends since =
     let moves : Moves m i v after = record {
       elsewhere = λ p ne. same_alike (v.kept p) (after.kept p) (c.elsewhere p ne);
       notices = refl;
-      carries = subst (λ a. Carries a (at_home m i after)) (sym was) (subst (Carries k) (sym c.here) (record {
+      stays_true = subst (λ a. StaysTrue a (at_home m i after)) (sym was) (subst (StaysTrue k) (sym c.here) (record {
         deleted = λ gone. ready_is_alive (thread x.local i).phase gone ready;
         begun = omega arith;
         causes = λ cause same old. absurd (omega arith);
@@ -70,7 +70,7 @@ begin_goes m cpu i s w x send processor e r sends since =
         machine = r.here.machine;
         processor = processor;
         within = r.here.within;
-        goes = record { now = u; reaches = told m w now u x.steps (Begin (last_name m y.local i)) e.reaches possible; relates = c.relates };
+        goes = record { now = u; reaches = one_more_told m w now u x.steps (Begin (last_name m y.local i)) e.reaches possible; relates = c.relates };
         at = record {
           kept = moves_kept m i v after r.known.kept moves (subst (IsKeptAtHome i) (sym c.here) (come_kept i f k good since));
           out = ap (λ (k : Kept). k.ready) c.here ∙ r.out;
@@ -98,13 +98,13 @@ posted_goes m cpu i r s w x send h here to away =
     let p : Posted = posted cpu (home m r, record { stamp = x.local.stamp; content = SendLetter name (declared m r).id send.message (is_zero send.period) }) in
     let placed = h.has.machine.placed i h.has.within in
     let mail : after.mail ≡ v.mail ++ p ∷ [] = mail_here m cpu (home m r) i (SendLetter name (declared m r).id send.message (is_zero send.period)) s e.now x placed in
-    let word : words after.mail ≡ p ∷ [] = ap words mail ∙ filter_last (λ (q : Posted). says_where q.letter.content) v.mail p refl ∙ ap (λ ps. ps ++ p ∷ []) at.quiet in
-    let others : notices after.mail ≡ notices v.mail = ap notices mail ∙ filter_last_other (λ (q : Posted). not (says_where q.letter.content)) v.mail p refl in
+    let word : locators after.mail ≡ p ∷ [] = ap locators mail ∙ filter_last (λ (q : Posted). is_locator q.letter.content) v.mail p refl ∙ ap (λ ps. ps ++ p ∷ []) at.quiet in
+    let others : notices after.mail ≡ notices v.mail = ap notices mail ∙ filter_last_other (λ (q : Posted). not (is_locator q.letter.content)) v.mail p refl in
     let was = home_is m cpu i s x e.now here in
     let moves : Moves m i v after = record {
       elsewhere = λ c ne. same_alike (v.kept c) (after.kept c) refl;
       notices = others;
-      carries = record { deleted = λ gone. gone; begun = omega arith; causes = λ cause same old. old };
+      stays_true = record { deleted = λ gone. gone; begun = omega arith; causes = λ cause same old. old };
     } in
     let keeps = moves_kept m i v after at.kept moves at.kept.at_home in
     let suits : Suits (at_home m i v).thread.phase (Some send) (at_home m i v).thread.order = subst (λ o. Suits (at_home m i v).thread.phase o (at_home m i v).thread.order) at.has at.kept.at_home.good.suits in
@@ -119,11 +119,11 @@ posted_goes m cpu i r s w x send h here to away =
       now = e.now;
       reaches = e.reaches;
       relates = takes_in m i [] (amid cpu s a) e.now (letter_posted m cpu (home m r) i (SendLetter name (declared m r).id send.message (is_zero send.period)) (i ∷ []) s e.now x placed (first_about i []) e.relates)
-          (record { known = word_known m i after p keeps word row at.agrees; ready = at.out ∙ sym (sender_unready i (at_home m i v).thread.phase send (at_home m i v).thread.order suits) });
+          (record { known = located_known m i after p keeps word row at.agrees; ready = at.out ∙ sym (sender_unready i (at_home m i v).thread.phase send (at_home m i v).thread.order suits) });
     }
 
 -- An instruction that sends
-pub begins_send_goes : (m : Machine) (cpu i : ℕ) (s : Scene) (w : World) (x : Work) (send : Send) → cpu < m.cpus → (e : Goes m cpu s w (i ∷ []) x) → Runs m cpu i s x e.now → send_of (act_of m (held m x.local i)) ≡ Some send → send.since ≡ x.local.clock → (send.to ≡ NilThread → ⊥) →
+pub begins_send_goes : (m : Machine) (cpu i : ℕ) (s : Scene) (w : World) (x : Work) (send : Send) → cpu < m.cpus → (e : Goes m cpu s w (i ∷ []) x) → IsPicked m cpu i s x e.now → send_of (act_of m (held m x.local i)) ≡ Some send → send.since ≡ x.local.clock → (send.to ≡ NilThread → ⊥) →
     Goes m cpu s w [] (begins_send m cpu i send x)
 begins_send_goes m cpu i s w x send processor e r sends since not_nil = by (destination_place m send.to) refl
   where

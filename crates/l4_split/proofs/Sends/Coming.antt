@@ -13,22 +13,22 @@ use Rattle.l4_core_model.proofs.Beginning.{destination_within}
 use Rattle.l4_core_model.proofs.Fit.{IsGood, Suits}
 use Rattle.l4_core_model.proofs.Remembers.{same_or_apart}
 use Rattle.l4_split.proofs.Frames.Locals.{changes_here}
-use Rattle.l4_split.proofs.Relation.Views.{Scene, Kept, View, kept, view, home, amid, words, notices}
-use Rattle.l4_split.proofs.Relation.Rows.{seats, Agrees, learns, learned, Row, RowOf, name_of, IsSent, IsDecided, IsKept, IsKeptAtHome, Stands}
-use Rattle.l4_split.proofs.Relation.Relates.{IsSized, RelatesBut}
+use Rattle.l4_split.proofs.Relation.Views.{Scene, Kept, View, kept, view, home, amid, notices, locators}
+use Rattle.l4_split.proofs.Relation.Rows.{seats, Agrees, learns, learned, Row, RowOf, name_of, IsSent, IsDecided, IsKept, IsKeptAtHome, Matches}
+use Rattle.l4_split.proofs.Relation.Relates.{IsSized, RelatesExcept}
 use Rattle.l4_split.proofs.Frames.Places.{first_about, takes_in, local_changes, changes_spares}
 use Rattle.l4_split.proofs.Frames.Lists.{put_here}
-use Rattle.l4_split.proofs.Frames.Moves.{at_home, Carries, IsAlike, same_alike, Moves, moves_kept}
-use Rattle.l4_split.proofs.Frames.Going.{Goes, IsHere, IsQuiet, home_is, put_other, comes, quiet_stands}
-use Rattle.l4_split.proofs.Sends.Deciding.{sender_unready, ended_good, ended_none, ended_fresh, ended_carries}
-use Rattle.l4_split.proofs.Sends.Answering.{IsAway, same_carries}
+use Rattle.l4_split.proofs.Frames.Moves.{at_home, StaysTrue, IsAlike, same_alike, Moves, moves_kept}
+use Rattle.l4_split.proofs.Frames.Going.{Goes, IsHere, IsQuiet, home_is, put_other, comes, quiet_matches}
+use Rattle.l4_split.proofs.Sends.Deciding.{sender_unready, ended_good, ended_none, ended_fresh, ended_stays_true}
+use Rattle.l4_split.proofs.Sends.Answering.{IsAway, same_stays_true}
 use Rattle.l4_split.proofs.Sends.Delivering.{arrives_goes}
 
 -- A thread is seen as before, but for the letter that said where its send is, which was taken out.
 pub record IsTakenOut (m : Machine) (i : ℕ) (before v : View) (p : Posted) : Type 0 where
-  pub stands : Stands m i before
-  pub was : words before.mail ≡ p ∷ []
-  pub quiet : words v.mail ≡ []
+  pub stands : Matches m i before
+  pub was : locators before.mail ≡ p ∷ []
+  pub quiet : locators v.mail ≡ []
   pub notices : notices v.mail ≡ notices before.mail
   pub kept : v.kept ≡ before.kept
   pub world : v.world ≡ before.world
@@ -39,7 +39,7 @@ taken_kept m i before v p t =
     moves_kept m i before v t.stands.known.kept (record {
       elsewhere = λ c ne. same_alike (before.kept c) (v.kept c) (ap (λ (f : ℕ → Kept). f c) t.kept);
       notices = t.notices;
-      carries = subst (Carries (at_home m i before)) (sym here) (same_carries (at_home m i before));
+      stays_true = subst (StaysTrue (at_home m i before)) (sym here) (same_stays_true (at_home m i before));
     }) (subst (IsKeptAtHome i) (sym here) t.stands.known.kept.at_home)
 
 pub taken_row : (m : Machine) (i : ℕ) (before v : View) (p : Posted) → IsTakenOut m i before v p → RowOf m i (seats m i before) p p.letter.content
@@ -56,7 +56,7 @@ unchanged (t ∷ ts) zero = refl
 unchanged (t ∷ ts) (suc i) = ap (λ us. t ∷ us) (unchanged ts i)
 
 pub done_relates : (m : Machine) (cpu i : ℕ) (s : Scene) (w : World) (x : Work) (before : View) (p : Posted) (name : Name) (result : Result) → IsHere m cpu i → p.letter.content ≡ DoneLetter name result → IsTakenOut m i before (view m (amid cpu s x) w i) p →
-    RelatesBut m (Stands m) (i ∷ []) (amid cpu s x) w → RelatesBut m (Stands m) [] (amid cpu s (x ▷ does (comes_to i (ended result x.local.clock)))) w
+    RelatesExcept m (Matches m) (i ∷ []) (amid cpu s x) w → RelatesExcept m (Matches m) [] (amid cpu s (x ▷ does (comes_to i (ended result x.local.clock)))) w
 done_relates m cpu i s w x before p name result here content t rel =
     let v : View = view m (amid cpu s x) w i in
     let f : Thread → Thread = ended result x.local.clock in
@@ -80,10 +80,10 @@ done_relates m cpu i s w x before p name result here content t rel =
       agrees = subst (λ u. Agrees u (f (thread x.local i))) (sym t.world) agrees;
       good = ended_good result x.local.clock (thread x.local i) row.goes.send has good;
       fresh = ended_fresh result x.local.clock (thread x.local i) row.goes.send has;
-      carries = ended_carries result (kept x.local i) i row.goes.send has order;
+      stays_true = ended_stays_true result (kept x.local i) i row.goes.send has order;
     } in
-    subst (RelatesBut m (Stands m) [] (amid cpu s (x ▷ does (comes_to i f)))) (ap (λ ts. record w { threads = ts }) (unchanged w.threads i))
-    (takes_in m i [] (amid cpu s (x ▷ does (comes_to i f))) (change w i (λ t. t)) c.relates (quiet_stands m cpu i [] s w x f (λ t. t) here c q))
+    subst (RelatesExcept m (Matches m) [] (amid cpu s (x ▷ does (comes_to i f)))) (ap (λ ts. record w { threads = ts }) (unchanged w.threads i))
+    (takes_in m i [] (amid cpu s (x ▷ does (comes_to i f))) (change w i (λ t. t)) c.relates (quiet_matches m cpu i [] s w x f (λ t. t) here c q))
 
 -- A send comes to its receiver
 
@@ -126,7 +126,7 @@ send_goes m cpu i r s w x before p name receiver message zero_timeout here to co
     let home_same : at_home m i after ≡ at_home m i v = same (home m i) (λ h. here.away (sym h)) in
     let home_old : at_home m i after ≡ at_home m i before = home_same ∙ ap (λ (f : ℕ → Kept). f (home m i)) t.kept in
     let kept_now = taken_kept m i before v p t in
-    let moves : Moves m i v after = record { elsewhere = λ c ne. alike c; notices = refl; carries = subst (Carries (at_home m i v)) (sym home_same) (same_carries (at_home m i v)) } in
+    let moves : Moves m i v after = record { elsewhere = λ c ne. alike c; notices = refl; stays_true = subst (StaysTrue (at_home m i v)) (sym home_same) (same_stays_true (at_home m i v)) } in
     let suits : Suits (at_home m i before).thread.phase (Some send) (at_home m i before).thread.order = subst (λ o. Suits (at_home m i before).thread.phase o (at_home m i before).thread.order) row.goes.has t.stands.known.kept.at_home.good.suits in
     let listed : (c q : ℕ) → (after.kept c).listed q ≡ [] = λ c q. same_or_apart ((after.kept c).listed q ≡ []) cpu c
     (λ h. subst (λ c. (after.kept c).listed q ≡ []) h (ap (λ (k : Kept). k.listed q) new ∙ sym (ap (λ (k : Kept). k.listed q) old) ∙ ap (λ (f : ℕ → Kept). (f cpu).listed q) t.kept ∙ row.unplaced.listed cpu q))

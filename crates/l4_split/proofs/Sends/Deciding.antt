@@ -11,14 +11,14 @@ use Rattle.l4_core_model.specs.Acts.{Work, ◌▷◌, does}
 use Rattle.l4_core_model.proofs.Fit.{IsGood, Suits}
 use Rattle.l4_core_model.proofs.Good.{ended_refused_good, ended_delivered_good, ended_refused_none, ended_delivered_none}
 use Rattle.l4_split.proofs.Frames.Locals.{come}
-use Rattle.l4_split.proofs.Relation.Views.{Scene, Kept, View, kept, view, world_thread, home, amid, words}
-use Rattle.l4_split.proofs.Relation.Rows.{seats, Agrees, IsUnplaced, IsStandIn, IsKept, Stands}
+use Rattle.l4_split.proofs.Relation.Views.{Scene, Kept, View, kept, view, world_thread, home, amid, locators}
+use Rattle.l4_split.proofs.Relation.Rows.{seats, Agrees, IsUnplaced, IsStandIn, IsKept, Matches}
 use Rattle.l4_split.proofs.Relation.Agreement.{ended_agrees, ended_deleted}
-use Rattle.l4_split.proofs.Frames.Moves.{at_home, Carries, IsFresh, of_none}
+use Rattle.l4_split.proofs.Frames.Moves.{at_home, StaysTrue, IsFresh, of_none}
 use Rattle.l4_split.proofs.Frames.Places.{first_about, takes_in}
-use Rattle.l4_split.proofs.Frames.Lists.{unqueues, unlisted, view_unqueued}
-use Rattle.l4_split.proofs.Relation.Relates.{RelatesBut}
-use Rattle.l4_split.proofs.Frames.Going.{IsHere, home_is, comes, quiet_stands}
+use Rattle.l4_split.proofs.Frames.Lists.{unqueues, without_lists, view_unqueued}
+use Rattle.l4_split.proofs.Relation.Relates.{RelatesExcept}
+use Rattle.l4_split.proofs.Frames.Going.{IsHere, home_is, comes, quiet_matches}
 
 -- On another processor than its home it stands in its sender's place.
 pub record IsForeign (m : Machine) (cpu i : ℕ) (send : Send) (v : View) : Type 0 where
@@ -28,12 +28,12 @@ pub record IsForeign (m : Machine) (cpu i : ℕ) (send : Send) (v : View) : Type
   pub stand_in : IsStandIn m r send (at_home m i v).thread.context.begun (v.kept cpu).thread.send (v.kept cpu).thread.context.begun
 
 -- The undecided send of a thread is on a processor: in hand, or in a list there.
-pub record IsAt (m : Machine) (cpu i : ℕ) (send : Send) (v : View) : Type 0 where
+pub record IsSendAt (m : Machine) (cpu i : ℕ) (send : Send) (v : View) : Type 0 where
   pub kept : IsKept m i v
   pub out : (at_home m i v).ready ≡ []
   pub has : (at_home m i v).thread.send ≡ Some send
   pub order : (at_home m i v).thread.order ≡ None
-  pub quiet : words v.mail ≡ []
+  pub quiet : locators v.mail ≡ []
   pub agrees : Agrees v.world (at_home m i v).thread
   pub elsewhere : (c q : ℕ) → (cpu ≡ c → ⊥) → (v.kept c).listed q ≡ []
   pub foreign : (home m i ≡ cpu → ⊥) → IsForeign m cpu i send v
@@ -101,8 +101,8 @@ ended_begun (Refused Nobody) clock t = cond_both (λ (u : Thread). u.context.beg
 ended_begun (Refused Cancelled) clock t = cond_both (λ (u : Thread). u.context.begun) t.context.begun (is_alive t.phase) _ (decided t) refl refl
 ended_begun (Refused Dropped) clock t = cond_both (λ (u : Thread). u.context.begun) t.context.begun (is_alive t.phase) _ (decided t) refl refl
 
-pub ended_carries : (result : Result) (k : Kept) (i : ℕ) (send : Send) → k.thread.send ≡ Some send → k.thread.order ≡ None → Carries k (come i (ended result k.clock) k)
-ended_carries result k i send has order = record {
+pub ended_stays_true : (result : Result) (k : Kept) (i : ℕ) (send : Send) → k.thread.send ≡ Some send → k.thread.order ≡ None → StaysTrue k (come i (ended result k.clock) k)
+ended_stays_true result k i send has order = record {
   deleted = λ gone. ap (λ (t : Thread). t.phase) (ended_deleted result k.clock k.thread send gone has) ∙ gone;
   begun = let same = ended_begun result k.clock k.thread in omega arith;
   causes = λ cause same old. of_none _ (ended result k.clock k.thread).send (ended_none result k.clock k.thread send has order).0;
@@ -110,15 +110,15 @@ ended_carries result k i send has order = record {
 
 -- What is kept of it says nothing of lists.
 
-pub kept_unlisted : (m : Machine) (i : ℕ) (v : View) → IsKept m i v → IsKept m i (unlisted v)
-kept_unlisted m i v h = record {
+pub kept_without_lists : (m : Machine) (i : ℕ) (v : View) → IsKept m i v → IsKept m i (without_lists v)
+kept_without_lists m i v h = record {
   at_home = h.at_home;
   elsewhere = h.elsewhere;
   notices = h.notices;
 }
 
-pub kept_listed : (m : Machine) (i : ℕ) (v : View) → IsKept m i (unlisted v) → IsKept m i v
-kept_listed m i v h = record {
+pub kept_with_lists : (m : Machine) (i : ℕ) (v : View) → IsKept m i (without_lists v) → IsKept m i v
+kept_with_lists m i v h = record {
   at_home = h.at_home;
   elsewhere = h.elsewhere;
   notices = h.notices;
@@ -126,10 +126,10 @@ kept_listed m i v h = record {
 
 -- The sender is of this processor.
 
-pub decided_here : (m : Machine) (cpu i : ℕ) (but : List ℕ) (s : Scene) (w : World) (x : Work) (result : Result) (send : Send) (g : Thread → Thread) → IsHere m cpu i →
-    IsAt m cpu i send (view m (amid cpu s x) w i) → g (world_thread w i) ≡ ended result (at_home m i (view m (amid cpu s x) w i)).clock (world_thread w i) →
-    RelatesBut m (Stands m) (i ∷ but) (amid cpu s x) w → RelatesBut m (Stands m) but (amid cpu s (x ▷ does (relists (plain.unqueued i)) ▷ does (comes_to i (ended result x.local.clock)))) (change (unqueued w i) i g)
-decided_here m cpu i but s w x result send g here at is relates =
+pub decided_here : (m : Machine) (cpu i : ℕ) (except : List ℕ) (s : Scene) (w : World) (x : Work) (result : Result) (send : Send) (g : Thread → Thread) → IsHere m cpu i →
+    IsSendAt m cpu i send (view m (amid cpu s x) w i) → g (world_thread w i) ≡ ended result (at_home m i (view m (amid cpu s x) w i)).clock (world_thread w i) →
+    RelatesExcept m (Matches m) (i ∷ except) (amid cpu s x) w → RelatesExcept m (Matches m) except (amid cpu s (x ▷ does (relists (plain.unqueued i)) ▷ does (comes_to i (ended result x.local.clock)))) (change (unqueued w i) i g)
+decided_here m cpu i except s w x result send g here at is relates =
     let v : View = view m (amid cpu s x) w i in
     let y : Work = x ▷ does (relists (plain.unqueued i)) in
     let u : World = unqueued w i in
@@ -142,11 +142,11 @@ decided_here m cpu i but s w x result send g here at is relates =
     let agrees : Agrees v.world (thread x.local i) = subst (λ (k : Kept). Agrees v.world k.thread) was at.agrees in
     let none = ended_none result x.local.clock (thread x.local i) send has order in
     let suits : Suits (thread x.local i).phase (Some send) (thread x.local i).order = subst (λ o. Suits (thread x.local i).phase o (thread x.local i).order) has good.suits in
-    let left = unqueues m cpu i (i ∷ but) s w x (first_about i but) at.elsewhere relates in
-    let now : view m (amid cpu s y) u i ≡ unlisted v = view_unqueued m cpu i s w x at.elsewhere in
-    let c = comes m cpu i but s u y f g here left in
-    takes_in m i but (amid cpu s (y ▷ does (comes_to i f))) (change u i g) c.relates (quiet_stands m cpu i but s u y f g here c (record {
-      kept = subst (IsKept m i) (sym now) (kept_unlisted m i v at.kept);
+    let left = unqueues m cpu i (i ∷ except) s w x (first_about i except) at.elsewhere relates in
+    let now : view m (amid cpu s y) u i ≡ without_lists v = view_unqueued m cpu i s w x at.elsewhere in
+    let c = comes m cpu i except s u y f g here left in
+    takes_in m i except (amid cpu s (y ▷ does (comes_to i f))) (change u i g) c.relates (quiet_matches m cpu i except s u y f g here c (record {
+      kept = subst (IsKept m i) (sym now) (kept_without_lists m i v at.kept);
       quiet = at.quiet;
       unplaced = subst (λ u. IsUnplaced m i (seats m i u)) (sym now) (record { listed = λ p r. refl; stand_in = λ p ne. at.no_other p ne (λ h. ne (sym h ∙ sym here.home)) });
       out = sym (ap (λ (k : Kept). k.ready) was) ∙ at.out;
@@ -155,5 +155,5 @@ decided_here m cpu i but s w x result send g here at is relates =
       agrees = subst (λ t. Agrees t (f (thread x.local i))) (sym (is ∙ clock)) (ended_agrees result x.local.clock v.world (thread x.local i) send has suits agrees);
       good = ended_good result x.local.clock (thread x.local i) send has good;
       fresh = ended_fresh result x.local.clock (thread x.local i) send has;
-      carries = ended_carries result (kept y.local i) i send has order;
+      stays_true = ended_stays_true result (kept y.local i) i send has order;
     }))

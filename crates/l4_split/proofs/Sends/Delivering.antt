@@ -16,15 +16,15 @@ use Rattle.l4_core_model.proofs.Knows.{same_nat, same_ids, same_bytes, part-chan
 use Rattle.l4_core_model.proofs.Fit.{IsGood}
 use Rattle.l4_core_model.proofs.Good.{receiving_has_none, receives_good}
 use Rattle.l4_split.proofs.Relation.Views.{Scene, Kept, View, kept, view, world_thread, home, amid}
-use Rattle.l4_split.proofs.Relation.Rows.{Agrees, IsEarlier, Stands}
+use Rattle.l4_split.proofs.Relation.Rows.{Agrees, IsEarlier, Matches}
 use Rattle.l4_split.proofs.Relation.Agreement.{same_agrees, receiving_is, receives_agrees}
-use Rattle.l4_split.proofs.Relation.Relates.{RelatesBut, senders}
+use Rattle.l4_split.proofs.Relation.Relates.{RelatesExcept, senders}
 use Rattle.l4_split.proofs.Frames.Places.{leaves_out, takes_in, put_same}
 use Rattle.l4_split.proofs.Frames.Moves.{at_home, of_none}
-use Rattle.l4_split.proofs.Frames.Going.{Goes, IsHere, told, put_home, home_is, IsQuiet, comes, quiet_stands}
+use Rattle.l4_split.proofs.Frames.Going.{Goes, IsHere, one_more_told, put_home, home_is, IsQuiet, comes, quiet_matches}
 use Rattle.l4_split.proofs.Turns.Instructions.{IsFree, free_is}
-use Rattle.l4_split.proofs.Sends.Deciding.{IsAt}
-use Rattle.l4_split.proofs.Sends.Waiting.{entry_at, entries_here, first_is, IsFirst, first_entry, agrees_send}
+use Rattle.l4_split.proofs.Sends.Deciding.{IsSendAt}
+use Rattle.l4_split.proofs.Sends.Waiting.{entry_at, entries_here, first_accepted_is, IsFirstSender, first_entry, agrees_send}
 use Rattle.l4_split.proofs.Sends.Finding.{place_found, receiver_is, held_is, pending_is, ends_relates, ends_steps}
 use Rattle.l4_model.proofs.Chains.{cond_keeps}
 use Rattle.l4_core_model.proofs.Pieces.{accepts_is}
@@ -34,7 +34,7 @@ use Rattle.l4_split.proofs.Sends.Queueing.{IsInHand, queue_goes}
 
 -- A thread of this processor that waits for a message, as it stands
 pub record IsReceivingAt (m : Machine) (cpu r : ℕ) (s : Scene) (w : World) (x : Work) (receive : Receive) (since : ℕ) : Type 0 where
-  pub stands : Stands m r (view m (amid cpu s x) w r)
+  pub stands : Matches m r (view m (amid cpu s x) w r)
   pub good : IsGood x.local.clock (thread x.local r)
   pub send : (thread x.local r).send ≡ None
   pub order : (thread x.local r).order ≡ None
@@ -43,7 +43,7 @@ pub record IsReceivingAt (m : Machine) (cpu r : ℕ) (s : Scene) (w : World) (x 
   pub agrees : Agrees (world_thread w r) (thread x.local r)
   pub earlier : IsEarlier receive since (world_thread w r) (thread x.local r)
 
-pub receiving_at : (m : Machine) (cpu r : ℕ) (s : Scene) (w : World) (x : Work) (receive : Receive) (since : ℕ) → IsHere m cpu r → Stands m r (view m (amid cpu s x) w r) → (thread x.local r).phase ≡ Receiving receive since → IsReceivingAt m cpu r s w x receive since
+pub receiving_at : (m : Machine) (cpu r : ℕ) (s : Scene) (w : World) (x : Work) (receive : Receive) (since : ℕ) → IsHere m cpu r → Matches m r (view m (amid cpu s x) w r) → (thread x.local r).phase ≡ Receiving receive since → IsReceivingAt m cpu r s w x receive since
 receiving_at m cpu r s w x receive since here stands is =
     let v : View = view m (amid cpu s x) w r in
     let was = home_is m cpu r s x w here.home in
@@ -76,7 +76,7 @@ receiving_quiet m cpu r s w x receive since f at is send order begun ready good 
   agrees = same_agrees (f (world_thread w r)) (f (thread x.local r)) same;
   good = good;
   fresh = rw ready tt;
-  carries = record {
+  stays_true = record {
     deleted = λ gone. absurd (not_deleted (thread x.local r).phase is gone);
     begun = omega (arith, begun);
     causes = λ cause same old. of_none _ (f (thread x.local r)).send (send ∙ at.send);
@@ -87,13 +87,13 @@ receiving_quiet m cpu r s w x receive since f at is send order begun ready good 
     not_deleted p a b = cc
 
 -- The first waiting send of a receiver of this processor
-first_at : (m : Machine) (cpu r i : ℕ) (s : Scene) (w : World) (x : Work) (from : Id) → IsHere m cpu r → RelatesBut m (Stands m) [] (amid cpu s x) w → plain.first_taken from (plain.list_of x.local.lists r) ≡ Some i → IsFirst m (amid cpu s x) w r i
+first_at : (m : Machine) (cpu r i : ℕ) (s : Scene) (w : World) (x : Work) (from : Id) → IsHere m cpu r → RelatesExcept m (Matches m) [] (amid cpu s x) w → plain.first_taken from (plain.list_of x.local.lists r) ≡ Some i → IsFirstSender m (amid cpu s x) w r i
 first_at m cpu r i s w x from here rel first =
     let list : senders m (amid cpu s x) r ≡ plain.list_of x.local.lists r = ap (λ (l : Local). plain.list_of l.lists r) (put_home m cpu r s x.local here.home) in
     first_entry m (amid cpu s x) w r i (λ (e : plain.Waiting). takes from e.shown e.local) (senders m (amid cpu s x) r) (entries_here m (amid cpu s x) w r here.machine here.within rel) (ap (plain.first_taken from) list ∙ first)
 
 message_goes : (m : Machine) (cpu r i : ℕ) (s : Scene) (w : World) (x : Work) (receive : Receive) (since : ℕ) (send : Send) → IsHere m cpu r → cpu < m.cpus → (e : Goes m cpu s w [] x) → (thread x.local r).phase ≡ Receiving receive since →
-    plain.first_taken receive.from (plain.list_of x.local.lists r) ≡ Some i → IsAt m cpu i send (view m (amid cpu s x) e.now i) → i < length m.threads → destination_place m send.to ≡ Some r →
+    plain.first_taken receive.from (plain.list_of x.local.lists r) ≡ Some i → IsSendAt m cpu i send (view m (amid cpu s x) e.now i) → i < length m.threads → destination_place m send.to ≡ Some r →
     Goes m cpu s w [] (delivers_message m cpu r i send.message (received_tag (is_cross m (declared m r).id send.message) send.message) x)
 message_goes m cpu r i s w x receive since send here processor e is first at lt to =
     let now = e.now in
@@ -108,9 +108,9 @@ message_goes m cpu r i s w x receive since send here processor e is first at lt 
     let a = receiving_at m cpu r s now x receive since here (rel.places r here.within tt) is in
     let c = comes m cpu r [] s now x f f here (leaves_out m r [] (amid cpu s x) now rel) in
     let q = receiving_quiet m cpu r s now x receive since f a is refl refl refl refl (receives_good x.local.clock send.message tag (thread x.local r) receive since is a.good) (receives_agrees send.message tag receive since (world_thread now r) (thread x.local r) is a.agrees) in
-    let rel1 = takes_in m r [] (amid cpu s x1) w1 c.relates (quiet_stands m cpu r [] s now x f f here c q) in
+    let rel1 = takes_in m r [] (amid cpu s x1) w1 c.relates (quiet_matches m cpu r [] s now x f f here c q) in
     let i1 = first_at m cpu r i s w1 x1 receive.from here rel1 first in
-    let at1 : IsAt m cpu i i1.is.send (view m (amid cpu s x1) w1 i) = subst (λ p. IsAt m p i i1.is.send (view m (amid cpu s x1) w1 i)) here.home (entry_at m r i (view m (amid cpu s x1) w1 i) i1.entry (rel1.places i lt tt) i1.is) in
+    let at1 : IsSendAt m cpu i i1.is.send (view m (amid cpu s x1) w1 i) = subst (λ p. IsSendAt m p i i1.is.send (view m (amid cpu s x1) w1 i)) here.home (entry_at m r i (view m (amid cpu s x1) w1 i) i1.entry (rel1.places i lt tt) i1.is) in
     let has : (world_thread w1 i).send ≡ Some send = part-changed_at (λ (t : Thread). t.send) f (λ t. refl) now.threads r i opening_thread ∙ agrees_send (world_thread now i) _ at.agrees ∙ at.has in
     let same_clock : (at_home m i (view m (amid cpu s x1) w1 i)).clock ≡ clock = put_same (λ l. l.clock) cpu (home m i) x.local x1.local s.locals refl in
     let ended_is : g (world_thread w1 i) ≡ ended Delivered (at_home m i (view m (amid cpu s x1) w1 i)).clock (world_thread w1 i) = ap (λ k. delivered send k (world_thread w1 i)) (sym same_clock) ∙ sym (ap (λ o. was_delivered o (at_home m i (view m (amid cpu s x1) w1 i)).clock (world_thread w1 i)) has) in
@@ -119,7 +119,7 @@ message_goes m cpu r i s w x receive since send here processor e is first at lt 
     let receiver = receiver_is m r send.to [] (amid cpu s x) now here.machine here.within rel to in
     let waits = a.earlier.same in
     let list : senders m (amid cpu s x) r ≡ plain.list_of x.local.lists r = ap (λ (l : Local). plain.list_of l.lists r) (put_home m cpu r s x.local here.home) in
-    let accepted : first_accepted m now (place_found m (amid cpu s x) now r) receive.from ≡ Some i = first_is m (amid cpu s x) now r receive.from (place_found m (amid cpu s x) now r) here.machine here.within refl refl rel ∙ ap (plain.first_taken receive.from) list ∙ first in
+    let accepted : first_accepted m now (place_found m (amid cpu s x) now r) receive.from ≡ Some i = first_accepted_is m (amid cpu s x) now r receive.from (place_found m (amid cpu s x) now r) here.machine here.within refl refl rel ∙ ap (plain.first_taken receive.from) list ∙ first in
     let t0 = same_nat i in
     let t1 = same_ids (declared m r).id in
     let t2 = same_ids send.message.shown in
@@ -130,7 +130,7 @@ message_goes m cpu r i s w x receive since send here processor e is first at lt 
     let possible : next m now step ≡ Some (change (unqueued w1 i) i g) = rw (pending, receiver, phase, accepted, t0, t1, t2, t3, t4, t5) refl in
     record {
       now = change (unqueued w1 i) i g;
-      reaches = ap (run m w) steps ∙ told m w now (change (unqueued w1 i) i g) x.steps step e.reaches possible;
+      reaches = ap (run m w) steps ∙ one_more_told m w now (change (unqueued w1 i) i g) x.steps step e.reaches possible;
       relates = ends_relates m cpu i [] s w1 x1 Delivered i1.is.send g here.machine processor lt at1 ended_is (leaves_out m i [] (amid cpu s x1) w1 rel1);
     }
 
@@ -139,7 +139,7 @@ pub delivers_goes : (m : Machine) (cpu r i : ℕ) (s : Scene) (w : World) (x : W
 delivers_goes m cpu r i s w x receive since here processor e is first =
     let f = first_at m cpu r i s e.now x receive.from here e.relates first in
     let v : View = view m (amid cpu s x) e.now i in
-    let at : IsAt m cpu i f.is.send v = subst (λ p. IsAt m p i f.is.send v) here.home (entry_at m r i v f.entry (e.relates.places i f.within tt) f.is) in
+    let at : IsSendAt m cpu i f.is.send v = subst (λ p. IsSendAt m p i f.is.send v) here.home (entry_at m r i v f.entry (e.relates.places i f.within tt) f.is) in
     let held = held_is m cpu i f.is.send s x e.now at in
     let has = held.has in
     let goes = message_goes m cpu r i s w x receive since f.is.send here processor e is first at f.within (f.is.waits.to ∙ ap Some f.is.receiver) in

@@ -16,14 +16,14 @@ use Rattle.l4_core_model.specs.Runs.{Posted}
 use Rattle.l4_core_model.proofs.Fit.{Suits}
 use Rattle.l4_core_model.proofs.Remembers.{same_or_apart}
 use Rattle.l4_split.proofs.Frames.Locals.{queued_listed, queued_other_list}
-use Rattle.l4_split.proofs.Relation.Views.{Scene, Kept, View, kept, view, home, put, amid, words, is_of}
-use Rattle.l4_split.proofs.Relation.Rows.{seats, AgreesIn, Agrees, learns, learned, Row, IsStandIn, IsWaiting, IsKept, Known, Stands}
-use Rattle.l4_split.proofs.Relation.Relates.{RelatesBut, senders}
+use Rattle.l4_split.proofs.Relation.Views.{Scene, Kept, View, kept, view, home, put, amid, is_of, locators}
+use Rattle.l4_split.proofs.Relation.Rows.{seats, AgreesIn, Agrees, learns, learned, Row, IsStandIn, IsWaiting, IsKept, Known, Matches}
+use Rattle.l4_split.proofs.Relation.Relates.{RelatesExcept, senders}
 use Rattle.l4_split.proofs.Frames.Places.{first_about, takes_in, put_same}
-use Rattle.l4_split.proofs.Frames.Lists.{queues, unlisted, put_here}
+use Rattle.l4_split.proofs.Frames.Lists.{queues, without_lists, put_here}
 use Rattle.l4_split.proofs.Frames.Moves.{at_home}
-use Rattle.l4_split.proofs.Frames.Going.{Goes, told, home_is, sized_here, put_other}
-use Rattle.l4_split.proofs.Sends.Deciding.{IsAt, kept_unlisted, kept_listed, sender_unready}
+use Rattle.l4_split.proofs.Frames.Going.{Goes, one_more_told, home_is, sized_here, put_other}
+use Rattle.l4_split.proofs.Sends.Deciding.{IsSendAt, kept_without_lists, kept_with_lists, sender_unready}
 use Rattle.l4_split.proofs.Sends.Finding.{receiver_is, pending_is}
 use Rattle.l4_split.proofs.Sends.Refusing.{HasSend, IsSeen, IsReceiver}
 
@@ -69,7 +69,7 @@ learned_alive (p ∷ ps) clock t alive = learns_alive p.letter.content clock t a
 
 alive_known : (m : Machine) (r : ℕ) (v : View) → Known m r v → is_alive (at_home m r v).thread.phase ≡ true → is_alive v.world.phase ≡ true
 alive_known m r v known alive =
-    agrees_alive v.world (learned (words v.mail) (at_home m r v).clock (at_home m r v).thread) (learned_alive (words v.mail) (at_home m r v).clock (at_home m r v).thread alive) known.agrees
+    agrees_alive v.world (learned (locators v.mail) (at_home m r v).clock (at_home m r v).thread) (learned_alive (locators v.mail) (at_home m r v).clock (at_home m r v).thread alive) known.agrees
 
 alive_seen : (m : Machine) (r : ℕ) (v : View) → IsSeen m r v → is_alive (at_home m r v).thread.phase ≡ true → is_alive v.world.phase ≡ true
 alive_seen m r v (inl known) alive = alive_known m r v known alive
@@ -77,8 +77,8 @@ alive_seen m r v (inr agrees) alive = agrees_alive v.world (at_home m r v).threa
 
 -- A send that is in no list of a processor is in none of the world.
 
-not_waiting : {P : ℕ → View → Type 0} (m : Machine) (i : ℕ) (but : List ℕ) (s : Scene) (w : World) → RelatesBut m P but s w → ((cpu q : ℕ) → ((view m s w i).kept cpu).listed q ≡ []) → is_queued w.waiting i ≡ false
-not_waiting m i but s w rel none = none_in (λ x. i == x) w.waiting (λ q lt. let within : q < length m.threads = omega (arith, rel.sized_world.lists) in ap (list_any (λ x. i == x)) (rel.lists q within) ∙ any_block i (senders m s q) ∙ none_kept (is_of i) (senders m s q) (none (home m q) q))
+not_waiting : {P : ℕ → View → Type 0} (m : Machine) (i : ℕ) (except : List ℕ) (s : Scene) (w : World) → RelatesExcept m P except s w → ((cpu q : ℕ) → ((view m s w i).kept cpu).listed q ≡ []) → is_queued w.waiting i ≡ false
+not_waiting m i except s w rel none = none_in (λ x. i == x) w.waiting (λ q lt. let within : q < length m.threads = omega (arith, rel.sized_world.lists) in ap (list_any (λ x. i == x)) (rel.lists q within) ∙ any_block i (senders m s q) ∙ none_kept (is_of i) (senders m s q) (none (home m q) q))
 
 -- In hand, it is in no list of this processor either.
 pub record IsInHand (m : Machine) (cpu i : ℕ) (s : Scene) (w : World) (x : Work) (send : Send) : Type 0 where
@@ -91,19 +91,19 @@ none_listed m cpu i s w x send h c q = same_or_apart (((view m (amid cpu s x) h.
     (λ ne. h.has.at.elsewhere c q ne)
 
 -- Of its sender, all but the lists is as it was.
-queued_view : (m : Machine) (cpu i r : ℕ) (e : plain.Waiting) (s : Scene) (w : World) (x : Work) → unlisted (view m (amid cpu s (x ▷ does (relists (plain.queued r e)))) (queued w r i) i) ≡ unlisted (view m (amid cpu s x) w i)
+queued_view : (m : Machine) (cpu i r : ℕ) (e : plain.Waiting) (s : Scene) (w : World) (x : Work) → without_lists (view m (amid cpu s (x ▷ does (relists (plain.queued r e)))) (queued w r i) i) ≡ without_lists (view m (amid cpu s x) w i)
 queued_view m cpu i r e s w x =
     let same = λ (c : ℕ). put_same (λ l. record (kept l i) { listed = λ q. [] }) cpu c x.local (relists (plain.queued r e) x.local) s.locals refl in
     λ d. record (view m (amid cpu s x) w i) { kept = λ c. same c d }
 
-queued_stands : (m : Machine) (cpu i r : ℕ) (s : Scene) (w : World) (x : Work) (send : Send) → IsAt m cpu i send (view m (amid cpu s x) w i) → ((q : ℕ) → (kept x.local i).listed q ≡ []) → home m r ≡ cpu → destination_place m send.to ≡ Some r → r < length x.local.lists.waiting →
-    Stands m i (view m (amid cpu s (x ▷ does (relists (plain.queued r (entry m r i send))))) (queued w r i) i)
-queued_stands m cpu i r s w x send at free home_is to within =
+queued_matches : (m : Machine) (cpu i r : ℕ) (s : Scene) (w : World) (x : Work) (send : Send) → IsSendAt m cpu i send (view m (amid cpu s x) w i) → ((q : ℕ) → (kept x.local i).listed q ≡ []) → home m r ≡ cpu → destination_place m send.to ≡ Some r → r < length x.local.lists.waiting →
+    Matches m i (view m (amid cpu s (x ▷ does (relists (plain.queued r (entry m r i send))))) (queued w r i) i)
+queued_matches m cpu i r s w x send at free home_is to within =
     let e : plain.Waiting = entry m r i send in
     let l : Local = relists (plain.queued r e) x.local in
     let v : View = view m (amid cpu s x) w i in
     let after : View = view m (amid cpu s (x ▷ does (relists (plain.queued r e)))) (queued w r i) i in
-    let same : unlisted after ≡ unlisted v = queued_view m cpu i r e s w x in
+    let same : without_lists after ≡ without_lists v = queued_view m cpu i r e s w x in
     let thread_same : (at_home m i after).thread ≡ (at_home m i v).thread = ap (λ (u : View). (u.kept (home m i)).thread) same in
     let ready_same : (at_home m i after).ready ≡ (at_home m i v).ready = ap (λ (u : View). (u.kept (home m i)).ready) same in
     let here : after.kept cpu ≡ kept l i = ap (λ l. kept l i) (put_here cpu cpu l s.locals refl) in
@@ -132,7 +132,7 @@ queued_stands m cpu i r s w x send at free home_is to within =
         agrees = subst (λ ps. Agrees after.world (learned ps (at_home m i after).clock (at_home m i after).thread)) (sym at.quiet) (subst (Agrees v.world) (sym thread_same) at.agrees);
         row = subst (λ ps. Row m i (seats m i after) ps (at_home m i after).thread.send) (sym at.quiet)
             (subst (Row m i (seats m i after) []) (sym (ap (λ (t : Thread). t.send) thread_same ∙ at.has)) row);
-        kept = kept_listed m i after (subst (IsKept m i) (sym same) (kept_unlisted m i v at.kept));
+        kept = kept_with_lists m i after (subst (IsKept m i) (sym same) (kept_without_lists m i v at.kept));
       };
       ready = ready_same ∙ at.out ∙ sym (sender_unready i (at_home m i v).thread.phase send (at_home m i v).thread.order suits) ∙ ap (λ (t : Thread). readied t.phase i []) (sym thread_same);
     }
@@ -153,7 +153,7 @@ queue_goes m cpu i r s w x send h q alive =
     let u : World = queued now r i in
     record {
       now = u;
-      reaches = told m w now u x.steps (Queue (last_name m x.local i)) h.has.goes.reaches (rw (pending, receiver, living, none) refl);
+      reaches = one_more_told m w now u x.steps (Queue (last_name m x.local i)) h.has.goes.reaches (rw (pending, receiver, living, none) refl);
       relates = takes_in m i [] (amid cpu s y) u (queues m cpu r e (i ∷ []) s now x (sym q.home) h.has.processor q.within h.has.within (first_about i []) rel)
-          (queued_stands m cpu i r s now x send at h.free q.home q.to (let z = sized_here m cpu r (i ∷ []) s now x (record { machine = h.has.machine; within = q.within; home = q.home }) rel in omega (arith, z.lists, q.within)));
+          (queued_matches m cpu i r s now x send at h.free q.home q.to (let z = sized_here m cpu r (i ∷ []) s now x (record { machine = h.has.machine; within = q.within; home = q.home }) rel in omega (arith, z.lists, q.within)));
     }

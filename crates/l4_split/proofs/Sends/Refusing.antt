@@ -21,8 +21,8 @@ use Rattle.l4_split.proofs.Relation.Rows.{AgreesIn, Agrees, Known}
 use Rattle.l4_split.proofs.Relation.Agreement.{ended_deleted}
 use Rattle.l4_split.proofs.Sends.Refusable.{refusable_known, same_refusable}
 use Rattle.l4_split.proofs.Frames.Moves.{at_home, deleted_phase}
-use Rattle.l4_split.proofs.Frames.Going.{Goes, told, home_is}
-use Rattle.l4_split.proofs.Sends.Deciding.{IsAt}
+use Rattle.l4_split.proofs.Frames.Going.{Goes, one_more_told, home_is}
+use Rattle.l4_split.proofs.Sends.Deciding.{IsSendAt}
 use Rattle.l4_split.proofs.Sends.Finding.{place_found, receiver_is, held_is, pending_is, ends_steps, ends_relates}
 
 -- A send in hand or in a list, on the processor of the event, with all else related.
@@ -31,7 +31,7 @@ pub record HasSend (m : Machine) (cpu i : ℕ) (s : Scene) (w : World) (x : Work
   pub processor : cpu < m.cpus
   pub within : i < length m.threads
   pub goes : Goes m cpu s w (i ∷ []) x
-  pub at : IsAt m cpu i send (view m (amid cpu s x) goes.now i)
+  pub at : IsSendAt m cpu i send (view m (amid cpu s x) goes.now i)
 
 pub refuses_goes : (m : Machine) (cpu i : ℕ) (s : Scene) (w : World) (x : Work) (refusal : Refusal) (send : Send) (g : Thread → Thread) → (h : HasSend m cpu i s w x send) →
     g (world_thread h.goes.now i) ≡ ended (Refused refusal) (at_home m i (view m (amid cpu s x) h.goes.now i)).clock (world_thread h.goes.now i) → next m h.goes.now (refusal_step refusal (last_name m x.local i)) ≡ Some (change (unqueued h.goes.now i) i g) → Goes m cpu s w [] (refuses m cpu refusal i x)
@@ -41,7 +41,7 @@ refuses_goes m cpu i s w x refusal send g h is possible =
     let steps = ends_steps m cpu i y (Refused refusal) in
     record {
       now = u;
-      reaches = ap (run m w) steps ∙ told m w h.goes.now u x.steps (refusal_step refusal (last_name m x.local i)) h.goes.reaches possible;
+      reaches = ap (run m w) steps ∙ one_more_told m w h.goes.now u x.steps (refusal_step refusal (last_name m x.local i)) h.goes.reaches possible;
       relates = ends_relates m cpu i [] s h.goes.now y (Refused refusal) send g h.machine h.processor h.within h.at is h.goes.relates;
     }
 
@@ -133,5 +133,5 @@ zero_goes m cpu i r s w x send h q refusable =
     other_send : (a b : Send) (f : Found) → a.message ≡ b.message → is_refusable m a (Some f) ≡ true → is_refusable m b (Some f) ≡ true
     other_send a b f e h = subst (λ (message : Message). (is_alive f.now.phase && not (may_still_accept m f message.shown f.now.phase)) ≡ true) e h
 
-    since : (v : View) → IsAt m cpu i send v → send.since ≤ (at_home m i v).clock
+    since : (v : View) → IsSendAt m cpu i send v → send.since ≤ (at_home m i v).clock
     since v at = subst (SendIsSince (at_home m i v).clock) at.has at.kept.at_home.good.sends

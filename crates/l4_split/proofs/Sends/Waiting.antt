@@ -19,11 +19,11 @@ use Rattle.l4_core_model.proofs.Knows.{blocks}
 use Rattle.l4_core_model.proofs.Fit.{Suits, all-map}
 use Rattle.l4_core_model.proofs.Remembers.{same_or_apart}
 use Rattle.l4_split.proofs.Lists.{other_is, all_by_place}
-use Rattle.l4_split.proofs.Relation.Views.{Scene, View, view, world_thread, home, words, is_of}
-use Rattle.l4_split.proofs.Relation.Rows.{seats, AgreesIn, Agrees, IsUnplaced, IsWaiting, IsStandIn, Known, Stands}
-use Rattle.l4_split.proofs.Relation.Relates.{RelatesBut, senders}
+use Rattle.l4_split.proofs.Relation.Views.{Scene, View, view, world_thread, home, is_of, locators}
+use Rattle.l4_split.proofs.Relation.Rows.{seats, AgreesIn, Agrees, IsUnplaced, IsWaiting, IsStandIn, Known, Matches}
+use Rattle.l4_split.proofs.Relation.Relates.{RelatesExcept, senders}
 use Rattle.l4_split.proofs.Frames.Moves.{at_home}
-use Rattle.l4_split.proofs.Sends.Deciding.{IsAt, sender_unready}
+use Rattle.l4_split.proofs.Sends.Deciding.{IsSendAt, sender_unready}
 
 -- What the world has of a thread
 
@@ -54,7 +54,7 @@ agrees_begun world t a = by t.phase a
 pub record IsEntry (m : Machine) (r i : ℕ) (v : View) (e : plain.Waiting) : Type 0 where
   pub send : Send
   pub has : (at_home m i v).thread.send ≡ Some send
-  pub quiet : words v.mail ≡ []
+  pub quiet : locators v.mail ≡ []
   pub agrees : Agrees v.world (at_home m i v).thread
   pub waits : IsWaiting m i send (seats m i v)
   pub receiver : waits.r ≡ r
@@ -80,7 +80,7 @@ entries_of m r i v known = where_then m i v known
     unplaced none = none_listed m r i v ((v.kept (home m r)).listed r) (none.listed (home m r) r)
 
 -- A waiting send is on its receiver's processor.
-pub entry_at : (m : Machine) (r i : ℕ) (v : View) (e : plain.Waiting) → Stands m i v → (w : IsEntry m r i v e) → IsAt m (home m r) i w.send v
+pub entry_at : (m : Machine) (r i : ℕ) (v : View) (e : plain.Waiting) → Matches m i v → (w : IsEntry m r i v e) → IsSendAt m (home m r) i w.send v
 entry_at m r i v e stands w =
     let row = w.waits in
     let at = ap (home m) w.receiver in
@@ -116,7 +116,7 @@ of_block : (m : Machine) (s : Scene) (w : World) (r i : ℕ) (es : List plain.Wa
 of_block m s w r i es lt all = all-map (IsEntry m r i (view m s w i)) (IsEntryHere m s w r) (λ e h. let same : i ≡ e.block = sym (ap (λ (e : plain.Waiting). e.block) h.is) in
     (subst (λ j. j < length m.threads) same lt, subst (λ j. IsEntry m r j (view m s w j) e) same h)) es all
 
-pub entries_here : (m : Machine) (s : Scene) (w : World) (r : ℕ) → IsMachine m → r < length m.threads → RelatesBut m (Stands m) [] s w → AllByRecursion (IsEntryHere m s w r) (senders m s r)
+pub entries_here : (m : Machine) (s : Scene) (w : World) (r : ℕ) → IsMachine m → r < length m.threads → RelatesExcept m (Matches m) [] s w → AllByRecursion (IsEntryHere m s w r) (senders m s r)
 entries_here m s w r machine lt rel = all_by_place (IsEntryHere m s w r) (λ (e : plain.Waiting). e.block) (senders m s r) (λ i. by i (cases_lt i (length m.threads)))
   where
     by : (i : ℕ) → ((i < length m.threads) ⊎ (length m.threads ≤ i)) → AllByRecursion (IsEntryHere m s w r) (filter (λ (e : plain.Waiting). i == e.block) (senders m s r))
@@ -147,22 +147,22 @@ first_of m s w r from (e ∷ es) size all =
     by true h = refl
     by false h = h
 
-pub first_is : (m : Machine) (s : Scene) (w : World) (r : ℕ) (from : Id) (found : Found) → IsMachine m → r < length m.threads → found.at ≡ r → found.declared ≡ declared m r → RelatesBut m (Stands m) [] s w →
+pub first_accepted_is : (m : Machine) (s : Scene) (w : World) (r : ℕ) (from : Id) (found : Found) → IsMachine m → r < length m.threads → found.at ≡ r → found.declared ≡ declared m r → RelatesExcept m (Matches m) [] s w →
     first_accepted m w found from ≡ plain.first_taken from (senders m s r)
-first_is m s w r from found machine lt at declared_is rel =
+first_accepted_is m s w r from found machine lt at declared_is rel =
     let list = rel.lists r lt in
     rw (at, declared_is, list) (first_of m s w r from (senders m s r) rel.sized_world.threads (entries_here m s w r machine lt rel))
 
 -- Where one is first, its entry is in the list.
-pub record IsFirst (m : Machine) (s : Scene) (w : World) (r i : ℕ) : Type 0 where
+pub record IsFirstSender (m : Machine) (s : Scene) (w : World) (r i : ℕ) : Type 0 where
   pub entry : plain.Waiting
   pub within : i < length m.threads
   pub is : IsEntry m r i (view m s w i) entry
 
-pub first_entry : (m : Machine) (s : Scene) (w : World) (r i : ℕ) (p : plain.Waiting → Bool) (es : List plain.Waiting) → AllByRecursion (IsEntryHere m s w r) es → option_map (λ (x : plain.Waiting). x.block) (find p es) ≡ Some i → IsFirst m s w r i
+pub first_entry : (m : Machine) (s : Scene) (w : World) (r i : ℕ) (p : plain.Waiting → Bool) (es : List plain.Waiting) → AllByRecursion (IsEntryHere m s w r) es → option_map (λ (x : plain.Waiting). x.block) (find p es) ≡ Some i → IsFirstSender m s w r i
 first_entry m s w r i p [] all h = cc
 first_entry m s w r i p (e ∷ es) all h = by (p e) h (first_entry m s w r i p es all.1)
   where
-    by : (b : Bool) → option_map (λ (x : plain.Waiting). x.block) (cond b (Some e) (find p es)) ≡ Some i → (option_map (λ (x : plain.Waiting). x.block) (find p es) ≡ Some i → IsFirst m s w r i) → IsFirst m s w r i
+    by : (b : Bool) → option_map (λ (x : plain.Waiting). x.block) (cond b (Some e) (find p es)) ≡ Some i → (option_map (λ (x : plain.Waiting). x.block) (find p es) ≡ Some i → IsFirstSender m s w r i) → IsFirstSender m s w r i
     by true h rest = let same : e.block ≡ i = cc in record { entry = e; within = subst (λ j. j < length m.threads) same all.0.0; is = subst (λ j. IsEntry m r j (view m s w j) e) same all.0.1 }
     by false h rest = rest h

@@ -20,27 +20,27 @@ use Rattle.l4_split.proofs.Relation.Views.{home}
 use Rattle.l4_core_model.proofs.Single.{range_below}
 
 -- One of the entries of a list.
-pub record IsEntryOf (e : plain.Waiting) (es : List plain.Waiting) : Type 0 where
+pub record StandsIn (e : plain.Waiting) (es : List plain.Waiting) : Type 0 where
   pub before : List plain.Waiting
   pub after : List plain.Waiting
   pub is : es ≡ before ++ e ∷ after
 
-pub entry_of_all : (P : plain.Waiting → Type 0) (e : plain.Waiting) (es : List plain.Waiting) → IsEntryOf e es → AllByRecursion P es → P e
+pub entry_of_all : (P : plain.Waiting → Type 0) (e : plain.Waiting) (es : List plain.Waiting) → StandsIn e es → AllByRecursion P es → P e
 entry_of_all P e es at all = by at.before (subst (AllByRecursion P) at.is all)
   where
     by : (xs : List plain.Waiting) → AllByRecursion P (xs ++ e ∷ at.after) → P e
     by [] all = all.0
     by (x ∷ xs) all = by xs all.1
 
-first_entry : (es : List plain.Waiting) (e : plain.Waiting) → slice_get es 0 ≡ Some e → IsEntryOf e es
+first_entry : (es : List plain.Waiting) (e : plain.Waiting) → slice_get es 0 ≡ Some e → StandsIn e es
 first_entry [] e h = cc
 first_entry (x ∷ xs) e h = record { before = []; after = xs; is = ap (λ e. e ∷ xs) (some_is x e h) }
 
-found_entry : (p : plain.Waiting → Bool) (es : List plain.Waiting) (e : plain.Waiting) → find p es ≡ Some e → IsEntryOf e es × (p e ≡ true)
+found_entry : (p : plain.Waiting → Bool) (es : List plain.Waiting) (e : plain.Waiting) → find p es ≡ Some e → StandsIn e es × (p e ≡ true)
 found_entry p [] e h = cc
 found_entry p (x ∷ xs) e h = by (p x) refl h (found_entry p xs e)
   where
-    by : (b : Bool) → p x ≡ b → cond b (Some x) (find p xs) ≡ Some e → (find p xs ≡ Some e → IsEntryOf e xs × (p e ≡ true)) → IsEntryOf e (x ∷ xs) × (p e ≡ true)
+    by : (b : Bool) → p x ≡ b → cond b (Some x) (find p xs) ≡ Some e → (find p xs ≡ Some e → StandsIn e xs × (p e ≡ true)) → StandsIn e (x ∷ xs) × (p e ≡ true)
     by true is h rest = let same = some_is x e h in (record { before = []; after = xs; is = ap (λ e. e ∷ xs) same }, subst (λ e. p e ≡ true) same is)
     by false is h rest = let r = rest h in (record { before = x ∷ r.0.before; after = r.0.after; is = ap (λ ys. x ∷ ys) r.0.is }, r.1)
 
@@ -53,7 +53,7 @@ pub record IsInReceive (phase : Phase) (receive : Receive) : Type 0 where
 abbrev pub IsDuty : Machine → (cpu : ℕ) → Local → (place : ℕ) → Duty → Type 0
 IsDuty m cpu l i DropsOwn = (is_deleted (thread l i).phase ≡ true) × (plain.is_queued l.lists i ≡ true)
 IsDuty m cpu l i (RefusesFirst sender) =
-    (is_deleted (thread l i).phase ≡ true) × ((e : plain.Waiting) × (IsEntryOf e (plain.list_of l.lists i) × (e.block ≡ sender)))
+    (is_deleted (thread l i).phase ≡ true) × ((e : plain.Waiting) × (StandsIn e (plain.list_of l.lists i) × (e.block ≡ sender)))
 IsDuty m cpu l i (TellsGone to) = (is_deleted (thread l i).phase ≡ true) × (next_untold m cpu (slice_index_or l.told i 0) ≡ Some to)
 IsDuty m cpu l i CancelsOwn = (plain.is_queued l.lists i ≡ true) × ((thread l i).cancel_send ≡ true)
 IsDuty m cpu l i CancelsReceive = (receive : Receive) × (IsInReceive (thread l i).phase receive × ((thread l i).cancel_receive ≡ true))
@@ -61,7 +61,7 @@ IsDuty m cpu l i (DeliversFirst sender) = first_acceptable l i ≡ Some sender
 IsDuty m cpu l i ClosesReceive =
     (receive : Receive) × (IsInReceive (thread l i).phase receive × ((is_nobody receive.from (held_by m l receive.from) ≡ true) × (first_acceptable l i ≡ None)))
 IsDuty m cpu l i (RefusesZero sender) =
-    (e : plain.Waiting) × (IsEntryOf e (plain.list_of l.lists i) × ((e.block ≡ sender) × (zero_refusable m (held m l i) (thread l e.block).send ≡ true)))
+    (e : plain.Waiting) × (StandsIn e (plain.list_of l.lists i) × ((e.block ≡ sender) × (zero_refusable m (held m l i) (thread l e.block).send ≡ true)))
 
 pub in_receive : (l : Local) (i : ℕ) (receive : Receive) → receive_now (thread l i).phase ≡ Some receive → IsInReceive (thread l i).phase receive
 in_receive l i receive h = let is = receiving_is (thread l i) receive h in record { since = is.since; is = is.is }

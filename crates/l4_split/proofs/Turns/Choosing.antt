@@ -7,7 +7,7 @@ use Rattle.l4_core_model.specs.Plain as plain
 use Rattle.l4_core_model.specs.Local.{Local, thread, held, declared, relists, readied}
 use Rattle.l4_core_model.specs.Acts.{Work, delivers, first_of_list, first_acceptable, zero_refusable, ◌▷◌, does, acts}
 use Rattle.l4_core_model.specs.Turns.{Duty, DropsOwn, RefusesFirst, TellsGone, CancelsOwn, CancelsReceive, DeliversFirst, ClosesReceive, RefusesZero, does_duty, duty_drops_own, duty_refuses_waiting, duty_tells_gone, duty_cancels_own, duty_cancels_receive, duty_delivers_first, duty_closes_receive, duty_refuses_zero, duty_of, first_some, Choice, ByDuty, ByDue, ByReady, does_choice, turn, opened}
-use Rattle.l4_split.proofs.Turns.Choices.{IsDuty, IsEntryOf, entry_of_all, IsChoice, turn_then}
+use Rattle.l4_split.proofs.Turns.Choices.{IsDuty, StandsIn, entry_of_all, IsChoice, turn_then}
 use Rattle.l4_split.proofs.Relation.Views.{Scene, Kept, amid, View, kept, view, home, put}
 use Rattle.l4_split.proofs.Frames.Moves.{deleted_phase, at_home}
 use Rattle.l4_split.proofs.Frames.Going.{Goes, IsHere, put_home, home_is, put_other, opened_goes}
@@ -25,14 +25,14 @@ use Rattle.l4_core_model.proofs.Knows.{same_nat}
 use Rattle.l4_core_model.proofs.Fit.{all-drop}
 use Rattle.l4_split.proofs.Lists.{other_is}
 use Rattle.l4_core_model.proofs.Remembers.{same_or_apart}
-use Rattle.l4_split.proofs.Relation.Rows.{Known, Stands}
+use Rattle.l4_split.proofs.Relation.Rows.{Known, Matches}
 use Rattle.l4_split.proofs.Turns.Timing.{due_goes, times_out_goes}
-use Rattle.l4_split.proofs.Relation.Relates.{IsSized, RelatesBut}
+use Rattle.l4_split.proofs.Relation.Relates.{IsSized, RelatesExcept}
 use Rattle.l4_split.proofs.Frames.Places.{leaves_out, Spares, local_changes}
 use Rattle.l4_split.proofs.Frames.Lists.{put_here}
 use Rattle.l4_split.proofs.Frames.Locals.{popped_other}
 use Rattle.l4_core_model.proofs.Duties.{accepts_none}
-use Rattle.l4_split.proofs.Turns.Instructions.{Runs, runs_alone_goes, waits_goes}
+use Rattle.l4_split.proofs.Turns.Instructions.{IsPicked, runs_alone_goes, waits_goes}
 use Rattle.l4_split.proofs.Sends.Beginning.{begins_send_goes}
 use Rattle.l4_core_model.proofs.Beginning.{act_sends}
 use Rattle.l4_split.proofs.Orders.Giving.{gives_goes}
@@ -51,7 +51,7 @@ accepted_goes m cpu r i s w x here processor e h = by (thread x.local r).phase r
     by Deleted is h = cc
 
 -- An entry of the list of a thread of this processor is a send that waits there.
-listed_at : (m : Machine) (cpu r i : ℕ) (s : Scene) (w : World) (x : Work) (f : plain.Waiting) → IsHere m cpu r → cpu < m.cpus → (e : Goes m cpu s w [] x) → IsEntryOf f (plain.list_of x.local.lists r) → f.block ≡ i → IsListedSend m cpu r i s w x
+listed_at : (m : Machine) (cpu r i : ℕ) (s : Scene) (w : World) (x : Work) (f : plain.Waiting) → IsHere m cpu r → cpu < m.cpus → (e : Goes m cpu s w [] x) → StandsIn f (plain.list_of x.local.lists r) → f.block ≡ i → IsListedSend m cpu r i s w x
 listed_at m cpu r i s w x f here processor e at same =
     let list = ap (λ (l : Local). plain.list_of l.lists r) (put_home m cpu r s x.local here.home) in
     let all = subst (AllByRecursion (IsEntryHere m (amid cpu s x) e.now r)) list (entries_here m (amid cpu s x) e.now r here.machine here.within e.relates) in
@@ -78,7 +78,7 @@ duty_goes m cpu i s w x (RefusesZero sender) here processor e d =
 -- The core's turn: the first duty, else the first due timeout, else one instruction of the first ready thread.
 
 -- An instruction
-acts_goes : (m : Machine) (cpu i : ℕ) (s : Scene) (w : World) (x : Work) → cpu < m.cpus → (e : Goes m cpu s w (i ∷ []) x) → Runs m cpu i s x e.now → Goes m cpu s w [] (acts m cpu i (act_of m (held m x.local i)) x)
+acts_goes : (m : Machine) (cpu i : ℕ) (s : Scene) (w : World) (x : Work) → cpu < m.cpus → (e : Goes m cpu s w (i ∷ []) x) → IsPicked m cpu i s x e.now → Goes m cpu s w [] (acts m cpu i (act_of m (held m x.local i)) x)
 acts_goes m cpu i s w x processor e r = by (act_of m (held m x.local i)) refl
   where
     by : (a : Act) → act_of m (held m x.local i) ≡ a → Goes m cpu s w [] (acts m cpu i a x)
@@ -116,11 +116,11 @@ popped_spares m l i is at = record {
 }
 
 -- Nothing else is said of who is ready.
-abbrev reread : (ℕ → List ℕ) → View → View
-reread ready v = record v { kept = λ cpu. record (v.kept cpu) { ready = ready cpu } }
+abbrev with_ready : (ℕ → List ℕ) → View → View
+with_ready ready v = record v { kept = λ cpu. record (v.kept cpu) { ready = ready cpu } }
 
-known_reread : (m : Machine) (i : ℕ) (ready : ℕ → List ℕ) (v : View) → ((cpu : ℕ) → (cpu ≡ home m i → ⊥) → ready cpu ≡ []) → Known m i v → Known m i (reread ready v)
-known_reread m i ready v none h = record {
+known_with_ready : (m : Machine) (i : ℕ) (ready : ℕ → List ℕ) (v : View) → ((cpu : ℕ) → (cpu ≡ home m i → ⊥) → ready cpu ≡ []) → Known m i v → Known m i (with_ready ready v)
+known_with_ready m i ready v none h = record {
   agrees = h.agrees;
   row = h.row;
   kept = record {
@@ -132,7 +132,7 @@ known_reread m i ready v none h = record {
 
 pub record IsFirstReady (m : Machine) (cpu i : ℕ) (s : Scene) (w : World) (x : Work) : Type 0 where
   pub goes : Goes m cpu s w (i ∷ []) x
-  pub runs : Runs m cpu i s x goes.now
+  pub picked : IsPicked m cpu i s x goes.now
 
 pub ready_goes : (m : Machine) (cpu : ℕ) (s : Scene) (w : World) (x : Work) (i : ℕ) (is : List ℕ) → IsMachine m → cpu < m.cpus → Goes m cpu s w [] x → x.local.lists.ready ≡ i ∷ is → IsFirstReady m cpu i s w (x ▷ does (relists plain.popped))
 ready_goes m cpu s w x i is machine processor e at =
@@ -153,9 +153,9 @@ ready_goes m cpu s w x i is machine processor e at =
         reaches = e.reaches;
         relates = local_changes m cpu (i ∷ []) s e.now x (relists plain.popped) (popped_spares m x.local i is at) refl (leaves_out m i [] (amid cpu s x) e.now e.relates);
       };
-      runs = record {
+      picked = record {
         here = record { machine = machine; within = lt; home = home_is_cpu };
-        known = subst (Known m i) (sym seen) (known_reread m i (λ c. (kept (put cpu y.local s.locals c) i).ready) v (λ c ne. ap (λ (k : Kept). k.ready) (put_other cpu c i x.local y.local s.locals (λ same. ne (sym same ∙ sym home_is_cpu))) ∙ (h.known.kept.elsewhere c ne).ready) h.known);
+        known = subst (Known m i) (sym seen) (known_with_ready m i (λ c. (kept (put cpu y.local s.locals c) i).ready) v (λ c ne. ap (λ (k : Kept). k.ready) (put_other cpu c i x.local y.local s.locals (λ same. ne (sym same ∙ sym home_is_cpu))) ∙ (h.known.kept.elsewhere c ne).ready) h.known);
         out = ap (λ xs. filter (λ k. i == k) (drop 1 xs)) at ∙ r.1;
         ready = r.0;
       };
@@ -165,7 +165,7 @@ ready_goes m cpu s w x i is machine processor e at =
     seen_at c true = refl
     seen_at c false = refl
 
-    seen : view m (amid cpu s (x ▷ does (relists plain.popped))) e.now i ≡ reread (λ c. (kept (put cpu (relists plain.popped x.local) s.locals c) i).ready) (view m (amid cpu s x) e.now i)
+    seen : view m (amid cpu s (x ▷ does (relists plain.popped))) e.now i ≡ with_ready (λ c. (kept (put cpu (relists plain.popped x.local) s.locals c) i).ready) (view m (amid cpu s x) e.now i)
     seen = λ d. record (view m (amid cpu s x) e.now i) { kept = λ c. seen_at c (cpu == c) d }
 
 -- The choice
@@ -191,7 +191,7 @@ choice_goes m cpu s w l (ByDue i) machine processor e c =
     times_out_goes m cpu c.0 i s w (opened 0 l ▷ does (relists plain.popped_due)) processor due c.1.1.1.0 (accepts_none (first_acceptable l i) none)
 choice_goes m cpu s w l (ByReady i) machine processor e c =
     let r = ready_goes m cpu s w (opened 0 l) i c.0 machine processor e c.1 in
-    acts_goes m cpu i s w (opened 0 l ▷ does (relists plain.popped)) processor r.goes r.runs
+    acts_goes m cpu i s w (opened 0 l ▷ does (relists plain.popped)) processor r.goes r.picked
 
-pub turn_goes : (m : Machine) (cpu : ℕ) (s : Scene) (w : World) (x : Work) → IsMachine m → cpu < m.cpus → RelatesBut m (Stands m) [] s w → turn m cpu (s.locals cpu) ≡ Some x → Goes m cpu s w [] x
+pub turn_goes : (m : Machine) (cpu : ℕ) (s : Scene) (w : World) (x : Work) → IsMachine m → cpu < m.cpus → RelatesExcept m (Matches m) [] s w → turn m cpu (s.locals cpu) ≡ Some x → Goes m cpu s w [] x
 turn_goes m cpu s w x machine processor rel h = turn_then m cpu (s.locals cpu) x (Goes m cpu s w []) h λ c is. choice_goes m cpu s w (s.locals cpu) c machine processor (opened_goes m cpu 0 [] s w rel) is

@@ -22,7 +22,7 @@ use Rattle.l4_split.proofs.Frames.Places.{leaves_out}
 use Rattle.l4_split.proofs.Frames.Moves.{at_home}
 use Rattle.l4_split.proofs.Frames.Lists.{put_here}
 use Rattle.l4_split.proofs.Frames.Going.{Goes, IsHere}
-use Rattle.l4_split.proofs.Sends.Deciding.{IsAt}
+use Rattle.l4_split.proofs.Sends.Deciding.{IsSendAt}
 use Rattle.l4_split.proofs.Sends.Waiting.{IsEntry, entry_at}
 use Rattle.l4_split.proofs.Sends.Finding.{pending_is}
 use Rattle.l4_split.proofs.Sends.Refusing.{HasSend, IsReceiver, refuses_goes, deleted_goes, zero_goes}
@@ -47,7 +47,7 @@ listed_send m cpu r i s w x seat here processor e lt is =
         processor = processor;
         within = lt;
         goes = record { now = e.now; reaches = e.reaches; relates = leaves_out m i [] (amid cpu s x) e.now e.relates };
-        at = subst (λ p. IsAt m p i is.send v) here.home (entry_at m r i v seat (e.relates.places i lt tt) is);
+        at = subst (λ p. IsSendAt m p i is.send v) here.home (entry_at m r i v seat (e.relates.places i lt tt) is);
       };
       receiver = record { within = here.within; home = here.home; to = is.waits.to ∙ ap Some q; seen = inl (e.relates.places r here.within tt).known };
       queued = any_list (λ x. i == x) e.now.waiting r

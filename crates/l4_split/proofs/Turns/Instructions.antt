@@ -11,7 +11,7 @@ use Rattle.l4_core_model.specs.Local.{declared, thread, held}
 use Rattle.l4_core_model.specs.Acts.{Work, runs_alone_at, waits_at}
 use Rattle.l4_core_model.proofs.Fit.{IsGood}
 use Rattle.l4_core_model.proofs.Good.{ready_has_none, runs_good, waits_good}
-use Rattle.l4_split.proofs.Relation.Views.{Scene, Kept, View, kept, view, world_thread, amid, words}
+use Rattle.l4_split.proofs.Relation.Views.{Scene, Kept, View, kept, view, world_thread, amid, locators}
 use Rattle.l4_split.proofs.Relation.Rows.{seats, Agrees, IsUnplaced, Known}
 use Rattle.l4_split.proofs.Relation.Agreement.{same_agrees, ready_is}
 use Rattle.l4_split.proofs.Frames.Moves.{at_home, IsFresh, of_none, ready_is_alive}
@@ -19,7 +19,7 @@ use Rattle.l4_split.proofs.Frames.Going.{Goes, IsHere, IsQuiet, home_is, found_h
 
 -- Of a thread that has neither send nor order no letter is under way, and the world has it as home does.
 pub record IsFree (m : Machine) (i : ℕ) (v : View) : Type 0 where
-  pub quiet : words v.mail ≡ []
+  pub quiet : locators v.mail ≡ []
   pub unplaced : IsUnplaced m i (seats m i v)
   pub agrees : Agrees v.world (at_home m i v).thread
 
@@ -36,7 +36,7 @@ free_is m i v known no_send no_order = where_then m i v known
     no_other h = cc
 
 -- What is known of a thread that runs: it was taken out of the ready ones.
-pub record Runs (m : Machine) (cpu i : ℕ) (s : Scene) (x : Work) (w : World) : Type 0 where
+pub record IsPicked (m : Machine) (cpu i : ℕ) (s : Scene) (x : Work) (w : World) : Type 0 where
   pub here : IsHere m cpu i
   pub known : Known m i (view m (amid cpu s x) w i)
   pub out : (kept x.local i).ready ≡ []
@@ -50,7 +50,7 @@ pub record IsRunning (m : Machine) (cpu i : ℕ) (s : Scene) (x : Work) (w : Wor
   pub free : IsFree m i (view m (amid cpu s x) w i)
   pub same : world_thread w i ≡ thread x.local i
 
-pub running_is : (m : Machine) (cpu i : ℕ) (s : Scene) (x : Work) (w : World) → Runs m cpu i s x w → IsRunning m cpu i s x w
+pub running_is : (m : Machine) (cpu i : ℕ) (s : Scene) (x : Work) (w : World) → IsPicked m cpu i s x w → IsRunning m cpu i s x w
 running_is m cpu i s x w r =
     let v : View = view m (amid cpu s x) w i in
     let was = home_is m cpu i s x w r.here.home in
@@ -66,13 +66,13 @@ running_is m cpu i s x w r =
     }
 
 -- The world finds a running thread as its home has it.
-pub running_found : (m : Machine) (cpu i : ℕ) (s : Scene) (w : World) (x : Work) → (e : Goes m cpu s w (i ∷ []) x) → Runs m cpu i s x e.now → found m e.now (declared m i).id ≡ Some (held m x.local i)
+pub running_found : (m : Machine) (cpu i : ℕ) (s : Scene) (w : World) (x : Work) → (e : Goes m cpu s w (i ∷ []) x) → IsPicked m cpu i s x e.now → found m e.now (declared m i).id ≡ Some (held m x.local i)
 running_found m cpu i s w x e r =
     found_here m cpu i (i ∷ []) s e.now x r.here e.relates
     ∙ ap (λ t. Some (record { at = i; declared = declared m i; now = t; clock = x.local.clock })) (running_is m cpu i s x e.now r).same
 
 -- A change of a running thread that leaves it without send and order.
-running_quiet : (m : Machine) (cpu i : ℕ) (s : Scene) (w : World) (x : Work) (f : Thread → Thread) → (e : Goes m cpu s w (i ∷ []) x) → Runs m cpu i s x e.now →
+running_quiet : (m : Machine) (cpu i : ℕ) (s : Scene) (w : World) (x : Work) (f : Thread → Thread) → (e : Goes m cpu s w (i ∷ []) x) → IsPicked m cpu i s x e.now →
     (f (thread x.local i)).send ≡ (thread x.local i).send → (f (thread x.local i)).order ≡ (thread x.local i).order → (f (thread x.local i)).context.begun ≡ (thread x.local i).context.begun →
     (IsGood x.local.clock (thread x.local i) → IsGood x.local.clock (f (thread x.local i))) → IsFresh x.local.clock (f (thread x.local i)).phase (f (thread x.local i)).send →
     IsQuiet m i (view m (amid cpu s x) e.now i) (kept x.local i) f f
@@ -88,7 +88,7 @@ running_quiet m cpu i s w x f e r send order begun good fresh =
       agrees = same_agrees (f (world_thread e.now i)) (f (thread x.local i)) (ap f is.same);
       good = good is.good;
       fresh = fresh;
-      carries = record {
+      stays_true = record {
         deleted = λ gone. ready_is_alive (thread x.local i).phase gone r.ready;
         begun = omega (arith, begun);
         causes = λ cause same old. of_none _ (f (thread x.local i)).send (send ∙ is.send);
@@ -99,7 +99,7 @@ ran_fresh : (i : Instr) (clock : ℕ) (send : Option Send) → IsFresh clock (ph
 ran_fresh End clock send = tt
 ran_fresh _ clock send = tt
 
-pub runs_alone_goes : (m : Machine) (cpu i : ℕ) (s : Scene) (w : World) (x : Work) → (e : Goes m cpu s w (i ∷ []) x) → Runs m cpu i s x e.now → runs_alone (act_of m (held m x.local i)) ≡ true → Goes m cpu s w [] (runs_alone_at m i x)
+pub runs_alone_goes : (m : Machine) (cpu i : ℕ) (s : Scene) (w : World) (x : Work) → (e : Goes m cpu s w (i ∷ []) x) → IsPicked m cpu i s x e.now → runs_alone (act_of m (held m x.local i)) ≡ true → Goes m cpu s w [] (runs_alone_at m i x)
 runs_alone_goes m cpu i s w x e r alone =
     let found_is = running_found m cpu i s w x e r in
     let ready = r.ready in
@@ -109,7 +109,7 @@ runs_alone_goes m cpu i s w x e r alone =
     (rw (found_is, ready, alone) refl)
 
 -- wait
-pub waits_goes : (m : Machine) (cpu i : ℕ) (s : Scene) (w : World) (x : Work) (receive : Receive) → (e : Goes m cpu s w (i ∷ []) x) → Runs m cpu i s x e.now → receive_of (act_of m (held m x.local i)) ≡ Some receive → Goes m cpu s w [] (waits_at m i receive x)
+pub waits_goes : (m : Machine) (cpu i : ℕ) (s : Scene) (w : World) (x : Work) (receive : Receive) → (e : Goes m cpu s w (i ∷ []) x) → IsPicked m cpu i s x e.now → receive_of (act_of m (held m x.local i)) ≡ Some receive → Goes m cpu s w [] (waits_at m i receive x)
 waits_goes m cpu i s w x receive e r receives =
     let found_is = running_found m cpu i s w x e r in
     let ready = r.ready in

@@ -18,14 +18,14 @@ use Rattle.l4_core_model.proofs.Fit.{all-map}
 use Rattle.l4_core_model.proofs.Remembers.{same_or_apart}
 use Rattle.l4_core_model.proofs.Knows.{blocks}
 use Rattle.l4_split.proofs.Lists.{other_is}
-use Rattle.l4_split.proofs.Relation.Views.{Scene, Kept, View, kept, view, home, put, amid, words, notices}
-use Rattle.l4_split.proofs.Relation.Rows.{IsCause, IsNotice, IsNoticeOf, Stands, IsNoticeAt}
+use Rattle.l4_split.proofs.Relation.Views.{Scene, Kept, View, kept, view, home, put, amid, notices, locators}
+use Rattle.l4_split.proofs.Relation.Rows.{IsCause, IsNotice, IsNoticeOf, Matches, IsNoticeAt}
 use Rattle.l4_split.proofs.Relation.Agreement.{learned_later}
 use Rattle.l4_split.proofs.Relation.Relates.{IsSized}
 use Rattle.l4_split.proofs.Frames.Places.{put_keeps, put_same}
 use Rattle.l4_split.proofs.Frames.Lists.{put_here}
 use Rattle.l4_split.proofs.Frames.Moves.{at_home}
-use Rattle.l4_split.proofs.Frames.Going.{Goes, told}
+use Rattle.l4_split.proofs.Frames.Going.{Goes, one_more_told}
 
 -- What is said of a place stays true.
 
@@ -35,8 +35,8 @@ cause_later ByTimeout now later t (Some send) le h = (passed_later send.period s
 cause_later ByCancel now later t (Some send) le h = h
 cause_later ByDeletion now later t (Some send) le h = h
 
-abbrev pub later : (ℕ → ℕ) → View → View
-later clocks v = record v { kept = λ cpu. record (v.kept cpu) { clock = clocks cpu } }
+abbrev pub with_clocks : (ℕ → ℕ) → View → View
+with_clocks clocks v = record v { kept = λ cpu. record (v.kept cpu) { clock = clocks cpu } }
 
 notice_later : (m : Machine) (i : ℕ) (k : Kept) (clock : ℕ) (p : Posted) (c : Content) → k.clock ≤ clock → IsNoticeOf m i k p c → IsNoticeAt m i clock k.thread p c
 notice_later m i k clock p (SendLetter s receiver message zero_timeout) le h = h
@@ -46,13 +46,13 @@ notice_later m i k clock p (GoneLetter id) le h = h
 notice_later m i k clock p (OrderLetter caller target what) le h = h
 notice_later m i k clock p (OrderDoneLetter caller) le h = h
 
-pub stands_later : (m : Machine) (i : ℕ) (clocks : ℕ → ℕ) (v : View) → (at_home m i v).clock ≤ clocks (home m i) → Stands m i v → Stands m i (later clocks v)
-stands_later m i clocks v le h =
+pub matches_later : (m : Machine) (i : ℕ) (clocks : ℕ → ℕ) (v : View) → (at_home m i v).clock ≤ clocks (home m i) → Matches m i v → Matches m i (with_clocks clocks v)
+matches_later m i clocks v le h =
     let k : Kept = at_home m i v in
     let here = h.known.kept.at_home in
     record {
       known = record {
-        agrees = learned_later (words v.mail) k.clock (clocks (home m i)) v.world k.thread le h.known.agrees;
+        agrees = learned_later (locators v.mail) k.clock (clocks (home m i)) v.world k.thread le h.known.agrees;
         row = h.known.row;
         kept = record {
           at_home = record {
@@ -84,7 +84,7 @@ tick_goes m cpu to s w x processor e above below =
     let clocks : ℕ → ℕ = λ c. (put cpu y.local s.locals c).clock in
     record {
       now = v;
-      reaches = told m w now v x.steps (Tick cpu to) e.reaches (tick_possible m now cpu to x.local.clock at above below);
+      reaches = one_more_told m w now v x.steps (Tick cpu to) e.reaches (tick_possible m now cpu to x.local.clock at above below);
       relates = record {
         sized = λ c c_lt. put_keeps (IsSized m) cpu c x.local y.local s.locals (λ z. record { threads = z.threads; lists = z.lists; told = z.told; ready = z.ready; armed = z.armed; listed = z.listed }) (rel.sized c c_lt);
         sized_world = record { threads = rel.sized_world.threads; lists = rel.sized_world.lists; clocks = length-set now.clocks cpu to ∙ rel.sized_world.clocks };
@@ -92,7 +92,7 @@ tick_goes m cpu to s w x processor e above below =
             (λ same. subst (λ c. slice_index_or v.clocks c 0 ≡ (put cpu y.local s.locals c).clock) same (get_or-set_same now.clocks cpu to 0 in_world ∙ sym (ap (λ (l : Local). l.clock) (put_here cpu cpu y.local s.locals refl))))
             (λ ne. get_or-set_other now.clocks cpu c to 0 (λ h. ne (sym h)) ∙ rel.clocks c c_lt ∙ others c ne);
         lists = λ q q_lt. rel.lists q q_lt ∙ ap (λ ess. blocks (slice_index_or ess q [])) (sym (put_same (λ l. l.lists.waiting) cpu (home m q) x.local y.local s.locals refl));
-        places = λ j j_lt out. subst (Stands m j) (sym (seen j)) (stands_later m j clocks (view m (amid cpu s x) now j) (no_sooner (home m j) j lt) (rel.places j j_lt out));
+        places = λ j j_lt out. subst (Matches m j) (sym (seen j)) (matches_later m j clocks (view m (amid cpu s x) now j) (no_sooner (home m j) j lt) (rel.places j j_lt out));
       };
     }
   where
@@ -103,7 +103,7 @@ tick_goes m cpu to s w x processor e above below =
     seen_at j c true = refl
     seen_at j c false = refl
 
-    seen : (j : ℕ) → view m (amid cpu s (x ▷ does (clock_is to))) (record e.now { clocks = slice_set e.now.clocks cpu to }) j ≡ later (λ c. (put cpu (clock_is to x.local) s.locals c).clock) (view m (amid cpu s x) e.now j)
+    seen : (j : ℕ) → view m (amid cpu s (x ▷ does (clock_is to))) (record e.now { clocks = slice_set e.now.clocks cpu to }) j ≡ with_clocks (λ c. (put cpu (clock_is to x.local) s.locals c).clock) (view m (amid cpu s x) e.now j)
     seen j = λ d. record (view m (amid cpu s x) e.now j) { kept = λ c. seen_at j c (cpu == c) d }
 
     no_sooner : (c j : ℕ) → x.local.clock < to → (kept (put cpu x.local s.locals c) j).clock ≤ (put cpu (clock_is to x.local) s.locals c).clock

@@ -20,7 +20,7 @@ use Rattle.l4_core_model.proofs.Fit.{Justifies, all-drop}
 use Rattle.l4_core_model.proofs.Remembers.{same_or_apart}
 use Rattle.l4_split.proofs.Lists.{other_is}
 use Rattle.l4_split.proofs.Relation.Views.{Scene, Kept, View, kept, view, home, put, amid}
-use Rattle.l4_split.proofs.Relation.Rows.{deadlines, IsArmed, IsCause, Stands}
+use Rattle.l4_split.proofs.Relation.Rows.{deadlines, IsArmed, IsCause, Matches}
 use Rattle.l4_split.proofs.Relation.Relates.{IsSized}
 use Rattle.l4_split.proofs.Frames.Places.{leaves_out, takes_in, Spares, local_changes}
 use Rattle.l4_split.proofs.Frames.Lists.{put_here}
@@ -84,11 +84,11 @@ popped_spares m l a others at = record {
 }
 
 -- Nothing else is said of what is armed.
-abbrev rearmed : (ℕ → List (ℕ × ℕ)) → View → View
-rearmed armed v = record v { kept = λ cpu. record (v.kept cpu) { armed = armed cpu } }
+abbrev with_armed : (ℕ → List (ℕ × ℕ)) → View → View
+with_armed armed v = record v { kept = λ cpu. record (v.kept cpu) { armed = armed cpu } }
 
-stands_rearmed : (m : Machine) (i : ℕ) (armed : ℕ → List (ℕ × ℕ)) (v : View) → IsArmed i (at_home m i v).thread (armed (home m i)) → ((cpu : ℕ) → (cpu ≡ home m i → ⊥) → armed cpu ≡ []) → Stands m i v → Stands m i (rearmed armed v)
-stands_rearmed m i armed v here none h = record {
+matches_with_armed : (m : Machine) (i : ℕ) (armed : ℕ → List (ℕ × ℕ)) (v : View) → IsArmed i (at_home m i v).thread (armed (home m i)) → ((cpu : ℕ) → (cpu ≡ home m i → ⊥) → armed cpu ≡ []) → Matches m i v → Matches m i (with_armed armed v)
+matches_with_armed m i armed v here none h = record {
   known = record {
     agrees = h.known.agrees;
     row = h.known.row;
@@ -131,7 +131,7 @@ due_goes m cpu s w x a others machine processor e at =
         now = e.now;
         reaches = e.reaches;
         relates = takes_in m i [] (amid cpu s y) e.now (local_changes m cpu (i ∷ []) s e.now x (relists plain.popped_due) (popped_spares m x.local a others at) refl (leaves_out m i [] (amid cpu s x) e.now e.relates))
-            (subst (Stands m i) (sym (seen i)) (stands_rearmed m i (λ c. (after.kept c).armed) v (inr left) (λ c ne. ap (λ (k : Kept). k.armed) (put_other cpu c i x.local y.local s.locals (λ same. ne (sym same ∙ sym home_is_cpu))) ∙ (h.known.kept.elsewhere c ne).armed) h));
+            (subst (Matches m i) (sym (seen i)) (matches_with_armed m i (λ c. (after.kept c).armed) v (inr left) (λ c ne. ap (λ (k : Kept). k.armed) (put_other cpu c i x.local y.local s.locals (λ same. ne (sym same ∙ sym home_is_cpu))) ∙ (h.known.kept.elsewhere c ne).armed) h));
       };
       just = subst (λ (k : Kept). Justifies a.0 k.thread.phase k.thread.send) was deadline.just;
     }
@@ -140,7 +140,7 @@ due_goes m cpu s w x a others machine processor e at =
     seen_at i c true = refl
     seen_at i c false = refl
 
-    seen : (i : ℕ) → view m (amid cpu s (x ▷ does (relists plain.popped_due))) e.now i ≡ rearmed (λ c. (kept (put cpu (relists plain.popped_due x.local) s.locals c) i).armed) (view m (amid cpu s x) e.now i)
+    seen : (i : ℕ) → view m (amid cpu s (x ▷ does (relists plain.popped_due))) e.now i ≡ with_armed (λ c. (kept (put cpu (relists plain.popped_due x.local) s.locals c) i).armed) (view m (amid cpu s x) e.now i)
     seen i = λ d. record (view m (amid cpu s x) e.now i) { kept = λ c. seen_at i c (cpu == c) d }
 
     armed_is : (i : ℕ) (t : Thread) (a : ℕ × ℕ) (others armed : List (ℕ × ℕ)) → armed ≡ a ∷ others → IsArmed i t armed → IsDeadline a.0 t.phase t.send others

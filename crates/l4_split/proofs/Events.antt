@@ -23,8 +23,10 @@ use Rattle.l4_core_model.specs.Letters.{Letter}
 pub done_scene : (cpu : ℕ) (g : System) (x : Work) → cpu < length g.locals → amid cpu (scene g) x ≡ scene (done cpu g x).system
 done_scene cpu g x lt = λ d. record { locals = λ c. at c (cpu == c) refl d; mail = (scene (done cpu g x).system).mail }
   where
-    at : (c : ℕ) (b : Bool) → (cpu == c) ≡ b → cond b x.local (slice_index_or g.locals c nowhere) ≡ slice_index_or (changed (λ l. x.local) g.locals cpu) c nowhere
-    at c true is = sym (ap (λ i. slice_index_or (changed (λ l. x.local) g.locals cpu) i nowhere) (sym (eqb-true cpu c is)) ∙ get-changed (λ l. x.local) g.locals cpu nowhere lt)
+    at : (c : ℕ) (b : Bool) → (cpu == c) ≡ b →
+        cond b x.local (slice_index_or g.locals c nowhere) ≡ slice_index_or (changed (λ l. x.local) g.locals cpu) c nowhere
+    at c true is = sym (ap (λ i. slice_index_or (changed (λ l. x.local) g.locals cpu) i nowhere) (sym (eqb-true cpu c is))
+        ∙ get-changed (λ l. x.local) g.locals cpu nowhere lt)
     at c false is = sym (get_other_place (λ l. x.local) g.locals cpu c nowhere (apart cpu c is))
 
 pub local_at : (ls : List Local) (cpu : ℕ) (l : Local) → slice_get ls cpu ≡ Some l → (cpu < length ls) × (slice_index_or ls cpu nowhere ≡ l)
@@ -47,7 +49,8 @@ event_then m g (Handles cpu from) h P counted is letter_then turn_then tick_then
     bind_then (slice_get (letters g.mail from cpu) 0) _ h rest λ letter first rest.
     let place = local_at g.locals cpu l at in
     let lt : cpu < m.cpus = omega (arith, place.0, counted) in
-    done_then (handle m cpu l letter) (done cpu (taken from cpu g)) h P (λ x handled. letter_then cpu from letter x lt first (ap (λ k. handle m cpu k letter) place.1 ∙ handled)) rest
+    done_then (handle m cpu l letter) (done cpu (taken from cpu g)) h P
+        (λ x handled. letter_then cpu from letter x lt first (ap (λ k. handle m cpu k letter) place.1 ∙ handled)) rest
 event_then m g (Turns cpu) h P counted is letter_then turn_then tick_then =
     bind_then (slice_get g.locals cpu) _ h is λ l at rest.
     let place = local_at g.locals cpu l at in

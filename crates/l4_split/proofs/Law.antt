@@ -47,10 +47,13 @@ use Rattle.l4_split.proofs.Promises.Handling.{letter_keeps}
 use Rattle.l4_split.proofs.Relation.Relates.{Relates, RelatesExcept}
 use Rattle.l4_split.proofs.Frames.Mail.{first_letter}
 
-pub letter_goes : (m : Machine) (from cpu : ℕ) (letter : Letter) (s : Scene) (w : World) (x : Work) (c : Content) → IsLetter m from cpu letter s w → letter.content ≡ c → handled m cpu c (at_work cpu letter s) ≡ Some x → Goes m cpu (without from cpu s) w [] x
-letter_goes m from cpu letter s w x (SendLetter name receiver message zero_timeout) h content is = handles_send m from cpu letter s w x name receiver message zero_timeout h content is
+pub letter_goes : (m : Machine) (from cpu : ℕ) (letter : Letter) (s : Scene) (w : World) (x : Work) (c : Content) → IsLetter m from cpu letter s w →
+    letter.content ≡ c → handled m cpu c (at_work cpu letter s) ≡ Some x → Goes m cpu (without from cpu s) w [] x
+letter_goes m from cpu letter s w x (SendLetter name receiver message zero_timeout) h content is =
+    handles_send m from cpu letter s w x name receiver message zero_timeout h content is
 letter_goes m from cpu letter s w x (DoneLetter name result) h content is = handles_done m from cpu letter s w x name result h content is
-letter_goes m from cpu letter s w x (WithdrawLetter name receiver cause) h content is = handles_withdraw m from cpu letter s w x name receiver cause h content is
+letter_goes m from cpu letter s w x (WithdrawLetter name receiver cause) h content is =
+    handles_withdraw m from cpu letter s w x name receiver cause h content is
 letter_goes m from cpu letter s w x (GoneLetter id) h content is = handles_gone m from cpu letter s w x id h content is
 letter_goes m from cpu letter s w x (OrderLetter caller target what) h content is = handles_order m from cpu letter s w x caller target what h content is
 letter_goes m from cpu letter s w x (OrderDoneLetter caller) h content is = handles_order_done m from cpu letter s w x caller h content is
@@ -59,7 +62,8 @@ letter_goes m from cpu letter s w x (OrderDoneLetter caller) h content is = hand
 
 -- Letters
 
-all_posted : (m : Machine) (cpu : ℕ) (ls : List (ℕ × Letter)) → AllByRecursion (λ (p : ℕ × Letter). IsAddressedTo m p.0 p.1.content) ls → AreAddressed m (map (posted cpu) ls)
+all_posted : (m : Machine) (cpu : ℕ) (ls : List (ℕ × Letter)) → AllByRecursion (λ (p : ℕ × Letter). IsAddressedTo m p.0 p.1.content) ls →
+    AreAddressed m (map (posted cpu) ls)
 all_posted m cpu [] all = tt
 all_posted m cpu (l ∷ ls) all = (all.0, all_posted m cpu ls all.1)
 
@@ -96,7 +100,8 @@ step_facts m r e h machine f is = event_then m r.system e h (λ h. RunFacts m (t
     s : Scene
     s = scene r.system
 
-    handles : (cpu from : ℕ) (letter : Letter) (x : Work) → cpu < m.cpus → slice_get (letters r.system.mail from cpu) 0 ≡ Some letter → handle m cpu (s.locals cpu) letter ≡ Some x → RunFacts m (then_event r (done cpu (taken from cpu r.system) x))
+    handles : (cpu from : ℕ) (letter : Letter) (x : Work) → cpu < m.cpus → slice_get (letters r.system.mail from cpu) 0 ≡ Some letter →
+        handle m cpu (s.locals cpu) letter ≡ Some x → RunFacts m (then_event r (done cpu (taken from cpu r.system) x))
     handles cpu from letter x lt first is =
         let at = first_letter from cpu letter r.system.mail first in
         let l : IsLetter m from cpu letter s f.world = record { machine = machine; processor = lt; relates = f.relates; first = at } in
@@ -107,7 +112,8 @@ step_facts m r e h machine f is = event_then m r.system e h (λ h. RunFacts m (t
         (handled_addressed m cpu letter.content (opened letter.stamp (s.locals cpu)) x machine tt is)
 
     turns : (cpu : ℕ) (x : Work) → cpu < m.cpus → turn m cpu (s.locals cpu) ≡ Some x → RunFacts m (then_event r (done cpu r.system x))
-    turns cpu x lt is = event_facts m r cpu r.system x f refl lt f.addressed (turn_goes m cpu s f.world x machine lt f.relates is) (turn_keeps m cpu s f.world x machine lt f.relates f.promised is)
+    turns cpu x lt is = event_facts m r cpu r.system x f refl lt f.addressed (turn_goes m cpu s f.world x machine lt f.relates is)
+        (turn_keeps m cpu s f.world x machine lt f.relates f.promised is)
         (turn_addressed m cpu (s.locals cpu) x machine (f.relates.sized cpu lt) is)
 
     ticks : (cpu clock : ℕ) (x : Work) → cpu < m.cpus → advance m cpu clock (s.locals cpu) ≡ Some x → RunFacts m (then_event r (done cpu r.system x))

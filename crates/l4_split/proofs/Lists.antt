@@ -27,7 +27,8 @@ pub filter_kept : {A : Type 0} (p q : A → Bool) → ((x : A) → p x ≡ true 
 filter_kept p q keeps [] = refl
 filter_kept p q keeps (x ∷ xs) = by (filter_kept p q keeps xs) (q x) refl (p x) refl
   where
-    by : filter p (filter q xs) ≡ filter p xs → (b : Bool) → q x ≡ b → (a : Bool) → p x ≡ a → filter p (cond b (x ∷ filter q xs) (filter q xs)) ≡ cond a (x ∷ filter p xs) (filter p xs)
+    by : filter p (filter q xs) ≡ filter p xs → (b : Bool) → q x ≡ b → (a : Bool) → p x ≡ a →
+        filter p (cond b (x ∷ filter q xs) (filter q xs)) ≡ cond a (x ∷ filter p xs) (filter p xs)
     by rest true h true is = rw is (ap (λ ys. x ∷ ys) rest)
     by rest true h false is = rw is rest
     by rest false h true is = let yes = keeps x is in cc
@@ -56,7 +57,8 @@ pub filter_put_other : (p : ℕ × ℕ → Bool) (e : ℕ × ℕ) (xs : List (�
 filter_put_other p e [] h = rw h
 filter_put_other p e (x ∷ xs) h = by (filter_put_other p e xs h) (nat_le x.0 e.0)
   where
-    front : filter p (plain.put_entry e xs) ≡ filter p xs → (b : Bool) → cond b (x ∷ filter p (plain.put_entry e xs)) (filter p (plain.put_entry e xs)) ≡ cond b (x ∷ filter p xs) (filter p xs)
+    front : filter p (plain.put_entry e xs) ≡ filter p xs → (b : Bool) →
+        cond b (x ∷ filter p (plain.put_entry e xs)) (filter p (plain.put_entry e xs)) ≡ cond b (x ∷ filter p xs) (filter p xs)
     front rest true = ap (λ ys. x ∷ ys) rest
     front rest false = rest
 
@@ -68,7 +70,8 @@ pub filter_put : (p : ℕ × ℕ → Bool) (e : ℕ × ℕ) (xs : List (ℕ × �
 filter_put p e [] h none = rw h
 filter_put p e (x ∷ xs) h none = by (filter_put p e xs h) (nat_le x.0 e.0) (p x) refl none
   where
-    by : (filter p xs ≡ [] → filter p (plain.put_entry e xs) ≡ e ∷ []) → (b a : Bool) → p x ≡ a → cond a (x ∷ filter p xs) (filter p xs) ≡ [] → filter p (cond b (x ∷ plain.put_entry e xs) (e ∷ x ∷ xs)) ≡ e ∷ []
+    by : (filter p xs ≡ [] → filter p (plain.put_entry e xs) ≡ e ∷ []) → (b a : Bool) → p x ≡ a → cond a (x ∷ filter p xs) (filter p xs) ≡ [] →
+        filter p (cond b (x ∷ plain.put_entry e xs) (e ∷ x ∷ xs)) ≡ e ∷ []
     by rest b true is none = cc
     by rest true false is none = rw is (rest none)
     by rest false false is none = rw (h, is) (ap (λ ys. e ∷ ys) none)
@@ -83,29 +86,34 @@ pub filter_range : (a n i : ℕ) → a ≤ i → i < a + n → filter (λ j. i =
 filter_range a zero i le lt = absurd (omega arith)
 filter_range a (suc n) i le lt = by (i == a) refl (λ ne. filter_range (a + 1) n i (omega arith) (omega arith))
   where
-    by : (b : Bool) → (i == a) ≡ b → ((i ≡ a → ⊥) → filter (λ j. i == j) (range_with_len (a + 1) n) ≡ i ∷ []) → cond b (a ∷ filter (λ j. i == j) (range_with_len (a + 1) n)) (filter (λ j. i == j) (range_with_len (a + 1) n)) ≡ i ∷ []
+    by : (b : Bool) → (i == a) ≡ b → ((i ≡ a → ⊥) → filter (λ j. i == j) (range_with_len (a + 1) n) ≡ i ∷ []) →
+        cond b (a ∷ filter (λ j. i == j) (range_with_len (a + 1) n)) (filter (λ j. i == j) (range_with_len (a + 1) n)) ≡ i ∷ []
     by true h rest = let e = eqb-true i a h in let none = above_is_none (a + 1) n i (omega arith) in cc
     by false h rest = rest (apart i a h)
 
 -- What holds of the entries of each place holds of all.
-pub all_by_place : {A : Type 0} (P : A → Type 0) (place : A → ℕ) (xs : List A) → ((i : ℕ) → AllByRecursion P (filter (λ x. i == place x) xs)) → AllByRecursion P xs
+pub all_by_place : {A : Type 0} (P : A → Type 0) (place : A → ℕ) (xs : List A) → ((i : ℕ) → AllByRecursion P (filter (λ x. i == place x) xs)) →
+    AllByRecursion P xs
 all_by_place P place [] h = tt
 all_by_place P place (x ∷ xs) h = (first (h (place x)), all_by_place P place xs (λ i. later i (i == place x) (h i)))
   where
     first : AllByRecursion P (filter (λ y. place x == place y) (x ∷ xs)) → P x
     first all = let same = same_nat (place x) in (rw same at all).0
 
-    later : (i : ℕ) (b : Bool) → AllByRecursion P (cond b (x ∷ filter (λ y. i == place y) xs) (filter (λ y. i == place y) xs)) → AllByRecursion P (filter (λ y. i == place y) xs)
+    later : (i : ℕ) (b : Bool) → AllByRecursion P (cond b (x ∷ filter (λ y. i == place y) xs) (filter (λ y. i == place y) xs)) →
+        AllByRecursion P (filter (λ y. i == place y) xs)
     later i true all = all.1
     later i false all = all
 
 -- What stands at a place after a change of one element
-pub changed_cases : {A : Type 0} (P : A → Type 0) (f : A → A) (xs : List A) (i j : ℕ) (d : A) → i < length xs → (i ≡ j → P (f (slice_index_or xs j d))) → ((i ≡ j → ⊥) → P (slice_index_or xs j d)) → P (slice_index_or (changed f xs i) j d)
+pub changed_cases : {A : Type 0} (P : A → Type 0) (f : A → A) (xs : List A) (i j : ℕ) (d : A) → i < length xs → (i ≡ j → P (f (slice_index_or xs j d))) →
+    ((i ≡ j → ⊥) → P (slice_index_or xs j d)) → P (slice_index_or (changed f xs i) j d)
 changed_cases P f [] i j d lt here other = absurd (omega arith)
 changed_cases P f (x ∷ xs) zero zero d lt here other = here refl
 changed_cases P f (x ∷ xs) zero (suc j) d lt here other = other (λ e. omega arith)
 changed_cases P f (x ∷ xs) (suc i) zero d lt here other = other (λ e. omega arith)
-changed_cases P f (x ∷ xs) (suc i) (suc j) d lt here other = changed_cases P f xs i j d (omega arith) (λ e. here (ap suc e)) (λ ne. other (λ e. ne (omega arith)))
+changed_cases P f (x ∷ xs) (suc i) (suc j) d lt here other =
+    changed_cases P f xs i j d (omega arith) (λ e. here (ap suc e)) (λ ne. other (λ e. ne (omega arith)))
 
 pub get_other_place : {A : Type 0} (f : A → A) (xs : List A) (i j : ℕ) (d : A) → (i ≡ j → ⊥) → slice_index_or (changed f xs i) j d ≡ slice_index_or xs j d
 get_other_place f [] i j d ne = refl
@@ -157,7 +165,8 @@ any_list p [] r h = cc
 any_list p (xs ∷ xss) zero h = rw h refl
 any_list p (xs ∷ xss) (suc r) h = or_right (list_any p xs) (list_any (list_any p) xss) (any_list p xss r h)
 
-pub none_in : {A : Type 0} (p : A → Bool) (xss : List (List A)) → ((r : ℕ) → r < length xss → list_any p (slice_index_or xss r []) ≡ false) → list_any (list_any p) xss ≡ false
+pub none_in : {A : Type 0} (p : A → Bool) (xss : List (List A)) → ((r : ℕ) → r < length xss → list_any p (slice_index_or xss r []) ≡ false) →
+    list_any (list_any p) xss ≡ false
 none_in p [] none = refl
 none_in p (xs ∷ xss) none = let here = none 0 (omega arith) in rw here (none_in p xss (λ r lt. none (suc r) (omega arith)))
 

@@ -18,7 +18,8 @@ IsLawfulLetter m g p = IsSomeAnd (slice_get g.locals p.to) (λ l. is_some (handl
 -- Whichever letter is the first of its pair of processors, the processor that it has come to can handle it; and so could any
 -- letter under way be handled where it goes, if it came first.
 pub record LettersAreLawful (m : Machine) (g : System) : Type 0 where
-  pub first : (from cpu : ℕ) (letter : Letter) (l : Local) → slice_get (letters g.mail from cpu) 0 ≡ Some letter → slice_get g.locals cpu ≡ Some l → is_some (handle m cpu l letter) ≡ true
+  pub first : (from cpu : ℕ) (letter : Letter) (l : Local) → slice_get (letters g.mail from cpu) 0 ≡ Some letter → slice_get g.locals cpu ≡ Some l →
+      is_some (handle m cpu l letter) ≡ true
   pub all : AllByRecursion (IsLawfulLetter m g) g.mail
 
 -- What the events of a core run tell reaches a world, in which nothing but clocks can go on where the run is at rest.

@@ -30,7 +30,8 @@ pub record Goes (m : Machine) (cpu : ℕ) (s : Scene) (w : World) (except : List
   pub relates : RelatesExcept m (Matches m) except (amid cpu s x) now
 
 -- One more step is told.
-pub one_more_told : (m : Machine) (w : World) (now v : World) (steps : List Step) (step : Step) → run m w steps ≡ Some now → next m now step ≡ Some v → run m w (steps ++ step ∷ []) ≡ Some v
+pub one_more_told : (m : Machine) (w : World) (now v : World) (steps : List Step) (step : Step) → run m w steps ≡ Some now → next m now step ≡ Some v →
+    run m w (steps ++ step ∷ []) ≡ Some v
 one_more_told m w now v steps step reaches possible = rw (run-last, reaches) possible
 
 -- The event is at the home of the thread at a place.
@@ -46,12 +47,14 @@ put_home m cpu i s l is = let same = same_nat cpu in rw (is, same) refl
 pub home_is : (m : Machine) (cpu i : ℕ) (s : Scene) (x : Work) (w : World) → home m i ≡ cpu → at_home m i (view m (amid cpu s x) w i) ≡ kept x.local i
 home_is m cpu i s x w is = ap (λ l. kept l i) (put_home m cpu i s x.local is)
 
-pub sized_here : {P : ℕ → View → Type 0} (m : Machine) (cpu i : ℕ) (except : List ℕ) (s : Scene) (w : World) (x : Work) → IsHere m cpu i → RelatesExcept m P except (amid cpu s x) w → IsSized m x.local
+pub sized_here : {P : ℕ → View → Type 0} (m : Machine) (cpu i : ℕ) (except : List ℕ) (s : Scene) (w : World) (x : Work) → IsHere m cpu i →
+    RelatesExcept m P except (amid cpu s x) w → IsSized m x.local
 sized_here m cpu i except s w x here r =
     subst (IsSized m) (put_home m cpu i s x.local here.home) (r.sized (home m i) (here.machine.homed i here.within))
 
 -- The thread at a place, as the world has it.
-pub found_here : {P : ℕ → View → Type 0} (m : Machine) (cpu i : ℕ) (except : List ℕ) (s : Scene) (w : World) (x : Work) → IsHere m cpu i → RelatesExcept m P except (amid cpu s x) w →
+pub found_here : {P : ℕ → View → Type 0} (m : Machine) (cpu i : ℕ) (except : List ℕ) (s : Scene) (w : World) (x : Work) → IsHere m cpu i →
+    RelatesExcept m P except (amid cpu s x) w →
     found m w (declared m i).id ≡ Some (record { at = i; declared = declared m i; now = world_thread w i; clock = x.local.clock })
 found_here m cpu i except s w x here r =
     let lt = here.within in
@@ -61,7 +64,8 @@ found_here m cpu i except s w x here r =
     rw (at, slice_get-get_or m.threads i undeclared, slice_get-get_or w.threads i opening_thread, clock) refl
 
 -- A thread comes to a phase, in the world and at home.
-pub record IsCome (P : ℕ → View → Type 0) (m : Machine) (i : ℕ) (except : List ℕ) (k : Kept) (f g : Thread → Thread) (s after : Scene) (w : World) : Type 0 where
+pub record IsCome (P : ℕ → View → Type 0) (m : Machine) (i : ℕ) (except : List ℕ) (k : Kept) (f g : Thread → Thread) (s after : Scene)
+    (w : World) : Type 0 where
   pub relates : RelatesExcept m P (i ∷ except) after (change w i g)
   pub world : world_thread (change w i g) i ≡ g (world_thread w i)
   pub here : at_home m i (view m after (change w i g) i) ≡ come i f k
@@ -70,7 +74,8 @@ pub record IsCome (P : ℕ → View → Type 0) (m : Machine) (i : ℕ) (except 
 pub put_other : (cpu c i : ℕ) (l after : Local) (locals : ℕ → Local) → (cpu ≡ c → ⊥) → kept (put cpu after locals c) i ≡ kept (put cpu l locals c) i
 put_other cpu c i l after locals ne = let apart = other_is cpu c ne in rw apart refl
 
-pub comes : {P : ℕ → View → Type 0} (m : Machine) (cpu i : ℕ) (except : List ℕ) (s : Scene) (w : World) (x : Work) (f g : Thread → Thread) → IsHere m cpu i → RelatesExcept m P (i ∷ except) (amid cpu s x) w →
+pub comes : {P : ℕ → View → Type 0} (m : Machine) (cpu i : ℕ) (except : List ℕ) (s : Scene) (w : World) (x : Work) (f g : Thread → Thread) → IsHere m cpu i →
+    RelatesExcept m P (i ∷ except) (amid cpu s x) w →
     IsCome P m i except (kept x.local i) f g (amid cpu s x) (amid cpu s (x ▷ does (comes_to i f))) w
 comes m cpu i except s w x f g here r =
     let z = sized_here m cpu i (i ∷ except) s w x here r in
@@ -97,8 +102,10 @@ pub record IsQuiet (m : Machine) (i : ℕ) (v : View) (k : Kept) (f : Thread →
   pub fresh : IsFresh k.clock (f k.thread).phase (f k.thread).send
   pub stays_true : StaysTrue k (come i f k)
 
-pub quiet_matches : {P : ℕ → View → Type 0} (m : Machine) (cpu i : ℕ) (except : List ℕ) (s : Scene) (w : World) (x : Work) (f g : Thread → Thread) → IsHere m cpu i →
-    IsCome P m i except (kept x.local i) f g (amid cpu s x) (amid cpu s (x ▷ does (comes_to i f))) w → IsQuiet m i (view m (amid cpu s x) w i) (kept x.local i) f g →
+pub quiet_matches : {P : ℕ → View → Type 0} (m : Machine) (cpu i : ℕ) (except : List ℕ) (s : Scene) (w : World) (x : Work) (f g : Thread → Thread) →
+    IsHere m cpu i →
+    IsCome P m i except (kept x.local i) f g (amid cpu s x) (amid cpu s (x ▷ does (comes_to i f))) w →
+    IsQuiet m i (view m (amid cpu s x) w i) (kept x.local i) f g →
     Matches m i (view m (amid cpu s (x ▷ does (comes_to i f))) (change w i g) i)
 quiet_matches m cpu i except s w x f g here c q =
     let v : View = view m (amid cpu s x) w i in
@@ -115,7 +122,8 @@ quiet_matches m cpu i except s w x f g here c q =
           (moves_kept m i v after q.kept moves (subst (IsKeptAtHome i) (sym c.here) (come_kept i f k q.good q.fresh)))
           (record {
             listed = λ p r. same_or_apart ((after.kept p).listed r ≡ []) p (home m i)
-                (λ h. ap (λ p. (after.kept p).listed r) h ∙ ap (λ (k : Kept). k.listed r) c.here ∙ sym (ap (λ (k : Kept). k.listed r) was) ∙ q.unplaced.listed (home m i) r)
+                (λ h. ap (λ p. (after.kept p).listed r) h ∙ ap (λ (k : Kept). k.listed r) c.here ∙ sym (ap (λ (k : Kept). k.listed r) was)
+                ∙ q.unplaced.listed (home m i) r)
                 (λ ne. ap (λ (k : Kept). k.listed r) (c.elsewhere p ne) ∙ q.unplaced.listed p r);
             stand_in = λ p ne. ap (λ (k : Kept). k.thread.send) (c.elsewhere p ne) ∙ q.unplaced.stand_in p ne;
           })
@@ -124,8 +132,10 @@ quiet_matches m cpu i except s w x f g here c q =
       ready = subst (λ (a : Kept). a.ready ≡ readied a.thread.phase i []) (sym c.here) (ap (readied (f k.thread).phase i) q.out);
     }
 
-pub comes_quiet : (m : Machine) (cpu i : ℕ) (s : Scene) (w : World) (x : Work) (step : Step) (f g : Thread → Thread) → IsHere m cpu i → (e : Goes m cpu s w (i ∷ []) x) →
-    IsQuiet m i (view m (amid cpu s x) e.now i) (kept x.local i) f g → next m e.now step ≡ Some (change e.now i g) → Goes m cpu s w [] (x ▷ tells step ▷ does (comes_to i f))
+pub comes_quiet : (m : Machine) (cpu i : ℕ) (s : Scene) (w : World) (x : Work) (step : Step) (f g : Thread → Thread) → IsHere m cpu i →
+    (e : Goes m cpu s w (i ∷ []) x) →
+    IsQuiet m i (view m (amid cpu s x) e.now i) (kept x.local i) f g → next m e.now step ≡ Some (change e.now i g) →
+    Goes m cpu s w [] (x ▷ tells step ▷ does (comes_to i f))
 comes_quiet m cpu i s w x step f g here e q possible =
     let c = comes m cpu i [] s e.now x f g here e.relates in
     record {
@@ -145,11 +155,14 @@ opened_scene cpu s =
     at c true is = ap s.locals (sym (eqb-true cpu c is))
     at c false is = refl
 
-pub opened_relates : (m : Machine) (cpu stamp : ℕ) (except : List ℕ) (s : Scene) (w : World) → RelatesExcept m (Matches m) except s w → RelatesExcept m (Matches m) except (amid cpu s (opened stamp (s.locals cpu))) w
+pub opened_relates : (m : Machine) (cpu stamp : ℕ) (except : List ℕ) (s : Scene) (w : World) → RelatesExcept m (Matches m) except s w →
+    RelatesExcept m (Matches m) except (amid cpu s (opened stamp (s.locals cpu))) w
 opened_relates m cpu stamp except s w rel =
     local_changes m cpu except s w (record { local = s.locals cpu; steps = []; letters = [] }) (λ l. (opened stamp l).local)
-    (record { sized = λ z. record { threads = z.threads; lists = z.lists; told = z.told; ready = z.ready; armed = z.armed; listed = z.listed }; clock = refl; kept = λ j out. refl }) refl
+    (record { sized = λ z. record { threads = z.threads; lists = z.lists; told = z.told; ready = z.ready; armed = z.armed; listed = z.listed }; clock = refl;
+    kept = λ j out. refl }) refl
     (subst (λ s. RelatesExcept m (Matches m) except s w) (opened_scene cpu s) rel)
 
-pub opened_goes : (m : Machine) (cpu stamp : ℕ) (except : List ℕ) (s : Scene) (w : World) → RelatesExcept m (Matches m) except s w → Goes m cpu s w except (opened stamp (s.locals cpu))
+pub opened_goes : (m : Machine) (cpu stamp : ℕ) (except : List ℕ) (s : Scene) (w : World) → RelatesExcept m (Matches m) except s w →
+    Goes m cpu s w except (opened stamp (s.locals cpu))
 opened_goes m cpu stamp except s w rel = record { now = w; reaches = refl; relates = opened_relates m cpu stamp except s w rel }

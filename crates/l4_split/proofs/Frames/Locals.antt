@@ -41,15 +41,18 @@ readied_here i Ordering ready = refl
 readied_here i Ended ready = refl
 readied_here i Deleted ready = refl
 
-armed_other : (i j : ℕ) (period : Period) (clock : ℕ) (armed : List (ℕ × ℕ)) → (j == i) ≡ false → filter (λ (e : ℕ × ℕ). j == e.1) (armed_for period clock i armed) ≡ filter (λ (e : ℕ × ℕ). j == e.1) armed
+armed_other : (i j : ℕ) (period : Period) (clock : ℕ) (armed : List (ℕ × ℕ)) → (j == i) ≡ false →
+    filter (λ (e : ℕ × ℕ). j == e.1) (armed_for period clock i armed) ≡ filter (λ (e : ℕ × ℕ). j == e.1) armed
 armed_other i j None clock armed apart = refl
 armed_other i j (Some n) clock armed apart = filter_put_other (λ (e : ℕ × ℕ). j == e.1) (clock + n, i) armed apart
 
-armed_here : (i : ℕ) (period : Period) (clock : ℕ) (armed : List (ℕ × ℕ)) → filter (λ (e : ℕ × ℕ). i == e.1) armed ≡ [] → filter (λ (e : ℕ × ℕ). i == e.1) (armed_for period clock i armed) ≡ armed_for period clock i []
+armed_here : (i : ℕ) (period : Period) (clock : ℕ) (armed : List (ℕ × ℕ)) → filter (λ (e : ℕ × ℕ). i == e.1) armed ≡ [] →
+    filter (λ (e : ℕ × ℕ). i == e.1) (armed_for period clock i armed) ≡ armed_for period clock i []
 armed_here i None clock armed none = none
 armed_here i (Some n) clock armed none = filter_put (λ (e : ℕ × ℕ). i == e.1) (clock + n, i) armed (same_nat i) none
 
-without_other : (i j : ℕ) (armed : List (ℕ × ℕ)) → (i ≡ j → ⊥) → filter (λ (e : ℕ × ℕ). j == e.1) (plain.without_block i armed) ≡ filter (λ (e : ℕ × ℕ). j == e.1) armed
+without_other : (i j : ℕ) (armed : List (ℕ × ℕ)) → (i ≡ j → ⊥) →
+    filter (λ (e : ℕ × ℕ). j == e.1) (plain.without_block i armed) ≡ filter (λ (e : ℕ × ℕ). j == e.1) armed
 without_other i j armed ne = filter_kept (λ (e : ℕ × ℕ). j == e.1) (λ (e : ℕ × ℕ). not (i == e.1)) (λ e is. of_other i j e.1 ne is) armed
 
 not_kept : (b : Bool) → b ≡ true → not b ≡ false
@@ -86,17 +89,20 @@ comes_here l i f lt =
 
 -- A send leaves its list
 
-pub list_unqueued : (l : Local) (i r : ℕ) → plain.list_of (plain.unqueued i l.lists) r ≡ filter (λ (e : plain.Waiting). not (i == e.block)) (plain.list_of l.lists r)
+pub list_unqueued : (l : Local) (i r : ℕ) →
+    plain.list_of (plain.unqueued i l.lists) r ≡ filter (λ (e : plain.Waiting). not (i == e.block)) (plain.list_of l.lists r)
 list_unqueued l i r = get_or-map (filter (λ (e : plain.Waiting). not (i == e.block))) l.lists.waiting r []
 
 pub unqueued_other : (l : Local) (i j : ℕ) → (i ≡ j → ⊥) → kept (relists (plain.unqueued i) l) j ≡ kept l j
 unqueued_other l i j ne =
-    let listed = λ (r : ℕ). ap (filter (is_of j)) (list_unqueued l i r) ∙ filter_kept (is_of j) (λ (e : plain.Waiting). not (i == e.block)) (λ e is. of_other i j e.block ne is) (plain.list_of l.lists r) in
+    let listed = λ (r : ℕ). ap (filter (is_of j)) (list_unqueued l i r)
+        ∙ filter_kept (is_of j) (λ (e : plain.Waiting). not (i == e.block)) (λ e is. of_other i j e.block ne is) (plain.list_of l.lists r) in
     λ d. record (kept l j) { listed = λ r. listed r d }
 
 pub unqueued_here : (l : Local) (i : ℕ) → kept (relists (plain.unqueued i) l) i ≡ record (kept l i) { listed = λ r. [] }
 unqueued_here l i =
-    let listed = λ (r : ℕ). ap (filter (is_of i)) (list_unqueued l i r) ∙ filter_out (is_of i) (λ (e : plain.Waiting). not (i == e.block)) (λ e is. not_kept (i == e.block) is) (plain.list_of l.lists r) in
+    let listed = λ (r : ℕ). ap (filter (is_of i)) (list_unqueued l i r)
+        ∙ filter_out (is_of i) (λ (e : plain.Waiting). not (i == e.block)) (λ e is. not_kept (i == e.block) is) (plain.list_of l.lists r) in
     λ d. record (kept l i) { listed = λ r. listed r d }
 
 -- A send is appended to a list
@@ -108,15 +114,19 @@ list_queued r e s P q lt here other = changed_cases P (λ es. es ++ e ∷ []) s.
 pub queued_other : (l : Local) (r j : ℕ) (e : plain.Waiting) → r < length l.lists.waiting → (e.block ≡ j → ⊥) → kept (relists (plain.queued r e) l) j ≡ kept l j
 queued_other l r j e lt ne =
     let apart = other_is j e.block (swapped ne) in
-    let listed = λ (q : ℕ). list_queued r e l.lists (λ es. filter (is_of j) es ≡ filter (is_of j) (plain.list_of l.lists q)) q lt (λ is. filter_last_other (is_of j) (plain.list_of l.lists q) e apart) (λ other. refl) in
+    let listed = λ (q : ℕ). list_queued r e l.lists (λ es. filter (is_of j) es ≡ filter (is_of j) (plain.list_of l.lists q)) q lt
+        (λ is. filter_last_other (is_of j) (plain.list_of l.lists q) e apart) (λ other. refl) in
     λ d. record (kept l j) { listed = λ q. listed q d }
 
-pub queued_listed : (l : Local) (r : ℕ) (e : plain.Waiting) → r < length l.lists.waiting → (kept (relists (plain.queued r e) l) e.block).listed r ≡ (kept l e.block).listed r ++ e ∷ []
+pub queued_listed : (l : Local) (r : ℕ) (e : plain.Waiting) → r < length l.lists.waiting →
+    (kept (relists (plain.queued r e) l) e.block).listed r ≡ (kept l e.block).listed r ++ e ∷ []
 queued_listed l r e lt = list_queued r e l.lists (λ es. filter (is_of e.block) es ≡ filter (is_of e.block) (plain.list_of l.lists r) ++ e ∷ []) r lt
     (λ is. filter_last (is_of e.block) (plain.list_of l.lists r) e (same_nat e.block)) (λ other. absurd (other refl))
 
-pub queued_other_list : (l : Local) (r q : ℕ) (e : plain.Waiting) → r < length l.lists.waiting → (r ≡ q → ⊥) → (kept (relists (plain.queued r e) l) e.block).listed q ≡ (kept l e.block).listed q
-queued_other_list l r q e lt ne = list_queued r e l.lists (λ es. filter (is_of e.block) es ≡ filter (is_of e.block) (plain.list_of l.lists q)) q lt (λ is. absurd (ne is)) (λ other. refl)
+pub queued_other_list : (l : Local) (r q : ℕ) (e : plain.Waiting) → r < length l.lists.waiting → (r ≡ q → ⊥) →
+    (kept (relists (plain.queued r e) l) e.block).listed q ≡ (kept l e.block).listed q
+queued_other_list l r q e lt ne =
+    list_queued r e l.lists (λ es. filter (is_of e.block) es ≡ filter (is_of e.block) (plain.list_of l.lists q)) q lt (λ is. absurd (ne is)) (λ other. refl)
 
 -- The first ready one is taken out
 

@@ -20,7 +20,8 @@ use Rattle.l4_split.proofs.Relation.Relates.{RelatesExcept}
 use Rattle.l4_split.proofs.Frames.Places.{IsAbout}
 
 -- The mail changes, but not that about other places.
-mail_changes : {P : ℕ → View → Type 0} (m : Machine) (except : List ℕ) (s : Scene) (w : World) (mail : List Posted) → ((j : ℕ) → NotIn j except → filter (is_about m j) mail ≡ filter (is_about m j) s.mail) →
+mail_changes : {P : ℕ → View → Type 0} (m : Machine) (except : List ℕ) (s : Scene) (w : World) (mail : List Posted) →
+    ((j : ℕ) → NotIn j except → filter (is_about m j) mail ≡ filter (is_about m j) s.mail) →
     RelatesExcept m P except s w → RelatesExcept m P except (record s { mail = mail }) w
 mail_changes {P = P} m except s w mail same r = record {
   sized = r.sized;
@@ -35,22 +36,28 @@ about_place m i j p is = ap (λ o. is_place o j) is
 
 -- Posting
 
-pub mail_posted : (cpu to : ℕ) (content : Content) (s : Scene) (x : Work) → (amid cpu s (x ▷ posts to content)).mail ≡ (amid cpu s x).mail ++ posted cpu (to, record { stamp = x.local.stamp; content = content }) ∷ []
+pub mail_posted : (cpu to : ℕ) (content : Content) (s : Scene) (x : Work) →
+    (amid cpu s (x ▷ posts to content)).mail ≡ (amid cpu s x).mail ++ posted cpu (to, record { stamp = x.local.stamp; content = content }) ∷ []
 mail_posted cpu to content s x =
-    ap (λ ps. s.mail ++ ps) (map_push (posted cpu) x.letters (to, record { stamp = x.local.stamp; content = content })) ∙ sym (append_assoc s.mail (map (posted cpu) x.letters) _)
+    ap (λ ps. s.mail ++ ps) (map_push (posted cpu) x.letters (to, record { stamp = x.local.stamp; content = content }))
+        ∙ sym (append_assoc s.mail (map (posted cpu) x.letters) _)
 
-pub letter_posted : {P : ℕ → View → Type 0} (m : Machine) (cpu to i : ℕ) (content : Content) (except : List ℕ) (s : Scene) (w : World) (x : Work) → place_of m (subject content) ≡ Some i → IsAbout i except →
+pub letter_posted : {P : ℕ → View → Type 0} (m : Machine) (cpu to i : ℕ) (content : Content) (except : List ℕ) (s : Scene) (w : World) (x : Work) →
+    place_of m (subject content) ≡ Some i → IsAbout i except →
     RelatesExcept m P except (amid cpu s x) w → RelatesExcept m P except (amid cpu s (x ▷ posts to content)) w
 letter_posted m cpu to i content except s w x is about r =
     mail_changes m except (amid cpu s x) w (amid cpu s (x ▷ posts to content)).mail
     (λ j out. ap (filter (is_about m j)) (mail_posted cpu to content s x)
-    ∙ filter_last_other (is_about m j) (amid cpu s x).mail _ (about_place m i j (posted cpu (to, record { stamp = x.local.stamp; content = content })) is ∙ other_is i j (about j out))) r
+    ∙ filter_last_other (is_about m j) (amid cpu s x).mail _
+    (about_place m i j (posted cpu (to, record { stamp = x.local.stamp; content = content })) is ∙ other_is i j (about j out))) r
 
 pub mail_here : (m : Machine) (cpu to i : ℕ) (content : Content) (s : Scene) (w : World) (x : Work) → place_of m (subject content) ≡ Some i →
-    (view m (amid cpu s (x ▷ posts to content)) w i).mail ≡ (view m (amid cpu s x) w i).mail ++ posted cpu (to, record { stamp = x.local.stamp; content = content }) ∷ []
+    (view m (amid cpu s (x ▷ posts to content)) w i).mail ≡ (view m (amid cpu s x) w i).mail ++ posted cpu
+    (to, record { stamp = x.local.stamp; content = content }) ∷ []
 mail_here m cpu to i content s w x is =
     ap (filter (is_about m i)) (mail_posted cpu to content s x)
-    ∙ filter_last (is_about m i) (amid cpu s x).mail _ (about_place m i i (posted cpu (to, record { stamp = x.local.stamp; content = content })) is ∙ same_nat i)
+    ∙ filter_last (is_about m i) (amid cpu s x).mail _
+    (about_place m i i (posted cpu (to, record { stamp = x.local.stamp; content = content })) is ∙ same_nat i)
 
 -- Taking out
 
@@ -72,7 +79,8 @@ pub first_letter : (from to : ℕ) (letter : Letter) (mail : List Posted) → sl
 first_letter from to letter [] h = cc
 first_letter from to letter (p ∷ ps) h = by (is_between from to p) refl h (first_letter from to letter ps)
   where
-    by : (b : Bool) → is_between from to p ≡ b → slice_get (map (λ (q : Posted). q.letter) (cond b (p ∷ filter (is_between from to) ps) (filter (is_between from to) ps))) 0 ≡ Some letter →
+    by : (b : Bool) → is_between from to p ≡ b →
+        slice_get (map (λ (q : Posted). q.letter) (cond b (p ∷ filter (is_between from to) ps) (filter (is_between from to) ps))) 0 ≡ Some letter →
         (slice_get (letters ps from to) 0 ≡ Some letter → IsFirstLetter from to letter ps) → IsFirstLetter from to letter (p ∷ ps)
     by true is h rest = record {
       before = [];
@@ -93,12 +101,14 @@ filter_skips p xs ys x h = filter-append p xs (x ∷ ys) ∙ ap (λ zs. filter p
     skip : p x ≡ false → filter p (x ∷ ys) ≡ filter p ys
     skip h = rw h refl
 
-pub letter_taken : {P : ℕ → View → Type 0} (m : Machine) (from to i : ℕ) (letter : Letter) (except : List ℕ) (s : Scene) (w : World) → place_of m (subject letter.content) ≡ Some i → IsAbout i except → IsFirstLetter from to letter s.mail →
+pub letter_taken : {P : ℕ → View → Type 0} (m : Machine) (from to i : ℕ) (letter : Letter) (except : List ℕ) (s : Scene) (w : World) →
+    place_of m (subject letter.content) ≡ Some i → IsAbout i except → IsFirstLetter from to letter s.mail →
     RelatesExcept m P except s w → RelatesExcept m P except (record s { mail = without_first from to s.mail }) w
 letter_taken m from to i letter except s w is about f r =
     mail_changes m except s w (without_first from to s.mail)
     (λ j out. ap (filter (is_about m j)) f.left
-    ∙ sym (filter_skips (is_about m j) f.before f.after _ (about_place m i j (record { from = from; to = to; letter = letter }) is ∙ other_is i j (about j out))) ∙ sym (ap (filter (is_about m j)) f.is)) r
+    ∙ sym (filter_skips (is_about m j) f.before f.after _
+    (about_place m i j (record { from = from; to = to; letter = letter }) is ∙ other_is i j (about j out))) ∙ sym (ap (filter (is_about m j)) f.is)) r
 
 -- Of its own thread, it was the letter that says where its send or order is, and no such letter is left.
 
@@ -113,14 +123,17 @@ keeps_one p xs ys x h = filter-append p xs (x ∷ ys) ∙ ap (λ zs. filter p xs
     keep : p x ≡ true → filter p (x ∷ ys) ≡ x ∷ filter p ys
     keep h = rw h refl
 
-only_locator : (m : Machine) (i : ℕ) (v : View) (send : Option Send) (xs ys : List Posted) (p : Posted) → Row m i (seats m i v) (xs ++ p ∷ ys) send → (xs ≡ []) × (ys ≡ [])
+only_locator : (m : Machine) (i : ℕ) (v : View) (send : Option Send) (xs ys : List Posted) (p : Posted) → Row m i (seats m i v) (xs ++ p ∷ ys) send → (xs ≡ [])
+    × (ys ≡ [])
 only_locator m i v send [] [] p h = (refl, refl)
 only_locator m i v send [] (y ∷ ys) p h = absurd h
 only_locator m i v send (x ∷ []) ys p h = absurd h
 only_locator m i v send (x ∷ z ∷ xs) ys p h = absurd h
 
-pub taken_here : (m : Machine) (from to i : ℕ) (letter : Letter) (mail : List Posted) (v : View) (send : Option Send) → place_of m (subject letter.content) ≡ Some i → is_locator letter.content ≡ true → IsFirstLetter from to letter mail →
-    Row m i (seats m i v) (locators (filter (is_about m i) mail)) send → IsTaken (record { from = from; to = to; letter = letter }) (filter (is_about m i) mail) (filter (is_about m i) (without_first from to mail))
+pub taken_here : (m : Machine) (from to i : ℕ) (letter : Letter) (mail : List Posted) (v : View) (send : Option Send) →
+    place_of m (subject letter.content) ≡ Some i → is_locator letter.content ≡ true → IsFirstLetter from to letter mail →
+    Row m i (seats m i v) (locators (filter (is_about m i) mail)) send →
+        IsTaken (record { from = from; to = to; letter = letter }) (filter (is_about m i) mail) (filter (is_about m i) (without_first from to mail))
 taken_here m from to i letter mail v send is says f row =
     let p : Posted = record { from = from; to = to; letter = letter } in
     let word : Posted → Bool = λ q. is_locator q.letter.content in

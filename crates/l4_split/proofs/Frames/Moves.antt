@@ -19,7 +19,8 @@ at_home m i v = v.kept (home m i)
 pub record StaysTrue (k after : Kept) : Type 0 where
   pub deleted : k.thread.phase ≡ Deleted → after.thread.phase ≡ Deleted
   pub begun : k.thread.context.begun ≤ after.thread.context.begun
-  pub causes : (cause : Cause) → k.thread.context.begun ≡ after.thread.context.begun → IfSome k.thread.send (IsCause cause k.clock k.thread) → IfSome after.thread.send (IsCause cause after.clock after.thread)
+  pub causes : (cause : Cause) → k.thread.context.begun ≡ after.thread.context.begun → IfSome k.thread.send (IsCause cause k.clock k.thread) →
+      IfSome after.thread.send (IsCause cause after.clock after.thread)
 
 -- An entry elsewhere, but for its send
 pub record IsAlike (k after : Kept) : Type 0 where
@@ -52,7 +53,8 @@ ready_is_alive p gone ready = let h : is_ready Deleted ≡ true = subst (λ p. i
 pub of_none : (P : Send → Type 0) (o : Option Send) → o ≡ None → IfSome o P
 of_none P o is = rw is tt
 
-moved_elsewhere : (m : Machine) (i : ℕ) (v after : View) → IsKept m i v → Moves m i v after → (cpu : ℕ) → (cpu ≡ home m i → ⊥) → IsKeptElsewhere (at_home m i after).thread (after.kept cpu)
+moved_elsewhere : (m : Machine) (i : ℕ) (v after : View) → IsKept m i v → Moves m i v after → (cpu : ℕ) → (cpu ≡ home m i → ⊥) →
+    IsKeptElsewhere (at_home m i after).thread (after.kept cpu)
 moved_elsewhere m i v after known moves cpu ne =
     let old = known.elsewhere cpu ne in
     let same = moves.elsewhere cpu ne in
@@ -79,13 +81,19 @@ moved_notice m i k after p (GoneLetter id) stays_true h = (stays_true.deleted h.
 moved_notice m i k after p (OrderLetter caller target what) stays_true h = h
 moved_notice m i k after p (OrderDoneLetter caller) stays_true h = h
 
-moved_notices : (m : Machine) (i : ℕ) (v after : View) → IsKept m i v → Moves m i v after → AllByRecursion (IsNotice m i (at_home m i after)) (notices after.mail)
+moved_notices : (m : Machine) (i : ℕ) (v after : View) → IsKept m i v → Moves m i v after →
+    AllByRecursion (IsNotice m i (at_home m i after)) (notices after.mail)
 moved_notices m i v after known moves =
     subst (AllByRecursion (IsNotice m i (at_home m i after))) (sym moves.notices)
-    (all-map (IsNotice m i (at_home m i v)) (IsNotice m i (at_home m i after)) (λ p h. moved_notice m i (at_home m i v) (at_home m i after) p p.letter.content moves.stays_true h) (notices v.mail) known.notices)
+    (all-map (IsNotice m i (at_home m i v)) (IsNotice m i (at_home m i after))
+    (λ p h. moved_notice m i (at_home m i v) (at_home m i after) p p.letter.content moves.stays_true h) (notices v.mail) known.notices)
 
 pub moves_kept : (m : Machine) (i : ℕ) (v after : View) → IsKept m i v → Moves m i v after → IsKeptAtHome i (at_home m i after) → IsKept m i after
-moves_kept m i v after known moves here = record { at_home = here; elsewhere = moved_elsewhere m i v after known moves; notices = moved_notices m i v after known moves }
+moves_kept m i v after known moves here = record {
+  at_home = here;
+  elsewhere = moved_elsewhere m i v after known moves;
+  notices = moved_notices m i v after known moves;
+}
 
 -- It has neither send nor order now, and no letter says where they are.
 pub plain_known : (m : Machine) (i : ℕ) (v : View) → IsKept m i v → IsUnplaced m i (seats m i v) → locators v.mail ≡ [] →
@@ -122,5 +130,6 @@ fresh_armed i clock Ordering send h = refl
 fresh_armed i clock Ended send h = refl
 fresh_armed i clock Deleted send h = refl
 
-pub come_kept : (i : ℕ) (f : Thread → Thread) (k : Kept) → IsGood k.clock (f k.thread) → IsFresh k.clock (f k.thread).phase (f k.thread).send → IsKeptAtHome i (come i f k)
+pub come_kept : (i : ℕ) (f : Thread → Thread) (k : Kept) → IsGood k.clock (f k.thread) → IsFresh k.clock (f k.thread).phase (f k.thread).send →
+    IsKeptAtHome i (come i f k)
 come_kept i f k good fresh = record { good = good; armed = inl (fresh_armed i k.clock (f k.thread).phase (f k.thread).send fresh) }

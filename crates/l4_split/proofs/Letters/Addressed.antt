@@ -40,20 +40,24 @@ is_known m i t = ap (λ o. is_some o) (t.machine.placed i t.within)
 pub home_below : (m : Machine) (i : ℕ) → IsThread m i → (declared m i).cpu < m.cpus
 home_below m i t = t.machine.homed i t.within
 
-pub posts_addressed : (m : Machine) (to : ℕ) (content : Content) (x : Work) → is_declared m (subject content) ≡ true → to < m.cpus → IsAddressed m x → IsAddressed m (posts to content x)
-posts_addressed m to content x about lt a = all-append (λ (p : ℕ × Letter). IsAddressedTo m p.0 p.1.content) x.letters (to, record { stamp = x.local.stamp; content = content }) a (about, lt)
+pub posts_addressed : (m : Machine) (to : ℕ) (content : Content) (x : Work) → is_declared m (subject content) ≡ true → to < m.cpus → IsAddressed m x →
+    IsAddressed m (posts to content x)
+posts_addressed m to content x about lt a =
+    all-append (λ (p : ℕ × Letter). IsAddressedTo m p.0 p.1.content) x.letters (to, record { stamp = x.local.stamp; content = content }) a (about, lt)
 
 -- Sends
 
 ends_addressed : (m : Machine) (cpu i : ℕ) (result : Result) (x : Work) → IsThread m i → IsAddressed m x → IsAddressed m (ends m cpu result i x)
 ends_addressed m cpu i result x t a = cond_keeps (IsAddressed m) (is_own m cpu i) _ _
     (λ own. a)
-    (λ other. posts_addressed m (declared m i).cpu (DoneLetter (last_name m x.local i) result) (x ▷ does (relists (plain.unqueued i)) ▷ does (changes i decided)) (is_known m i t) (home_below m i t) a)
+    (λ other. posts_addressed m (declared m i).cpu (DoneLetter (last_name m x.local i) result)
+    (x ▷ does (relists (plain.unqueued i)) ▷ does (changes i decided)) (is_known m i t) (home_below m i t) a)
 
 pub refuses_addressed : (m : Machine) (cpu i : ℕ) (refusal : Refusal) (x : Work) → IsThread m i → IsAddressed m x → IsAddressed m (refuses m cpu refusal i x)
 refuses_addressed m cpu i refusal x t a = ends_addressed m cpu i (Refused refusal) (x ▷ tells_send m (refusal_step refusal) i) t a
 
-message_addressed : (m : Machine) (cpu r i : ℕ) (message : Message) (tag : ℕ) (x : Work) → IsThread m i → IsAddressed m x → IsAddressed m (delivers_message m cpu r i message tag x)
+message_addressed : (m : Machine) (cpu r i : ℕ) (message : Message) (tag : ℕ) (x : Work) → IsThread m i → IsAddressed m x →
+    IsAddressed m (delivers_message m cpu r i message tag x)
 message_addressed m cpu r i message tag x t a = ends_addressed m cpu i Delivered _ t a
 
 pub delivers_addressed : (m : Machine) (cpu r i : ℕ) (x : Work) → IsThread m i → IsAddressed m x → IsAddressed m (delivers m cpu r i x)
@@ -65,7 +69,8 @@ delivers_addressed m cpu r i x t a = by (thread x.local i).send
 
 pub arrives_addressed : (m : Machine) (cpu r i : ℕ) (x : Work) → IsThread m i → IsAddressed m x → IsAddressed m (arrives m cpu r i x)
 arrives_addressed m cpu r i x t a = cond_keeps (IsAddressed m) (is_deleted (thread x.local r).phase) _ _ (λ gone. refuses_addressed m cpu i Nobody x t a)
-    (λ alive. cond_keeps (IsAddressed m) (zero_refusable m (held m x.local r) (thread x.local i).send) _ _ (λ zero. refuses_addressed m cpu i TimedOut x t a) (λ other. queues (thread x.local i).send))
+    (λ alive. cond_keeps (IsAddressed m) (zero_refusable m (held m x.local r) (thread x.local i).send) _ _ (λ zero. refuses_addressed m cpu i TimedOut x t a)
+    (λ other. queues (thread x.local i).send))
   where
     queues : (o : Option Send) → IsAddressed m (queues_send m cpu r i o x)
     queues None = a
@@ -89,7 +94,8 @@ split_within m cpu None r h = cc
 split_within m cpu (Some send) r h = split_cases m cpu send (λ o. o ≡ Some r → r < length m.threads) (λ h. cc)
     (λ q to away h. subst (λ r. r < length m.threads) (some_is q r h) (destination_within m send.to q to)) h
 
-pub withdraws_addressed : (m : Machine) (cpu : ℕ) (cause : Cause) (i : ℕ) (x : Work) → IsThread m i → IsAddressed m x → IsAddressed m (withdraws m cause i (split_place m cpu x.local i) x)
+pub withdraws_addressed : (m : Machine) (cpu : ℕ) (cause : Cause) (i : ℕ) (x : Work) → IsThread m i → IsAddressed m x →
+    IsAddressed m (withdraws m cause i (split_place m cpu x.local i) x)
 withdraws_addressed m cpu cause i x t a = by (split_place m cpu x.local i) refl
   where
     by : (o : Option ℕ) → split_place m cpu x.local i ≡ o → IsAddressed m (withdraws m cause i o x)
@@ -98,7 +104,8 @@ withdraws_addressed m cpu cause i x t a = by (split_place m cpu x.local i) refl
 
 -- Orders
 
-pub obeys_addressed : (m : Machine) (cpu : ℕ) (caller : GlobalId) (what : What) (j : ℕ) (x : Work) → IsThread m j → IsAddressed m x → IsAddressed m (obeys m cpu caller what j x)
+pub obeys_addressed : (m : Machine) (cpu : ℕ) (caller : GlobalId) (what : What) (j : ℕ) (x : Work) → IsThread m j → IsAddressed m x →
+    IsAddressed m (obeys m cpu caller what j x)
 obeys_addressed m cpu caller what j x t a = cond_keeps (IsAddressed m) (is_deleted (thread x.local j).phase) _ _ (λ gone. a) (λ alive. by (cause_of what))
   where
     y : Work

@@ -38,7 +38,8 @@ pub record IsNoticed (m : Machine) (from cpu i : ℕ) (letter : Letter) (s : Sce
   pub relates : RelatesExcept m (Matches m) [] (amid cpu (without from cpu s) (at_work cpu letter s)) w
   pub says : IsNotice m i (at_home m i (view m s w i)) (record { from = from; to = cpu; letter = letter })
 
-pub noticed : (m : Machine) (from cpu i : ℕ) (letter : Letter) (s : Scene) (w : World) → IsLetter m from cpu letter s w → i < length m.threads → place_of m (subject letter.content) ≡ Some i → is_locator letter.content ≡ false → IsNoticed m from cpu i letter s w
+pub noticed : (m : Machine) (from cpu i : ℕ) (letter : Letter) (s : Scene) (w : World) → IsLetter m from cpu letter s w → i < length m.threads →
+    place_of m (subject letter.content) ≡ Some i → is_locator letter.content ≡ false → IsNoticed m from cpu i letter s w
 noticed m from cpu i letter s w h lt about late =
     let p : Posted = record { from = from; to = cpu; letter = letter } in
     let f = h.first in
@@ -49,10 +50,14 @@ noticed m from cpu i letter s w h lt about late =
     let stands = h.relates.places i lt tt in
     let here = about_place m i i p about ∙ same_nat i in
     let old : before.mail ≡ filter mine f.before ++ p ∷ filter mine f.after = ap (filter mine) f.is ∙ keeps_one mine f.before f.after p here in
-    let new : after.mail ≡ filter mine f.before ++ filter mine f.after = ap (filter mine) (append-nil (without_first from cpu s.mail) ∙ f.left) ∙ filter-append mine f.before f.after in
-    let same_words : locators after.mail ≡ locators before.mail = ap locators new ∙ sym (filter_skips word (filter mine f.before) (filter mine f.after) p late) ∙ sym (ap locators old) in
-    let old_notices : notices before.mail ≡ notices (filter mine f.before) ++ p ∷ notices (filter mine f.after) = ap notices old ∙ keeps_one (λ q. not (word q)) (filter mine f.before) (filter mine f.after) p (rw late refl) in
-    let new_notices : notices after.mail ≡ notices (filter mine f.before) ++ notices (filter mine f.after) = ap notices new ∙ filter-append (λ q. not (word q)) (filter mine f.before) (filter mine f.after) in
+    let new : after.mail ≡ filter mine f.before ++ filter mine f.after =
+        ap (filter mine) (append-nil (without_first from cpu s.mail) ∙ f.left) ∙ filter-append mine f.before f.after in
+    let same_words : locators after.mail ≡ locators before.mail =
+        ap locators new ∙ sym (filter_skips word (filter mine f.before) (filter mine f.after) p late) ∙ sym (ap locators old) in
+    let old_notices : notices before.mail ≡ notices (filter mine f.before) ++ p ∷ notices (filter mine f.after) =
+        ap notices old ∙ keeps_one (λ q. not (word q)) (filter mine f.before) (filter mine f.after) p (rw late refl) in
+    let new_notices : notices after.mail ≡ notices (filter mine f.before) ++ notices (filter mine f.after) =
+        ap notices new ∙ filter-append (λ q. not (word q)) (filter mine f.before) (filter mine f.after) in
     let k : Kept = at_home m i before in
     let was = subst (AllByRecursion (IsNotice m i k)) old_notices stands.known.kept.notices in
     let left : Matches m i (record before { mail = after.mail }) = record {
@@ -62,7 +67,8 @@ noticed m from cpu i letter s w h lt about late =
         kept = record {
           at_home = stands.known.kept.at_home;
           elsewhere = stands.known.kept.elsewhere;
-          notices = subst (AllByRecursion (IsNotice m i k)) (sym new_notices) (all_without (IsNotice m i k) (notices (filter mine f.before)) (notices (filter mine f.after)) p was);
+          notices = subst (AllByRecursion (IsNotice m i k)) (sym new_notices)
+              (all_without (IsNotice m i k) (notices (filter mine f.before)) (notices (filter mine f.after)) p was);
         };
       };
       ready = stands.ready;
@@ -70,14 +76,16 @@ noticed m from cpu i letter s w h lt about late =
     let kept_same = λ (c : ℕ). kept_opened cpu letter.stamp i s c in
     record {
       relates = takes_in m i [] (amid cpu (without from cpu s) (at_work cpu letter s)) w
-          (opened_relates m cpu letter.stamp (i ∷ []) (without from cpu s) w (letter_taken m from cpu i letter (i ∷ []) s w about (first_about i []) f (leaves_out m i [] s w h.relates)))
+          (opened_relates m cpu letter.stamp (i ∷ []) (without from cpu s) w
+          (letter_taken m from cpu i letter (i ∷ []) s w about (first_about i []) f (leaves_out m i [] s w h.relates)))
           (subst (Matches m i) (λ d. record { world = before.world; kept = λ c. sym (kept_same c) d; mail = after.mail }) left);
       says = one_of (IsNotice m i k) (notices (filter mine f.before)) (notices (filter mine f.after)) p was;
     }
 
 -- A withdrawal
 
-pub handles_withdraw : (m : Machine) (from cpu : ℕ) (letter : Letter) (s : Scene) (w : World) (x : Work) (name : Name) (receiver : GlobalId) (cause : Cause) → IsLetter m from cpu letter s w → letter.content ≡ WithdrawLetter name receiver cause →
+pub handles_withdraw : (m : Machine) (from cpu : ℕ) (letter : Letter) (s : Scene) (w : World) (x : Work) (name : Name) (receiver : GlobalId) (cause : Cause) →
+    IsLetter m from cpu letter s w → letter.content ≡ WithdrawLetter name receiver cause →
     handled m cpu (WithdrawLetter name receiver cause) (at_work cpu letter s) ≡ Some x → Goes m cpu (without from cpu s) w [] x
 handles_withdraw m from cpu letter s w x name receiver cause h content is =
     let y : Work = at_work cpu letter s in
@@ -87,7 +95,8 @@ handles_withdraw m from cpu letter s w x name receiver cause h content is =
     let lt = place_within m name.thread i at_i.0 in
     let about : place_of m (subject letter.content) ≡ Some i = ap (λ c. place_of m (subject c)) content ∙ at_i.0 in
     let n = noticed m from cpu i letter s w h lt about (ap is_locator content) in
-    let says : IsWithdrawal m i (at_home m i (view m s w i)).clock (at_home m i (view m s w i)).thread (record { from = from; to = cpu; letter = letter }) name receiver cause =
+    let says : IsWithdrawal m i (at_home m i (view m s w i)).clock (at_home m i (view m s w i)).thread
+        (record { from = from; to = cpu; letter = letter }) name receiver cause =
     subst (IsNoticeOf m i (at_home m i (view m s w i)) (record { from = from; to = cpu; letter = letter })) content n.says in
     let e : Goes m cpu (without from cpu s) w [] y = record { now = w; reaches = refl; relates = n.relates } in
     subst (Goes m cpu (without from cpu s) w []) (some_is _ x rest)
@@ -100,9 +109,13 @@ handles_withdraw m from cpu letter s w x name receiver cause h content is =
     y : Work
     y = at_work cpu letter s
 
-    withdrawn : (i : ℕ) → i < length m.threads → (e : Goes m cpu (without from cpu s) w [] y) → (cause : Cause) → IsWithdrawal m i (at_home m i (view m s w i)).clock (at_home m i (view m s w i)).thread (record { from = from; to = cpu; letter = letter }) name receiver cause →
-        (thread y.local i).context.begun ≡ name.k → plain.is_queued y.local.lists i ≡ true → Goes m cpu (without from cpu s) w [] (refuses m cpu (refusal_of cause) i y)
-    withdrawn i lt e cause says number queued = by cause (subst (λ o. IfSome o (IsCause cause (at_home m i v0).clock (at_home m i v0).thread)) has (says.true_cause number_is))
+    withdrawn : (i : ℕ) → i < length m.threads → (e : Goes m cpu (without from cpu s) w [] y) → (cause : Cause) →
+        IsWithdrawal m i (at_home m i (view m s w i)).clock (at_home m i (view m s w i)).thread
+        (record { from = from; to = cpu; letter = letter }) name receiver cause →
+        (thread y.local i).context.begun ≡ name.k → plain.is_queued y.local.lists i ≡ true →
+        Goes m cpu (without from cpu s) w [] (refuses m cpu (refusal_of cause) i y)
+    withdrawn i lt e cause says number queued =
+        by cause (subst (λ o. IfSome o (IsCause cause (at_home m i v0).clock (at_home m i v0).thread)) has (says.true_cause number_is))
       where
         q : (r : ℕ) × IsListedSend m cpu r i (without from cpu s) w y
         q = queued_here m cpu i (without from cpu s) w y h.processor e h.machine lt queued
@@ -123,9 +136,12 @@ handles_withdraw m from cpu letter s w x name receiver cause h content is =
         has = sym (ap (λ (k : Kept). k.thread.send) same) ∙ l.has.at.has
 
         number_is : name.k ≡ (at_home m i v0).thread.context.begun
-        number_is = sym number ∙ (held_is m cpu i l.send (without from cpu s) y l.has.goes.now l.has.at).begun_is ∙ ap (λ (k : Kept). k.thread.context.begun) same
+        number_is = sym number ∙ (held_is m cpu i l.send (without from cpu s) y l.has.goes.now l.has.at).begun_is
+            ∙ ap (λ (k : Kept). k.thread.context.begun) same
 
-        by : (c : Cause) → IsCause c (at_home m i v0).clock (at_home m i v0).thread l.send → Goes m cpu (without from cpu s) w [] (refuses m cpu (refusal_of c) i y)
-        by ByTimeout why = refuses_timed_goes m cpu q.0 i (without from cpu s) w y l why.1 (ap (λ (k : Kept). has_passed l.send.period l.send.since k.clock) same ∙ why.0)
+        by : (c : Cause) → IsCause c (at_home m i v0).clock (at_home m i v0).thread l.send →
+            Goes m cpu (without from cpu s) w [] (refuses m cpu (refusal_of c) i y)
+        by ByTimeout why = refuses_timed_goes m cpu q.0 i (without from cpu s) w y l why.1
+            (ap (λ (k : Kept). has_passed l.send.period l.send.since k.clock) same ∙ why.0)
         by ByCancel why = cancels_goes m cpu q.0 i (without from cpu s) w y l (ap (λ (k : Kept). k.thread.cancel_send) same ∙ why)
         by ByDeletion why = drops_goes m cpu q.0 i (without from cpu s) w y l (ap (λ (k : Kept). k.thread.phase) same ∙ why)

@@ -40,15 +40,19 @@ foreign_is m cpu id i at away = let other = other_is (home m i) cpu away in rw (
 -- Each letter that says where a send or an order is
 
 -- what the world knows of a send
-send_facts : (m : Machine) (i : ℕ) (send : Send) (w : World) → WorldFacts m w → i < length m.threads → (world_thread w i).send ≡ Some send → (now : ℕ) × IsSendOf m (declared m i).id now send
+send_facts : (m : Machine) (i : ℕ) (send : Send) (w : World) → WorldFacts m w → i < length m.threads → (world_thread w i).send ≡ Some send → (now : ℕ)
+    × IsSendOf m (declared m i).id now send
 send_facts m i send w facts lt has =
     let size : i < length w.threads = omega (arith, facts.threads_counted) in
-    let all = facts.each_thread i (declared m i) (world_thread w i) (slice_get-get_or m.threads i undeclared lt) (slice_get-get_or w.threads i opening_thread size) in
+    let all = facts.each_thread i (declared m i) (world_thread w i) (slice_get-get_or m.threads i undeclared lt)
+        (slice_get-get_or w.threads i opening_thread size) in
     let now : ℕ = slice_index w.clocks (declared m i).cpu in
     (now, subst (λ o. IfSome o (IsSendOf m (declared m i).id now)) has all.send)
 
-pub sent_lawful : (m : Machine) (i : ℕ) (s : Scene) (w : World) (p : Posted) (x : Work) → IsMachine m → WorldFacts m w → i < length m.threads → x.local.threads ≡ (s.locals p.to).threads →
-    (world_thread w i).send ≡ (at_home m i (view m s w i)).thread.send → IsSent m i (seats m i (view m s w i)) p → is_some (handled m p.to p.letter.content x) ≡ true
+pub sent_lawful : (m : Machine) (i : ℕ) (s : Scene) (w : World) (p : Posted) (x : Work) → IsMachine m → WorldFacts m w → i < length m.threads →
+    x.local.threads ≡ (s.locals p.to).threads →
+    (world_thread w i).send ≡ (at_home m i (view m s w i)).thread.send → IsSent m i (seats m i (view m s w i)) p →
+    is_some (handled m p.to p.letter.content x) ≡ true
 sent_lawful m i s w p x machine facts lt at same row =
     let send = row.goes.send in
     let r = row.goes.r in
@@ -62,10 +66,12 @@ sent_lawful m i s w p x machine facts lt at same row =
     let letter = row.letter in
     rw (letter, own, foreign, none, actual, shown) refl
 
-pub done_lawful : (m : Machine) (i : ℕ) (s : Scene) (w : World) (p : Posted) (x : Work) (name : _) (result : _) → p.letter.content ≡ DoneLetter name result → IsMachine m → i < length m.threads → x.local.threads ≡ (s.locals p.to).threads →
+pub done_lawful : (m : Machine) (i : ℕ) (s : Scene) (w : World) (p : Posted) (x : Work) (name : _) (result : _) → p.letter.content ≡ DoneLetter name result →
+    IsMachine m → i < length m.threads → x.local.threads ≡ (s.locals p.to).threads →
     IsDecided m i (seats m i (view m s w i)) p name → is_some (handled m p.to p.letter.content x) ≡ true
 done_lawful m i s w p x name result content machine lt at row =
-    let same : thread x.local i ≡ (at_home m i (view m s w i)).thread = ap (λ ts. slice_index_or ts i opening_thread) at ∙ ap (λ c. thread (s.locals c) i) row.to in
+    let same : thread x.local i ≡ (at_home m i (view m s w i)).thread =
+        ap (λ ts. slice_index_or ts i opening_thread) at ∙ ap (λ c. thread (s.locals c) i) row.to in
     let id = ap (λ n. n.thread) row.name in
     let own = own_is m p.to name.thread i (ap (place_of m) id ∙ machine.placed i lt) row.to in
     let has : (thread x.local i).send ≡ Some row.goes.send = ap (λ (t : Thread). t.send) same ∙ row.goes.has in
@@ -96,14 +102,16 @@ calls t order has none suits = by t.phase suits
     by Ended s = let no = s.1 in cc
     by Deleted s = refl
 
-pub obeyed_lawful : (m : Machine) (i : ℕ) (s : Scene) (w : World) (p : Posted) (x : Work) (caller : GlobalId) → p.letter.content ≡ OrderDoneLetter caller → place_of m caller ≡ Some i → x.local.threads ≡ (s.locals p.to).threads →
+pub obeyed_lawful : (m : Machine) (i : ℕ) (s : Scene) (w : World) (p : Posted) (x : Work) (caller : GlobalId) → p.letter.content ≡ OrderDoneLetter caller →
+    place_of m caller ≡ Some i → x.local.threads ≡ (s.locals p.to).threads →
     Matches m i (view m s w i) → IsObeyed m i (seats m i (view m s w i)) p → is_some (handled m p.to p.letter.content x) ≡ true
 obeyed_lawful m i s w p x caller content about at stands row =
     let t : Thread = (at_home m i (view m s w i)).thread in
     let same : thread x.local i ≡ t = ap (λ ts. slice_index_or ts i opening_thread) at ∙ ap (λ c. thread (s.locals c) i) row.to in
     let own = own_is m p.to caller i about row.to in
     let test = calls t row.orders.order row.orders.has row.orders.no_send stands.known.kept.at_home.good.suits in
-    let here : (is_deleted (thread x.local i).phase || is_ordering (thread x.local i).phase) ≡ true = ap (λ (u : Thread). is_deleted u.phase || is_ordering u.phase) same ∙ test in
+    let here : (is_deleted (thread x.local i).phase || is_ordering (thread x.local i).phase) ≡ true =
+        ap (λ (u : Thread). is_deleted u.phase || is_ordering u.phase) same ∙ test in
     rw (content, own, here) refl
 
 -- Every letter under way can be handled where it goes.
@@ -117,35 +125,44 @@ pub record IsUnderWay (m : Machine) (i : ℕ) (p : Posted) (mail : List Posted) 
 
 -- Of its thread's letters it is the one that says where, or one of the others.
 
-only_row : (m : Machine) (i : ℕ) (k : Kept) (v : View) (send : Option Send) (xs ys : List Posted) (p : Posted) → Row m i (seats m i v) (xs ++ p ∷ ys) send → Agrees v.world (learned (xs ++ p ∷ ys) k.clock k.thread) →
+only_row : (m : Machine) (i : ℕ) (k : Kept) (v : View) (send : Option Send) (xs ys : List Posted) (p : Posted) → Row m i (seats m i v) (xs ++ p ∷ ys) send →
+    Agrees v.world (learned (xs ++ p ∷ ys) k.clock k.thread) →
     RowOf m i (seats m i v) p p.letter.content × Agrees v.world (learns p.letter.content k.clock k.thread)
 only_row m i k v send [] [] p h a = (h, a)
 only_row m i k v send [] (y ∷ ys) p h a = absurd h
 only_row m i k v send (x ∷ []) ys p h a = absurd h
 only_row m i k v send (x ∷ z ∷ xs) ys p h a = absurd h
 
-locator_row : (m : Machine) (i : ℕ) (s : Scene) (w : World) (p : Posted) → IsUnderWay m i p s.mail → is_locator p.letter.content ≡ true → Matches m i (view m s w i) →
-    RowOf m i (seats m i (view m s w i)) p p.letter.content × Agrees (world_thread w i) (learns p.letter.content (at_home m i (view m s w i)).clock (at_home m i (view m s w i)).thread)
+locator_row : (m : Machine) (i : ℕ) (s : Scene) (w : World) (p : Posted) → IsUnderWay m i p s.mail → is_locator p.letter.content ≡ true →
+    Matches m i (view m s w i) →
+    RowOf m i (seats m i (view m s w i)) p p.letter.content
+    × Agrees (world_thread w i) (learns p.letter.content (at_home m i (view m s w i)).clock (at_home m i (view m s w i)).thread)
 locator_row m i s w p u says stands =
     let v : View = view m s w i in
     let k : Kept = at_home m i v in
     let word : Posted → Bool = λ q. is_locator q.letter.content in
     let here = about_place m i i p u.about ∙ same_nat i in
-    let at = ap locators (ap (filter (is_about m i)) u.is ∙ keeps_one (is_about m i) u.before u.after p here) ∙ keeps_one word (filter (is_about m i) u.before) (filter (is_about m i) u.after) p says in
+    let at = ap locators (ap (filter (is_about m i)) u.is ∙ keeps_one (is_about m i) u.before u.after p here)
+        ∙ keeps_one word (filter (is_about m i) u.before) (filter (is_about m i) u.after) p says in
     only_row m i k v k.thread.send (locators (filter (is_about m i) u.before)) (locators (filter (is_about m i) u.after)) p
-    (subst (λ ps. Row m i (seats m i v) ps k.thread.send) at stands.known.row) (subst (λ ps. Agrees v.world (learned ps k.clock k.thread)) at stands.known.agrees)
+    (subst (λ ps. Row m i (seats m i v) ps k.thread.send) at stands.known.row)
+    (subst (λ ps. Agrees v.world (learned ps k.clock k.thread)) at stands.known.agrees)
 
-late_notice : (m : Machine) (i : ℕ) (s : Scene) (w : World) (p : Posted) → IsUnderWay m i p s.mail → is_locator p.letter.content ≡ false → Matches m i (view m s w i) → IsNotice m i (at_home m i (view m s w i)) p
+late_notice : (m : Machine) (i : ℕ) (s : Scene) (w : World) (p : Posted) → IsUnderWay m i p s.mail → is_locator p.letter.content ≡ false →
+    Matches m i (view m s w i) → IsNotice m i (at_home m i (view m s w i)) p
 late_notice m i s w p u late stands =
     let v : View = view m s w i in
     let other : Posted → Bool = λ q. not (is_locator q.letter.content) in
     let here = about_place m i i p u.about ∙ same_nat i in
-    let at = ap notices (ap (filter (is_about m i)) u.is ∙ keeps_one (is_about m i) u.before u.after p here) ∙ keeps_one other (filter (is_about m i) u.before) (filter (is_about m i) u.after) p (rw late refl) in
-    one_of (IsNotice m i (at_home m i v)) (notices (filter (is_about m i) u.before)) (notices (filter (is_about m i) u.after)) p (subst (AllByRecursion (IsNotice m i (at_home m i v))) at stands.known.kept.notices)
+    let at = ap notices (ap (filter (is_about m i)) u.is ∙ keeps_one (is_about m i) u.before u.after p here)
+        ∙ keeps_one other (filter (is_about m i) u.before) (filter (is_about m i) u.after) p (rw late refl) in
+    one_of (IsNotice m i (at_home m i v)) (notices (filter (is_about m i) u.before)) (notices (filter (is_about m i) u.after)) p
+        (subst (AllByRecursion (IsNotice m i (at_home m i v))) at stands.known.kept.notices)
 
 -- Any letter under way
 
-letter_lawful : (m : Machine) (i : ℕ) (s : Scene) (w : World) (p : Posted) (x : Work) (c : Content) → p.letter.content ≡ c → IsMachine m → WorldFacts m w → IsUnderWay m i p s.mail → Matches m i (view m s w i) → x.local.threads ≡ (s.locals p.to).threads → is_some (handled m p.to p.letter.content x) ≡ true
+letter_lawful : (m : Machine) (i : ℕ) (s : Scene) (w : World) (p : Posted) (x : Work) (c : Content) → p.letter.content ≡ c → IsMachine m → WorldFacts m w →
+    IsUnderWay m i p s.mail → Matches m i (view m s w i) → x.local.threads ≡ (s.locals p.to).threads → is_some (handled m p.to p.letter.content x) ≡ true
 letter_lawful m i s w p x c content machine facts u stands at = by c content
   where
     lt : i < length m.threads
@@ -161,7 +178,8 @@ letter_lawful m i s w p x c content machine facts u stands at = by c content
     about c content = sym (ap (λ c. place_of m (subject c)) content) ∙ u.about
 
     row : (c : Content) → p.letter.content ≡ c → is_locator c ≡ true → RowOf m i (seats m i v) p c × Agrees v.world (learns c k.clock k.thread)
-    row c content says = subst (λ c. RowOf m i (seats m i v) p c × Agrees v.world (learns c k.clock k.thread)) content (locator_row m i s w p u (ap is_locator content ∙ says) stands)
+    row c content says = subst (λ c. RowOf m i (seats m i v) p c × Agrees v.world (learns c k.clock k.thread)) content
+        (locator_row m i s w p u (ap is_locator content ∙ says) stands)
 
     notice : (c : Content) → p.letter.content ≡ c → is_locator c ≡ false → IsNoticeOf m i k p c
     notice c content late = subst (IsNoticeOf m i k p) content (late_notice m i s w p u (ap is_locator content ∙ late) stands)
@@ -181,7 +199,8 @@ letter_lawful m i s w p x c content machine facts u stands at = by c content
         let foreign = foreign_is m p.to id i (about (GoneLetter id) content) (λ e. n.1 (sym e)) in
         rw (content, foreign) refl
     by (OrderLetter caller target what) content = ordered_lawful m i s w p x machine lt (row (OrderLetter caller target what) content refl).0
-    by (OrderDoneLetter caller) content = obeyed_lawful m i s w p x caller content (about (OrderDoneLetter caller) content) at stands (row (OrderDoneLetter caller) content refl).0
+    by (OrderDoneLetter caller) content =
+        obeyed_lawful m i s w p x caller content (about (OrderDoneLetter caller) content) at stands (row (OrderDoneLetter caller) content refl).0
 
 placed : (m : Machine) (id : GlobalId) → is_declared m id ≡ true → (i : ℕ) × (place_of m id ≡ Some i)
 placed m id h = by (place_of m id) h
@@ -190,17 +209,24 @@ placed m id h = by (place_of m id) h
     by None h = cc
     by (Some i) h = (i, refl)
 
-under_way_lawful : (m : Machine) (s : Scene) (w : World) (p : Posted) (before after : List Posted) (stamp : ℕ) → IsMachine m → RelatesExcept m (Matches m) [] s w → WorldFacts m w → is_declared m (subject p.letter.content) ≡ true →
+under_way_lawful : (m : Machine) (s : Scene) (w : World) (p : Posted) (before after : List Posted) (stamp : ℕ) → IsMachine m →
+    RelatesExcept m (Matches m) [] s w → WorldFacts m w → is_declared m (subject p.letter.content) ≡ true →
     s.mail ≡ before ++ p ∷ after → is_some (handled m p.to p.letter.content (opened stamp (s.locals p.to))) ≡ true
 under_way_lawful m s w p before after stamp machine rel facts declared at =
     let here = placed m (subject p.letter.content) declared in
-    letter_lawful m here.0 s w p (opened stamp (s.locals p.to)) p.letter.content refl machine facts (record { before = before; after = after; is = at; about = here.1 })
+    letter_lawful m here.0 s w p (opened stamp (s.locals p.to)) p.letter.content refl machine facts (record {
+      before = before;
+      after = after;
+      is = at;
+      about = here.1;
+    })
     (rel.places here.0 (place_within m (subject p.letter.content) here.0 here.1) tt) refl
 
 abbrev pub AreAddressed : Machine → List Posted → Type 0
 AreAddressed m mail = AllByRecursion (λ (p : Posted). IsAddressedTo m p.to p.letter.content) mail
 
-pub all_lawful : (m : Machine) (g : System) (w : World) → IsMachine m → length g.locals ≡ m.cpus → Relates m g w → WorldFacts m w → AreAddressed m g.mail → AllByRecursion (IsLawfulLetter m g) g.mail
+pub all_lawful : (m : Machine) (g : System) (w : World) → IsMachine m → length g.locals ≡ m.cpus → Relates m g w → WorldFacts m w → AreAddressed m g.mail →
+    AllByRecursion (IsLawfulLetter m g) g.mail
 all_lawful m g w machine counted rel facts addressed = by [] g.mail refl addressed
   where
     by : (before after : List Posted) → g.mail ≡ before ++ after → AreAddressed m after → AllByRecursion (IsLawfulLetter m g) after
@@ -213,10 +239,12 @@ all_lawful m g w machine counted rel facts addressed = by [] g.mail refl address
         )
 
 -- So is the first letter of a pair.
-pub first_lawful : (m : Machine) (g : System) (w : World) (from cpu : ℕ) (letter : Letter) (l : Local) → IsMachine m → Relates m g w → WorldFacts m w → AreAddressed m g.mail →
+pub first_lawful : (m : Machine) (g : System) (w : World) (from cpu : ℕ) (letter : Letter) (l : Local) → IsMachine m → Relates m g w → WorldFacts m w →
+    AreAddressed m g.mail →
     slice_get (letters g.mail from cpu) 0 ≡ Some letter → slice_get g.locals cpu ≡ Some l → is_some (handle m cpu l letter) ≡ true
 first_lawful m g w from cpu letter l machine rel facts addressed first at =
     let f = first_letter from cpu letter g.mail first in
     let about = one_of (λ (p : Posted). IsAddressedTo m p.to p.letter.content) f.before f.after _ (subst (AreAddressed m) f.is addressed) in
-    let handled_there = under_way_lawful m (scene g) w (record { from = from; to = cpu; letter = letter }) f.before f.after letter.stamp machine rel facts about.0 f.is in
+    let handled_there = under_way_lawful m (scene g) w
+        (record { from = from; to = cpu; letter = letter }) f.before f.after letter.stamp machine rel facts about.0 f.is in
     subst (λ k. is_some (handle m cpu k letter) ≡ true) (local_at g.locals cpu l at).1 handled_there

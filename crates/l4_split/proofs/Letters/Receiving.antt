@@ -64,7 +64,8 @@ kept_opened cpu stamp i s c = by (cpu == c) refl
     by true is = ap (λ p. kept (s.locals p) i) (eqb-true cpu c is)
     by false is = refl
 
-pub taken_out : (m : Machine) (from cpu i : ℕ) (letter : Letter) (s : Scene) (w : World) → IsLetter m from cpu letter s w → i < length m.threads → place_of m (subject letter.content) ≡ Some i → is_locator letter.content ≡ true →
+pub taken_out : (m : Machine) (from cpu i : ℕ) (letter : Letter) (s : Scene) (w : World) → IsLetter m from cpu letter s w → i < length m.threads →
+    place_of m (subject letter.content) ≡ Some i → is_locator letter.content ≡ true →
     IsTakenOut m i (view m s w i) (view m (amid cpu (without from cpu s) (at_work cpu letter s)) w i) (record { from = from; to = cpu; letter = letter })
 taken_out m from cpu i letter s w h lt about says =
     let stands = h.relates.places i lt tt in
@@ -79,13 +80,16 @@ taken_out m from cpu i letter s w h lt about says =
       world = refl;
     }
 
-pub taken_relates : (m : Machine) (from cpu i : ℕ) (letter : Letter) (s : Scene) (w : World) → IsLetter m from cpu letter s w → place_of m (subject letter.content) ≡ Some i → RelatesExcept m (Matches m) (i ∷ []) (amid cpu (without from cpu s) (at_work cpu letter s)) w
+pub taken_relates : (m : Machine) (from cpu i : ℕ) (letter : Letter) (s : Scene) (w : World) → IsLetter m from cpu letter s w →
+    place_of m (subject letter.content) ≡ Some i → RelatesExcept m (Matches m) (i ∷ []) (amid cpu (without from cpu s) (at_work cpu letter s)) w
 taken_relates m from cpu i letter s w h about =
-    opened_relates m cpu letter.stamp (i ∷ []) (without from cpu s) w (letter_taken m from cpu i letter (i ∷ []) s w about (first_about i []) h.first (leaves_out m i [] s w h.relates))
+    opened_relates m cpu letter.stamp (i ∷ []) (without from cpu s) w
+    (letter_taken m from cpu i letter (i ∷ []) s w about (first_about i []) h.first (leaves_out m i [] s w h.relates))
 
 -- A send
 
-pub handles_send : (m : Machine) (from cpu : ℕ) (letter : Letter) (s : Scene) (w : World) (x : Work) (name : Name) (receiver : GlobalId) (message : Message) (zero_timeout : Bool) → IsLetter m from cpu letter s w → letter.content ≡ SendLetter name receiver message zero_timeout →
+pub handles_send : (m : Machine) (from cpu : ℕ) (letter : Letter) (s : Scene) (w : World) (x : Work) (name : Name) (receiver : GlobalId) (message : Message)
+    (zero_timeout : Bool) → IsLetter m from cpu letter s w → letter.content ≡ SendLetter name receiver message zero_timeout →
     handled m cpu (SendLetter name receiver message zero_timeout) (at_work cpu letter s) ≡ Some x → Goes m cpu (without from cpu s) w [] x
 handles_send m from cpu letter s w x name receiver message zero_timeout h content is =
     let y : Work = at_work cpu letter s in
@@ -102,11 +106,13 @@ handles_send m from cpu letter s w x name receiver message zero_timeout h conten
     let t = taken_out m from cpu i letter s w h lt about (ap is_locator content) in
     subst (Goes m cpu (without from cpu s) w []) (some_is _ x rest)
     (send_goes m cpu i r (without from cpu s) w y (view m s w i) (record { from = from; to = cpu; letter = letter }) name receiver message zero_timeout
-    (record { machine = h.machine; processor = h.processor; within = lt; away = at_i.1 }) refl content (record { now = w; reaches = refl; relates = rel }) t at_r.0 (place_within m receiver r at_r.0))
+    (record { machine = h.machine; processor = h.processor; within = lt; away = at_i.1 }) refl content
+    (record { now = w; reaches = refl; relates = rel }) t at_r.0 (place_within m receiver r at_r.0))
 
 -- A decision
 
-pub handles_done : (m : Machine) (from cpu : ℕ) (letter : Letter) (s : Scene) (w : World) (x : Work) (name : Name) (result : Result) → IsLetter m from cpu letter s w → letter.content ≡ DoneLetter name result →
+pub handles_done : (m : Machine) (from cpu : ℕ) (letter : Letter) (s : Scene) (w : World) (x : Work) (name : Name) (result : Result) →
+    IsLetter m from cpu letter s w → letter.content ≡ DoneLetter name result →
     handled m cpu (DoneLetter name result) (at_work cpu letter s) ≡ Some x → Goes m cpu (without from cpu s) w [] x
 handles_done m from cpu letter s w x name result h content is =
     let y : Work = at_work cpu letter s in
@@ -122,5 +128,6 @@ handles_done m from cpu letter s w x name result h content is =
     (record {
       now = w;
       reaches = refl;
-      relates = done_relates m cpu i (without from cpu s) w y (view m s w i) (record { from = from; to = cpu; letter = letter }) name result (record { machine = h.machine; within = lt; home = at.1 }) content t rel;
+      relates = done_relates m cpu i (without from cpu s) w y (view m s w i) (record { from = from; to = cpu; letter = letter }) name result
+          (record { machine = h.machine; within = lt; home = at.1 }) content t rel;
     })

@@ -27,7 +27,8 @@ agrees_order world t a = by t.phase a
 
 -- Where the world has it as home does
 
-asked_receiving : (what : What) (receive : Receive) (since began : ℕ) (t : Thread) → (what ≡ Delete → ⊥) → t.phase ≡ Receiving receive since → asked what (record t { phase = Receiving receive began }) ≡ record (asked what t) { phase = Receiving receive began }
+asked_receiving : (what : What) (receive : Receive) (since began : ℕ) (t : Thread) → (what ≡ Delete → ⊥) → t.phase ≡ Receiving receive since →
+    asked what (record t { phase = Receiving receive began }) ≡ record (asked what t) { phase = Receiving receive began }
 asked_receiving CancelSend receive since began t ne is = rw is refl
 asked_receiving CancelReceive receive since began t ne is = rw is refl
 asked_receiving CancelBoth receive since began t ne is = rw is refl
@@ -40,9 +41,21 @@ asked_phase CancelBoth t ne = refl
 asked_phase Delete t ne = absurd (ne refl)
 
 asked_left : (what : What) (world t : Thread) → (what ≡ Delete → ⊥) → t.phase ≡ Deleted → IsLeft world t → IsLeft (asked what world) (asked what t)
-asked_left CancelSend world t ne is a = let gone = a.deleted in let wish = a.cancel_send in record { deleted = gone; begun = a.begun; send = a.send; order = a.order; cancel_send = rw (is, gone, wish) refl }
+asked_left CancelSend world t ne is a = let gone = a.deleted in let wish = a.cancel_send in record {
+  deleted = gone;
+  begun = a.begun;
+  send = a.send;
+  order = a.order;
+  cancel_send = rw (is, gone, wish) refl;
+}
 asked_left CancelReceive world t ne is a = record { deleted = a.deleted; begun = a.begun; send = a.send; order = a.order; cancel_send = a.cancel_send }
-asked_left CancelBoth world t ne is a = let gone = a.deleted in let wish = a.cancel_send in record { deleted = gone; begun = a.begun; send = a.send; order = a.order; cancel_send = rw (is, gone, wish) refl }
+asked_left CancelBoth world t ne is a = let gone = a.deleted in let wish = a.cancel_send in record {
+  deleted = gone;
+  begun = a.begun;
+  send = a.send;
+  order = a.order;
+  cancel_send = rw (is, gone, wish) refl;
+}
 asked_left Delete world t ne is a = absurd (ne refl)
 
 cancelled_agrees : (what : What) (world t : Thread) → (what ≡ Delete → ⊥) → Agrees world t → Agrees (asked what world) (asked what t)
@@ -54,13 +67,23 @@ cancelled_agrees what world t ne a = by t.phase refl a
     by : (p : Phase) → t.phase ≡ p → AgreesIn p world t → Agrees (asked what world) (asked what t)
     by Ready is a = same_agrees (asked what world) (asked what t) (ap (asked what) a)
     by Sending is a = same_agrees (asked what world) (asked what t) (ap (asked what) a)
-    by (Receiving receive since) is a = at (Receiving receive since) is (record { began = a.began; no_later = a.no_later; same = ap (asked what) a.same ∙ asked_receiving what receive since a.began t ne is })
+    by (Receiving receive since) is a = at (Receiving receive since) is (record {
+      began = a.began;
+      no_later = a.no_later;
+      same = ap (asked what) a.same ∙ asked_receiving what receive since a.began t ne is;
+    })
     by Ordering is a = same_agrees (asked what world) (asked what t) (ap (asked what) a)
     by Ended is a = same_agrees (asked what world) (asked what t) (ap (asked what) a)
     by Deleted is a = at Deleted is (asked_left what world t ne is a)
 
 deleted_agrees : (world t : Thread) → Agrees world t → Agrees (asked Delete world) (asked Delete t)
-deleted_agrees world t a = record { deleted = refl; begun = agrees_begun world t a; send = agrees_send world t a; order = agrees_order world t a; cancel_send = agrees_wish world t a }
+deleted_agrees world t a = record {
+  deleted = refl;
+  begun = agrees_begun world t a;
+  send = agrees_send world t a;
+  order = agrees_order world t a;
+  cancel_send = agrees_wish world t a;
+}
 
 pub asked_agrees : (what : What) (world t : Thread) → Agrees world t → Agrees (asked what world) (asked what t)
 asked_agrees Delete world t a = deleted_agrees world t a
@@ -70,7 +93,8 @@ asked_agrees CancelBoth world t a = cancelled_agrees CancelBoth world t (λ e. c
 
 -- While the decision of its send is under way: to be asked and to hear of it can be done in any order.
 
-asked_ended : (what : What) (result : Result) (clock : ℕ) (t : Thread) (send : Send) → (what ≡ Delete → ⊥) → t.phase ≡ Sending → t.send ≡ Some send → asked what (ended result clock t) ≡ ended result clock (asked what t)
+asked_ended : (what : What) (result : Result) (clock : ℕ) (t : Thread) (send : Send) → (what ≡ Delete → ⊥) → t.phase ≡ Sending → t.send ≡ Some send →
+    asked what (ended result clock t) ≡ ended result clock (asked what t)
 asked_ended Delete result clock t send ne is has = absurd (ne refl)
 asked_ended CancelSend (Refused TimedOut) clock t send ne is has = rw is refl
 asked_ended CancelSend (Refused Nobody) clock t send ne is has = rw is refl
@@ -114,7 +138,8 @@ goes_on_wish (Some receive) clock t = refl
 
 delivered_wish : (o : Option Send) (clock : ℕ) (t : Thread) (send : Send) → o ≡ Some send → (was_delivered o clock t).cancel_send ≡ false
 delivered_wish None clock t send has = cc
-delivered_wish (Some s) clock t send has = cond_both (λ (u : Thread). u.cancel_send) false (is_alive t.phase) (goes_on s.receive clock t) (decided t) (goes_on_wish s.receive clock t) refl
+delivered_wish (Some s) clock t send has =
+    cond_both (λ (u : Thread). u.cancel_send) false (is_alive t.phase) (goes_on s.receive clock t) (decided t) (goes_on_wish s.receive clock t) refl
 
 ended_wish : (result : Result) (clock : ℕ) (t : Thread) (send : Send) → t.send ≡ Some send → (ended result clock t).cancel_send ≡ false
 ended_wish Delivered clock t send has = delivered_wish t.send clock t send has
@@ -127,18 +152,22 @@ pub send_asked : (what : What) (t : Thread) → (asked what t).send ≡ t.send
 send_asked what t = ap (λ (s : Status). s.send) (status-asked what t)
 
 -- The square for a thread whose decision is under way
-pub asked_while_decided : (what : What) (result : Result) (clock : ℕ) (world t : Thread) (send : Send) → t.send ≡ Some send → t.order ≡ None → Suits t.phase (Some send) t.order → Agrees world (ended result clock t) → Agrees (asked what world) (ended result clock (asked what t))
+pub asked_while_decided : (what : What) (result : Result) (clock : ℕ) (world t : Thread) (send : Send) → t.send ≡ Some send → t.order ≡ None →
+    Suits t.phase (Some send) t.order → Agrees world (ended result clock t) → Agrees (asked what world) (ended result clock (asked what t))
 asked_while_decided what result clock world t send has order suits a = by what t.phase refl suits
   where
-    cancelled : (what : What) → (what ≡ Delete → ⊥) → (p : Phase) → t.phase ≡ p → Suits p (Some send) t.order → Agrees (asked what world) (ended result clock (asked what t))
+    cancelled : (what : What) → (what ≡ Delete → ⊥) → (p : Phase) → t.phase ≡ p → Suits p (Some send) t.order →
+        Agrees (asked what world) (ended result clock (asked what t))
     cancelled what ne Ready is s = cc
-    cancelled what ne Sending is s = subst (Agrees (asked what world)) (asked_ended what result clock t send ne is has) (asked_agrees what world (ended result clock t) a)
+    cancelled what ne Sending is s =
+        subst (Agrees (asked what world)) (asked_ended what result clock t send ne is has) (asked_agrees what world (ended result clock t) a)
     cancelled what ne (Receiving receive since) is s = cc
     cancelled what ne Ordering is s = cc
     cancelled what ne Ended is s = cc
     cancelled what ne Deleted is s =
         let before : ended result clock t ≡ decided t = ended_deleted result clock t send is has in
-        let after : ended result clock (asked what t) ≡ decided (asked what t) = ended_deleted result clock (asked what t) send (asked_phase what t ne ∙ is) (send_asked what t ∙ has) in
+        let after : ended result clock (asked what t) ≡ decided (asked what t) =
+            ended_deleted result clock (asked what t) send (asked_phase what t ne ∙ is) (send_asked what t ∙ has) in
         subst (Agrees (asked what world)) (ap (asked what) before ∙ asked_decided what t ne is ∙ sym after) (asked_agrees what world (ended result clock t) a)
 
     by : (what : What) (p : Phase) → t.phase ≡ p → Suits p (Some send) t.order → Agrees (asked what world) (ended result clock (asked what t))
@@ -158,7 +187,8 @@ asked_while_decided what result clock world t send has order suits a = by what t
     by CancelBoth p is s = cancelled CancelBoth (λ e. cc) p is s
 
 -- The square for a thread that is to hear that its order is done
-pub asked_obeyed : (what : What) (t : Thread) → (what ≡ Delete → ⊥) → (p : Phase) → t.phase ≡ p → Suits p None t.order → (order : Asked) → t.order ≡ Some order → asked what (obeyed t) ≡ obeyed (asked what t)
+pub asked_obeyed : (what : What) (t : Thread) → (what ≡ Delete → ⊥) → (p : Phase) → t.phase ≡ p → Suits p None t.order → (order : Asked) →
+    t.order ≡ Some order → asked what (obeyed t) ≡ obeyed (asked what t)
 asked_obeyed Delete t ne p is s order has = absurd (ne refl)
 asked_obeyed CancelSend t ne Ordering is s order has = rw is refl
 asked_obeyed CancelReceive t ne Ordering is s order has = rw is refl

@@ -45,13 +45,15 @@ obeyed_deleted world t a = record {
   cancel_send = agrees_wish world (obeyed t) a ∙ cond_both (λ (u : Thread). u.cancel_send) t.cancel_send (is_alive t.phase) _ _ refl refl;
 }
 
-pub asked_learned : (m : Machine) (i : ℕ) (what : What) (v : View) → Known m i v → Agrees (asked what v.world) (learned (locators v.mail) (at_home m i v).clock (asked what (at_home m i v).thread))
+pub asked_learned : (m : Machine) (i : ℕ) (what : What) (v : View) → Known m i v →
+    Agrees (asked what v.world) (learned (locators v.mail) (at_home m i v).clock (asked what (at_home m i v).thread))
 asked_learned m i what v known = where_then m i v known
     (λ quiet none row a. seen (learned_is [] quiet) (asked_agrees what v.world t a))
     (λ send quiet has row a. seen (learned_is [] quiet) (asked_agrees what v.world t a))
     (λ p is row a. seen (learned_is (p ∷ []) is ∙ ap (λ c. learns c clock (asked what t)) row.letter) (asked_agrees what v.world t a))
     (λ p name result is content row a. seen (learned_is (p ∷ []) is ∙ ap (λ c. learns c clock (asked what t)) content)
-    (asked_while_decided what result clock v.world t row.goes.send row.goes.has row.goes.order (subst (λ o. Suits t.phase o t.order) row.goes.has known.kept.at_home.good.suits) a))
+    (asked_while_decided what result clock v.world t row.goes.send row.goes.has row.goes.order
+    (subst (λ o. Suits t.phase o t.order) row.goes.has known.kept.at_home.good.suits) a))
     (λ p is row a. seen (learned_is (p ∷ []) is ∙ ap (λ c. learns c clock (asked what t)) row.letter) (asked_agrees what v.world t a))
     (λ p caller is content row a. seen (learned_is (p ∷ []) is ∙ ap (λ c. learns c clock (asked what t)) content) (obeyed_square what row.orders a))
   where
@@ -64,11 +66,16 @@ asked_learned m i what v known = where_then m i v known
     learned_is : (ps : List Posted) → locators v.mail ≡ ps → learned (locators v.mail) clock (asked what t) ≡ learned ps clock (asked what t)
     learned_is ps is = ap (λ ps. learned ps clock (asked what t)) is
 
-    seen : {u : Thread} → learned (locators v.mail) clock (asked what t) ≡ u → Agrees (asked what v.world) u → Agrees (asked what v.world) (learned (locators v.mail) clock (asked what t))
+    seen : {u : Thread} → learned (locators v.mail) clock (asked what t) ≡ u → Agrees (asked what v.world) u →
+        Agrees (asked what v.world) (learned (locators v.mail) clock (asked what t))
     seen is a = subst (Agrees (asked what v.world)) (sym is) a
 
-    cancelled : (what : What) → (what ≡ Delete → ⊥) → IsOrdering m i (seats m i v) → Agrees v.world (obeyed t) → Agrees (asked what v.world) (obeyed (asked what t))
-    cancelled what ne row a = subst (Agrees (asked what v.world)) (asked_obeyed what t ne t.phase refl (subst (λ o. Suits t.phase o t.order) row.no_send known.kept.at_home.good.suits) row.order row.has) (asked_agrees what v.world (obeyed t) a)
+    cancelled : (what : What) → (what ≡ Delete → ⊥) → IsOrdering m i (seats m i v) → Agrees v.world (obeyed t) →
+        Agrees (asked what v.world) (obeyed (asked what t))
+    cancelled what ne row a =
+        subst (Agrees (asked what v.world))
+        (asked_obeyed what t ne t.phase refl (subst (λ o. Suits t.phase o t.order) row.no_send known.kept.at_home.good.suits) row.order row.has)
+        (asked_agrees what v.world (obeyed t) a)
 
     obeyed_square : (what : What) → IsOrdering m i (seats m i v) → Agrees v.world (obeyed t) → Agrees (asked what v.world) (obeyed (asked what t))
     obeyed_square Delete row a = obeyed_deleted v.world t a
@@ -89,7 +96,8 @@ asked_cause ByDeletion CancelReceive clock t send h = h
 asked_cause ByDeletion CancelBoth clock t send h = h
 asked_cause ByDeletion Delete clock t send h = refl
 
-asked_causes : (cause : Cause) (what : What) (clock : ℕ) (t : Thread) (o : Option Send) → IfSome o (IsCause cause clock t) → IfSome o (IsCause cause clock (asked what t))
+asked_causes : (cause : Cause) (what : What) (clock : ℕ) (t : Thread) (o : Option Send) → IfSome o (IsCause cause clock t) →
+    IfSome o (IsCause cause clock (asked what t))
 asked_causes cause what clock t None h = tt
 asked_causes cause what clock t (Some send) h = asked_cause cause what clock t send h
 
@@ -110,7 +118,8 @@ asked_at_home CancelReceive j k h = record { good = asked_good CancelReceive k.c
 asked_at_home CancelBoth j k h = record { good = asked_good CancelBoth k.clock k.thread h.good; armed = h.armed }
 asked_at_home Delete j k h = record { good = asked_good Delete k.clock k.thread h.good; armed = inr refl }
 
-pub asked_ready : (what : What) (j : ℕ) (k : Kept) → k.ready ≡ readied k.thread.phase j [] → (asked_kept what j k).ready ≡ readied (asked_kept what j k).thread.phase j []
+pub asked_ready : (what : What) (j : ℕ) (k : Kept) → k.ready ≡ readied k.thread.phase j [] →
+    (asked_kept what j k).ready ≡ readied (asked_kept what j k).thread.phase j []
 asked_ready CancelSend j k h = h
 asked_ready CancelReceive j k h = h
 asked_ready CancelBoth j k h = h
@@ -123,24 +132,45 @@ asked_thread CancelBoth j k = refl
 asked_thread Delete j k = refl
 
 pub asked_stays_true : (what : What) (j : ℕ) (k : Kept) → StaysTrue k (asked_kept what j k)
-asked_stays_true CancelSend j k = record { deleted = λ gone. gone; begun = omega arith; causes = λ cause same old. asked_causes cause CancelSend k.clock k.thread k.thread.send old }
-asked_stays_true CancelReceive j k = record { deleted = λ gone. gone; begun = omega arith; causes = λ cause same old. asked_causes cause CancelReceive k.clock k.thread k.thread.send old }
-asked_stays_true CancelBoth j k = record { deleted = λ gone. gone; begun = omega arith; causes = λ cause same old. asked_causes cause CancelBoth k.clock k.thread k.thread.send old }
-asked_stays_true Delete j k = record { deleted = λ gone. refl; begun = omega arith; causes = λ cause same old. asked_causes cause Delete k.clock k.thread k.thread.send old }
+asked_stays_true CancelSend j k = record {
+  deleted = λ gone. gone;
+  begun = omega arith;
+  causes = λ cause same old. asked_causes cause CancelSend k.clock k.thread k.thread.send old;
+}
+asked_stays_true CancelReceive j k = record {
+  deleted = λ gone. gone;
+  begun = omega arith;
+  causes = λ cause same old. asked_causes cause CancelReceive k.clock k.thread k.thread.send old;
+}
+asked_stays_true CancelBoth j k = record {
+  deleted = λ gone. gone;
+  begun = omega arith;
+  causes = λ cause same old. asked_causes cause CancelBoth k.clock k.thread k.thread.send old;
+}
+asked_stays_true Delete j k = record {
+  deleted = λ gone. refl;
+  begun = omega arith;
+  causes = λ cause same old. asked_causes cause Delete k.clock k.thread k.thread.send old;
+}
 
 -- A thread of this processor is asked for something, and all stays related.
 
 -- Its view after it
 
-asked_matches : (m : Machine) (j : ℕ) (what : What) (v after : View) → after.world ≡ asked what v.world → after.mail ≡ v.mail → at_home m j after ≡ asked_kept what j (at_home m j v) → (at_home m j after).listed ≡ (at_home m j v).listed → (at_home m j after).clock ≡ (at_home m j v).clock →
+asked_matches : (m : Machine) (j : ℕ) (what : What) (v after : View) → after.world ≡ asked what v.world → after.mail ≡ v.mail →
+    at_home m j after ≡ asked_kept what j (at_home m j v) → (at_home m j after).listed ≡ (at_home m j v).listed →
+    (at_home m j after).clock ≡ (at_home m j v).clock →
     ((c : ℕ) → (c ≡ home m j → ⊥) → after.kept c ≡ v.kept c) → Matches m j v → Matches m j after
 asked_matches m j what v after world mail here listed clock other h =
     let k : Kept = at_home m j v in
     let t : Thread = k.thread in
     let thread_is : (at_home m j after).thread ≡ asked what t = ap (λ (k : Kept). k.thread) here ∙ asked_thread what j k in
-    let same_at : (P : ℕ → Type 0) → P (home m j) → ((c : ℕ) → (c ≡ home m j → ⊥) → P c) → (c : ℕ) → P c = λ P at_home away c. same_or_apart (P c) c (home m j) (λ e. subst P (sym e) at_home) (λ ne. away c ne) in
-    let sent = same_at (λ c. (after.kept c).thread.send ≡ (v.kept c).thread.send) (ap (λ (t : Thread). t.send) thread_is ∙ send_asked what t) (λ c ne. ap (λ (k : Kept). k.thread.send) (other c ne)) in
-    let begun = same_at (λ c. (after.kept c).thread.context.begun ≡ (v.kept c).thread.context.begun) (ap (λ (t : Thread). t.context.begun) thread_is ∙ begun_asked what t)
+    let same_at : (P : ℕ → Type 0) → P (home m j) → ((c : ℕ) → (c ≡ home m j → ⊥) → P c) → (c : ℕ) → P c =
+        λ P at_home away c. same_or_apart (P c) c (home m j) (λ e. subst P (sym e) at_home) (λ ne. away c ne) in
+    let sent = same_at (λ c. (after.kept c).thread.send ≡ (v.kept c).thread.send) (ap (λ (t : Thread). t.send) thread_is ∙ send_asked what t)
+        (λ c ne. ap (λ (k : Kept). k.thread.send) (other c ne)) in
+    let begun = same_at (λ c. (after.kept c).thread.context.begun ≡ (v.kept c).thread.context.begun)
+        (ap (λ (t : Thread). t.context.begun) thread_is ∙ begun_asked what t)
     (λ c ne. ap (λ (k : Kept). k.thread.context.begun) (other c ne)) in
     let lists = same_at (λ c. (after.kept c).listed ≡ (v.kept c).listed) listed (λ c ne. ap (λ (k : Kept). k.listed) (other c ne)) in
     let order = ap (λ (t : Thread). t.order) thread_is ∙ order-asked what t in
@@ -169,13 +199,15 @@ dropped_here : (l : Local) (j : ℕ) → kept (relists (plain.dropped j) l) j �
 dropped_here l j = ap (λ is. record (kept l j) { ready = is }) (filter_out (λ i. j == i) (λ i. not (j == i)) (λ i is. rw is refl) l.lists.ready)
 
 dropped_other : (l : Local) (j i : ℕ) → (j ≡ i → ⊥) → kept (relists (plain.dropped j) l) i ≡ kept l i
-dropped_other l j i ne = ap (λ is. record (kept l i) { ready = is }) (filter_kept (λ k. i == k) (λ k. not (j == k)) (λ k is. of_other j i k ne is) l.lists.ready)
+dropped_other l j i ne =
+    ap (λ is. record (kept l i) { ready = is }) (filter_kept (λ k. i == k) (λ k. not (j == k)) (λ k is. of_other j i k ne is) l.lists.ready)
 
 pub asks_here : (what : What) (l : Local) (j : ℕ) → j < length l.threads → kept (asks what j l) j ≡ asked_kept what j (kept l j)
 asks_here CancelSend l j lt = changes_here l j (asked CancelSend) lt
 asks_here CancelReceive l j lt = changes_here l j (asked CancelReceive) lt
 asks_here CancelBoth l j lt = changes_here l j (asked CancelBoth) lt
-asks_here Delete l j lt = comes_here (relists (plain.dropped j) l) j (asked Delete) lt ∙ ap (λ (k : Kept). record k { thread = asked Delete k.thread; armed = [] }) (dropped_here l j)
+asks_here Delete l j lt =
+    comes_here (relists (plain.dropped j) l) j (asked Delete) lt ∙ ap (λ (k : Kept). record k { thread = asked Delete k.thread; armed = [] }) (dropped_here l j)
 
 pub asks_other : (what : What) (l : Local) (j i : ℕ) → (j ≡ i → ⊥) → kept (asks what j l) i ≡ kept l i
 asks_other CancelSend l j i ne = changes_other l j i (asked CancelSend) ne
@@ -184,13 +216,21 @@ asks_other CancelBoth l j i ne = changes_other l j i (asked CancelBoth) ne
 asks_other Delete l j i ne = comes_other (relists (plain.dropped j) l) j i (asked Delete) ne ∙ dropped_other l j i ne
 
 dropped_sized : (m : Machine) (j : ℕ) (l : Local) → IsSized m l → IsSized m (relists (plain.dropped j) l)
-dropped_sized m j l z = record { threads = z.threads; lists = z.lists; told = z.told; ready = all-filter (λ i. i < length m.threads) (λ i. not (j == i)) l.lists.ready z.ready; armed = z.armed; listed = z.listed }
+dropped_sized m j l z = record {
+  threads = z.threads;
+  lists = z.lists;
+  told = z.told;
+  ready = all-filter (λ i. i < length m.threads) (λ i. not (j == i)) l.lists.ready z.ready;
+  armed = z.armed;
+  listed = z.listed;
+}
 
 pub asks_sized : (m : Machine) (what : What) (j : ℕ) (except : List ℕ) (l : Local) → j < length m.threads → IsSized m l → IsSized m (asks what j l)
 asks_sized m CancelSend j except l lt z = (changes_spares m j (j ∷ except) l (asked CancelSend) (first_about j except)).sized z
 asks_sized m CancelReceive j except l lt z = (changes_spares m j (j ∷ except) l (asked CancelReceive) (first_about j except)).sized z
 asks_sized m CancelBoth j except l lt z = (changes_spares m j (j ∷ except) l (asked CancelBoth) (first_about j except)).sized z
-asks_sized m Delete j except l lt z = (comes_spares m j (j ∷ except) (relists (plain.dropped j) l) (asked Delete) lt (first_about j except)).sized (dropped_sized m j l z)
+asks_sized m Delete j except l lt z =
+    (comes_spares m j (j ∷ except) (relists (plain.dropped j) l) (asked Delete) lt (first_about j except)).sized (dropped_sized m j l z)
 
 pub asks_clock : (what : What) (l : Local) (j : ℕ) → (asks what j l).clock ≡ l.clock
 asks_clock CancelSend l j = refl
@@ -207,7 +247,8 @@ asks_lists Delete l j = refl
 pub kept_lists : (a b : Local) (j : ℕ) → a.lists.waiting ≡ b.lists.waiting → (kept a j).listed ≡ (kept b j).listed
 kept_lists a b j e = ap (λ ess. λ r. filter (is_of j) (slice_index_or ess r [])) e
 
-pub asks_relates : (m : Machine) (cpu j : ℕ) (what : What) (except : List ℕ) (s : Scene) (w : World) (x : Work) → IsHere m cpu j → Matches m j (view m (amid cpu s x) w j) → RelatesExcept m (Matches m) (j ∷ except) (amid cpu s x) w →
+pub asks_relates : (m : Machine) (cpu j : ℕ) (what : What) (except : List ℕ) (s : Scene) (w : World) (x : Work) → IsHere m cpu j →
+    Matches m j (view m (amid cpu s x) w j) → RelatesExcept m (Matches m) (j ∷ except) (amid cpu s x) w →
     RelatesExcept m (Matches m) except (amid cpu s (x ▷ does (asks what j))) (change w j (asked what))
 asks_relates m cpu j what except s w x here stands rel =
     let y : Work = x ▷ does (asks what j) in
@@ -221,8 +262,11 @@ asks_relates m cpu j what except s w x here stands rel =
     let is : at_home m j after ≡ kept y.local j = home_is m cpu j s y u here.home in
     takes_in m j except (amid cpu s y) u
     (world_changes m j (j ∷ except) (amid cpu s y) w (asked what) (first_about j except)
-    (local_changes m cpu (j ∷ except) s w x (asks what j) (record { sized = asks_sized m what j except x.local here.within; clock = asks_clock what x.local j; kept = λ i out. asks_other what x.local j i (λ e. out.0 (sym e)) }) (asks_lists what x.local j) rel))
-    (asked_matches m j what v after (get-changed (asked what) w.threads j opening_thread in_world) refl (is ∙ asks_here what x.local j size ∙ sym (ap (asked_kept what j) was))
+    (local_changes m cpu (j ∷ except) s w x (asks what j)
+    (record { sized = asks_sized m what j except x.local here.within; clock = asks_clock what x.local j;
+    kept = λ i out. asks_other what x.local j i (λ e. out.0 (sym e)) }) (asks_lists what x.local j) rel))
+    (asked_matches m j what v after (get-changed (asked what) w.threads j opening_thread in_world) refl
+    (is ∙ asks_here what x.local j size ∙ sym (ap (asked_kept what j) was))
     (ap (λ (k : Kept). k.listed) is ∙ kept_lists (asks what j x.local) x.local j (asks_lists what x.local j) ∙ sym (ap (λ (k : Kept). k.listed) was))
     (ap (λ (k : Kept). k.clock) is ∙ asks_clock what x.local j ∙ sym (ap (λ (k : Kept). k.clock) was))
     (λ c ne. put_other cpu c j x.local y.local s.locals (λ h. ne (sym h ∙ sym here.home))) stands)

@@ -46,7 +46,8 @@ pub record HasCalled (m : Machine) (cpu i : ℕ) (order : Asked) (s : Scene) (w 
   pub goes : Goes m cpu s w (i ∷ []) y
   pub calls : IsCalling m i order (view m (amid cpu s y) goes.now i)
 
-calls_goes : (m : Machine) (cpu i : ℕ) (order : Asked) (s : Scene) (w : World) (x : Work) → (e : Goes m cpu s w (i ∷ []) x) → IsPicked m cpu i s x e.now → act_of m (held m x.local i) ≡ Orders order → HasCalled m cpu i order s w (given m i order x)
+calls_goes : (m : Machine) (cpu i : ℕ) (order : Asked) (s : Scene) (w : World) (x : Work) → (e : Goes m cpu s w (i ∷ []) x) → IsPicked m cpu i s x e.now →
+    act_of m (held m x.local i) ≡ Orders order → HasCalled m cpu i order s w (given m i order x)
 calls_goes m cpu i order s w x e r act_is =
     let now = e.now in
     let f : Thread → Thread = orders order in
@@ -76,7 +77,11 @@ calls_goes m cpu i order s w x e r act_is =
     } in
     record {
       here = r.here;
-      goes = record { now = u; reaches = one_more_told m w now u x.steps (Order (declared m i).id order.target order.what) e.reaches possible; relates = c.relates };
+      goes = record {
+        now = u;
+        reaches = one_more_told m w now u x.steps (Order (declared m i).id order.target order.what) e.reaches possible;
+        relates = c.relates;
+      };
       calls = record {
         kept = moves_kept m i v after r.known.kept moves (subst (IsKeptAtHome i) (sym c.here) (come_kept i f k good tt));
         out = ap (λ (k : Kept). k.ready) c.here ∙ r.out;
@@ -85,7 +90,8 @@ calls_goes m cpu i order s w x e r act_is =
         quiet = running.free.quiet;
         unplaced = record {
           listed = λ p q. same_or_apart ((after.kept p).listed q ≡ []) p (home m i)
-              (λ h. ap (λ p. (after.kept p).listed q) h ∙ ap (λ (k : Kept). k.listed q) c.here ∙ sym (ap (λ (k : Kept). k.listed q) was) ∙ running.free.unplaced.listed (home m i) q)
+              (λ h. ap (λ p. (after.kept p).listed q) h ∙ ap (λ (k : Kept). k.listed q) c.here ∙ sym (ap (λ (k : Kept). k.listed q) was)
+              ∙ running.free.unplaced.listed (home m i) q)
               (λ ne. ap (λ (k : Kept). k.listed q) (c.elsewhere p ne) ∙ running.free.unplaced.listed p q);
           stand_in = λ p ne. ap (λ (k : Kept). k.thread.send) (c.elsewhere p ne) ∙ running.free.unplaced.stand_in p ne;
         };
@@ -94,7 +100,8 @@ calls_goes m cpu i order s w x e r act_is =
     }
 
 -- To another processor's thread
-foreign_goes : (m : Machine) (cpu i j : ℕ) (order : Asked) (s : Scene) (w : World) (y : Work) → HasCalled m cpu i order s w y → place_of m order.target ≡ Some j → (home m j ≡ cpu → ⊥) → Goes m cpu s w [] (posts (home m j) (OrderLetter (declared m i).id order.target order.what) y)
+foreign_goes : (m : Machine) (cpu i j : ℕ) (order : Asked) (s : Scene) (w : World) (y : Work) → HasCalled m cpu i order s w y →
+    place_of m order.target ≡ Some j → (home m j ≡ cpu → ⊥) → Goes m cpu s w [] (posts (home m j) (OrderLetter (declared m i).id order.target order.what) y)
 foreign_goes m cpu i j order s w y h at away =
     let e = h.goes in
     let c = h.calls in
@@ -104,13 +111,27 @@ foreign_goes m cpu i j order s w y h at away =
     let p : Posted = posted cpu (home m j, record { stamp = y.local.stamp; content = OrderLetter (declared m i).id order.target order.what }) in
     let placed = h.here.machine.placed i h.here.within in
     let mail : after.mail ≡ v.mail ++ p ∷ [] = mail_here m cpu (home m j) i (OrderLetter (declared m i).id order.target order.what) s e.now y placed in
-    let word : locators after.mail ≡ p ∷ [] = ap locators mail ∙ filter_last (λ (q : Posted). is_locator q.letter.content) v.mail p refl ∙ ap (λ ps. ps ++ p ∷ []) c.quiet in
+    let word : locators after.mail ≡ p ∷ [] =
+        ap locators mail ∙ filter_last (λ (q : Posted). is_locator q.letter.content) v.mail p refl ∙ ap (λ ps. ps ++ p ∷ []) c.quiet in
     let others : notices after.mail ≡ notices v.mail = ap notices mail ∙ filter_last_other (λ (q : Posted). not (is_locator q.letter.content)) v.mail p refl in
-    let moves : Moves m i v after = record { elsewhere = λ q ne. same_alike (v.kept q) (after.kept q) refl; notices = others; stays_true = record { deleted = λ gone. gone; begun = omega arith; causes = λ cause same old. old } } in
+    let moves : Moves m i v after = record {
+      elsewhere = λ q ne. same_alike (v.kept q) (after.kept q) refl;
+      notices = others;
+      stays_true = record { deleted = λ gone. gone; begun = omega arith; causes = λ cause same old. old };
+    } in
     let keeps = moves_kept m i v after c.kept moves c.kept.at_home in
-    let suits : Suits (at_home m i v).thread.phase (at_home m i v).thread.send (Some order) = subst (Suits (at_home m i v).thread.phase (at_home m i v).thread.send) c.has c.kept.at_home.good.suits in
+    let suits : Suits (at_home m i v).thread.phase (at_home m i v).thread.send (Some order) =
+        subst (Suits (at_home m i v).thread.phase (at_home m i v).thread.send) c.has c.kept.at_home.good.suits in
     let row : IsOrdered m i (seats m i after) p = record {
-      orders = record { no_send = c.send; order = order; has = c.has; target = j; place = at; split = λ same. away (same ∙ h.here.home); unplaced = record { listed = c.unplaced.listed; stand_in = c.unplaced.stand_in } };
+      orders = record {
+        no_send = c.send;
+        order = order;
+        has = c.has;
+        target = j;
+        place = at;
+        split = λ same. away (same ∙ h.here.home);
+        unplaced = record { listed = c.unplaced.listed; stand_in = c.unplaced.stand_in };
+      };
       letter = refl;
       from = sym h.here.home;
       to = refl;
@@ -118,8 +139,12 @@ foreign_goes m cpu i j order s w y h at away =
     record {
       now = e.now;
       reaches = e.reaches;
-      relates = takes_in m i [] (amid cpu s a) e.now (letter_posted m cpu (home m j) i (OrderLetter (declared m i).id order.target order.what) (i ∷ []) s e.now y placed (first_about i []) e.relates)
-          (record { known = located_known m i after p keeps word row c.agrees; ready = c.out ∙ sym (caller_unready i (at_home m i v).thread.phase (at_home m i v).thread.send order suits) });
+      relates = takes_in m i [] (amid cpu s a) e.now
+          (letter_posted m cpu (home m j) i (OrderLetter (declared m i).id order.target order.what) (i ∷ []) s e.now y placed (first_about i []) e.relates)
+          (record {
+            known = located_known m i after p keeps word row c.agrees;
+            ready = c.out ∙ sym (caller_unready i (at_home m i v).thread.phase (at_home m i v).thread.send order suits);
+          });
     }
 
 -- To a thread of this processor
@@ -129,7 +154,9 @@ pub record HasObeyed (m : Machine) (cpu i j : ℕ) (order : Asked) (s : Scene) (
   pub relates : RelatesExcept m (Matches m) (i ∷ []) (amid cpu s (obeys m cpu (declared m i).id order.what j y)) (change w j (asked order.what))
   pub calls : IsCalling m i order (view m (amid cpu s (obeys m cpu (declared m i).id order.what j y)) (change w j (asked order.what)) i)
 
-own_goes : (m : Machine) (cpu i j : ℕ) (order : Asked) (s : Scene) (w : World) (y : Work) → (h : HasCalled m cpu i order s w y) → place_of m order.target ≡ Some j → HasObeyed m cpu i j order s h.goes.now y → Goes m cpu s w [] (y ▷ obeys m cpu (declared m i).id order.what j ▷ does (comes_to i obeyed))
+own_goes : (m : Machine) (cpu i j : ℕ) (order : Asked) (s : Scene) (w : World) (y : Work) → (h : HasCalled m cpu i order s w y) →
+    place_of m order.target ≡ Some j → HasObeyed m cpu i j order s h.goes.now y →
+    Goes m cpu s w [] (y ▷ obeys m cpu (declared m i).id order.what j ▷ does (comes_to i obeyed))
 own_goes m cpu i j order s w y h at o =
     let now = h.goes.now in
     let z : Work = obeys m cpu (declared m i).id order.what j y in
@@ -145,24 +172,30 @@ own_goes m cpu i j order s w y h at o =
       relates = obeyed_here m cpu i order s (change now j (asked order.what)) z h.here o.calls o.relates;
     }
 
-other_obeyed : (m : Machine) (cpu i j : ℕ) (order : Asked) (s : Scene) (w : World) (y : Work) → (h : HasCalled m cpu i order s w y) → IsHere m cpu j → (j ≡ i → ⊥) → HasObeyed m cpu i j order s h.goes.now y
+other_obeyed : (m : Machine) (cpu i j : ℕ) (order : Asked) (s : Scene) (w : World) (y : Work) → (h : HasCalled m cpu i order s w y) → IsHere m cpu j →
+    (j ≡ i → ⊥) → HasObeyed m cpu i j order s h.goes.now y
 other_obeyed m cpu i j order s w y h target ne =
     let now = h.goes.now in
     let c = h.calls in
     let z : Work = obeys m cpu (declared m i).id order.what j y in
     let v : View = view m (amid cpu s y) now i in
     let after : View = view m (amid cpu s z) (change now j (asked order.what)) i in
-    let same_local : kept z.local i ≡ kept y.local i = ap (λ l. kept l i) (obeys_local m cpu j (declared m i).id order.what y) ∙ asks_other order.what y.local j i ne in
+    let same_local : kept z.local i ≡ kept y.local i =
+        ap (λ l. kept l i) (obeys_local m cpu j (declared m i).id order.what y) ∙ asks_other order.what y.local j i ne in
     let kept_is : after.kept ≡ v.kept = λ d p. put_same (λ l. kept l i) cpu p y.local z.local s.locals same_local d in
     let mail_is : after.mail ≡ v.mail = obeys_mail m cpu j i (declared m i).id order.what s y (target.machine.placed j target.within) ne in
     let world_is : after.world ≡ v.world = get_other (asked order.what) now.threads j i ne in
     let same : v ≡ after = λ d. record { world = sym world_is d; kept = sym kept_is d; mail = sym mail_is d } in
-    record { relates = obeys_relates m cpu j (declared m i).id order.what (i ∷ []) s now y target (ne, tt) h.goes.relates; calls = subst (IsCalling m i order) same c }
+    record {
+      relates = obeys_relates m cpu j (declared m i).id order.what (i ∷ []) s now y target (ne, tt) h.goes.relates;
+      calls = subst (IsCalling m i order) same c;
+    }
 
 -- To itself
 
 -- It has no send to withdraw.
-self_work : (m : Machine) (cpu i : ℕ) (what : What) (y : Work) → (thread (asks what i y.local) i).send ≡ None → obeys m cpu (declared m i).id what i y ≡ (y ▷ tells (Obey (declared m i).id) ▷ does (asks what i))
+self_work : (m : Machine) (cpu i : ℕ) (what : What) (y : Work) → (thread (asks what i y.local) i).send ≡ None →
+    obeys m cpu (declared m i).id what i y ≡ (y ▷ tells (Obey (declared m i).id) ▷ does (asks what i))
 self_work m cpu i what y none =
     let z : Work = y ▷ tells (Obey (declared m i).id) ▷ does (asks what i) in
     cond_both (λ (a : Work). a) z (is_deleted (thread y.local i).phase) z (withdraws_for m cpu i (cause_of what) z) refl (for z (cause_of what) none)
@@ -177,7 +210,8 @@ asked_out CancelReceive i k h = h
 asked_out CancelBoth i k h = h
 asked_out Delete i k h = refl
 
-self_obeyed : (m : Machine) (cpu i : ℕ) (order : Asked) (s : Scene) (w : World) (y : Work) → (h : HasCalled m cpu i order s w y) → HasObeyed m cpu i i order s h.goes.now y
+self_obeyed : (m : Machine) (cpu i : ℕ) (order : Asked) (s : Scene) (w : World) (y : Work) → (h : HasCalled m cpu i order s w y) →
+    HasObeyed m cpu i i order s h.goes.now y
 self_obeyed m cpu i order s w y h =
     let now = h.goes.now in
     let c = h.calls in
@@ -191,18 +225,25 @@ self_obeyed m cpu i order s w y h =
     let size : i < length y.local.threads = omega (arith, sized.threads, h.here.within) in
     let in_world : i < length now.threads = omega (arith, rel.sized_world.threads, h.here.within) in
     let was : at_home m i v ≡ kept y.local i = home_is m cpu i s y now h.here.home in
-    let is : at_home m i after ≡ asked_kept what i (at_home m i v) = home_is m cpu i s z u h.here.home ∙ asks_here what y.local i size ∙ sym (ap (asked_kept what i) was) in
-    let listed : (at_home m i after).listed ≡ (at_home m i v).listed = ap (λ (k : Kept). k.listed) (home_is m cpu i s z u h.here.home) ∙ kept_lists (asks what i y.local) y.local i (asks_lists what y.local i) ∙ sym (ap (λ (k : Kept). k.listed) was) in
+    let is : at_home m i after ≡ asked_kept what i (at_home m i v) =
+        home_is m cpu i s z u h.here.home ∙ asks_here what y.local i size ∙ sym (ap (asked_kept what i) was) in
+    let listed : (at_home m i after).listed ≡ (at_home m i v).listed =
+        ap (λ (k : Kept). k.listed) (home_is m cpu i s z u h.here.home) ∙ kept_lists (asks what i y.local) y.local i (asks_lists what y.local i)
+        ∙ sym (ap (λ (k : Kept). k.listed) was) in
     let thread_is : (at_home m i after).thread ≡ asked what (at_home m i v).thread = ap (λ (k : Kept). k.thread) is ∙ asked_thread what i (at_home m i v) in
     let other = λ (p : ℕ) (ne : p ≡ home m i → ⊥). put_other cpu p i y.local z.local s.locals (λ e. ne (sym e ∙ sym h.here.home)) in
     let relates = world_changes m i (i ∷ []) (amid cpu s z) now (asked what) (first_about i [])
-    (local_changes m cpu (i ∷ []) s now y (asks what i) (record { sized = asks_sized m what i [] y.local h.here.within; clock = asks_clock what y.local i; kept = λ j out. asks_other what y.local i j (λ e. out.0 (sym e)) }) (asks_lists what y.local i) rel) in
+    (local_changes m cpu (i ∷ []) s now y (asks what i)
+    (record { sized = asks_sized m what i [] y.local h.here.within; clock = asks_clock what y.local i;
+    kept = λ j out. asks_other what y.local i j (λ e. out.0 (sym e)) }) (asks_lists what y.local i) rel) in
     let moves : Moves m i v after = record {
       elsewhere = λ p ne. same_alike (v.kept p) (after.kept p) (other p ne);
       notices = refl;
       stays_true = subst (StaysTrue (at_home m i v)) (sym is) (asked_stays_true what i (at_home m i v));
     } in
-    let none : (thread z.local i).send ≡ None = sym (ap (λ (k : Kept). k.thread.send) (home_is m cpu i s z u h.here.home)) ∙ ap (λ (t : Thread). t.send) thread_is ∙ send_asked what (at_home m i v).thread ∙ c.send in
+    let none : (thread z.local i).send ≡ None =
+        sym (ap (λ (k : Kept). k.thread.send) (home_is m cpu i s z u h.here.home)) ∙ ap (λ (t : Thread). t.send) thread_is
+        ∙ send_asked what (at_home m i v).thread ∙ c.send in
     let calls : IsCalling m i order after = record {
       kept = moves_kept m i v after c.kept moves (subst (IsKeptAtHome i) (sym is) (asked_at_home what i (at_home m i v) c.kept.at_home));
       out = ap (λ (k : Kept). k.ready) is ∙ asked_out what i (at_home m i v) c.out;
@@ -215,7 +256,9 @@ self_obeyed m cpu i order s w y h =
             (λ ne. ap (λ (k : Kept). k.listed q) (other p ne) ∙ c.unplaced.listed p q);
         stand_in = λ p ne. ap (λ (k : Kept). k.thread.send) (other p ne) ∙ c.unplaced.stand_in p ne;
       };
-      agrees = subst (Agrees after.world) (sym thread_is) (subst (λ a. Agrees a (asked what (at_home m i v).thread)) (sym (get-changed (asked what) now.threads i opening_thread in_world)) (asked_agrees what v.world (at_home m i v).thread c.agrees));
+      agrees = subst (Agrees after.world) (sym thread_is)
+          (subst (λ a. Agrees a (asked what (at_home m i v).thread)) (sym (get-changed (asked what) now.threads i opening_thread in_world))
+          (asked_agrees what v.world (at_home m i v).thread c.agrees));
     } in
     let work : (y ▷ tells (Obey (declared m i).id) ▷ does (asks what i)) ≡ obeys m cpu (declared m i).id what i y = sym (self_work m cpu i what y none) in
     record {
@@ -224,7 +267,8 @@ self_obeyed m cpu i order s w y h =
     }
 
 -- An order, wherever its target is
-pub gives_goes : (m : Machine) (cpu i : ℕ) (s : Scene) (w : World) (x : Work) → (e : Goes m cpu s w (i ∷ []) x) → IsPicked m cpu i s x e.now → (order : Asked) → act_of m (held m x.local i) ≡ Orders order → Goes m cpu s w [] (gives_order m cpu i order x)
+pub gives_goes : (m : Machine) (cpu i : ℕ) (s : Scene) (w : World) (x : Work) → (e : Goes m cpu s w (i ∷ []) x) → IsPicked m cpu i s x e.now → (order : Asked) →
+    act_of m (held m x.local i) ≡ Orders order → Goes m cpu s w [] (gives_order m cpu i order x)
 gives_goes m cpu i s w x e r order act_is = by (place_of m order.target) refl
   where
     y : Work
@@ -240,8 +284,11 @@ gives_goes m cpu i s w x e r order act_is = by (place_of m order.target) refl
         own : home m j ≡ cpu → HasObeyed m cpu i j order s h.goes.now (given m i order x)
         own home_is_cpu = same_or_apart (HasObeyed m cpu i j order s h.goes.now (given m i order x)) i j
             (λ same. subst (λ k. HasObeyed m cpu i k order s h.goes.now (given m i order x)) same (self_obeyed m cpu i order s w (given m i order x) h))
-            (λ ne. other_obeyed m cpu i j order s w (given m i order x) h (record { machine = h.here.machine; within = place_within m order.target j at; home = home_is_cpu }) (λ e. ne (sym e)))
+            (λ ne. other_obeyed m cpu i j order s w (given m i order x) h
+            (record { machine = h.here.machine; within = place_within m order.target j at; home = home_is_cpu }) (λ e. ne (sym e)))
 
-        split : (b : Bool) → (home m j == cpu) ≡ b → Goes m cpu s w [] (cond b (y ▷ obeys m cpu (declared m i).id order.what j ▷ does (comes_to i obeyed)) (posts (home m j) (OrderLetter (declared m i).id order.target order.what) y))
+        split : (b : Bool) → (home m j == cpu) ≡ b →
+            Goes m cpu s w [] (cond b (y ▷ obeys m cpu (declared m i).id order.what j ▷ does (comes_to i obeyed))
+            (posts (home m j) (OrderLetter (declared m i).id order.target order.what) y))
         split true is = own_goes m cpu i j order s w (given m i order x) h at (own (eqb-true (home m j) cpu is))
         split false is = foreign_goes m cpu i j order s w (given m i order x) h at (apart (home m j) cpu is)

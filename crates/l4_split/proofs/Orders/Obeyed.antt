@@ -47,7 +47,8 @@ caller_fresh clock Ended send h = tt
 caller_fresh clock Deleted send h = tt
 
 pub obeyed_fresh : (clock : ℕ) (t : Thread) → IsFresh clock (obeyed t).phase (obeyed t).send
-obeyed_fresh clock t = cond_keeps (λ (u : Thread). IsFresh clock u.phase u.send) (is_alive t.phase) _ _ (λ alive. tt) (λ gone. caller_fresh clock t.phase t.send gone)
+obeyed_fresh clock t = cond_keeps (λ (u : Thread). IsFresh clock u.phase u.send) (is_alive t.phase) _ _ (λ alive. tt)
+    (λ gone. caller_fresh clock t.phase t.send gone)
 
 pub caller_unready : (i : ℕ) (p : Phase) (send : Option Send) (order : Asked) → Suits p send (Some order) → readied p i [] ≡ []
 caller_unready i Ready send order s = cc
@@ -57,7 +58,8 @@ caller_unready i Ordering send order s = refl
 caller_unready i Ended send order s = refl
 caller_unready i Deleted send order s = refl
 
-obeyed_relates : (m : Machine) (cpu i : ℕ) (s : Scene) (w : World) (x : Work) (before : View) (p : Posted) (caller : GlobalId) → IsHere m cpu i → p.letter.content ≡ OrderDoneLetter caller → IsTakenOut m i before (view m (amid cpu s x) w i) p →
+obeyed_relates : (m : Machine) (cpu i : ℕ) (s : Scene) (w : World) (x : Work) (before : View) (p : Posted) (caller : GlobalId) → IsHere m cpu i →
+    p.letter.content ≡ OrderDoneLetter caller → IsTakenOut m i before (view m (amid cpu s x) w i) p →
     RelatesExcept m (Matches m) (i ∷ []) (amid cpu s x) w → RelatesExcept m (Matches m) [] (amid cpu s (x ▷ does (comes_to i obeyed))) w
 obeyed_relates m cpu i s w x before p caller here content t rel =
     let v : View = view m (amid cpu s x) w i in
@@ -66,15 +68,20 @@ obeyed_relates m cpu i s w x before p caller here content t rel =
     let has : (thread x.local i).order ≡ Some row.orders.order = sym (ap (λ (k : Kept). k.thread.order) was) ∙ row.orders.has in
     let none : (thread x.local i).send ≡ None = sym (ap (λ (k : Kept). k.thread.send) was) ∙ row.orders.no_send in
     let good : IsGood x.local.clock (thread x.local i) = subst (λ (k : Kept). IsGood k.clock k.thread) was t.stands.known.kept.at_home.good in
-    let suits : Suits (thread x.local i).phase (thread x.local i).send (Some row.orders.order) = subst (Suits (thread x.local i).phase (thread x.local i).send) has good.suits in
+    let suits : Suits (thread x.local i).phase (thread x.local i).send (Some row.orders.order) =
+        subst (Suits (thread x.local i).phase (thread x.local i).send) has good.suits in
     let agrees : Agrees before.world (obeyed (thread x.local i)) = subst (λ (k : Kept). Agrees before.world (obeyed k.thread)) was
     (subst (λ c. Agrees before.world (learns c (at_home m i before).clock (at_home m i before).thread)) content (taken_agrees m i before v p t)) in
     let c = comes m cpu i [] s w x obeyed (λ t. t) here rel in
     let q : IsQuiet m i v (kept x.local i) obeyed (λ t. t) = record {
       kept = taken_kept m i before v p t;
       quiet = t.quiet;
-      unplaced = record { listed = λ c q. ap (λ (f : ℕ → Kept). (f c).listed q) t.kept ∙ row.orders.unplaced.listed c q; stand_in = λ c ne. ap (λ (f : ℕ → Kept). (f c).thread.send) t.kept ∙ row.orders.unplaced.stand_in c ne };
-      out = sym (ap (λ (k : Kept). k.ready) was) ∙ t.stands.ready ∙ ap (λ (k : Kept). readied k.thread.phase i []) was ∙ caller_unready i (thread x.local i).phase (thread x.local i).send row.orders.order suits;
+      unplaced = record {
+        listed = λ c q. ap (λ (f : ℕ → Kept). (f c).listed q) t.kept ∙ row.orders.unplaced.listed c q;
+        stand_in = λ c ne. ap (λ (f : ℕ → Kept). (f c).thread.send) t.kept ∙ row.orders.unplaced.stand_in c ne;
+      };
+      out = sym (ap (λ (k : Kept). k.ready) was) ∙ t.stands.ready ∙ ap (λ (k : Kept). readied k.thread.phase i []) was
+          ∙ caller_unready i (thread x.local i).phase (thread x.local i).send row.orders.order suits;
       send = obeyed_send (thread x.local i) ∙ none;
       order = obeyed_order (thread x.local i);
       agrees = subst (λ u. Agrees u (obeyed (thread x.local i))) (sym t.world) agrees;
@@ -89,7 +96,8 @@ obeyed_relates m cpu i s w x before p caller here content t rel =
     subst (RelatesExcept m (Matches m) [] (amid cpu s (x ▷ does (comes_to i obeyed)))) (ap (λ ts. record w { threads = ts }) (unchanged w.threads i))
     (takes_in m i [] (amid cpu s (x ▷ does (comes_to i obeyed))) (change w i (λ t. t)) c.relates (quiet_matches m cpu i [] s w x obeyed (λ t. t) here c q))
 
-pub handles_order_done : (m : Machine) (from cpu : ℕ) (letter : Letter) (s : Scene) (w : World) (x : Work) (caller : GlobalId) → IsLetter m from cpu letter s w → letter.content ≡ OrderDoneLetter caller →
+pub handles_order_done : (m : Machine) (from cpu : ℕ) (letter : Letter) (s : Scene) (w : World) (x : Work) (caller : GlobalId) →
+    IsLetter m from cpu letter s w → letter.content ≡ OrderDoneLetter caller →
     handled m cpu (OrderDoneLetter caller) (at_work cpu letter s) ≡ Some x → Goes m cpu (without from cpu s) w [] x
 handles_order_done m from cpu letter s w x caller h content is =
     let y : Work = at_work cpu letter s in
@@ -103,7 +111,8 @@ handles_order_done m from cpu letter s w x caller h content is =
     subst (Goes m cpu (without from cpu s) w []) (some_is _ x rest) (record {
       now = w;
       reaches = refl;
-      relates = obeyed_relates m cpu i (without from cpu s) w y (view m s w i) (record { from = from; to = cpu; letter = letter }) caller (record { machine = h.machine; within = lt; home = at.1 }) content t rel;
+      relates = obeyed_relates m cpu i (without from cpu s) w y (view m s w i) (record { from = from; to = cpu; letter = letter }) caller
+          (record { machine = h.machine; within = lt; home = at.1 }) content t rel;
     })
 
 -- A thread gives an order: it is done here, or goes to its target's processor.
@@ -119,7 +128,8 @@ pub record IsCalling (m : Machine) (i : ℕ) (order : Asked) (v : View) : Type 0
   pub agrees : Agrees v.world (at_home m i v).thread
 
 -- Its order is done: it goes on.
-pub obeyed_here : (m : Machine) (cpu i : ℕ) (order : Asked) (s : Scene) (w : World) (x : Work) → IsHere m cpu i → IsCalling m i order (view m (amid cpu s x) w i) → RelatesExcept m (Matches m) (i ∷ []) (amid cpu s x) w →
+pub obeyed_here : (m : Machine) (cpu i : ℕ) (order : Asked) (s : Scene) (w : World) (x : Work) → IsHere m cpu i →
+    IsCalling m i order (view m (amid cpu s x) w i) → RelatesExcept m (Matches m) (i ∷ []) (amid cpu s x) w →
     RelatesExcept m (Matches m) [] (amid cpu s (x ▷ does (comes_to i obeyed))) (change w i obeyed)
 obeyed_here m cpu i order s w x here c rel =
     let v : View = view m (amid cpu s x) w i in

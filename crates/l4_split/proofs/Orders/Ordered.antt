@@ -34,7 +34,8 @@ use Rattle.l4_split.proofs.Orders.Asking.{asks_other}
 use Rattle.l4_split.proofs.Orders.Obeying.{obeys_relates, obeys_steps}
 
 -- The caller goes on, in the world; home hears of it later.
-pub obeyed_agrees : (world t : Thread) (order : Asked) → t.order ≡ Some order → Suits t.phase t.send (Some order) → Agrees world t → Agrees (obeyed world) (obeyed t)
+pub obeyed_agrees : (world t : Thread) (order : Asked) → t.order ≡ Some order → Suits t.phase t.send (Some order) → Agrees world t →
+    Agrees (obeyed world) (obeyed t)
 obeyed_agrees world t order has suits a = by t.phase refl suits a
   where
     by : (p : Phase) → t.phase ≡ p → Suits p t.send (Some order) → AgreesIn p world t → Agrees (obeyed world) (obeyed t)
@@ -47,15 +48,24 @@ obeyed_agrees world t order has suits a = by t.phase refl suits a
         let there = a.deleted in
         let u : obeyed world ≡ record world { order = None } = rw there refl in
         let v : obeyed t ≡ record t { order = None } = rw is refl in
-        let left : AgreesIn Deleted (record world { order = None }) (record t { order = None }) = record { deleted = there; begun = a.begun; send = a.send; order = refl; cancel_send = a.cancel_send } in
-        subst (λ x. Agrees x (obeyed t)) (sym u) (subst (Agrees (record world { order = None })) (sym v) (subst (λ p. AgreesIn p (record world { order = None }) (record t { order = None })) (sym is) left))
+        let left : AgreesIn Deleted (record world { order = None }) (record t { order = None }) = record {
+          deleted = there;
+          begun = a.begun;
+          send = a.send;
+          order = refl;
+          cancel_send = a.cancel_send;
+        } in
+        subst (λ x. Agrees x (obeyed t)) (sym u)
+            (subst (Agrees (record world { order = None })) (sym v)
+            (subst (λ p. AgreesIn p (record world { order = None }) (record t { order = None })) (sym is) left))
 
 -- Of another thread than the target nothing changes.
 
 pub obeys_local : (m : Machine) (cpu j : ℕ) (caller : GlobalId) (what : What) (x : Work) → (obeys m cpu caller what j x).local ≡ asks what j x.local
 obeys_local m cpu j caller what x =
     let y : Work = x ▷ tells (Obey caller) ▷ does (asks what j) in
-    cond_both (λ (a : Work). a.local) (asks what j x.local) (is_deleted (thread x.local j).phase) y (withdraws_for m cpu j (cause_of what) y) refl (for (cause_of what) y)
+    cond_both (λ (a : Work). a.local) (asks what j x.local) (is_deleted (thread x.local j).phase) y (withdraws_for m cpu j (cause_of what) y) refl
+        (for (cause_of what) y)
   where
     go : (cause : Cause) (o : Option ℕ) (y : Work) → (withdraws m cause j o y).local ≡ y.local
     go cause None y = refl
@@ -65,15 +75,20 @@ obeys_local m cpu j caller what x =
     for None y = refl
     for (Some cause) y = go cause (split_place m cpu y.local j) y
 
-pub obeys_mail : (m : Machine) (cpu j i : ℕ) (caller : GlobalId) (what : What) (s : Scene) (x : Work) → place_of m (declared m j).id ≡ Some j → (j ≡ i → ⊥) → filter (is_about m i) (amid cpu s (obeys m cpu caller what j x)).mail ≡ filter (is_about m i) (amid cpu s x).mail
+pub obeys_mail : (m : Machine) (cpu j i : ℕ) (caller : GlobalId) (what : What) (s : Scene) (x : Work) → place_of m (declared m j).id ≡ Some j → (j ≡ i → ⊥) →
+    filter (is_about m i) (amid cpu s (obeys m cpu caller what j x)).mail ≡ filter (is_about m i) (amid cpu s x).mail
 obeys_mail m cpu j i caller what s x placed ne =
     let y : Work = x ▷ tells (Obey caller) ▷ does (asks what j) in
-    cond_both (λ (a : Work). filter (is_about m i) (amid cpu s a).mail) (filter (is_about m i) (amid cpu s x).mail) (is_deleted (thread x.local j).phase) y (withdraws_for m cpu j (cause_of what) y) refl (for (cause_of what) y)
+    cond_both (λ (a : Work). filter (is_about m i) (amid cpu s a).mail) (filter (is_about m i) (amid cpu s x).mail) (is_deleted (thread x.local j).phase) y
+        (withdraws_for m cpu j (cause_of what) y) refl (for (cause_of what) y)
   where
-    go : (cause : Cause) (o : Option ℕ) (y : Work) → filter (is_about m i) (amid cpu s (withdraws m cause j o y)).mail ≡ filter (is_about m i) (amid cpu s y).mail
+    go : (cause : Cause) (o : Option ℕ) (y : Work) →
+        filter (is_about m i) (amid cpu s (withdraws m cause j o y)).mail ≡ filter (is_about m i) (amid cpu s y).mail
     go cause None y = refl
     go cause (Some r) y = ap (filter (is_about m i)) (mail_posted cpu (home m r) (WithdrawLetter (last_name m y.local j) (declared m r).id cause) s y)
-        ∙ filter_last_other (is_about m i) (amid cpu s y).mail _ (about_place m j i (posted cpu (home m r, record { stamp = y.local.stamp; content = WithdrawLetter (last_name m y.local j) (declared m r).id cause })) placed ∙ other_is j i ne)
+        ∙ filter_last_other (is_about m i) (amid cpu s y).mail _
+        (about_place m j i (posted cpu (home m r, record { stamp = y.local.stamp; content = WithdrawLetter (last_name m y.local j) (declared m r).id cause }))
+        placed ∙ other_is j i ne)
 
     for : (o : Option Cause) (y : Work) → filter (is_about m i) (amid cpu s (withdraws_for m cpu j o y)).mail ≡ filter (is_about m i) (amid cpu s y).mail
     for None y = refl
@@ -81,17 +96,22 @@ obeys_mail m cpu j i caller what s x placed ne =
 
 -- The letter
 
-order_letter : (caller target : GlobalId) (what : What) (id : GlobalId) (order : Asked) → OrderLetter caller target what ≡ OrderLetter id order.target order.what → (target ≡ order.target) × (what ≡ order.what)
+order_letter : (caller target : GlobalId) (what : What) (id : GlobalId) (order : Asked) →
+    OrderLetter caller target what ≡ OrderLetter id order.target order.what → (target ≡ order.target) × (what ≡ order.what)
 order_letter caller target what id order h = (cc, cc)
 
-pub order_goes : (m : Machine) (cpu i j : ℕ) (s : Scene) (w : World) (x : Work) (before : View) (p : Posted) (caller target : GlobalId) (what : What) → IsHere m cpu j → i < length m.threads → (home m i ≡ cpu → ⊥) → place_of m caller ≡ Some i → place_of m target ≡ Some j → p.to ≡ cpu → p.letter.content ≡ OrderLetter caller target what →
-    IsTakenOut m i before (view m (amid cpu s x) w i) p → RelatesExcept m (Matches m) (i ∷ []) (amid cpu s x) w → x.steps ≡ [] → Goes m cpu s w [] (x ▷ obeys m cpu caller what j ▷ posts (home m i) (OrderDoneLetter caller))
+pub order_goes : (m : Machine) (cpu i j : ℕ) (s : Scene) (w : World) (x : Work) (before : View) (p : Posted) (caller target : GlobalId) (what : What) →
+    IsHere m cpu j → i < length m.threads → (home m i ≡ cpu → ⊥) → place_of m caller ≡ Some i → place_of m target ≡ Some j → p.to ≡ cpu →
+    p.letter.content ≡ OrderLetter caller target what →
+    IsTakenOut m i before (view m (amid cpu s x) w i) p → RelatesExcept m (Matches m) (i ∷ []) (amid cpu s x) w → x.steps ≡ [] →
+    Goes m cpu s w [] (x ▷ obeys m cpu caller what j ▷ posts (home m i) (OrderDoneLetter caller))
 order_goes m cpu i j s w x before p caller target what here lt away at_i at_j to content t rel nothing =
     let v : View = view m (amid cpu s x) w i in
     let row : IsOrdered m i (seats m i before) p = subst (RowOf m i (seats m i before) p) content (taken_row m i before v p t) in
     let o = row.orders in
     let says = order_letter caller target what (declared m i).id o.order (sym content ∙ row.letter) in
-    let agrees : Agrees before.world (at_home m i before).thread = subst (λ c. Agrees before.world (learns c (at_home m i before).clock (at_home m i before).thread)) content (taken_agrees m i before v p t) in
+    let agrees : Agrees before.world (at_home m i before).thread =
+        subst (λ c. Agrees before.world (learns c (at_home m i before).clock (at_home m i before).thread)) content (taken_agrees m i before v p t) in
     let ne : j ≡ i → ⊥ = λ e. away (sym (ap (home m) e) ∙ here.home) in
     let y : Work = obeys m cpu caller what j x in
     let z : Work = posts (home m i) (OrderDoneLetter caller) y in
@@ -99,17 +119,25 @@ order_goes m cpu i j s w x before p caller target what here lt away at_i at_j to
     let u2 : World = change u1 i obeyed in
     let q : Posted = posted cpu (home m i, record { stamp = y.local.stamp; content = OrderDoneLetter caller }) in
     let rel1 = obeys_relates m cpu j caller what (i ∷ []) s w x here (ne, tt) rel in
-    let rel3 = letter_posted m cpu (home m i) i (OrderDoneLetter caller) (i ∷ []) s u2 y at_i (first_about i []) (world_changes m i (i ∷ []) (amid cpu s y) u1 obeyed (first_about i []) rel1) in
+    let rel3 = letter_posted m cpu (home m i) i (OrderDoneLetter caller) (i ∷ []) s u2 y at_i (first_about i [])
+        (world_changes m i (i ∷ []) (amid cpu s y) u1 obeyed (first_about i []) rel1) in
     let after : View = view m (amid cpu s z) u2 i in
     let same_local : kept y.local i ≡ kept x.local i = ap (λ l. kept l i) (obeys_local m cpu j caller what x) ∙ asks_other what x.local j i ne in
-    let same_kept : after.kept ≡ before.kept = λ d c. (put_same (λ l. kept l i) cpu c x.local y.local s.locals same_local ∙ ap (λ (f : ℕ → Kept). f c) t.kept) d in
-    let mail : after.mail ≡ v.mail ++ q ∷ [] = mail_here m cpu (home m i) i (OrderDoneLetter caller) s u2 y at_i ∙ ap (λ ps. ps ++ q ∷ []) (obeys_mail m cpu j i caller what s x (here.machine.placed j here.within) ne) in
-    let word : locators after.mail ≡ q ∷ [] = ap locators mail ∙ filter_last (λ (a : Posted). is_locator a.letter.content) v.mail q refl ∙ ap (λ ps. ps ++ q ∷ []) t.quiet in
-    let others : notices after.mail ≡ notices before.mail = ap notices mail ∙ filter_last_other (λ (a : Posted). not (is_locator a.letter.content)) v.mail q refl ∙ t.notices in
+    let same_kept : after.kept ≡ before.kept =
+        λ d c. (put_same (λ l. kept l i) cpu c x.local y.local s.locals same_local ∙ ap (λ (f : ℕ → Kept). f c) t.kept) d in
+    let mail : after.mail ≡ v.mail ++ q ∷ [] =
+        mail_here m cpu (home m i) i (OrderDoneLetter caller) s u2 y at_i
+        ∙ ap (λ ps. ps ++ q ∷ []) (obeys_mail m cpu j i caller what s x (here.machine.placed j here.within) ne) in
+    let word : locators after.mail ≡ q ∷ [] =
+        ap locators mail ∙ filter_last (λ (a : Posted). is_locator a.letter.content) v.mail q refl ∙ ap (λ ps. ps ++ q ∷ []) t.quiet in
+    let others : notices after.mail ≡ notices before.mail =
+        ap notices mail ∙ filter_last_other (λ (a : Posted). not (is_locator a.letter.content)) v.mail q refl ∙ t.notices in
     let home_same : at_home m i after ≡ at_home m i before = ap (λ (f : ℕ → Kept). f (home m i)) same_kept in
     let in_world : i < length u1.threads = let size = rel1.sized_world.threads in omega arith in
-    let world : after.world ≡ obeyed before.world = get-changed obeyed u1.threads i opening_thread in_world ∙ ap obeyed (get_other (asked what) w.threads j i ne ∙ t.world) in
-    let suits : Suits (at_home m i before).thread.phase (at_home m i before).thread.send (Some o.order) = subst (Suits (at_home m i before).thread.phase (at_home m i before).thread.send) o.has t.stands.known.kept.at_home.good.suits in
+    let world : after.world ≡ obeyed before.world =
+        get-changed obeyed u1.threads i opening_thread in_world ∙ ap obeyed (get_other (asked what) w.threads j i ne ∙ t.world) in
+    let suits : Suits (at_home m i before).thread.phase (at_home m i before).thread.send (Some o.order) =
+        subst (Suits (at_home m i before).thread.phase (at_home m i before).thread.send) o.has t.stands.known.kept.at_home.good.suits in
     let moves : Moves m i before after = record {
       elsewhere = λ c away. same_alike (before.kept c) (after.kept c) (ap (λ (f : ℕ → Kept). f c) same_kept);
       notices = others;
@@ -118,26 +146,40 @@ order_goes m cpu i j s w x before p caller target what here lt away at_i at_j to
     let orders : IsOrdering m i (seats m i after) = subst (λ (f : ℕ → Kept). IsOrdering m i (seats_of m i f)) (sym same_kept) o in
     let which : o.target ≡ j = some_is o.target j (sym o.place ∙ ap (place_of m) (sym says.0) ∙ at_j) in
     let obeys_row : IsObeyed m i (seats m i after) q = record {
-      orders = record { no_send = orders.no_send; order = o.order; has = orders.has; target = o.target; place = o.place; split = o.split; unplaced = orders.unplaced };
+      orders = record {
+        no_send = orders.no_send;
+        order = o.order;
+        has = orders.has;
+        target = o.target;
+        place = o.place;
+        split = o.split;
+        unplaced = orders.unplaced;
+      };
       from = sym to ∙ row.to;
       to = refl;
     } in
     let found_now = found_at_is m i (i ∷ []) (amid cpu s x) w here.machine lt rel in
-    let ordering : (world_thread w i).order ≡ Some o.order = ap (λ (u : Thread). u.order) t.world ∙ agrees_order before.world (at_home m i before).thread agrees ∙ o.has in
+    let ordering : (world_thread w i).order ≡ Some o.order =
+        ap (λ (u : Thread). u.order) t.world ∙ agrees_order before.world (at_home m i before).thread agrees ∙ o.has in
     let place : place_of m o.order.target ≡ Some j = o.place ∙ ap Some which in
     let possible : next m w (Obey caller) ≡ Some (change (change w j (asked o.order.what)) i obeyed) = rw (at_i, found_now, ordering, place) refl in
     let steps : z.steps ≡ Obey caller ∷ [] = obeys_steps m cpu j caller what x ∙ ap (λ ss. ss ++ Obey caller ∷ []) nothing in
     record {
       now = u2;
-      reaches = ap (run m w) steps ∙ one_more_told m w w u2 [] (Obey caller) refl (possible ∙ ap (λ k. Some (change (change w j (asked k)) i obeyed)) (sym says.1));
+      reaches = ap (run m w) steps
+          ∙ one_more_told m w w u2 [] (Obey caller) refl (possible ∙ ap (λ k. Some (change (change w j (asked k)) i obeyed)) (sym says.1));
       relates = takes_in m i [] (amid cpu s z) u2 rel3 (record {
-        known = located_known m i after q (moves_kept m i before after t.stands.known.kept moves (subst (IsKeptAtHome i) (sym home_same) t.stands.known.kept.at_home)) word obeys_row
-            (subst (λ (k : Kept). Agrees after.world (obeyed k.thread)) (sym home_same) (subst (λ u. Agrees u (obeyed (at_home m i before).thread)) (sym world) (obeyed_agrees before.world (at_home m i before).thread o.order o.has suits agrees)));
+        known = located_known m i after q
+            (moves_kept m i before after t.stands.known.kept moves (subst (IsKeptAtHome i) (sym home_same) t.stands.known.kept.at_home)) word obeys_row
+            (subst (λ (k : Kept). Agrees after.world (obeyed k.thread)) (sym home_same)
+            (subst (λ u. Agrees u (obeyed (at_home m i before).thread)) (sym world)
+            (obeyed_agrees before.world (at_home m i before).thread o.order o.has suits agrees)));
         ready = subst (λ (k : Kept). k.ready ≡ readied k.thread.phase i []) (sym home_same) t.stands.ready;
       });
     }
 
-pub handles_order : (m : Machine) (from cpu : ℕ) (letter : Letter) (s : Scene) (w : World) (x : Work) (caller target : GlobalId) (what : What) → IsLetter m from cpu letter s w → letter.content ≡ OrderLetter caller target what →
+pub handles_order : (m : Machine) (from cpu : ℕ) (letter : Letter) (s : Scene) (w : World) (x : Work) (caller target : GlobalId) (what : What) →
+    IsLetter m from cpu letter s w → letter.content ≡ OrderLetter caller target what →
     handled m cpu (OrderLetter caller target what) (at_work cpu letter s) ≡ Some x → Goes m cpu (without from cpu s) w [] x
 handles_order m from cpu letter s w x caller target what h content is =
     let y : Work = at_work cpu letter s in
@@ -150,4 +192,5 @@ handles_order m from cpu letter s w x caller target what h content is =
     let rel = taken_relates m from cpu i letter s w h about in
     let t = taken_out m from cpu i letter s w h lt about (ap is_locator content) in
     subst (Goes m cpu (without from cpu s) w []) (some_is _ x rest)
-    (order_goes m cpu i j (without from cpu s) w y (view m s w i) (record { from = from; to = cpu; letter = letter }) caller target what (record { machine = h.machine; within = place_within m target j at_j.0; home = at_j.1 }) lt at_i.1 at_i.0 at_j.0 refl content t rel refl)
+    (order_goes m cpu i j (without from cpu s) w y (view m s w i) (record { from = from; to = cpu; letter = letter }) caller target what
+    (record { machine = h.machine; within = place_within m target j at_j.0; home = at_j.1 }) lt at_i.1 at_i.0 at_j.0 refl content t rel refl)

@@ -54,26 +54,31 @@ listed_here m i s w stands send has whole = where_then m i v stands.known
 
     waits : (other : Send) → other ≡ send → IsWaiting m i other (seats m i v) → Queued
     waits other same row = same_or_apart Queued (home m row.r) (home m i)
-        (λ here. any_list (is_of i) (s.locals (home m i)).lists.waiting row.r (any_kept (is_of i) _ [] _ (sym (ap (λ c. (v.kept c).listed row.r) here) ∙ row.listed)))
+        (λ here. any_list (is_of i) (s.locals (home m i)).lists.waiting row.r
+        (any_kept (is_of i) _ [] _ (sym (ap (λ c. (v.kept c).listed row.r) here) ∙ row.listed)))
         (λ away. absurd (whole (row.r, (ap (λ (s : Send). destination_place m s.to) (sym same) ∙ row.to, away))))
 
 -- What is promised is kept by the core's turn.
 
 -- No send that is still to begin was withdrawn.
 
-all_of_filtered : {A : Type 0} (P Q : A → Type 0) (p : A → Bool) → ((x : A) → p x ≡ false → Q x) → ((x : A) → P x → Q x) → (xs : List A) → AllByRecursion P (filter p xs) → AllByRecursion Q xs
+all_of_filtered : {A : Type 0} (P Q : A → Type 0) (p : A → Bool) → ((x : A) → p x ≡ false → Q x) → ((x : A) → P x → Q x) → (xs : List A) →
+    AllByRecursion P (filter p xs) → AllByRecursion Q xs
 all_of_filtered P Q p out kept [] h = tt
 all_of_filtered P Q p out kept (x ∷ xs) h = by (p x) refl h (all_of_filtered P Q p out kept xs)
   where
-    by : (b : Bool) → p x ≡ b → AllByRecursion P (cond b (x ∷ filter p xs) (filter p xs)) → (AllByRecursion P (filter p xs) → AllByRecursion Q xs) → AllByRecursion Q (x ∷ xs)
+    by : (b : Bool) → p x ≡ b → AllByRecursion P (cond b (x ∷ filter p xs) (filter p xs)) → (AllByRecursion P (filter p xs) → AllByRecursion Q xs) →
+        AllByRecursion Q (x ∷ xs)
     by true is h rest = (kept x h.0, rest h.1)
     by false is h rest = (out x is, rest h)
 
-none_of_next : (m : Machine) (i : ℕ) (s : Scene) (w : World) (name : Name) → place_of m name.thread ≡ Some i → (at_home m i (view m s w i)).thread.context.begun < name.k → Matches m i (view m s w i) →
+none_of_next : (m : Machine) (i : ℕ) (s : Scene) (w : World) (name : Name) → place_of m name.thread ≡ Some i →
+    (at_home m i (view m s w i)).thread.context.begun < name.k → Matches m i (view m s w i) →
     AllByRecursion (λ (q : Posted). IsNotWithdrawalOf name q.letter.content) s.mail
 none_of_next m i s w name place above stands =
     all_of_filtered Not Not (is_about m i) (λ q out. not_about q q.letter.content out) (λ q h. h) s.mail
-    (all_of_filtered (IsNotice m i k) Not (λ (q : Posted). not (is_locator q.letter.content)) (λ q out. not_late q.letter.content out) (λ q h. by q q.letter.content h) (filter (is_about m i) s.mail) stands.known.kept.notices)
+    (all_of_filtered (IsNotice m i k) Not (λ (q : Posted). not (is_locator q.letter.content)) (λ q out. not_late q.letter.content out)
+    (λ q h. by q q.letter.content h) (filter (is_about m i) s.mail) stands.known.kept.notices)
   where
     k : Kept
     k = at_home m i (view m s w i)
@@ -108,8 +113,10 @@ none_of_next m i s w name place above stands =
     by q (OrderDoneLetter caller) h = tt
 
 -- The first ready thread goes on.
-acts_keeps : (m : Machine) (cpu i : ℕ) (s : Scene) (w : World) (l : Local) → l ≡ s.locals cpu → cpu < m.cpus → IsHere m cpu i → is_ready (thread l i).phase ≡ true → Matches m i (view m s w i) →
-    StaysPromised m cpu s (opened 0 l ▷ does (relists plain.popped)) → StaysPromised m cpu s (acts m cpu i (act_of m (held m l i)) (opened 0 l ▷ does (relists plain.popped)))
+acts_keeps : (m : Machine) (cpu i : ℕ) (s : Scene) (w : World) (l : Local) → l ≡ s.locals cpu → cpu < m.cpus → IsHere m cpu i →
+    is_ready (thread l i).phase ≡ true → Matches m i (view m s w i) →
+    StaysPromised m cpu s (opened 0 l ▷ does (relists plain.popped)) →
+    StaysPromised m cpu s (acts m cpu i (act_of m (held m l i)) (opened 0 l ▷ does (relists plain.popped)))
 acts_keeps m cpu i s w l is processor here ready stands p = by (act_of m (held m l i))
   where
     x : Work
@@ -122,22 +129,30 @@ acts_keeps m cpu i s w l is processor here ready stands p = by (act_of m (held m
         let lt = here.within in
         let name : Name = last_name m (comes_to i (begins send) x.local) i in
         let next : name.k ≡ (thread l i).context.begun + 1 = ap (λ (k : Kept). k.thread.context.begun) (comes_here x.local i (begins send) (omega arith)) in
-        let old : (at_home m i (view m s w i)).thread.context.begun ≡ (thread l i).context.begun = ap (λ c. (thread (s.locals c) i).context.begun) here.home ∙ sym (ap (λ l. (thread l i).context.begun) is) in
+        let old : (at_home m i (view m s w i)).thread.context.begun ≡ (thread l i).context.begun =
+            ap (λ c. (thread (s.locals c) i).context.begun) here.home ∙ sym (ap (λ l. (thread l i).context.begun) is) in
         begins_keeps m cpu i send s x processor here.home ready
-        (subst (AllByRecursion (λ (q : Posted). IsNotWithdrawalOf name q.letter.content)) (sym (append-nil s.mail)) (none_of_next m i s w name (here.machine.placed i lt) (omega arith) stands)) p
+        (subst (AllByRecursion (λ (q : Posted). IsNotWithdrawalOf name q.letter.content)) (sym (append-nil s.mail))
+        (none_of_next m i s w name (here.machine.placed i lt) (omega arith) stands)) p
     by (Receives receive) = waits_keeps m cpu i receive s x processor here.home ready p
     by (Orders order) = gives_keeps m cpu i order s x processor here.within here.home ready p
 
 -- The choice
-choice_keeps : (m : Machine) (cpu : ℕ) (s : Scene) (w : World) (c : Choice) → IsMachine m → cpu < m.cpus → RelatesExcept m (Matches m) [] s w → StaysPromised m cpu s (opened 0 (s.locals cpu)) → IsChoice m cpu (s.locals cpu) c →
+choice_keeps : (m : Machine) (cpu : ℕ) (s : Scene) (w : World) (c : Choice) → IsMachine m → cpu < m.cpus → RelatesExcept m (Matches m) [] s w →
+    StaysPromised m cpu s (opened 0 (s.locals cpu)) → IsChoice m cpu (s.locals cpu) c →
     StaysPromised m cpu s (does_choice m cpu c (opened 0 (s.locals cpu)))
 choice_keeps m cpu s w (ByDuty i duty) machine processor rel p c = duty_keeps m cpu i s (opened 0 (s.locals cpu)) duty processor c.0.home p c.1
 choice_keeps m cpu s w (ByDue i) machine processor rel p c =
     let due = due_goes m cpu s w (opened 0 (s.locals cpu)) (c.0, i) c.1.0 machine processor (opened_goes m cpu 0 [] s w rel) c.1.1.0 in
-    due_keeps m cpu s (opened 0 (s.locals cpu)) (c.0, i) c.1.0 processor due.here.home (subst (λ c. IsListedHere m i (s.locals c)) due.here.home (listed_here m i s w (rel.places i due.here.within tt))) c.1.1.0 p
+    due_keeps m cpu s (opened 0 (s.locals cpu)) (c.0, i) c.1.0 processor due.here.home
+    (subst (λ c. IsListedHere m i (s.locals c)) due.here.home (listed_here m i s w (rel.places i due.here.within tt))) c.1.1.0 p
 choice_keeps m cpu s w (ByReady i) machine processor rel p c =
     let r = ready_goes m cpu s w (opened 0 (s.locals cpu)) i c.0 machine processor (opened_goes m cpu 0 [] s w rel) c.1 in
-    acts_keeps m cpu i s w (s.locals cpu) refl processor r.picked.here r.picked.ready (rel.places i r.picked.here.within tt) (relists_keeps m cpu [] s (opened 0 (s.locals cpu)) plain.popped processor refl p)
+    acts_keeps m cpu i s w (s.locals cpu) refl processor r.picked.here r.picked.ready (rel.places i r.picked.here.within tt)
+    (relists_keeps m cpu [] s (opened 0 (s.locals cpu)) plain.popped processor refl p)
 
-pub turn_keeps : (m : Machine) (cpu : ℕ) (s : Scene) (w : World) (x : Work) → IsMachine m → cpu < m.cpus → RelatesExcept m (Matches m) [] s w → Promised m [] s → turn m cpu (s.locals cpu) ≡ Some x → StaysPromised m cpu s x
-turn_keeps m cpu s w x machine processor rel promised h = turn_then m cpu (s.locals cpu) x (StaysPromised m cpu s) h λ c is. choice_keeps m cpu s w c machine processor rel (opened_keeps m cpu 0 [] s processor promised) is
+pub turn_keeps : (m : Machine) (cpu : ℕ) (s : Scene) (w : World) (x : Work) → IsMachine m → cpu < m.cpus → RelatesExcept m (Matches m) [] s w →
+    Promised m [] s → turn m cpu (s.locals cpu) ≡ Some x → StaysPromised m cpu s x
+turn_keeps m cpu s w x machine processor rel promised h =
+    turn_then m cpu (s.locals cpu) x (StaysPromised m cpu s) h λ c is.
+    choice_keeps m cpu s w c machine processor rel (opened_keeps m cpu 0 [] s processor promised) is

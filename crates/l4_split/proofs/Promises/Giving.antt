@@ -27,13 +27,16 @@ use Rattle.l4_split.proofs.Promises.Orders.{comes_dead, obeys_keeps}
 abbrev pub HasAsked : Thread → Type 0
 HasAsked t = (t.phase ≡ Ordering) ⊎ (t.phase ≡ Deleted)
 
-pub obeyed_keeps : (m : Machine) (cpu i : ℕ) (s : Scene) (x : Work) → cpu < m.cpus → home m i ≡ cpu → HasAsked (thread x.local i) → StaysPromised m cpu s x → StaysPromised m cpu s (x ▷ does (comes_to i obeyed))
-obeyed_keeps m cpu i s x processor here (inl waits) p = comes_on m cpu i s x obeyed processor here (obeyed_afresh (thread x.local i) (ordering_wishless (thread x.local i).phase waits)) p
+pub obeyed_keeps : (m : Machine) (cpu i : ℕ) (s : Scene) (x : Work) → cpu < m.cpus → home m i ≡ cpu → HasAsked (thread x.local i) → StaysPromised m cpu s x →
+    StaysPromised m cpu s (x ▷ does (comes_to i obeyed))
+obeyed_keeps m cpu i s x processor here (inl waits) p =
+    comes_on m cpu i s x obeyed processor here (obeyed_afresh (thread x.local i) (ordering_wishless (thread x.local i).phase waits)) p
 obeyed_keeps m cpu i s x processor here (inr dead) p =
     let t : Thread = thread x.local i in
     let not_alive : is_alive t.phase ≡ false = ap is_alive dead in
     comes_dead m cpu i s x obeyed processor here dead (rw not_alive dead)
-    (cond_both (λ (a : Thread). a.send) t.send (is_alive t.phase) _ _ refl refl) (sym (cond_both (λ (a : Thread). a.context.begun) t.context.begun (is_alive t.phase) _ _ refl refl)) p
+    (cond_both (λ (a : Thread). a.send) t.send (is_alive t.phase) _ _ refl refl)
+    (sym (cond_both (λ (a : Thread). a.context.begun) t.context.begun (is_alive t.phase) _ _ refl refl)) p
 
 -- What is asked of a thread leaves the caller waiting, or deletes it.
 asks_asked : (what : What) (i j : ℕ) (l : Local) → i < length l.threads → (thread l i).phase ≡ Ordering → HasAsked (thread (asks what j l) i)
@@ -61,14 +64,16 @@ withdraws_local m cpu j (Some cause) x = by (split_place m cpu x.local j)
     by None = refl
     by (Some r) = refl
 
-obeys_asked : (m : Machine) (cpu i j : ℕ) (caller : GlobalId) (what : What) (x : Work) → i < length x.local.threads → (thread x.local i).phase ≡ Ordering → HasAsked (thread (obeys m cpu caller what j x).local i)
+obeys_asked : (m : Machine) (cpu i j : ℕ) (caller : GlobalId) (what : What) (x : Work) → i < length x.local.threads → (thread x.local i).phase ≡ Ordering →
+    HasAsked (thread (obeys m cpu caller what j x).local i)
 obeys_asked m cpu i j caller what x lt is =
     let y : Work = x ▷ tells (Obey caller) ▷ does (asks what j) in
     cond_keeps (λ (z : Work). HasAsked (thread z.local i)) (is_deleted (thread x.local j).phase) y (y ▷ withdraws_for m cpu j (cause_of what))
     (λ gone. asks_asked what i j x.local lt is)
     (λ alive. subst (λ l. HasAsked (thread l i)) (sym (withdraws_local m cpu j (cause_of what) y)) (asks_asked what i j x.local lt is))
 
-pub gives_keeps : (m : Machine) (cpu i : ℕ) (order : Asked) (s : Scene) (x : Work) → cpu < m.cpus → i < length m.threads → home m i ≡ cpu → is_ready (thread x.local i).phase ≡ true → StaysPromised m cpu s x → StaysPromised m cpu s (gives_order m cpu i order x)
+pub gives_keeps : (m : Machine) (cpu i : ℕ) (order : Asked) (s : Scene) (x : Work) → cpu < m.cpus → i < length m.threads → home m i ≡ cpu →
+    is_ready (thread x.local i).phase ≡ true → StaysPromised m cpu s x → StaysPromised m cpu s (gives_order m cpu i order x)
 gives_keeps m cpu i order s x processor lt here ready p = by (place_of m order.target)
   where
     y : Work
@@ -84,7 +89,8 @@ gives_keeps m cpu i order s x processor lt here ready p = by (place_of m order.t
     by None = q
     by (Some j) = cond_keeps (StaysPromised m cpu s) (is_own m cpu j) _ _
         (λ own. let size = size_now m cpu [] s y processor q in
-        obeyed_keeps m cpu i s (obeys m cpu (declared m i).id order.what j y) processor here (obeys_asked m cpu i j (declared m i).id order.what y (omega arith) waits)
+        obeyed_keeps m cpu i s (obeys m cpu (declared m i).id order.what j y) processor here
+        (obeys_asked m cpu i j (declared m i).id order.what y (omega arith) waits)
         (obeys_keeps m cpu j (declared m i).id order.what s y processor (eqb-true (home m j) cpu own) q))
         (λ other. let letter = OrderLetter (declared m i).id order.target order.what in
         posts_keeps m cpu (declared m j).cpu letter [] s y (all_true (λ (p : Posted). MayFollow letter p.letter.content) (λ p. tt) (amid cpu s y).mail) q)

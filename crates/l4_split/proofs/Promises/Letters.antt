@@ -45,7 +45,8 @@ none_and_all P Q f (x ∷ xs) (inr h) all = none_and_all P Q f xs h all.1
 
 -- In order
 
-pub order_append : (xs : List Posted) (y : Posted) → AllByRecursion (λ (p : Posted). MayFollow y.letter.content p.letter.content) xs → InOrder xs → InOrder (xs ++ y ∷ [])
+pub order_append : (xs : List Posted) (y : Posted) → AllByRecursion (λ (p : Posted). MayFollow y.letter.content p.letter.content) xs → InOrder xs →
+    InOrder (xs ++ y ∷ [])
 order_append [] y may h = (tt, tt)
 order_append (x ∷ xs) y may h = (all-append (λ (q : Posted). MayFollow q.letter.content x.letter.content) xs y h.0 may.0, order_append xs y may.1 h.1)
 

@@ -21,7 +21,8 @@ use Rattle.l4_split.proofs.Promises.Frames.{leaves_one, takes_one}
 -- What home keeps of a thread changes, and what was promised of it is still true.
 pub record IsSteady (m : Machine) (i : ℕ) (k after : Kept) : Type 0 where
   pub armed : IsArmedUnlessSplit m i k → IsArmedUnlessSplit m i after
-  pub ending : (send : Send) → after.thread.send ≡ Some send → IsLate after ⊎ IsWished after.thread → (k.thread.send ≡ Some send) × ((IsLate k ⊎ IsWished k.thread) × (k.thread.context.begun ≡ after.thread.context.begun))
+  pub ending : (send : Send) → after.thread.send ≡ Some send → IsLate after ⊎ IsWished after.thread → (k.thread.send ≡ Some send)
+      × ((IsLate k ⊎ IsWished k.thread) × (k.thread.context.begun ≡ after.thread.context.begun))
 
 pub same_steady : (m : Machine) (i : ℕ) (k after : Kept) → after ≡ k → IsSteady m i k after
 same_steady m i k after e = subst (IsSteady m i k) (sym e) (record { armed = λ h. h; ending = λ send has ending. (has, (ending, refl)) })
@@ -43,18 +44,23 @@ pub record IsHarmless (m : Machine) (cpu : ℕ) (except : List ℕ) (l after : L
 pub here_local : (cpu : ℕ) (s : Scene) (l : Local) → put cpu l s.locals cpu ≡ l
 here_local cpu s l = let same = same_nat cpu in rw same refl
 
-pub size_now : (m : Machine) (cpu : ℕ) (except : List ℕ) (s : Scene) (x : Work) → cpu < m.cpus → Promised m except (amid cpu s x) → length x.local.threads ≡ length m.threads
+pub size_now : (m : Machine) (cpu : ℕ) (except : List ℕ) (s : Scene) (x : Work) → cpu < m.cpus → Promised m except (amid cpu s x) →
+    length x.local.threads ≡ length m.threads
 size_now m cpu except s x lt p = subst (λ (l : Local). length l.threads ≡ length m.threads) (here_local cpu s x.local) (p.threads cpu lt)
 
-pub local_keeps : (m : Machine) (cpu : ℕ) (except : List ℕ) (s : Scene) (x : Work) (f : Local → Local) → cpu < m.cpus → IsHarmless m cpu except x.local (f x.local) → Promised m except (amid cpu s x) → Promised m except (amid cpu s (x ▷ does f))
+pub local_keeps : (m : Machine) (cpu : ℕ) (except : List ℕ) (s : Scene) (x : Work) (f : Local → Local) → cpu < m.cpus →
+    IsHarmless m cpu except x.local (f x.local) → Promised m except (amid cpu s x) → Promised m except (amid cpu s (x ▷ does f))
 local_keeps m cpu except s x f processor spared p = record {
-  threads = λ c lt. put_keeps (λ (l : Local). length l.threads ≡ length m.threads) cpu c x.local (f x.local) s.locals (λ h. spared.threads ∙ h) (p.threads c lt);
-  told_ones = λ c lt. put_keeps (λ (l : Local). length l.told ≡ length m.threads) cpu c x.local (f x.local) s.locals (λ h. spared.told_ones ∙ h) (p.told_ones c lt);
+  threads = λ c lt. put_keeps (λ (l : Local). length l.threads ≡ length m.threads) cpu c x.local (f x.local) s.locals (λ h. spared.threads ∙ h)
+      (p.threads c lt);
+  told_ones = λ c lt. put_keeps (λ (l : Local). length l.told ≡ length m.threads) cpu c x.local (f x.local) s.locals (λ h. spared.told_ones ∙ h)
+      (p.told_ones c lt);
   in_order = p.in_order;
   told = λ i lt c c_lt away below. by i lt c away (p.told i lt c c_lt away (subst (λ n. c < n) (told_same i) below));
   calm = λ i lt. at_home i (λ k. IsCalm k.thread) (λ here. spared.calm i (within i lt) here) (p.calm i lt);
   armed = λ i lt out. at_home i (IsArmedUnlessSplit m i) (λ here. (spared.steady i (within i lt) here out).armed) (p.armed i lt out);
-  answered = λ i lt out. at_home i (λ k. IsAnswered m i k (amid cpu s x).mail) (λ here. steady_answered m i (kept x.local i) (kept (f x.local) i) (amid cpu s x).mail (spared.steady i (within i lt) here out)) (p.answered i lt out);
+  answered = λ i lt out. at_home i (λ k. IsAnswered m i k (amid cpu s x).mail)
+      (λ here. steady_answered m i (kept x.local i) (kept (f x.local) i) (amid cpu s x).mail (spared.steady i (within i lt) here out)) (p.answered i lt out);
 }
   where
     after : Scene
@@ -63,14 +69,17 @@ local_keeps m cpu except s x f processor spared p = record {
     within : (i : ℕ) → i < length m.threads → i < length x.local.threads
     within i lt = let size = size_now m cpu except s x processor p in omega arith
 
-    at_home : (i : ℕ) (P : Kept → Type 0) → (home m i ≡ cpu → P (kept x.local i) → P (kept (f x.local) i)) → P (kept_at (amid cpu s x) (home m i) i) → P (kept_at after (home m i) i)
+    at_home : (i : ℕ) (P : Kept → Type 0) → (home m i ≡ cpu → P (kept x.local i) → P (kept (f x.local) i)) → P (kept_at (amid cpu s x) (home m i) i) →
+        P (kept_at after (home m i) i)
     at_home i P g h = same_or_apart (P (kept_at after (home m i) i)) (home m i) cpu
-        (λ here. subst P (sym (ap (λ l. kept l i) (put_home m cpu i s (f x.local) here))) (g here (subst P (ap (λ l. kept l i) (put_home m cpu i s x.local here)) h)))
+        (λ here. subst P (sym (ap (λ l. kept l i) (put_home m cpu i s (f x.local) here)))
+        (g here (subst P (ap (λ l. kept l i) (put_home m cpu i s x.local here)) h)))
         (λ away. subst P (sym (put_other cpu (home m i) i x.local (f x.local) s.locals (λ e. away (sym e)))) h)
 
     told_same : (i : ℕ) → (kept_at after (home m i) i).told ≡ (kept_at (amid cpu s x) (home m i) i).told
     told_same i = same_or_apart ((kept_at after (home m i) i).told ≡ (kept_at (amid cpu s x) (home m i) i).told) (home m i) cpu
-        (λ here. ap (λ l. (kept l i).told) (put_home m cpu i s (f x.local) here) ∙ spared.told i ∙ sym (ap (λ l. (kept l i).told) (put_home m cpu i s x.local here)))
+        (λ here. ap (λ l. (kept l i).told) (put_home m cpu i s (f x.local) here) ∙ spared.told i
+        ∙ sym (ap (λ l. (kept l i).told) (put_home m cpu i s x.local here)))
         (λ away. ap (λ (k : Kept). k.told) (put_other cpu (home m i) i x.local (f x.local) s.locals (λ e. away (sym e))))
 
     still : (i c : ℕ) → i < length m.threads → (c ≡ home m i → ⊥) → phases (amid cpu s x) i c ≡ Deleted → phases after i c ≡ Deleted
@@ -78,12 +87,14 @@ local_keeps m cpu except s x f processor spared p = record {
         (λ e. put_keeps (λ l. (thread l i).phase ≡ Deleted) cpu c x.local (f x.local) s.locals (spared.away i (within i lt) (λ here. away (e ∙ sym here))) h)
         (λ ne. ap (λ (k : Kept). k.thread.phase) (put_other cpu c i x.local (f x.local) s.locals (λ e. ne (sym e))) ∙ h)
 
-    by : (i : ℕ) → i < length m.threads → (c : ℕ) → (c ≡ home m i → ⊥) → (phases (amid cpu s x) i c ≡ Deleted) ⊎ AnyOf (IsGone (declared m i).id c) (amid cpu s x).mail → (phases after i c ≡ Deleted) ⊎ AnyOf (IsGone (declared m i).id c) (amid cpu s x).mail
+    by : (i : ℕ) → i < length m.threads → (c : ℕ) → (c ≡ home m i → ⊥) → (phases (amid cpu s x) i c ≡ Deleted)
+        ⊎ AnyOf (IsGone (declared m i).id c) (amid cpu s x).mail → (phases after i c ≡ Deleted) ⊎ AnyOf (IsGone (declared m i).id c) (amid cpu s x).mail
     by i lt c away (inl h) = inl (still i c lt away h)
     by i lt c away (inr h) = inr h
 
 -- Lists change that no deadline stands in.
-pub relists_keeps : (m : Machine) (cpu : ℕ) (except : List ℕ) (s : Scene) (x : Work) (g : plain.Plain → plain.Plain) → cpu < m.cpus → (g x.local.lists).armed ≡ x.local.lists.armed → Promised m except (amid cpu s x) → Promised m except (amid cpu s (x ▷ does (relists g)))
+pub relists_keeps : (m : Machine) (cpu : ℕ) (except : List ℕ) (s : Scene) (x : Work) (g : plain.Plain → plain.Plain) → cpu < m.cpus →
+    (g x.local.lists).armed ≡ x.local.lists.armed → Promised m except (amid cpu s x) → Promised m except (amid cpu s (x ▷ does (relists g)))
 relists_keeps m cpu except s x g processor same p = local_keeps m cpu except s x (relists g) processor (record {
   threads = refl;
   told_ones = refl;
@@ -103,7 +114,8 @@ relists_keeps m cpu except s x g processor same p = local_keeps m cpu except s x
 -- A thread changes.
 
 -- An entry elsewhere: its home says all that is promised of it.
-pub changes_away : (m : Machine) (cpu j : ℕ) (except : List ℕ) (s : Scene) (x : Work) (f : Thread → Thread) → cpu < m.cpus → (home m j ≡ cpu → ⊥) → ((thread x.local j).phase ≡ Deleted → (f (thread x.local j)).phase ≡ Deleted) →
+pub changes_away : (m : Machine) (cpu j : ℕ) (except : List ℕ) (s : Scene) (x : Work) (f : Thread → Thread) → cpu < m.cpus → (home m j ≡ cpu → ⊥) →
+    ((thread x.local j).phase ≡ Deleted → (f (thread x.local j)).phase ≡ Deleted) →
     Promised m except (amid cpu s x) → Promised m except (amid cpu s (x ▷ does (changes j f)))
 changes_away m cpu j except s x f processor other gone p = local_keeps m cpu except s x (changes j f) processor (record {
   threads = length-changed f x.local.threads j;
@@ -112,7 +124,8 @@ changes_away m cpu j except s x f processor other gone p = local_keeps m cpu exc
   calm = λ i lt here h. subst IsCalm (sym (ap (λ (k : Kept). k.thread) (changes_other x.local j i f (λ e. other (ap (home m) e ∙ here))))) h;
   steady = λ i lt here out. same_steady m i (kept x.local i) (kept (changes j f x.local) i) (changes_other x.local j i f (λ e. other (ap (home m) e ∙ here)));
   away = λ i lt away h. same_or_apart ((thread (changes j f x.local) i).phase ≡ Deleted) j i
-      (λ e. subst (λ i. i < length x.local.threads → (thread x.local i).phase ≡ Deleted → (thread (changes j f x.local) i).phase ≡ Deleted) e (λ lt h. ap (λ (k : Kept). k.thread.phase) (changes_here x.local j f lt) ∙ gone h) lt h)
+      (λ e. subst (λ i. i < length x.local.threads → (thread x.local i).phase ≡ Deleted → (thread (changes j f x.local) i).phase ≡ Deleted) e
+      (λ lt h. ap (λ (k : Kept). k.thread.phase) (changes_here x.local j f lt) ∙ gone h) lt h)
       (λ ne. ap (λ (k : Kept). k.thread.phase) (changes_other x.local j i f ne) ∙ h);
 }) p
 
@@ -131,37 +144,43 @@ come_armed m i f k other none = none_armed _ k.clock i none
 come_not_late : {P : Type 0} (i : ℕ) (f : Thread → Thread) (k : Kept) → IsLate (come i f k) → P
 come_not_late i f k late = absurd (late.1 (none_armed _ k.clock i late.0))
 
-pub come_answered : (m : Machine) (i : ℕ) (f : Thread → Thread) (k : Kept) (mail : List Posted) → (((f k.thread).send ≡ None) ⊎ (((f k.thread).cancel_send ≡ false) × ((f k.thread).phase ≡ Deleted → ⊥))) → IsAnswered m i (come i f k) mail
+pub come_answered : (m : Machine) (i : ℕ) (f : Thread → Thread) (k : Kept) (mail : List Posted) →
+    (((f k.thread).send ≡ None) ⊎ (((f k.thread).cancel_send ≡ false) × ((f k.thread).phase ≡ Deleted → ⊥))) → IsAnswered m i (come i f k) mail
 come_answered m i f k mail (inl none) send r has to away ending = let no_send = sym none ∙ has in cc
 come_answered m i f k mail (inr quiet) send r has to away (inl late) = come_not_late i f k late
 come_answered m i f k mail (inr quiet) send r has to away (inr (inl wish)) = let both = sym (quiet.0) ∙ wish in cc
 come_answered m i f k mail (inr quiet) send r has to away (inr (inr gone)) = absurd (quiet.1 gone)
 
 -- It is left out, and nothing is said of its send.
-pub comes_harmless : (m : Machine) (cpu j : ℕ) (except : List ℕ) (l : Local) (f : Thread → Thread) → home m j ≡ cpu → (IsCalm (thread l j) → IsCalm (f (thread l j))) → IsHarmless m cpu (j ∷ except) l (comes_to j f l)
+pub comes_harmless : (m : Machine) (cpu j : ℕ) (except : List ℕ) (l : Local) (f : Thread → Thread) → home m j ≡ cpu →
+    (IsCalm (thread l j) → IsCalm (f (thread l j))) → IsHarmless m cpu (j ∷ except) l (comes_to j f l)
 comes_harmless m cpu j except l f here calm = record {
   threads = length-changed f l.threads j;
   told_ones = refl;
   told = λ i. refl;
   calm = λ i lt home_i h. same_or_apart (IsCalm (thread (comes_to j f l) i)) j i
-      (λ e. subst (λ i. i < length l.threads → IsCalm (thread l i) → IsCalm (thread (comes_to j f l) i)) e (λ lt h. subst IsCalm (sym (ap (λ (k : Kept). k.thread) (comes_here l j f lt))) (calm h)) lt h)
+      (λ e. subst (λ i. i < length l.threads → IsCalm (thread l i) → IsCalm (thread (comes_to j f l) i)) e
+      (λ lt h. subst IsCalm (sym (ap (λ (k : Kept). k.thread) (comes_here l j f lt))) (calm h)) lt h)
       (λ ne. subst IsCalm (sym (ap (λ (k : Kept). k.thread) (comes_other l j i f ne))) h);
   steady = λ i lt home_i out. same_steady m i (kept l i) (kept (comes_to j f l) i) (comes_other l j i f (λ e. out.0 (sym e)));
   away = λ i lt away h. ap (λ (k : Kept). k.thread.phase) (comes_other l j i f (λ e. away (sym (ap (home m) e) ∙ here))) ∙ h;
 }
 
-pub comes_keeps : (m : Machine) (cpu j : ℕ) (except : List ℕ) (s : Scene) (x : Work) (f : Thread → Thread) → cpu < m.cpus → home m j ≡ cpu → StartsAfresh (thread x.local j) (f (thread x.local j)) →
+pub comes_keeps : (m : Machine) (cpu j : ℕ) (except : List ℕ) (s : Scene) (x : Work) (f : Thread → Thread) → cpu < m.cpus → home m j ≡ cpu →
+    StartsAfresh (thread x.local j) (f (thread x.local j)) →
     Promised m (j ∷ except) (amid cpu s x) → Promised m except (amid cpu s (x ▷ does (comes_to j f)))
 comes_keeps m cpu j except s x f processor here settles p =
     let size : length x.local.threads ≡ length m.threads = size_now m cpu (j ∷ except) s x processor p in
     let now = local_keeps m cpu (j ∷ except) s x (comes_to j f) processor (comes_harmless m cpu j except x.local f here settles.calm) p in
-    let is : j < length m.threads → kept_at (amid cpu s (x ▷ does (comes_to j f))) (home m j) j ≡ come j f (kept x.local j) = λ lt. ap (λ l. kept l j) (put_home m cpu j s (comes_to j f x.local) here) ∙ comes_here x.local j f (omega arith) in
+    let is : j < length m.threads → kept_at (amid cpu s (x ▷ does (comes_to j f))) (home m j) j ≡ come j f (kept x.local j) =
+        λ lt. ap (λ l. kept l j) (put_home m cpu j s (comes_to j f x.local) here) ∙ comes_here x.local j f (omega arith) in
     let calm : j < length m.threads → IsCalm (thread x.local j) = λ lt. subst IsCalm (ap (λ l. thread l j) (put_home m cpu j s x.local here)) (p.calm j lt) in
     takes_one m j except (amid cpu s (x ▷ does (comes_to j f))) now
     (λ lt. subst (IsArmedUnlessSplit m j) (sym (is lt)) (come_armed m j f (kept x.local j)))
     (λ lt. subst (λ k. IsAnswered m j k (amid cpu s x).mail) (sym (is lt)) (come_answered m j f (kept x.local j) (amid cpu s x).mail (settles.send (calm lt))))
 
 -- The same from a state in which nothing is amiss with it.
-pub comes_on : (m : Machine) (cpu j : ℕ) (s : Scene) (x : Work) (f : Thread → Thread) → cpu < m.cpus → home m j ≡ cpu → StartsAfresh (thread x.local j) (f (thread x.local j)) →
+pub comes_on : (m : Machine) (cpu j : ℕ) (s : Scene) (x : Work) (f : Thread → Thread) → cpu < m.cpus → home m j ≡ cpu →
+    StartsAfresh (thread x.local j) (f (thread x.local j)) →
     Promised m [] (amid cpu s x) → Promised m [] (amid cpu s (x ▷ does (comes_to j f)))
 comes_on m cpu j s x f processor here settles p = comes_keeps m cpu j [] s x f processor here settles (leaves_one m j [] (amid cpu s x) p)

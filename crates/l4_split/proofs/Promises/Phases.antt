@@ -89,11 +89,13 @@ ended_afresh Delivered now t = by t.send refl
   where
     by : (o : Option Send) → t.send ≡ o → StartsAfresh t (was_delivered o now t)
     by None is = record { calm = λ h. h; send = λ h. inl is }
-    by (Some send) is = undone_afresh t (delivered send now t) (cond_keeps IsUndone (is_alive t.phase) _ (decided t) (λ living. goes_on_undone send.receive now t) (λ dead. (refl, refl)))
+    by (Some send) is = undone_afresh t (delivered send now t)
+        (cond_keeps IsUndone (is_alive t.phase) _ (decided t) (λ living. goes_on_undone send.receive now t) (λ dead. (refl, refl)))
 ended_afresh (Refused TimedOut) now t = undone_afresh t (refused 2 t) (refused_undone 2 t)
 ended_afresh (Refused Nobody) now t = undone_afresh t (refused 4 t) (refused_undone 4 t)
 ended_afresh (Refused Cancelled) now t = undone_afresh t (refused 6 t) (refused_undone 6 t)
-ended_afresh (Refused Dropped) now t = undone_afresh t (was_dropped t) (cond_keeps IsUndone (is_alive t.phase) _ (decided t) (λ living. (refl, refl)) (λ dead. (refl, refl)))
+ended_afresh (Refused Dropped) now t =
+    undone_afresh t (was_dropped t) (cond_keeps IsUndone (is_alive t.phase) _ (decided t) (λ living. (refl, refl)) (λ dead. (refl, refl)))
 
 pub ended_none : (result : Result) (now : ℕ) (t : Thread) → (ended result now t).send ≡ None
 ended_none Delivered now t = by t.send refl

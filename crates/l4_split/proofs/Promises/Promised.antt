@@ -67,7 +67,8 @@ IsWished t = (t.cancel_send ≡ true) ⊎ (t.phase ≡ Deleted)
 
 -- The answer to a split send that is to end is under way.
 abbrev pub IsAnswered : Machine → ℕ → Kept → List Posted → Type 0
-IsAnswered m i k mail = (send : Send) (r : ℕ) → k.thread.send ≡ Some send → destination_place m send.to ≡ Some r → (home m r ≡ home m i → ⊥) → IsLate k ⊎ IsWished k.thread →
+IsAnswered m i k mail = (send : Send) (r : ℕ) → k.thread.send ≡ Some send → destination_place m send.to ≡ Some r → (home m r ≡ home m i → ⊥) → IsLate k
+    ⊎ IsWished k.thread →
     AnyOf (IsAnswer (name_of m i k.thread) (home m i) (home m r)) mail
 
 abbrev pub IsTold : Machine → ℕ → (told : ℕ) → (phases : ℕ → Phase) → List Posted → Type 0

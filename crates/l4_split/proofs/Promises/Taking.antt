@@ -35,8 +35,10 @@ order_skip : (xs ys zs : List Posted) (y : Posted) → InOrder ((xs ++ y ∷ ys)
 order_skip [] ys zs y h = h.1
 order_skip (x ∷ xs) ys zs y h = (all_skip (λ (q : Posted). MayFollow q.letter.content x.letter.content) xs ys zs y h.0, order_skip xs ys zs y h.1)
 
-pub taken_any : (P : Posted → Type 0) (from cpu : ℕ) (letter : Letter) (s : Scene) (x : Work) → IsFirstLetter from cpu letter s.mail → AnyOf P (amid cpu s x).mail → P (record { from = from; to = cpu; letter = letter }) ⊎ AnyOf P (amid cpu (without from cpu s) x).mail
-taken_any P from cpu letter s x f h = by (any_split P f.before f.after (map (posted cpu) x.letters) p (subst (λ ms. AnyOf P (ms ++ map (posted cpu) x.letters)) f.is h))
+pub taken_any : (P : Posted → Type 0) (from cpu : ℕ) (letter : Letter) (s : Scene) (x : Work) → IsFirstLetter from cpu letter s.mail →
+    AnyOf P (amid cpu s x).mail → P (record { from = from; to = cpu; letter = letter }) ⊎ AnyOf P (amid cpu (without from cpu s) x).mail
+taken_any P from cpu letter s x f h =
+    by (any_split P f.before f.after (map (posted cpu) x.letters) p (subst (λ ms. AnyOf P (ms ++ map (posted cpu) x.letters)) f.is h))
   where
     p : Posted
     p = record { from = from; to = cpu; letter = letter }
@@ -47,35 +49,44 @@ taken_any P from cpu letter s x f h = by (any_split P f.before f.after (map (pos
 
 -- What rested on the letter
 pub record IsSpent (m : Machine) (from cpu : ℕ) (letter : Letter) (s : Scene) (x : Work) : Type 0 where
-  pub gone : (i c : ℕ) → i < length m.threads → IsGone (declared m i).id c (record { from = from; to = cpu; letter = letter }) → phases (amid cpu s x) i c ≡ Deleted
-  pub answer : (i r : ℕ) (send : Send) → i < length m.threads → (kept_at (amid cpu s x) (home m i) i).thread.send ≡ Some send → destination_place m send.to ≡ Some r → (home m r ≡ home m i → ⊥) →
+  pub gone : (i c : ℕ) → i < length m.threads → IsGone (declared m i).id c (record { from = from; to = cpu; letter = letter }) →
+      phases (amid cpu s x) i c ≡ Deleted
+  pub answer : (i r : ℕ) (send : Send) → i < length m.threads → (kept_at (amid cpu s x) (home m i) i).thread.send ≡ Some send →
+      destination_place m send.to ≡ Some r → (home m r ≡ home m i → ⊥) →
       IsAnswer (name_of m i (kept_at (amid cpu s x) (home m i) i).thread) (home m i) (home m r) (record { from = from; to = cpu; letter = letter }) →
       AnyOf (IsAnswer (name_of m i (kept_at (amid cpu s x) (home m i) i).thread) (home m i) (home m r)) (amid cpu (without from cpu s) x).mail
 
-pub taken_keeps : (m : Machine) (from cpu : ℕ) (letter : Letter) (s : Scene) (x : Work) → IsFirstLetter from cpu letter s.mail → IsSpent m from cpu letter s x → StaysPromised m cpu s x → StaysPromised m cpu (without from cpu s) x
+pub taken_keeps : (m : Machine) (from cpu : ℕ) (letter : Letter) (s : Scene) (x : Work) → IsFirstLetter from cpu letter s.mail → IsSpent m from cpu letter s x →
+    StaysPromised m cpu s x → StaysPromised m cpu (without from cpu s) x
 taken_keeps m from cpu letter s x f spent p = record {
   threads = p.threads;
   told_ones = p.told_ones;
-  in_order = subst (λ ms. InOrder (ms ++ map (posted cpu) x.letters)) (sym f.left) (order_skip f.before f.after (map (posted cpu) x.letters) _ (subst (λ ms. InOrder (ms ++ map (posted cpu) x.letters)) f.is p.in_order));
+  in_order = subst (λ ms. InOrder (ms ++ map (posted cpu) x.letters)) (sym f.left)
+      (order_skip f.before f.after (map (posted cpu) x.letters) _ (subst (λ ms. InOrder (ms ++ map (posted cpu) x.letters)) f.is p.in_order));
   told = λ i lt c c_lt away below. told i lt c (p.told i lt c c_lt away below);
   calm = p.calm;
   armed = p.armed;
-  answered = λ i lt out send r has to away ending. answered i r send lt has to away (taken_any _ from cpu letter s x f (p.answered i lt out send r has to away ending));
+  answered = λ i lt out send r has to away ending.
+      answered i r send lt has to away (taken_any _ from cpu letter s x f (p.answered i lt out send r has to away ending));
 }
   where
     last : Posted
     last = record { from = from; to = cpu; letter = letter }
 
-    told : (i : ℕ) → i < length m.threads → (c : ℕ) → (phases (amid cpu s x) i c ≡ Deleted) ⊎ AnyOf (IsGone (declared m i).id c) (amid cpu s x).mail → (phases (amid cpu s x) i c ≡ Deleted) ⊎ AnyOf (IsGone (declared m i).id c) (amid cpu (without from cpu s) x).mail
+    told : (i : ℕ) → i < length m.threads → (c : ℕ) → (phases (amid cpu s x) i c ≡ Deleted) ⊎ AnyOf (IsGone (declared m i).id c) (amid cpu s x).mail →
+        (phases (amid cpu s x) i c ≡ Deleted) ⊎ AnyOf (IsGone (declared m i).id c) (amid cpu (without from cpu s) x).mail
     told i lt c (inl h) = inl h
     told i lt c (inr h) = by (taken_any (IsGone (declared m i).id c) from cpu letter s x f h)
       where
-        by : IsGone (declared m i).id c last ⊎ AnyOf (IsGone (declared m i).id c) (amid cpu (without from cpu s) x).mail → (phases (amid cpu s x) i c ≡ Deleted) ⊎ AnyOf (IsGone (declared m i).id c) (amid cpu (without from cpu s) x).mail
+        by : IsGone (declared m i).id c last ⊎ AnyOf (IsGone (declared m i).id c) (amid cpu (without from cpu s) x).mail → (phases (amid cpu s x) i c ≡ Deleted)
+            ⊎ AnyOf (IsGone (declared m i).id c) (amid cpu (without from cpu s) x).mail
         by (inl mine) = inl (spent.gone i c lt mine)
         by (inr other) = inr other
 
-    answered : (i r : ℕ) (send : Send) → i < length m.threads → (kept_at (amid cpu s x) (home m i) i).thread.send ≡ Some send → destination_place m send.to ≡ Some r → (home m r ≡ home m i → ⊥) →
-        IsAnswer (name_of m i (kept_at (amid cpu s x) (home m i) i).thread) (home m i) (home m r) last ⊎ AnyOf (IsAnswer (name_of m i (kept_at (amid cpu s x) (home m i) i).thread) (home m i) (home m r)) (amid cpu (without from cpu s) x).mail →
+    answered : (i r : ℕ) (send : Send) → i < length m.threads → (kept_at (amid cpu s x) (home m i) i).thread.send ≡ Some send →
+        destination_place m send.to ≡ Some r → (home m r ≡ home m i → ⊥) →
+        IsAnswer (name_of m i (kept_at (amid cpu s x) (home m i) i).thread) (home m i) (home m r) last
+            ⊎ AnyOf (IsAnswer (name_of m i (kept_at (amid cpu s x) (home m i) i).thread) (home m i) (home m r)) (amid cpu (without from cpu s) x).mail →
         AnyOf (IsAnswer (name_of m i (kept_at (amid cpu s x) (home m i) i).thread) (home m i) (home m r)) (amid cpu (without from cpu s) x).mail
     answered i r send lt has to away (inl mine) = spent.answer i r send lt has to away mine
     answered i r send lt has to away (inr other) = other
@@ -84,12 +95,15 @@ taken_keeps m from cpu letter s x f spent p = record {
 abbrev pub IsSilent : Content → Type 0
 IsSilent c = ((s : Name) (a b : ℕ) (p : Posted) → IsAnswerIn s a b p c → ⊥) × ((id : GlobalId) (to : ℕ) (p : Posted) → IsGoneIn id to p c → ⊥)
 
-pub silent_spent : (m : Machine) (from cpu : ℕ) (letter : Letter) (s : Scene) (x : Work) (c : Content) → letter.content ≡ c → IsSilent c → IsSpent m from cpu letter s x
+pub silent_spent : (m : Machine) (from cpu : ℕ) (letter : Letter) (s : Scene) (x : Work) (c : Content) → letter.content ≡ c → IsSilent c →
+    IsSpent m from cpu letter s x
 silent_spent m from cpu letter s x c content silent =
     let p : Posted = record { from = from; to = cpu; letter = letter } in
     record {
       gone = λ i to lt h. absurd (silent.1 (declared m i).id to p (subst (IsGoneIn (declared m i).id to p) content h));
-      answer = λ i r send lt has to away h. absurd (silent.0 (name_of m i (kept_at (amid cpu s x) (home m i) i).thread) (home m i) (home m r) p (subst (IsAnswerIn (name_of m i (kept_at (amid cpu s x) (home m i) i).thread) (home m i) (home m r) p) content h));
+      answer = λ i r send lt has to away h.
+          absurd (silent.0 (name_of m i (kept_at (amid cpu s x) (home m i) i).thread) (home m i) (home m r) p
+          (subst (IsAnswerIn (name_of m i (kept_at (amid cpu s x) (home m i) i).thread) (home m i) (home m r) p) content h));
     }
 
 pub same_place : (m : Machine) (i j : ℕ) (id : GlobalId) → place_of m id ≡ Some i → IsMachine m → j < length m.threads → (declared m j).id ≡ id → i ≡ j

@@ -50,19 +50,24 @@ told_now m cpu told to h c lt away = by (told == cpu) refl h
         bounded false h = cc
         bounded true h = which b is (some_is _ to h)
 
-pub tells_keeps : (m : Machine) (cpu to i : ℕ) (s : Scene) (x : Work) → cpu < m.cpus → home m i ≡ cpu → next_untold m cpu (slice_index_or x.local.told i 0) ≡ Some to → StaysPromised m cpu s x →
+pub tells_keeps : (m : Machine) (cpu to i : ℕ) (s : Scene) (x : Work) → cpu < m.cpus → home m i ≡ cpu →
+    next_untold m cpu (slice_index_or x.local.told i 0) ≡ Some to → StaysPromised m cpu s x →
     StaysPromised m cpu s (x ▷ does (has_told to i) ▷ posts to (GoneLetter (declared m i).id))
 tells_keeps m cpu to i s x processor here untold p = record {
   threads = λ c lt. put_keeps (λ (l : Local). length l.threads ≡ length m.threads) cpu c x.local (has_told to i x.local) s.locals (λ h. h) (p.threads c lt);
-  told_ones = λ c lt. put_keeps (λ (l : Local). length l.told ≡ length m.threads) cpu c x.local (has_told to i x.local) s.locals (λ h. length-changed (λ n. to + 1) x.local.told i ∙ h) (p.told_ones c lt);
-  in_order = subst InOrder (sym mail) (order_append (amid cpu s x).mail last (all_true (λ (q : Posted). MayFollow letter q.letter.content) (λ q. tt) (amid cpu s x).mail) p.in_order);
+  told_ones = λ c lt. put_keeps (λ (l : Local). length l.told ≡ length m.threads) cpu c x.local (has_told to i x.local) s.locals
+      (λ h. length-changed (λ n. to + 1) x.local.told i ∙ h) (p.told_ones c lt);
+  in_order = subst InOrder (sym mail)
+      (order_append (amid cpu s x).mail last (all_true (λ (q : Posted). MayFollow letter q.letter.content) (λ q. tt) (amid cpu s x).mail) p.in_order);
   told = λ j lt. same_or_apart (IsTold m j (kept_at after (home m j) j).told (phases after j) after.mail) i j
       (λ e. subst (λ j. j < length m.threads → IsTold m j (kept_at after (home m j) j).told (phases after j) after.mail) e told_here lt)
       (λ ne. told_other j lt ne);
   calm = λ j lt. put_keeps (λ l. IsCalm (thread l j)) cpu (home m j) x.local (has_told to i x.local) s.locals (λ h. h) (p.calm j lt);
   armed = λ j lt out. put_keeps (λ l. IsArmedUnlessSplit m j (kept l j)) cpu (home m j) x.local (has_told to i x.local) s.locals (λ h. h) (p.armed j lt out);
   answered = λ j lt out. put_keeps (λ l. IsAnswered m j (kept l j) after.mail) cpu (home m j) x.local (has_told to i x.local) s.locals (λ h. h)
-      (λ send r has away_to away ending. subst (AnyOf (IsAnswer (name_of m j (kept_at (amid cpu s x) (home m j) j).thread) (home m j) (home m r))) (sym mail) (any_append _ (amid cpu s x).mail last (p.answered j lt out send r has away_to away ending)));
+      (λ send r has away_to away ending.
+      subst (AnyOf (IsAnswer (name_of m j (kept_at (amid cpu s x) (home m j) j).thread) (home m j) (home m r))) (sym mail)
+      (any_append _ (amid cpu s x).mail last (p.answered j lt out send r has away_to away ending)));
 }
   where
     letter : Content
@@ -80,13 +85,15 @@ tells_keeps m cpu to i s x processor here untold p = record {
     mail : after.mail ≡ (amid cpu s x).mail ++ last ∷ []
     mail = mail_posted cpu to letter s y
 
-    later : (j c : ℕ) → (phases (amid cpu s x) j c ≡ Deleted) ⊎ AnyOf (IsGone (declared m j).id c) (amid cpu s x).mail → (phases after j c ≡ Deleted) ⊎ AnyOf (IsGone (declared m j).id c) after.mail
+    later : (j c : ℕ) → (phases (amid cpu s x) j c ≡ Deleted) ⊎ AnyOf (IsGone (declared m j).id c) (amid cpu s x).mail → (phases after j c ≡ Deleted)
+        ⊎ AnyOf (IsGone (declared m j).id c) after.mail
     later j c (inl h) = inl (put_keeps (λ l. (thread l j).phase ≡ Deleted) cpu c x.local (has_told to i x.local) s.locals (λ h. h) h)
     later j c (inr h) = inr (subst (AnyOf (IsGone (declared m j).id c)) (sym mail) (any_append _ (amid cpu s x).mail last h))
 
     told_other : (j : ℕ) → j < length m.threads → (i ≡ j → ⊥) → IsTold m j (kept_at after (home m j) j).told (phases after j) after.mail
     told_other j lt ne c c_lt away below =
-        let same = put_same (λ l. (kept l j).told) cpu (home m j) x.local (has_told to i x.local) s.locals (get_other_place (λ n. to + 1) x.local.told i j 0 ne) in
+        let same = put_same (λ l. (kept l j).told) cpu (home m j) x.local (has_told to i x.local) s.locals
+            (get_other_place (λ n. to + 1) x.local.told i j 0 ne) in
         later j c (p.told j lt c c_lt away (subst (λ n. c < n) same below))
 
     told_here : i < length m.threads → IsTold m i (kept_at after (home m i) i).told (phases after i) after.mail
@@ -103,4 +110,5 @@ tells_keeps m cpu to i s x processor here untold p = record {
 
         by : (c < slice_index_or x.local.told i 0) ⊎ (c ≡ to) → (phases after i c ≡ Deleted) ⊎ AnyOf (IsGone (declared m i).id c) after.mail
         by (inl old) = later i c (p.told i lt c c_lt away (subst (λ n. c < n) (sym before) old))
-        by (inr next) = inr (subst (AnyOf (IsGone (declared m i).id c)) (sym mail) (any_last (IsGone (declared m i).id c) (amid cpu s x).mail last (refl, sym next)))
+        by (inr next) = inr (subst (AnyOf (IsGone (declared m i).id c)) (sym mail)
+            (any_last (IsGone (declared m i).id c) (amid cpu s x).mail last (refl, sym next)))

@@ -40,10 +40,12 @@ ready_is world t ready a = by t.phase ready a
 pub receiving_is : (receive : Receive) (since : ℕ) (world t : Thread) → t.phase ≡ Receiving receive since → Agrees world t → IsEarlier receive since world t
 receiving_is receive since world t is a = subst (λ p. AgreesIn p world t) is a
 
-pub receives_agrees : (message : Message) (tag : ℕ) (receive : Receive) (since : ℕ) (world t : Thread) → t.phase ≡ Receiving receive since → Agrees world t → receives message tag world ≡ receives message tag t
+pub receives_agrees : (message : Message) (tag : ℕ) (receive : Receive) (since : ℕ) (world t : Thread) → t.phase ≡ Receiving receive since → Agrees world t →
+    receives message tag world ≡ receives message tag t
 receives_agrees message tag receive since world t is a = ap (receives message tag) (receiving_is receive since world t is a).same
 
-pub fails_agrees : (code : ℕ) (receive : Receive) (since : ℕ) (world t : Thread) → t.phase ≡ Receiving receive since → Agrees world t → fails code world ≡ fails code t
+pub fails_agrees : (code : ℕ) (receive : Receive) (since : ℕ) (world t : Thread) → t.phase ≡ Receiving receive since → Agrees world t →
+    fails code world ≡ fails code t
 fails_agrees code receive since world t is a = ap (fails code) (receiving_is receive since world t is a).same ∙ rw is refl
 
 -- A send is decided
@@ -59,7 +61,8 @@ ended_deleted (Refused Dropped) clock t send gone has = rw gone refl
 decided_left : (world t : Thread) → t.phase ≡ Deleted → IsLeft world t → IsLeft (decided world) (decided t)
 decided_left world t gone a = record { deleted = a.deleted; begun = a.begun; send = refl; order = a.order; cancel_send = refl }
 
-pub ended_agrees : (result : Result) (clock : ℕ) (world t : Thread) (send : Send) → t.send ≡ Some send → Suits t.phase (Some send) t.order → Agrees world t → Agrees (ended result clock world) (ended result clock t)
+pub ended_agrees : (result : Result) (clock : ℕ) (world t : Thread) (send : Send) → t.send ≡ Some send → Suits t.phase (Some send) t.order → Agrees world t →
+    Agrees (ended result clock world) (ended result clock t)
 ended_agrees result clock world t send has suits a = by t.phase refl suits a
   where
     by : (p : Phase) → t.phase ≡ p → Suits p (Some send) t.order → AgreesIn p world t → Agrees (ended result clock world) (ended result clock t)
@@ -77,11 +80,13 @@ ended_agrees result clock world t send has suits a = by t.phase refl suits a
 
 -- Home hears of it later
 
-goes_on_later : (receive : Option Receive) (now later : ℕ) (world t : Thread) → now ≤ later → Agrees world (goes_on receive now t) → Agrees world (goes_on receive later t)
+goes_on_later : (receive : Option Receive) (now later : ℕ) (world t : Thread) → now ≤ later → Agrees world (goes_on receive now t) →
+    Agrees world (goes_on receive later t)
 goes_on_later None now later world t le a = a
 goes_on_later (Some receive) now later world t le a = record { began = a.began; no_later = omega (arith, a.no_later); same = a.same }
 
-was_delivered_later : (o : Option Send) (now later : ℕ) (world t : Thread) → now ≤ later → Agrees world (was_delivered o now t) → Agrees world (was_delivered o later t)
+was_delivered_later : (o : Option Send) (now later : ℕ) (world t : Thread) → now ≤ later → Agrees world (was_delivered o now t) →
+    Agrees world (was_delivered o later t)
 was_delivered_later None now later world t le a = a
 was_delivered_later (Some send) now later world t le a = by (is_alive t.phase) a
   where

@@ -56,12 +56,14 @@ at_processor m P cpu here past = by (cases_lt cpu m.cpus)
 
 own_entry : (m : Machine) (i : ℕ) → i < length m.threads → filter (λ j. i == j) (own_places m (home m i)) ≡ i ∷ []
 own_entry m i lt =
-    filter_kept (λ j. i == j) (is_own m (home m i)) (λ j is. subst (λ k. is_own m (home m i) k ≡ true) (eqb-true i j is) (same_nat (home m i))) (range_with_len 0 (length m.threads))
+    filter_kept (λ j. i == j) (is_own m (home m i)) (λ j is. subst (λ k. is_own m (home m i) k ≡ true) (eqb-true i j is) (same_nat (home m i)))
+        (range_with_len 0 (length m.threads))
     ∙ filter_range 0 (length m.threads) i (omega arith) (omega arith)
 
 other_entry : (m : Machine) (cpu i : ℕ) → (cpu ≡ home m i → ⊥) → filter (λ j. i == j) (own_places m cpu) ≡ []
 other_entry m cpu i ne =
-    filter_out (λ j. i == j) (is_own m cpu) (λ j is. subst (λ k. is_own m cpu k ≡ false) (eqb-true i j is) (other_is (home m i) cpu (λ e. ne (sym e)))) (range_with_len 0 (length m.threads))
+    filter_out (λ j. i == j) (is_own m cpu) (λ j is. subst (λ k. is_own m cpu k ≡ false) (eqb-true i j is) (other_is (home m i) cpu (λ e. ne (sym e))))
+        (range_with_len 0 (length m.threads))
 
 pub home_kept : (m : Machine) (i : ℕ) → IsMachine m → i < length m.threads → kept ((scene (opening_system m)).locals (home m i)) i ≡ opened i (i ∷ [])
 home_kept m i is lt =
@@ -72,11 +74,15 @@ other_kept : (m : Machine) (cpu i : ℕ) → (cpu ≡ home m i → ⊥) → kept
 other_kept m cpu i ne = at_processor m (λ l. kept l i ≡ opened i []) cpu (λ lt. opening_kept m cpu i ∙ ap (opened i) (other_entry m cpu i ne)) refl
 
 -- Where nothing has happened, all is as it is to be.
-opening_matches : (m : Machine) (i : ℕ) (v : View) → v.world ≡ opening_thread → v.mail ≡ [] → v.kept (home m i) ≡ opened i (i ∷ []) → ((cpu : ℕ) → (cpu ≡ home m i → ⊥) → v.kept cpu ≡ opened i []) → Matches m i v
+opening_matches : (m : Machine) (i : ℕ) (v : View) → v.world ≡ opening_thread → v.mail ≡ [] → v.kept (home m i) ≡ opened i (i ∷ []) →
+    ((cpu : ℕ) → (cpu ≡ home m i → ⊥) → v.kept cpu ≡ opened i []) → Matches m i v
 opening_matches m i v world mail here other = record {
   known = record {
     agrees = rw (mail, here) world;
-    row = rw (mail, here) (record { order = ap (λ (k : Kept). k.thread.order) here; unplaced = record { listed = λ cpu r. listed cpu r; stand_in = λ cpu ne. ap (λ (k : Kept). k.thread.send) (other cpu ne) } });
+    row = rw (mail, here) (record {
+      order = ap (λ (k : Kept). k.thread.order) here;
+      unplaced = record { listed = λ cpu r. listed cpu r; stand_in = λ cpu ne. ap (λ (k : Kept). k.thread.send) (other cpu ne) };
+    });
     kept = record {
       at_home = rw here (record { good = record { suits = (refl, refl); sends = tt; receives = tt }; armed = inl refl });
       elsewhere = λ cpu ne. rw (other cpu ne, here) (record { ready = refl; armed = refl; gone = λ h. h });
@@ -87,7 +93,8 @@ opening_matches m i v world mail here other = record {
 }
   where
     listed : (cpu r : ℕ) → (v.kept cpu).listed r ≡ []
-    listed cpu r = same_or_apart ((v.kept cpu).listed r ≡ []) cpu (home m i) (λ e. ap (λ c. (v.kept c).listed r) e ∙ ap (λ (k : Kept). k.listed r) here) (λ ne. ap (λ (k : Kept). k.listed r) (other cpu ne))
+    listed cpu r = same_or_apart ((v.kept cpu).listed r ≡ []) cpu (home m i) (λ e. ap (λ c. (v.kept c).listed r) e ∙ ap (λ (k : Kept). k.listed r) here)
+        (λ ne. ap (λ (k : Kept). k.listed r) (other cpu ne))
 
 opening_sized : (m : Machine) (cpu : ℕ) → IsSized m (opening_local m cpu)
 opening_sized m cpu = record {
@@ -95,7 +102,8 @@ opening_sized m cpu = record {
   lists = length-map m.threads (λ d. []);
   told = length-map m.threads (λ d. 0);
   ready = all-filter (λ i. i < length m.threads) (is_own m cpu) (range_with_len 0 (length m.threads))
-      (all-map (λ i. i < 0 + length m.threads) (λ i. i < length m.threads) (λ i lt. omega arith) (range_with_len 0 (length m.threads)) (range_below 0 (length m.threads)));
+      (all-map (λ i. i < 0 + length m.threads) (λ i. i < length m.threads) (λ i lt. omega arith) (range_with_len 0 (length m.threads))
+      (range_below 0 (length m.threads)));
   armed = tt;
   listed = λ r. subst (AllByRecursion (λ (e : plain.Waiting). e.block < length m.threads)) (sym (get-same [] m.threads r)) tt;
 }
@@ -111,7 +119,8 @@ opening_relates m is = record {
   sized_world = record { threads = length-map m.threads (λ d. opening_thread); lists = length-map m.threads (λ d. []); clocks = length-replicate m.cpus 0 };
   clocks = λ cpu lt. get_or-replicate m.cpus cpu 0 0 lt ∙ at_processor m (λ l. 0 ≡ l.clock) cpu (λ here. refl) refl;
   lists = λ r lt. opening_list m r;
-  places = λ i lt except. opening_matches m i (view m (scene (opening_system m)) (opening m) i) (get-same opening_thread m.threads i) refl (home_kept m i is lt) (λ cpu ne. other_kept m cpu i ne);
+  places = λ i lt except. opening_matches m i (view m (scene (opening_system m)) (opening m) i) (get-same opening_thread m.threads i) refl (home_kept m i is lt)
+      (λ cpu ne. other_kept m cpu i ne);
 }
 
 -- What is promised holds at the opening.

@@ -15,7 +15,8 @@ use Rattle.l4_split.proofs.Relation.Views.{View, home, locators}
 -- It has neither; its send waits; it is under way; it is decided; its order is under way; it is done.
 pub where_then : {G : Type 0} (m : Machine) (i : ℕ) (v : View) → Known m i v →
     (locators v.mail ≡ [] → (v.kept (home m i)).thread.send ≡ None → IsPlain m i (seats m i v) → Agrees v.world (v.kept (home m i)).thread → G) →
-    ((send : Send) → locators v.mail ≡ [] → (v.kept (home m i)).thread.send ≡ Some send → IsWaiting m i send (seats m i v) → Agrees v.world (v.kept (home m i)).thread → G) →
+    ((send : Send) → locators v.mail ≡ [] → (v.kept (home m i)).thread.send ≡ Some send → IsWaiting m i send (seats m i v) →
+    Agrees v.world (v.kept (home m i)).thread → G) →
     ((p : Posted) → locators v.mail ≡ p ∷ [] → IsSent m i (seats m i v) p → Agrees v.world (v.kept (home m i)).thread → G) →
     ((p : Posted) (s : Name) (result : Result) → locators v.mail ≡ p ∷ [] → p.letter.content ≡ DoneLetter s result → IsDecided m i (seats m i v) p s →
     Agrees v.world (ended result (v.kept (home m i)).clock (v.kept (home m i)).thread) → G) →

@@ -44,7 +44,9 @@ tells_none true None h gone = refl
 tells_none true (Some to) h gone = cc
 tells_none false o h gone = cc
 
-closes_none : (m : Machine) (l : Local) (receive : Receive) (o : Option Receive) → (o >>= λ r. is_nobody r.from (held_by m l r.from) >> Some ClosesReceive) ≡ None → o ≡ Some receive → is_nobody receive.from (held_by m l receive.from) ≡ true → ⊥
+closes_none : (m : Machine) (l : Local) (receive : Receive) (o : Option Receive) →
+    (o >>= λ r. is_nobody r.from (held_by m l r.from) >> Some ClosesReceive) ≡ None → o ≡ Some receive →
+    is_nobody receive.from (held_by m l receive.from) ≡ true → ⊥
 closes_none m l receive None h receiving nobody = cc
 closes_none m l receive (Some other) h receiving nobody =
     let same : other ≡ receive = some_is other receive receiving in
@@ -54,24 +56,29 @@ closes_none m l receive (Some other) h receiving nobody =
 idle_from : (m : Machine) (cpu : ℕ) (l : Local) (i : ℕ) → duty_of m cpu l (held m l i) ≡ None → l.lists.ready ≡ [] → l.lists.armed ≡ [] → IsIdle m cpu l i
 idle_from m cpu l i h ready armed =
     let t : Found = held m l i in
-    let d = none_of (duty_drops_own l t ∷ duty_refuses_waiting l t ∷ duty_tells_gone m cpu l t ∷ duty_cancels_own l t ∷ duty_cancels_receive t ∷ duty_delivers_first l t ∷ duty_closes_receive m l t ∷ duty_refuses_zero m l t ∷ []) h in
+    let d = none_of (duty_drops_own l t ∷ duty_refuses_waiting l t ∷ duty_tells_gone m cpu l t ∷ duty_cancels_own l t ∷ duty_cancels_receive
+        t ∷ duty_delivers_first l t ∷ duty_closes_receive m l t ∷ duty_refuses_zero m l t ∷ []) h in
     record {
       no_drop = guarded (is_deleted (thread l i).phase) (plain.is_queued l.lists i) DropsOwn d.0;
       no_refusal = refuses_none (is_deleted (thread l i).phase) (plain.list_of l.lists i) d.1.0;
       all_told = tells_none (is_deleted (thread l i).phase) (next_untold m cpu (slice_index_or l.told i 0)) d.1.1.0;
       no_cancel = guarded (plain.is_queued l.lists i) (thread l i).cancel_send CancelsOwn d.1.1.1.0;
-      no_wish = λ receive receiving. guarded (is_some (receive_now (thread l i).phase)) (thread l i).cancel_receive CancelsReceive d.1.1.1.1.0 (ap (λ o. is_some o) receiving);
+      no_wish = λ receive receiving.
+          guarded (is_some (receive_now (thread l i).phase)) (thread l i).cancel_receive CancelsReceive d.1.1.1.1.0 (ap (λ o. is_some o) receiving);
       no_delivery = accepts_none (first_acceptable l i) d.1.1.1.1.1.0;
       no_close = λ receive receiving. closes_none m l receive (receive_now (thread l i).phase) d.1.1.1.1.1.1.0 receiving;
-      no_zero = found_none (λ (e : plain.Waiting). zero_refusable m t (thread l e.block).send) (λ (e : plain.Waiting). Some (RefusesZero e.block)) (λ e h. cc) (plain.list_of l.lists i) d.1.1.1.1.1.1.1.0;
+      no_zero = found_none (λ (e : plain.Waiting). zero_refusable m t (thread l e.block).send) (λ (e : plain.Waiting). Some (RefusesZero e.block)) (λ e h. cc)
+          (plain.list_of l.lists i) d.1.1.1.1.1.1.1.0;
       none_ready = ready;
       none_armed = armed;
     }
 
-idle_processor : (m : Machine) (cpu : ℕ) (l : Local) (i : ℕ) → home m i ≡ cpu → i < length m.threads → (not (is_busy m cpu l) && is_empty l.lists.armed) ≡ true → IsIdle m cpu l i
+idle_processor : (m : Machine) (cpu : ℕ) (l : Local) (i : ℕ) → home m i ≡ cpu → i < length m.threads →
+    (not (is_busy m cpu l) && is_empty l.lists.armed) ≡ true → IsIdle m cpu l i
 idle_processor m cpu l i here lt h =
     let t = both (not (is_busy m cpu l)) (is_empty l.lists.armed) h in
-    let none = none_of (first_duty m cpu l (own_places m cpu) ∷ option_map ByDue (plain.due_block l.clock l.lists.armed) ∷ option_map ByReady (slice_get l.lists.ready 0) ∷ []) (idle (choice m cpu l) t.0) in
+    let none = none_of (first_duty m cpu l (own_places m cpu) ∷ option_map ByDue (plain.due_block l.clock l.lists.armed) ∷ option_map ByReady
+        (slice_get l.lists.ready 0) ∷ []) (idle (choice m cpu l) t.0) in
     idle_from m cpu l i (has_no_duty m cpu l none.0 i (record { within = lt; home = here })) (no_first l.lists.ready none.1.1.0) (nothing l.lists.armed t.1)
   where
     idle : (o : Option Choice) → not (is_some o) ≡ true → o ≡ None
@@ -90,9 +97,11 @@ idle_processor m cpu l i here lt h =
 
 all_in_range : (p : ℕ → Bool) (a n i : ℕ) → list_all p (range_with_len a n) ≡ true → a ≤ i → i < a + n → p i ≡ true
 all_in_range p a zero i h le lt = absurd (omega arith)
-all_in_range p a (suc n) i h le lt = by (i == a) refl (both (p a) (list_all p (range_with_len (a + 1) n)) h) (λ t below. all_in_range p (a + 1) n i t below (omega arith))
+all_in_range p a (suc n) i h le lt =
+    by (i == a) refl (both (p a) (list_all p (range_with_len (a + 1) n)) h) (λ t below. all_in_range p (a + 1) n i t below (omega arith))
   where
-    by : (b : Bool) → (i == a) ≡ b → (p a ≡ true) × (list_all p (range_with_len (a + 1) n) ≡ true) → (list_all p (range_with_len (a + 1) n) ≡ true → a + 1 ≤ i → p i ≡ true) → p i ≡ true
+    by : (b : Bool) → (i == a) ≡ b → (p a ≡ true) × (list_all p (range_with_len (a + 1) n) ≡ true) →
+        (list_all p (range_with_len (a + 1) n) ≡ true → a + 1 ≤ i → p i ≡ true) → p i ≡ true
     by true is t rest = ap p (eqb-true i a is) ∙ t.0
     by false is t rest = let ne = apart i a is in rest t.1 (omega arith)
 
@@ -104,10 +113,14 @@ none_posted m g h = nothing g.mail (both (list_all (local_at_rest m g) (processo
     nothing (p ∷ ps) h = cc
 
 -- The processor of a thread has nothing to do.
-pub is_idle : (m : Machine) (g : System) (i : ℕ) → IsMachine m → i < length m.threads → length (slice_index_or g.locals (home m i) nowhere).threads ≡ length m.threads → at_rest m g ≡ true → IsIdle m (home m i) (slice_index_or g.locals (home m i) nowhere) i
+pub is_idle : (m : Machine) (g : System) (i : ℕ) → IsMachine m → i < length m.threads →
+    length (slice_index_or g.locals (home m i) nowhere).threads ≡ length m.threads → at_rest m g ≡ true →
+    IsIdle m (home m i) (slice_index_or g.locals (home m i) nowhere) i
 is_idle m g i machine lt size h =
     let homed = machine.homed i lt in
-    by (slice_get g.locals (home m i)) refl (all_in_range (local_at_rest m g) 0 m.cpus (home m i) (both (list_all (local_at_rest m g) (processors m)) (is_empty g.mail) h).0 (omega arith) (omega arith))
+    by (slice_get g.locals (home m i)) refl
+        (all_in_range (local_at_rest m g) 0 m.cpus (home m i) (both (list_all (local_at_rest m g) (processors m)) (is_empty g.mail) h).0 (omega arith)
+        (omega arith))
   where
     past : (ls : List Local) (cpu : ℕ) → slice_get ls cpu ≡ None → slice_index_or ls cpu nowhere ≡ nowhere
     past [] cpu h = refl
@@ -119,7 +132,8 @@ is_idle m g i machine lt size h =
     here (k ∷ ls) zero l h = some_is k l h
     here (k ∷ ls) (suc cpu) l h = here ls cpu l h
 
-    by : (o : Option Local) → slice_get g.locals (home m i) ≡ o → local_at_rest m g (home m i) ≡ true → IsIdle m (home m i) (slice_index_or g.locals (home m i) nowhere) i
+    by : (o : Option Local) → slice_get g.locals (home m i) ≡ o → local_at_rest m g (home m i) ≡ true →
+        IsIdle m (home m i) (slice_index_or g.locals (home m i) nowhere) i
     by None is t = let none : 0 ≡ length m.threads = sym (ap (λ (l : Local). length l.threads) (past g.locals (home m i) is)) ∙ size in absurd (omega arith)
     by (Some l) is t =
         let rests : (not (is_busy m (home m i) l) && is_empty l.lists.armed) ≡ true = rw is at t in

@@ -43,16 +43,19 @@ no_mail m s w i rest = ap (filter (is_about m i)) rest.quiet
 
 pub own_agrees : (m : Machine) (s : Scene) (w : World) (i : ℕ) → IsAtRest m s w → i < length m.threads → Agrees (world_thread w i) (own m s i)
 own_agrees m s w i rest lt =
-    subst (λ mail. Agrees (world_thread w i) (learned (locators mail) (s.locals (home m i)).clock (own m s i))) (no_mail m s w i rest) (rest.relates.places i lt tt).known.agrees
+    subst (λ mail. Agrees (world_thread w i) (learned (locators mail) (s.locals (home m i)).clock (own m s i))) (no_mail m s w i rest)
+        (rest.relates.places i lt tt).known.agrees
 
 pub own_shown : (m : Machine) (s : Scene) (w : World) (i : ℕ) → IsAtRest m s w → i < length m.threads → IsShown (world_thread w i) (own m s i)
 own_shown m s w i rest lt = is_shown (world_thread w i) (own m s i) (own_agrees m s w i rest lt)
 
 own_row : (m : Machine) (s : Scene) (w : World) (i : ℕ) → IsAtRest m s w → i < length m.threads → Row m i (seats m i (view m s w i)) [] (own m s i).send
-own_row m s w i rest lt = subst (λ mail. Row m i (seats m i (view m s w i)) (locators mail) (own m s i).send) (no_mail m s w i rest) (rest.relates.places i lt tt).known.row
+own_row m s w i rest lt =
+    subst (λ mail. Row m i (seats m i (view m s w i)) (locators mail) (own m s i).send) (no_mail m s w i rest) (rest.relates.places i lt tt).known.row
 
 -- An undecided send waits.
-pub own_waits : (m : Machine) (s : Scene) (w : World) (i : ℕ) (send : Send) → IsAtRest m s w → i < length m.threads → (own m s i).send ≡ Some send → IsWaiting m i send (seats m i (view m s w i))
+pub own_waits : (m : Machine) (s : Scene) (w : World) (i : ℕ) (send : Send) → IsAtRest m s w → i < length m.threads → (own m s i).send ≡ Some send →
+    IsWaiting m i send (seats m i (view m s w i))
 own_waits m s w i send rest lt has = subst (Row m i (seats m i (view m s w i)) []) has (own_row m s w i rest lt)
 
 -- No order is undone.
@@ -66,7 +69,8 @@ no_order m s w i rest lt = (own_shown m s w i rest lt).order ∙ by (own m s i).
 -- No thread is ready.
 pub unready : (m : Machine) (s : Scene) (w : World) (i : ℕ) → IsAtRest m s w → i < length m.threads → is_ready (world_thread w i).phase ≡ true → ⊥
 unready m s w i rest lt ready =
-    none (own m s i).phase (sym (rest.relates.places i lt tt).ready ∙ ap (filter (λ j. i == j)) (rest.idle i lt).none_ready) (sym (own_shown m s w i rest lt).ready ∙ ready)
+    none (own m s i).phase (sym (rest.relates.places i lt tt).ready ∙ ap (filter (λ j. i == j)) (rest.idle i lt).none_ready)
+        (sym (own_shown m s w i rest lt).ready ∙ ready)
   where
     none : (p : Phase) → readied p i [] ≡ [] → is_ready p ≡ true → ⊥
     none Ready h is = cc
@@ -81,11 +85,13 @@ unready m s w i rest lt ready =
 pub none_armed : (m : Machine) (s : Scene) (w : World) (i : ℕ) → IsAtRest m s w → i < length m.threads → (kept_at s (home m i) i).armed ≡ []
 none_armed m s w i rest lt = ap (filter (λ (e : ℕ × ℕ). i == e.1)) (rest.idle i lt).none_armed
 
-pub no_deadline : (m : Machine) (s : Scene) (w : World) (i : ℕ) → IsAtRest m s w → i < length m.threads → (IsSplitSend m i (own m s i).send → ⊥) → armed_period (own m s i).phase (own m s i).send ≡ None
+pub no_deadline : (m : Machine) (s : Scene) (w : World) (i : ℕ) → IsAtRest m s w → i < length m.threads → (IsSplitSend m i (own m s i).send → ⊥) →
+    armed_period (own m s i).phase (own m s i).send ≡ None
 no_deadline m s w i rest lt one = rest.promised.armed i lt tt one (none_armed m s w i rest lt)
 
 -- No split send is to end: its answer would be under way.
-pub none_ending : (m : Machine) (s : Scene) (w : World) (i r : ℕ) (send : Send) → IsAtRest m s w → i < length m.threads → (own m s i).send ≡ Some send → destination_place m send.to ≡ Some r → (home m r ≡ home m i → ⊥) →
+pub none_ending : (m : Machine) (s : Scene) (w : World) (i r : ℕ) (send : Send) → IsAtRest m s w → i < length m.threads → (own m s i).send ≡ Some send →
+    destination_place m send.to ≡ Some r → (home m r ≡ home m i → ⊥) →
     IsLate (kept_at s (home m i) i) ⊎ IsWished (own m s i) → ⊥
 none_ending m s w i r send rest lt has to away ending =
     subst (AnyOf (IsAnswer (name_of m i (own m s i)) (home m i) (home m r))) rest.quiet (rest.promised.answered i lt tt send r has to away ending)
@@ -106,7 +112,8 @@ told_all m cpu here told h lt ne = by (told == here) refl h
     by true is h = let same = eqb-true told here is in let last = past (told + 1) h in grind (arith, nat_tests)
     by false is h = let last = past told h in grind (arith, nat_tests)
 
-pub known_gone : (m : Machine) (s : Scene) (w : World) (j cpu : ℕ) → IsAtRest m s w → j < length m.threads → cpu < m.cpus → is_deleted (world_thread w j).phase ≡ true → is_deleted (thread (s.locals cpu) j).phase ≡ true
+pub known_gone : (m : Machine) (s : Scene) (w : World) (j cpu : ℕ) → IsAtRest m s w → j < length m.threads → cpu < m.cpus →
+    is_deleted (world_thread w j).phase ≡ true → is_deleted (thread (s.locals cpu) j).phase ≡ true
 known_gone m s w j cpu rest lt processor gone =
     let at_home : is_deleted (own m s j).phase ≡ true = sym (own_shown m s w j rest lt).deleted ∙ gone in
     same_or_apart (is_deleted (thread (s.locals cpu) j).phase ≡ true) cpu (home m j)

@@ -56,10 +56,13 @@ is_shown world t a = by t.phase refl a
     }
 
 -- Whether a send may be refused is no matter of clocks.
-clock_free : (m : Machine) (r clock other : ℕ) (send : Send) (t : Thread) → is_refusable m send (Some (seen m r clock t)) ≡ is_refusable m send (Some (seen m r other t))
+clock_free : (m : Machine) (r clock other : ℕ) (send : Send) (t : Thread) →
+    is_refusable m send (Some (seen m r clock t)) ≡ is_refusable m send (Some (seen m r other t))
 clock_free m r clock other send t = by t.phase refl
   where
-    call : (s : Send) (to : Id) → call_accepts m (seen m r clock t) (Some (record s { to = to })) send.message.shown ≡ call_accepts m (seen m r other t) (Some (record s { to = to })) send.message.shown
+    call : (s : Send) (to : Id) →
+        call_accepts m (seen m r clock t) (Some (record s { to = to })) send.message.shown ≡ call_accepts m (seen m r other t)
+        (Some (record s { to = to })) send.message.shown
     call s NilThread = refl
     call s AnyThread = refl
     call s AnyLocalThread = refl
@@ -79,7 +82,8 @@ clock_free m r clock other send t = by t.phase refl
     by Deleted is = rw is refl
 
 -- What the world may refuse, home may.
-pub refusable_at_home : (m : Machine) (r clock other : ℕ) (send : Send) (world t : Thread) → Agrees world t → is_refusable m send (Some (seen m r clock world)) ≡ true → is_refusable m send (Some (seen m r other t)) ≡ true
+pub refusable_at_home : (m : Machine) (r clock other : ℕ) (send : Send) (world t : Thread) → Agrees world t →
+    is_refusable m send (Some (seen m r clock world)) ≡ true → is_refusable m send (Some (seen m r other t)) ≡ true
 refusable_at_home m r clock other send world t a h = sym (clock_free m r clock other send t) ∙ by t.phase refl a
   where
     one : world ≡ t → is_refusable m send (Some (seen m r clock t)) ≡ true

@@ -61,25 +61,29 @@ pub record IsFound (m : Machine) (w : World) (clocks : List ℕ) (t : Found) : T
   pub within : at < length m.threads
   pub is : there m w clocks at ≡ t
 
-found_there : (m : Machine) (w : World) (clocks : List ℕ) (i : ℕ) → length w.threads ≡ length m.threads → i < length m.threads → found_at m (at_clocks w clocks) i ≡ Some (there m w clocks i)
+found_there : (m : Machine) (w : World) (clocks : List ℕ) (i : ℕ) → length w.threads ≡ length m.threads → i < length m.threads →
+    found_at m (at_clocks w clocks) i ≡ Some (there m w clocks i)
 found_there m w clocks i size lt =
     let in_world : i < length w.threads = omega (arith, size) in
     rw (slice_get-get_or m.threads i undeclared, slice_get-get_or w.threads i opening_thread) refl
 
-pub is_found : (m : Machine) (w : World) (clocks : List ℕ) (id : GlobalId) (t : Found) → IsSettled m w → found m (at_clocks w clocks) id ≡ Some t → IsFound m w clocks t
+pub is_found : (m : Machine) (w : World) (clocks : List ℕ) (id : GlobalId) (t : Found) → IsSettled m w → found m (at_clocks w clocks) id ≡ Some t →
+    IsFound m w clocks t
 is_found m w clocks id t settled h =
     bind_then (place_of m id) _ t h λ i at rest.
     let lt = place_within m id i at in
     record { at = i; within = lt; is = some_is (there m w clocks i) t (sym (found_there m w clocks i settled.size lt) ∙ rest) }
 
-pub found_to : (m : Machine) (w : World) (clocks : List ℕ) (to : Id) → length w.threads ≡ length m.threads → found_by m (at_clocks w clocks) to ≡ option_map (there m w clocks) (destination_place m to)
+pub found_to : (m : Machine) (w : World) (clocks : List ℕ) (to : Id) → length w.threads ≡ length m.threads →
+    found_by m (at_clocks w clocks) to ≡ option_map (there m w clocks) (destination_place m to)
 found_to m w clocks NilThread size = refl
 found_to m w clocks AnyThread size = refl
 found_to m w clocks AnyLocalThread size = refl
 found_to m w clocks (LocalThread word) size = refl
 found_to m w clocks (GlobalThread t) size = by (place_of m t) refl
   where
-    by : (o : Option ℕ) → place_of m t ≡ o → found_by m (at_clocks w clocks) (GlobalThread t) ≡ option_map (there m w clocks) (destination_place m (GlobalThread t))
+    by : (o : Option ℕ) → place_of m t ≡ o →
+        found_by m (at_clocks w clocks) (GlobalThread t) ≡ option_map (there m w clocks) (destination_place m (GlobalThread t))
     by None is = rw is refl
     by (Some i) is = let at = found_there m w clocks i size (place_within m t i is) in rw is at
 
@@ -89,7 +93,8 @@ pub record IsPending (m : Machine) (w : World) (clocks : List ℕ) (p : Pending)
   pub is : there m w clocks at ≡ p.sender
   pub settled : IsSettledSend m w at p.send
 
-pub is_pending : (m : Machine) (w : World) (clocks : List ℕ) (s : Name) (p : Pending) → IsSettled m w → undecided m (at_clocks w clocks) s ≡ Some p → IsPending m w clocks p
+pub is_pending : (m : Machine) (w : World) (clocks : List ℕ) (s : Name) (p : Pending) → IsSettled m w → undecided m (at_clocks w clocks) s ≡ Some p →
+    IsPending m w clocks p
 is_pending m w clocks s p settled h =
     bind_then (found m (at_clocks w clocks) s.thread) _ p h λ t at rest.
     guard_then (t.now.context.begun == s.k) _ p rest λ last rest.
@@ -105,7 +110,8 @@ is_pending m w clocks s p settled h =
 
 -- No step of a send is possible.
 
-to_is : (m : Machine) (w : World) (clocks : List ℕ) (p : Pending) → IsSettled m w → (it : IsPending m w clocks p) → receiver_of m (at_clocks w clocks) p ≡ Some (there m w clocks it.settled.receiver)
+to_is : (m : Machine) (w : World) (clocks : List ℕ) (p : Pending) → IsSettled m w → (it : IsPending m w clocks p) →
+    receiver_of m (at_clocks w clocks) p ≡ Some (there m w clocks it.settled.receiver)
 to_is m w clocks p settled it = found_to m w clocks p.send.to settled.size ∙ ap (option_map (there m w clocks)) it.settled.to
 
 pub no_queue : (m : Machine) (w : World) (clocks : List ℕ) (p : Pending) → IsPending m w clocks p → not (is_waiting (at_clocks w clocks) p) ≡ true → ⊥
@@ -113,70 +119,90 @@ no_queue m w clocks p it free =
     let waits : is_waiting (at_clocks w clocks) p ≡ true = sym (ap (λ (t : Found). is_queued w.waiting t.at) it.is) ∙ it.settled.waits in
     let not_free = ap not waits in cc
 
-pub no_timeout : (m : Machine) (w : World) (clocks : List ℕ) (p : Pending) → IsSettled m w → IsPending m w clocks p → is_timed_out m (at_clocks w clocks) p ≡ true → ⊥
+pub no_timeout : (m : Machine) (w : World) (clocks : List ℕ) (p : Pending) → IsSettled m w → IsPending m w clocks p →
+    is_timed_out m (at_clocks w clocks) p ≡ true → ⊥
 no_timeout m w clocks p settled it due =
-    let t = both (has_passed p.send.period p.send.since p.sender.clock) (cond (is_zero p.send.period) (is_refusable m p.send (receiver_of m (at_clocks w clocks) p)) (is_waiting (at_clocks w clocks) p)) due in
+    let t = both (has_passed p.send.period p.send.since p.sender.clock)
+        (cond (is_zero p.send.period) (is_refusable m p.send (receiver_of m (at_clocks w clocks) p)) (is_waiting (at_clocks w clocks) p)) due in
     by (is_zero p.send.period) refl t.1 t.0
   where
-    by : (b : Bool) → is_zero p.send.period ≡ b → cond b (is_refusable m p.send (receiver_of m (at_clocks w clocks) p)) (is_waiting (at_clocks w clocks) p) ≡ true → has_passed p.send.period p.send.since p.sender.clock ≡ true → ⊥
+    by : (b : Bool) → is_zero p.send.period ≡ b →
+        cond b (is_refusable m p.send (receiver_of m (at_clocks w clocks) p)) (is_waiting (at_clocks w clocks) p) ≡ true →
+        has_passed p.send.period p.send.since p.sender.clock ≡ true → ⊥
     by true at_once h passed = it.settled.stays clocks at_once (sym (ap (is_refusable m p.send) (to_is m w clocks p settled it)) ∙ h)
     by false not_zero h passed = passed_is_finite ⊥ p.send.period p.send.since p.sender.clock passed (λ n period. it.settled.endless n period not_zero)
 
-gone : (m : Machine) (w : World) (clocks : List ℕ) (to : Id) (r : ℕ) → destination_place m to ≡ Some r → is_no_destination to (Some (there m w clocks r)) ≡ true → is_deleted (world_thread w r).phase ≡ true
+gone : (m : Machine) (w : World) (clocks : List ℕ) (to : Id) (r : ℕ) → destination_place m to ≡ Some r →
+    is_no_destination to (Some (there m w clocks r)) ≡ true → is_deleted (world_thread w r).phase ≡ true
 gone m w clocks NilThread r to h = cc
 gone m w clocks AnyThread r to h = cc
 gone m w clocks AnyLocalThread r to h = cc
 gone m w clocks (LocalThread word) r to h = cc
 gone m w clocks (GlobalThread t) r to h = h
 
-pub no_nobody : (m : Machine) (w : World) (clocks : List ℕ) (p : Pending) → IsSettled m w → IsPending m w clocks p → is_no_destination p.send.to (receiver_of m (at_clocks w clocks) p) ≡ true → ⊥
+pub no_nobody : (m : Machine) (w : World) (clocks : List ℕ) (p : Pending) → IsSettled m w → IsPending m w clocks p →
+    is_no_destination p.send.to (receiver_of m (at_clocks w clocks) p) ≡ true → ⊥
 no_nobody m w clocks p settled it nobody =
-    it.settled.alive (gone m w clocks p.send.to it.settled.receiver it.settled.to (sym (ap (is_no_destination p.send.to) (to_is m w clocks p settled it)) ∙ nobody))
+    it.settled.alive (gone m w clocks p.send.to it.settled.receiver it.settled.to
+        (sym (ap (is_no_destination p.send.to) (to_is m w clocks p settled it)) ∙ nobody))
 
-pub no_delivery : (m : Machine) (w : World) (clocks : List ℕ) (p : Pending) (r : Found) (receive : Receive) (first : ℕ) → IsSettled m w → IsPending m w clocks p → receiver_of m (at_clocks w clocks) p ≡ Some r → receive_now r.now.phase ≡ Some receive → first_accepted m (at_clocks w clocks) r receive.from ≡ Some first → ⊥
+pub no_delivery : (m : Machine) (w : World) (clocks : List ℕ) (p : Pending) (r : Found) (receive : Receive) (first : ℕ) → IsSettled m w →
+    IsPending m w clocks p → receiver_of m (at_clocks w clocks) p ≡ Some r → receive_now r.now.phase ≡ Some receive →
+    first_accepted m (at_clocks w clocks) r receive.from ≡ Some first → ⊥
 no_delivery m w clocks p r receive first settled it to receiving accepted =
     let is = some_is (there m w clocks it.settled.receiver) r (sym (to_is m w clocks p settled it) ∙ to) in
     let lt = destination_within m p.send.to it.settled.receiver it.settled.to in
     let s = (settled.threads it.settled.receiver lt).receives receive (ap (λ (t : Found). receive_now t.now.phase) is ∙ receiving) in
     let none = s.none clocks in
-    let some : first_accepted m w (there m w clocks it.settled.receiver) receive.from ≡ Some first = ap (λ (t : Found). first_accepted m (at_clocks w clocks) t receive.from) is ∙ accepted in
+    let some : first_accepted m w (there m w clocks it.settled.receiver) receive.from ≡ Some first =
+        ap (λ (t : Found). first_accepted m (at_clocks w clocks) t receive.from) is ∙ accepted in
     cc (none, some)
 
 -- No step of a thread is possible.
 
-pub passed_finite : (m : Machine) (w : World) (t : Found) (receive : Receive) → receive_now t.now.phase ≡ Some receive → receive_passed t t.now.phase ≡ true → ((n : ℕ) → receive.period ≡ Some n → ⊥) → ⊥
+pub passed_finite : (m : Machine) (w : World) (t : Found) (receive : Receive) → receive_now t.now.phase ≡ Some receive → receive_passed t t.now.phase ≡ true →
+    ((n : ℕ) → receive.period ≡ Some n → ⊥) → ⊥
 passed_finite m w t receive receiving passed endless = by t.now.phase receiving passed
   where
     by : (p : Phase) → receive_now p ≡ Some receive → receive_passed t p ≡ true → ⊥
     by Ready r h = cc
     by Sending r h = cc
-    by (Receiving other since) r h = let same : other ≡ receive = some_is other receive r in passed_is_finite ⊥ other.period since t.clock h (λ n period. endless n (sym (ap (λ (r : Receive). r.period) same) ∙ period))
+    by (Receiving other since) r h = let same : other ≡ receive = some_is other receive r in
+        passed_is_finite ⊥ other.period since t.clock h (λ n period. endless n (sym (ap (λ (r : Receive). r.period) same) ∙ period))
     by Ordering r h = cc
     by Ended r h = cc
     by Deleted r h = cc
 
-pub no_ready : (m : Machine) (w : World) (clocks : List ℕ) (id : GlobalId) (t : Found) → IsSettled m w → found m (at_clocks w clocks) id ≡ Some t → is_ready t.now.phase ≡ true → ⊥
-no_ready m w clocks id t settled h ready = let f = is_found m w clocks id t settled h in (settled.threads f.at f.within).unready (ap (λ (t : Found). is_ready t.now.phase) f.is ∙ ready)
+pub no_ready : (m : Machine) (w : World) (clocks : List ℕ) (id : GlobalId) (t : Found) → IsSettled m w → found m (at_clocks w clocks) id ≡ Some t →
+    is_ready t.now.phase ≡ true → ⊥
+no_ready m w clocks id t settled h ready = let f = is_found m w clocks id t settled h in
+    (settled.threads f.at f.within).unready (ap (λ (t : Found). is_ready t.now.phase) f.is ∙ ready)
 
-pub receiving : (m : Machine) (w : World) (clocks : List ℕ) (id : GlobalId) (t : Found) (receive : Receive) → IsSettled m w → found m (at_clocks w clocks) id ≡ Some t → receive_now t.now.phase ≡ Some receive → (i : ℕ) × (there m w clocks i ≡ t) × IsSettledReceive m w i receive
-receiving m w clocks id t receive settled h is = let f = is_found m w clocks id t settled h in (f.at, f.is, (settled.threads f.at f.within).receives receive (ap (λ (t : Found). receive_now t.now.phase) f.is ∙ is))
+pub receiving : (m : Machine) (w : World) (clocks : List ℕ) (id : GlobalId) (t : Found) (receive : Receive) → IsSettled m w →
+    found m (at_clocks w clocks) id ≡ Some t → receive_now t.now.phase ≡ Some receive → (i : ℕ) × (there m w clocks i ≡ t) × IsSettledReceive m w i receive
+receiving m w clocks id t receive settled h is = let f = is_found m w clocks id t settled h in
+    (f.at, f.is, (settled.threads f.at f.within).receives receive (ap (λ (t : Found). receive_now t.now.phase) f.is ∙ is))
 
 -- Of a settled world no step but a tick is possible, nor after any ticks.
 
-nothing_next : (m : Machine) (w : World) (clocks : List ℕ) (step : Step) (v : World) → IsSettled m w → is_tick step ≡ false → next m (at_clocks w clocks) step ≡ Some v → ⊥
+nothing_next : (m : Machine) (w : World) (clocks : List ℕ) (step : Step) (v : World) → IsSettled m w → is_tick step ≡ false →
+    next m (at_clocks w clocks) step ≡ Some v → ⊥
 nothing_next m w clocks (RanLocal id) v s no_tick h = let t = local_taken m (at_clocks w clocks) v id h in no_ready m w clocks id t.t s t.found t.ready
 nothing_next m w clocks (Begin n) v s no_tick h = let t = begin_taken m (at_clocks w clocks) v n h in no_ready m w clocks n.thread t.t s t.found t.ready
-nothing_next m w clocks (Queue n) v s no_tick h = let t = queue_taken m (at_clocks w clocks) v n h in no_queue m w clocks t.p (is_pending m w clocks n t.p s t.is_undecided) t.in_no_list
+nothing_next m w clocks (Queue n) v s no_tick h = let t = queue_taken m (at_clocks w clocks) v n h in
+    no_queue m w clocks t.p (is_pending m w clocks n t.p s t.is_undecided) t.in_no_list
 nothing_next m w clocks (Deliver n receiver shown actual tag words) v s no_tick h =
     let t = deliver_taken m (at_clocks w clocks) v n receiver shown actual tag words h in
     no_delivery m w clocks t.p t.r t.receive t.first s (is_pending m w clocks n t.p s t.is_undecided) t.to t.receiving t.first_is
 nothing_next m w clocks (Wait id) v s no_tick h = let t = wait_taken m (at_clocks w clocks) v id h in no_ready m w clocks id t.t s t.found t.ready
-nothing_next m w clocks (SendTimeout n) v s no_tick h = let t = send_timeout_taken m (at_clocks w clocks) v n h in no_timeout m w clocks t.p s (is_pending m w clocks n t.p s t.is_undecided) t.due
+nothing_next m w clocks (SendTimeout n) v s no_tick h = let t = send_timeout_taken m (at_clocks w clocks) v n h in
+    no_timeout m w clocks t.p s (is_pending m w clocks n t.p s t.is_undecided) t.due
 nothing_next m w clocks (ReceiveTimeout id) v s no_tick h =
     let t = receive_timeout_taken m (at_clocks w clocks) v id h in
     let r = receiving m w clocks id t.t t.receive s t.found t.receiving in
     passed_finite m w t.t t.receive t.receiving t.due r.2.endless
-nothing_next m w clocks (SendNobody n) v s no_tick h = let t = send_nobody_taken m (at_clocks w clocks) v n h in no_nobody m w clocks t.p s (is_pending m w clocks n t.p s t.is_undecided) t.nobody
+nothing_next m w clocks (SendNobody n) v s no_tick h = let t = send_nobody_taken m (at_clocks w clocks) v n h in
+    no_nobody m w clocks t.p s (is_pending m w clocks n t.p s t.is_undecided) t.nobody
 nothing_next m w clocks (ReceiveNobody id) v s no_tick h =
     let t = receive_nobody_taken m (at_clocks w clocks) v id h in
     let r = receiving m w clocks id t.t t.receive s t.found t.receiving in
@@ -193,7 +219,8 @@ nothing_next m w clocks (Drop n) v s no_tick h =
     let t = drop_taken m (at_clocks w clocks) v n h in
     let p = is_pending m w clocks n t.p s t.is_undecided in
     p.settled.no_drop (ap (λ (t : Found). is_deleted t.now.phase) p.is ∙ t.gone)
-nothing_next m w clocks (Order caller target what) v s no_tick h = let t = order_taken m (at_clocks w clocks) v caller target what h in no_ready m w clocks caller t.t s t.found t.ready
+nothing_next m w clocks (Order caller target what) v s no_tick h = let t = order_taken m (at_clocks w clocks) v caller target what h in
+    no_ready m w clocks caller t.t s t.found t.ready
 nothing_next m w clocks (Obey caller) v s no_tick h =
     let t = obey_taken m (at_clocks w clocks) v caller h in
     let f = is_found m w clocks caller t.t s t.found in
@@ -203,7 +230,8 @@ nothing_next m w clocks (Obey caller) v s no_tick h =
 nothing_next m w clocks (Tick cpu to) v s no_tick h = cc
 
 -- After ticks only the clocks are others.
-ticked : (m : Machine) (w : World) (clocks : List ℕ) (ticks : List Step) (v : World) → AllByRecursion (λ tick. is_tick tick ≡ true) ticks → run m (at_clocks w clocks) ticks ≡ Some v → (now : List ℕ) × (at_clocks w now ≡ v)
+ticked : (m : Machine) (w : World) (clocks : List ℕ) (ticks : List Step) (v : World) → AllByRecursion (λ tick. is_tick tick ≡ true) ticks →
+    run m (at_clocks w clocks) ticks ≡ Some v → (now : List ℕ) × (at_clocks w now ≡ v)
 ticked m w clocks [] v are h = (clocks, some_is (at_clocks w clocks) v h)
 ticked m w clocks (step ∷ ticks) v are h =
     bind_then (next m (at_clocks w clocks) step) _ v h λ u is rest.

@@ -34,7 +34,8 @@ use Rattle.l4_split.proofs.Sends.Delivering.{arrives_goes}
 abbrev begun : Machine → ℕ → Send → Work → Work
 begun m i send x = x ▷ does (comes_to i (begins send)) ▷ tells (Begin (last_name m (comes_to i (begins send) x.local) i))
 
-begin_goes : (m : Machine) (cpu i : ℕ) (s : Scene) (w : World) (x : Work) (send : Send) → cpu < m.cpus → (e : Goes m cpu s w (i ∷ []) x) → IsPicked m cpu i s x e.now → send_of (act_of m (held m x.local i)) ≡ Some send → send.since ≡ x.local.clock →
+begin_goes : (m : Machine) (cpu i : ℕ) (s : Scene) (w : World) (x : Work) (send : Send) → cpu < m.cpus → (e : Goes m cpu s w (i ∷ []) x) →
+    IsPicked m cpu i s x e.now → send_of (act_of m (held m x.local i)) ≡ Some send → send.since ≡ x.local.clock →
     IsInHand m cpu i s w (begun m i send x) send
 begin_goes m cpu i s w x send processor e r sends since =
     let now = e.now in
@@ -77,17 +78,20 @@ begin_goes m cpu i s w x send processor e r sends since =
           has = ap (λ (k : Kept). k.thread.send) c.here;
           order = ap (λ (k : Kept). k.thread.order) c.here ∙ running.order;
           quiet = running.free.quiet;
-          agrees = subst (λ (a : Kept). Agrees after.world a.thread) (sym c.here) (same_agrees after.world (f (thread x.local i)) (c.world ∙ ap f running.same));
+          agrees = subst (λ (a : Kept). Agrees after.world a.thread) (sym c.here)
+              (same_agrees after.world (f (thread x.local i)) (c.world ∙ ap f running.same));
           elsewhere = λ p q ne. ap (λ (k : Kept). k.listed q) (c.elsewhere p (λ h. ne (sym (h ∙ r.here.home)))) ∙ running.free.unplaced.listed p q;
           foreign = λ away. absurd (away r.here.home);
           no_other = λ p away ne. ap (λ (k : Kept). k.thread.send) (c.elsewhere p away) ∙ running.free.unplaced.stand_in p away;
         };
       };
-      free = λ q. sym (ap (λ (k : Kept). k.listed q) (home_is m cpu i s y u r.here.home)) ∙ ap (λ (k : Kept). k.listed q) c.here ∙ sym (ap (λ (k : Kept). k.listed q) was) ∙ running.free.unplaced.listed (home m i) q;
+      free = λ q. sym (ap (λ (k : Kept). k.listed q) (home_is m cpu i s y u r.here.home)) ∙ ap (λ (k : Kept). k.listed q) c.here
+          ∙ sym (ap (λ (k : Kept). k.listed q) was) ∙ running.free.unplaced.listed (home m i) q;
     }
 
 -- It goes to another processor.
-posted_goes : (m : Machine) (cpu i r : ℕ) (s : Scene) (w : World) (x : Work) (send : Send) → IsInHand m cpu i s w x send → home m i ≡ cpu → destination_place m send.to ≡ Some r → (home m r ≡ cpu → ⊥) → Goes m cpu s w [] (posts_send m r i send x)
+posted_goes : (m : Machine) (cpu i r : ℕ) (s : Scene) (w : World) (x : Work) (send : Send) → IsInHand m cpu i s w x send → home m i ≡ cpu →
+    destination_place m send.to ≡ Some r → (home m r ≡ cpu → ⊥) → Goes m cpu s w [] (posts_send m r i send x)
 posted_goes m cpu i r s w x send h here to away =
     let e = h.has.goes in
     let at = h.has.at in
@@ -97,8 +101,10 @@ posted_goes m cpu i r s w x send h here to away =
     let after : View = view m (amid cpu s a) e.now i in
     let p : Posted = posted cpu (home m r, record { stamp = x.local.stamp; content = SendLetter name (declared m r).id send.message (is_zero send.period) }) in
     let placed = h.has.machine.placed i h.has.within in
-    let mail : after.mail ≡ v.mail ++ p ∷ [] = mail_here m cpu (home m r) i (SendLetter name (declared m r).id send.message (is_zero send.period)) s e.now x placed in
-    let word : locators after.mail ≡ p ∷ [] = ap locators mail ∙ filter_last (λ (q : Posted). is_locator q.letter.content) v.mail p refl ∙ ap (λ ps. ps ++ p ∷ []) at.quiet in
+    let mail : after.mail ≡ v.mail ++ p ∷ [] =
+        mail_here m cpu (home m r) i (SendLetter name (declared m r).id send.message (is_zero send.period)) s e.now x placed in
+    let word : locators after.mail ≡ p ∷ [] =
+        ap locators mail ∙ filter_last (λ (q : Posted). is_locator q.letter.content) v.mail p refl ∙ ap (λ ps. ps ++ p ∷ []) at.quiet in
     let others : notices after.mail ≡ notices v.mail = ap notices mail ∙ filter_last_other (λ (q : Posted). not (is_locator q.letter.content)) v.mail p refl in
     let was = home_is m cpu i s x e.now here in
     let moves : Moves m i v after = record {
@@ -107,10 +113,12 @@ posted_goes m cpu i r s w x send h here to away =
       stays_true = record { deleted = λ gone. gone; begun = omega arith; causes = λ cause same old. old };
     } in
     let keeps = moves_kept m i v after at.kept moves at.kept.at_home in
-    let suits : Suits (at_home m i v).thread.phase (Some send) (at_home m i v).thread.order = subst (λ o. Suits (at_home m i v).thread.phase o (at_home m i v).thread.order) at.has at.kept.at_home.good.suits in
+    let suits : Suits (at_home m i v).thread.phase (Some send) (at_home m i v).thread.order =
+        subst (λ o. Suits (at_home m i v).thread.phase o (at_home m i v).thread.order) at.has at.kept.at_home.good.suits in
     let row : IsSent m i (seats m i after) p = record {
       goes = record { send = send; has = at.has; order = at.order; r = r; to = to; split = λ same. away (same ∙ here) };
-      letter = ap (λ k. SendLetter (record { thread = (declared m i).id; k = k }) (declared m r).id send.message (is_zero send.period)) (sym (ap (λ (k : Kept). k.thread.context.begun) was));
+      letter = ap (λ k. SendLetter (record { thread = (declared m i).id; k = k }) (declared m r).id send.message (is_zero send.period))
+          (sym (ap (λ (k : Kept). k.thread.context.begun) was));
       from = sym here;
       to = refl;
       unplaced = record { listed = λ c q. none_listed m cpu i s w x send h c q; stand_in = λ c ne. at.no_other c ne (λ same. ne (sym (here ∙ same))) };
@@ -118,12 +126,18 @@ posted_goes m cpu i r s w x send h here to away =
     record {
       now = e.now;
       reaches = e.reaches;
-      relates = takes_in m i [] (amid cpu s a) e.now (letter_posted m cpu (home m r) i (SendLetter name (declared m r).id send.message (is_zero send.period)) (i ∷ []) s e.now x placed (first_about i []) e.relates)
-          (record { known = located_known m i after p keeps word row at.agrees; ready = at.out ∙ sym (sender_unready i (at_home m i v).thread.phase send (at_home m i v).thread.order suits) });
+      relates = takes_in m i [] (amid cpu s a) e.now
+          (letter_posted m cpu (home m r) i (SendLetter name (declared m r).id send.message (is_zero send.period)) (i ∷ []) s e.now x placed
+          (first_about i []) e.relates)
+          (record {
+            known = located_known m i after p keeps word row at.agrees;
+            ready = at.out ∙ sym (sender_unready i (at_home m i v).thread.phase send (at_home m i v).thread.order suits);
+          });
     }
 
 -- An instruction that sends
-pub begins_send_goes : (m : Machine) (cpu i : ℕ) (s : Scene) (w : World) (x : Work) (send : Send) → cpu < m.cpus → (e : Goes m cpu s w (i ∷ []) x) → IsPicked m cpu i s x e.now → send_of (act_of m (held m x.local i)) ≡ Some send → send.since ≡ x.local.clock → (send.to ≡ NilThread → ⊥) →
+pub begins_send_goes : (m : Machine) (cpu i : ℕ) (s : Scene) (w : World) (x : Work) (send : Send) → cpu < m.cpus → (e : Goes m cpu s w (i ∷ []) x) →
+    IsPicked m cpu i s x e.now → send_of (act_of m (held m x.local i)) ≡ Some send → send.since ≡ x.local.clock → (send.to ≡ NilThread → ⊥) →
     Goes m cpu s w [] (begins_send m cpu i send x)
 begins_send_goes m cpu i s w x send processor e r sends since not_nil = by (destination_place m send.to) refl
   where
@@ -134,6 +148,7 @@ begins_send_goes m cpu i s w x send processor e r sends since not_nil = by (dest
     by None to = nowhere_goes m cpu i s w (begun m i send x) send hand.has to not_nil
     by (Some q) to = split (is_own m cpu q) refl
       where
-        split : (b : Bool) → (home m q == cpu) ≡ b → Goes m cpu s w [] (cond b (arrives m cpu q i (begun m i send x)) (posts_send m q i send (begun m i send x)))
+        split : (b : Bool) → (home m q == cpu) ≡ b →
+            Goes m cpu s w [] (cond b (arrives m cpu q i (begun m i send x)) (posts_send m q i send (begun m i send x)))
         split true own = arrives_goes m cpu i q s w (begun m i send x) send hand (eqb-true (home m q) cpu own) (destination_within m send.to q to) to
         split false other = posted_goes m cpu i q s w (begun m i send x) send hand r.here.home to (apart (home m q) cpu other)

@@ -45,8 +45,10 @@ taken_kept m i before v p t =
 pub taken_row : (m : Machine) (i : ℕ) (before v : View) (p : Posted) → IsTakenOut m i before v p → RowOf m i (seats m i before) p p.letter.content
 taken_row m i before v p t = subst (λ ps. Row m i (seats m i before) ps (at_home m i before).thread.send) t.was t.stands.known.row
 
-pub taken_agrees : (m : Machine) (i : ℕ) (before v : View) (p : Posted) → IsTakenOut m i before v p → Agrees before.world (learned (p ∷ []) (at_home m i before).clock (at_home m i before).thread)
-taken_agrees m i before v p t = subst (λ ps. Agrees before.world (learned ps (at_home m i before).clock (at_home m i before).thread)) t.was t.stands.known.agrees
+pub taken_agrees : (m : Machine) (i : ℕ) (before v : View) (p : Posted) → IsTakenOut m i before v p →
+    Agrees before.world (learned (p ∷ []) (at_home m i before).clock (at_home m i before).thread)
+taken_agrees m i before v p t =
+    subst (λ ps. Agrees before.world (learned ps (at_home m i before).clock (at_home m i before).thread)) t.was t.stands.known.agrees
 
 -- A decision comes home
 
@@ -55,7 +57,8 @@ unchanged [] i = refl
 unchanged (t ∷ ts) zero = refl
 unchanged (t ∷ ts) (suc i) = ap (λ us. t ∷ us) (unchanged ts i)
 
-pub done_relates : (m : Machine) (cpu i : ℕ) (s : Scene) (w : World) (x : Work) (before : View) (p : Posted) (name : Name) (result : Result) → IsHere m cpu i → p.letter.content ≡ DoneLetter name result → IsTakenOut m i before (view m (amid cpu s x) w i) p →
+pub done_relates : (m : Machine) (cpu i : ℕ) (s : Scene) (w : World) (x : Work) (before : View) (p : Posted) (name : Name) (result : Result) → IsHere m cpu i →
+    p.letter.content ≡ DoneLetter name result → IsTakenOut m i before (view m (amid cpu s x) w i) p →
     RelatesExcept m (Matches m) (i ∷ []) (amid cpu s x) w → RelatesExcept m (Matches m) [] (amid cpu s (x ▷ does (comes_to i (ended result x.local.clock)))) w
 done_relates m cpu i s w x before p name result here content t rel =
     let v : View = view m (amid cpu s x) w i in
@@ -65,7 +68,8 @@ done_relates m cpu i s w x before p name result here content t rel =
     let has : (thread x.local i).send ≡ Some row.goes.send = sym (ap (λ (k : Kept). k.thread.send) was) ∙ row.goes.has in
     let order : (thread x.local i).order ≡ None = sym (ap (λ (k : Kept). k.thread.order) was) ∙ row.goes.order in
     let good : IsGood x.local.clock (thread x.local i) = subst (λ (k : Kept). IsGood k.clock k.thread) was t.stands.known.kept.at_home.good in
-    let suits : Suits (thread x.local i).phase (Some row.goes.send) (thread x.local i).order = subst (λ o. Suits (thread x.local i).phase o (thread x.local i).order) has good.suits in
+    let suits : Suits (thread x.local i).phase (Some row.goes.send) (thread x.local i).order =
+        subst (λ o. Suits (thread x.local i).phase o (thread x.local i).order) has good.suits in
     let none = ended_none result x.local.clock (thread x.local i) row.goes.send has order in
     let agrees : Agrees before.world (f (thread x.local i)) = subst (λ (k : Kept). Agrees before.world (ended result k.clock k.thread)) was
     (subst (λ c. Agrees before.world (learns c (at_home m i before).clock (at_home m i before).thread)) content (taken_agrees m i before v p t)) in
@@ -73,8 +77,12 @@ done_relates m cpu i s w x before p name result here content t rel =
     let q : IsQuiet m i v (kept x.local i) f (λ t. t) = record {
       kept = taken_kept m i before v p t;
       quiet = t.quiet;
-      unplaced = record { listed = λ c q. ap (λ (f : ℕ → Kept). (f c).listed q) t.kept ∙ row.unplaced.listed c q; stand_in = λ c ne. ap (λ (f : ℕ → Kept). (f c).thread.send) t.kept ∙ row.unplaced.stand_in c ne };
-      out = sym (ap (λ (k : Kept). k.ready) was) ∙ t.stands.ready ∙ ap (λ (k : Kept). readied k.thread.phase i []) was ∙ sender_unready i (thread x.local i).phase row.goes.send (thread x.local i).order suits;
+      unplaced = record {
+        listed = λ c q. ap (λ (f : ℕ → Kept). (f c).listed q) t.kept ∙ row.unplaced.listed c q;
+        stand_in = λ c ne. ap (λ (f : ℕ → Kept). (f c).thread.send) t.kept ∙ row.unplaced.stand_in c ne;
+      };
+      out = sym (ap (λ (k : Kept). k.ready) was) ∙ t.stands.ready ∙ ap (λ (k : Kept). readied k.thread.phase i []) was
+          ∙ sender_unready i (thread x.local i).phase row.goes.send (thread x.local i).order suits;
       send = none.0;
       order = none.1;
       agrees = subst (λ u. Agrees u (f (thread x.local i))) (sym t.world) agrees;
@@ -88,18 +96,22 @@ done_relates m cpu i s w x before p name result here content t rel =
 -- A send comes to its receiver
 
 -- What a letter of a send says
-pub record IsLetterOf (m : Machine) (i r : ℕ) (t : Thread) (send : Send) (name : Name) (receiver : GlobalId) (message : Message) (zero_timeout : Bool) : Type 0 where
+pub record IsLetterOf (m : Machine) (i r : ℕ) (t : Thread) (send : Send) (name : Name) (receiver : GlobalId) (message : Message)
+    (zero_timeout : Bool) : Type 0 where
   pub number : name.k ≡ t.context.begun
   pub receiver_is : receiver ≡ (declared m r).id
   pub message_is : message ≡ send.message
   pub zero_is : zero_timeout ≡ is_zero send.period
 
-letter_of : (m : Machine) (i r : ℕ) (t : Thread) (send : Send) (name : Name) (receiver : GlobalId) (message : Message) (zero_timeout : Bool) → SendLetter name receiver message zero_timeout ≡ SendLetter (name_of m i t) (declared m r).id send.message (is_zero send.period) → IsLetterOf m i r t send name receiver message zero_timeout
+letter_of : (m : Machine) (i r : ℕ) (t : Thread) (send : Send) (name : Name) (receiver : GlobalId) (message : Message) (zero_timeout : Bool) →
+    SendLetter name receiver message zero_timeout ≡ SendLetter (name_of m i t) (declared m r).id send.message (is_zero send.period) →
+    IsLetterOf m i r t send name receiver message zero_timeout
 letter_of m i r t send name receiver message zero_timeout h =
     let name_is : name ≡ name_of m i t = cc in
     record { number = ap (λ (s : Name). s.k) name_is; receiver_is = cc; message_is = cc; zero_is = cc }
 
-pub send_goes : (m : Machine) (cpu i r : ℕ) (s : Scene) (w : World) (x : Work) (before : View) (p : Posted) (name : Name) (receiver : GlobalId) (message : Message) (zero_timeout : Bool) → IsAway m cpu i → p.to ≡ cpu → p.letter.content ≡ SendLetter name receiver message zero_timeout →
+pub send_goes : (m : Machine) (cpu i r : ℕ) (s : Scene) (w : World) (x : Work) (before : View) (p : Posted) (name : Name) (receiver : GlobalId)
+    (message : Message) (zero_timeout : Bool) → IsAway m cpu i → p.to ≡ cpu → p.letter.content ≡ SendLetter name receiver message zero_timeout →
     (e : Goes m cpu s w (i ∷ []) x) → IsTakenOut m i before (view m (amid cpu s x) e.now i) p → place_of m receiver ≡ Some r → r < length m.threads →
     Goes m cpu s w [] (x ▷ does (changes i (stands_in name.k (stand_in receiver message zero_timeout))) ▷ arrives m cpu r i)
 send_goes m cpu i r s w x before p name receiver message zero_timeout here to content e t placed lt =
@@ -108,7 +120,9 @@ send_goes m cpu i r s w x before p name receiver message zero_timeout here to co
     let row : IsSent m i (seats m i before) p = subst (RowOf m i (seats m i before) p) content (taken_row m i before v p t) in
     let send : Send = row.goes.send in
     let says = letter_of m i row.goes.r (at_home m i before).thread send name receiver message zero_timeout (sym content ∙ row.letter) in
-    let which : row.goes.r ≡ r = some_is row.goes.r r (sym (here.machine.placed row.goes.r (destination_within m send.to row.goes.r row.goes.to)) ∙ sym (ap (place_of m) says.receiver_is) ∙ placed) in
+    let which : row.goes.r ≡ r =
+        some_is row.goes.r r (sym (here.machine.placed row.goes.r (destination_within m send.to row.goes.r row.goes.to))
+        ∙ sym (ap (place_of m) says.receiver_is) ∙ placed) in
     let at_r : home m r ≡ cpu = sym (ap (home m) which) ∙ sym row.to ∙ to in
     let is_receiver = says.receiver_is ∙ ap (λ q. (declared m q).id) which in
     let f : Thread → Thread = stands_in name.k (stand_in receiver message zero_timeout) in
@@ -118,18 +132,26 @@ send_goes m cpu i r s w x before p name receiver message zero_timeout here to co
     let size : i < length x.local.threads = omega (arith, sized.threads, here.within) in
     let rel = local_changes m cpu (i ∷ []) s now x (changes i f) (changes_spares m i (i ∷ []) x.local f (first_about i [])) refl e.relates in
     let old : v.kept cpu ≡ kept x.local i = ap (λ l. kept l i) (put_here cpu cpu x.local s.locals refl) in
-    let new : after.kept cpu ≡ record (kept x.local i) { thread = f (thread x.local i) } = ap (λ l. kept l i) (put_here cpu cpu y.local s.locals refl) ∙ changes_here x.local i f size in
+    let new : after.kept cpu ≡ record (kept x.local i) { thread = f (thread x.local i) } =
+        ap (λ l. kept l i) (put_here cpu cpu y.local s.locals refl) ∙ changes_here x.local i f size in
     let same = λ (c : ℕ) (ne : cpu ≡ c → ⊥). put_other cpu c i x.local y.local s.locals ne in
     let alike : (c : ℕ) → IsAlike (v.kept c) (after.kept c) = λ c. same_or_apart (IsAlike (v.kept c) (after.kept c)) cpu c
-    (λ h. subst (λ c. IsAlike (v.kept c) (after.kept c)) h (subst (λ k. IsAlike k (after.kept cpu)) (sym old) (subst (IsAlike (kept x.local i)) (sym new) (record { ready = refl; armed = refl; phase = refl }))))
+    (λ h. subst (λ c. IsAlike (v.kept c) (after.kept c)) h
+    (subst (λ k. IsAlike k (after.kept cpu)) (sym old) (subst (IsAlike (kept x.local i)) (sym new) (record { ready = refl; armed = refl; phase = refl }))))
     (λ ne. same_alike (v.kept c) (after.kept c) (same c ne)) in
     let home_same : at_home m i after ≡ at_home m i v = same (home m i) (λ h. here.away (sym h)) in
     let home_old : at_home m i after ≡ at_home m i before = home_same ∙ ap (λ (f : ℕ → Kept). f (home m i)) t.kept in
     let kept_now = taken_kept m i before v p t in
-    let moves : Moves m i v after = record { elsewhere = λ c ne. alike c; notices = refl; stays_true = subst (StaysTrue (at_home m i v)) (sym home_same) (same_stays_true (at_home m i v)) } in
-    let suits : Suits (at_home m i before).thread.phase (Some send) (at_home m i before).thread.order = subst (λ o. Suits (at_home m i before).thread.phase o (at_home m i before).thread.order) row.goes.has t.stands.known.kept.at_home.good.suits in
+    let moves : Moves m i v after = record {
+      elsewhere = λ c ne. alike c;
+      notices = refl;
+      stays_true = subst (StaysTrue (at_home m i v)) (sym home_same) (same_stays_true (at_home m i v));
+    } in
+    let suits : Suits (at_home m i before).thread.phase (Some send) (at_home m i before).thread.order =
+        subst (λ o. Suits (at_home m i before).thread.phase o (at_home m i before).thread.order) row.goes.has t.stands.known.kept.at_home.good.suits in
     let listed : (c q : ℕ) → (after.kept c).listed q ≡ [] = λ c q. same_or_apart ((after.kept c).listed q ≡ []) cpu c
-    (λ h. subst (λ c. (after.kept c).listed q ≡ []) h (ap (λ (k : Kept). k.listed q) new ∙ sym (ap (λ (k : Kept). k.listed q) old) ∙ ap (λ (f : ℕ → Kept). (f cpu).listed q) t.kept ∙ row.unplaced.listed cpu q))
+    (λ h. subst (λ c. (after.kept c).listed q ≡ []) h
+    (ap (λ (k : Kept). k.listed q) new ∙ sym (ap (λ (k : Kept). k.listed q) old) ∙ ap (λ (f : ℕ → Kept). (f cpu).listed q) t.kept ∙ row.unplaced.listed cpu q))
     (λ ne. ap (λ (k : Kept). k.listed q) (same c ne) ∙ ap (λ (f : ℕ → Kept). (f c).listed q) t.kept ∙ row.unplaced.listed c q) in
     arrives_goes m cpu i r s w y send (record {
       has = record {
@@ -139,7 +161,8 @@ send_goes m cpu i r s w x before p name receiver message zero_timeout here to co
         goes = record { now = now; reaches = e.reaches; relates = rel };
         at = record {
           kept = moves_kept m i v after kept_now moves (subst (IsKeptAtHome i) (sym home_same) kept_now.at_home);
-          out = ap (λ (k : Kept). k.ready) home_old ∙ t.stands.ready ∙ sender_unready i (at_home m i before).thread.phase send (at_home m i before).thread.order suits;
+          out = ap (λ (k : Kept). k.ready) home_old ∙ t.stands.ready
+              ∙ sender_unready i (at_home m i before).thread.phase send (at_home m i before).thread.order suits;
           has = ap (λ (k : Kept). k.thread.send) home_old ∙ row.goes.has;
           order = ap (λ (k : Kept). k.thread.order) home_old ∙ row.goes.order;
           quiet = t.quiet;

@@ -54,7 +54,8 @@ pub ended_good : (result : Result) (clock : ℕ) (t : Thread) (send : Send) → 
 ended_good Delivered clock t send has g = ended_delivered_good clock t send has g
 ended_good (Refused refusal) clock t send has g = ended_refused_good clock refusal t send has g
 
-pub ended_none : (result : Result) (clock : ℕ) (t : Thread) (send : Send) → t.send ≡ Some send → t.order ≡ None → ((ended result clock t).send ≡ None) × ((ended result clock t).order ≡ None)
+pub ended_none : (result : Result) (clock : ℕ) (t : Thread) (send : Send) → t.send ≡ Some send → t.order ≡ None → ((ended result clock t).send ≡ None)
+    × ((ended result clock t).order ≡ None)
 ended_none Delivered clock t send has done = ended_delivered_none clock t send has done
 ended_none (Refused refusal) clock t send has done = ended_refused_none clock refusal t done
 
@@ -77,14 +78,20 @@ goes_on_fresh clock (Some receive) t = refl
 
 delivered_fresh : (clock : ℕ) (t : Thread) (o : Option Send) (send : Send) → o ≡ Some send → IsFreshThread clock (was_delivered o clock t)
 delivered_fresh clock t None send has = cc
-delivered_fresh clock t (Some s) send has = cond_keeps (IsFreshThread clock) (is_alive t.phase) (goes_on s.receive clock t) (decided t) (λ alive. goes_on_fresh clock s.receive t) (λ gone. gone_fresh clock t.phase gone)
+delivered_fresh clock t (Some s) send has =
+    cond_keeps (IsFreshThread clock) (is_alive t.phase) (goes_on s.receive clock t) (decided t) (λ alive. goes_on_fresh clock s.receive t)
+    (λ gone. gone_fresh clock t.phase gone)
 
 pub ended_fresh : (result : Result) (clock : ℕ) (t : Thread) (send : Send) → t.send ≡ Some send → IsFreshThread clock (ended result clock t)
 ended_fresh Delivered clock t send has = delivered_fresh clock t t.send send has
-ended_fresh (Refused TimedOut) clock t send has = cond_keeps (IsFreshThread clock) (is_alive t.phase) _ (decided t) (λ alive. tt) (λ gone. gone_fresh clock t.phase gone)
-ended_fresh (Refused Nobody) clock t send has = cond_keeps (IsFreshThread clock) (is_alive t.phase) _ (decided t) (λ alive. tt) (λ gone. gone_fresh clock t.phase gone)
-ended_fresh (Refused Cancelled) clock t send has = cond_keeps (IsFreshThread clock) (is_alive t.phase) _ (decided t) (λ alive. tt) (λ gone. gone_fresh clock t.phase gone)
-ended_fresh (Refused Dropped) clock t send has = cond_keeps (IsFreshThread clock) (is_alive t.phase) _ (decided t) (λ alive. tt) (λ gone. gone_fresh clock t.phase gone)
+ended_fresh (Refused TimedOut) clock t send has =
+    cond_keeps (IsFreshThread clock) (is_alive t.phase) _ (decided t) (λ alive. tt) (λ gone. gone_fresh clock t.phase gone)
+ended_fresh (Refused Nobody) clock t send has =
+    cond_keeps (IsFreshThread clock) (is_alive t.phase) _ (decided t) (λ alive. tt) (λ gone. gone_fresh clock t.phase gone)
+ended_fresh (Refused Cancelled) clock t send has =
+    cond_keeps (IsFreshThread clock) (is_alive t.phase) _ (decided t) (λ alive. tt) (λ gone. gone_fresh clock t.phase gone)
+ended_fresh (Refused Dropped) clock t send has =
+    cond_keeps (IsFreshThread clock) (is_alive t.phase) _ (decided t) (λ alive. tt) (λ gone. gone_fresh clock t.phase gone)
 
 goes_on_begun : (receive : Option Receive) (clock : ℕ) (t : Thread) → (goes_on receive clock t).context.begun ≡ t.context.begun
 goes_on_begun None clock t = refl
@@ -92,7 +99,9 @@ goes_on_begun (Some receive) clock t = refl
 
 delivered_begun : (o : Option Send) (clock : ℕ) (t : Thread) → (was_delivered o clock t).context.begun ≡ t.context.begun
 delivered_begun None clock t = refl
-delivered_begun (Some send) clock t = cond_both (λ (u : Thread). u.context.begun) t.context.begun (is_alive t.phase) (goes_on send.receive clock t) (decided t) (goes_on_begun send.receive clock t) refl
+delivered_begun (Some send) clock t =
+    cond_both (λ (u : Thread). u.context.begun) t.context.begun (is_alive t.phase) (goes_on send.receive clock t) (decided t)
+    (goes_on_begun send.receive clock t) refl
 
 pub ended_begun : (result : Result) (clock : ℕ) (t : Thread) → (ended result clock t).context.begun ≡ t.context.begun
 ended_begun Delivered clock t = delivered_begun t.send clock t
@@ -101,7 +110,8 @@ ended_begun (Refused Nobody) clock t = cond_both (λ (u : Thread). u.context.beg
 ended_begun (Refused Cancelled) clock t = cond_both (λ (u : Thread). u.context.begun) t.context.begun (is_alive t.phase) _ (decided t) refl refl
 ended_begun (Refused Dropped) clock t = cond_both (λ (u : Thread). u.context.begun) t.context.begun (is_alive t.phase) _ (decided t) refl refl
 
-pub ended_stays_true : (result : Result) (k : Kept) (i : ℕ) (send : Send) → k.thread.send ≡ Some send → k.thread.order ≡ None → StaysTrue k (come i (ended result k.clock) k)
+pub ended_stays_true : (result : Result) (k : Kept) (i : ℕ) (send : Send) → k.thread.send ≡ Some send → k.thread.order ≡ None →
+    StaysTrue k (come i (ended result k.clock) k)
 ended_stays_true result k i send has order = record {
   deleted = λ gone. ap (λ (t : Thread). t.phase) (ended_deleted result k.clock k.thread send gone has) ∙ gone;
   begun = let same = ended_begun result k.clock k.thread in omega arith;
@@ -126,9 +136,12 @@ kept_with_lists m i v h = record {
 
 -- The sender is of this processor.
 
-pub decided_here : (m : Machine) (cpu i : ℕ) (except : List ℕ) (s : Scene) (w : World) (x : Work) (result : Result) (send : Send) (g : Thread → Thread) → IsHere m cpu i →
+pub decided_here : (m : Machine) (cpu i : ℕ) (except : List ℕ) (s : Scene) (w : World) (x : Work) (result : Result) (send : Send) (g : Thread → Thread) →
+    IsHere m cpu i →
     IsSendAt m cpu i send (view m (amid cpu s x) w i) → g (world_thread w i) ≡ ended result (at_home m i (view m (amid cpu s x) w i)).clock (world_thread w i) →
-    RelatesExcept m (Matches m) (i ∷ except) (amid cpu s x) w → RelatesExcept m (Matches m) except (amid cpu s (x ▷ does (relists (plain.unqueued i)) ▷ does (comes_to i (ended result x.local.clock)))) (change (unqueued w i) i g)
+    RelatesExcept m (Matches m) (i ∷ except) (amid cpu s x) w →
+    RelatesExcept m (Matches m) except (amid cpu s (x ▷ does (relists (plain.unqueued i)) ▷ does (comes_to i (ended result x.local.clock))))
+    (change (unqueued w i) i g)
 decided_here m cpu i except s w x result send g here at is relates =
     let v : View = view m (amid cpu s x) w i in
     let y : Work = x ▷ does (relists (plain.unqueued i)) in
@@ -141,18 +154,23 @@ decided_here m cpu i except s w x result send g here at is relates =
     let good : IsGood x.local.clock (thread x.local i) = subst (λ (k : Kept). IsGood k.clock k.thread) was at.kept.at_home.good in
     let agrees : Agrees v.world (thread x.local i) = subst (λ (k : Kept). Agrees v.world k.thread) was at.agrees in
     let none = ended_none result x.local.clock (thread x.local i) send has order in
-    let suits : Suits (thread x.local i).phase (Some send) (thread x.local i).order = subst (λ o. Suits (thread x.local i).phase o (thread x.local i).order) has good.suits in
+    let suits : Suits (thread x.local i).phase (Some send) (thread x.local i).order =
+        subst (λ o. Suits (thread x.local i).phase o (thread x.local i).order) has good.suits in
     let left = unqueues m cpu i (i ∷ except) s w x (first_about i except) at.elsewhere relates in
     let now : view m (amid cpu s y) u i ≡ without_lists v = view_unqueued m cpu i s w x at.elsewhere in
     let c = comes m cpu i except s u y f g here left in
     takes_in m i except (amid cpu s (y ▷ does (comes_to i f))) (change u i g) c.relates (quiet_matches m cpu i except s u y f g here c (record {
       kept = subst (IsKept m i) (sym now) (kept_without_lists m i v at.kept);
       quiet = at.quiet;
-      unplaced = subst (λ u. IsUnplaced m i (seats m i u)) (sym now) (record { listed = λ p r. refl; stand_in = λ p ne. at.no_other p ne (λ h. ne (sym h ∙ sym here.home)) });
+      unplaced = subst (λ u. IsUnplaced m i (seats m i u)) (sym now) (record {
+        listed = λ p r. refl;
+        stand_in = λ p ne. at.no_other p ne (λ h. ne (sym h ∙ sym here.home));
+      });
       out = sym (ap (λ (k : Kept). k.ready) was) ∙ at.out;
       send = none.0;
       order = none.1;
-      agrees = subst (λ t. Agrees t (f (thread x.local i))) (sym (is ∙ clock)) (ended_agrees result x.local.clock v.world (thread x.local i) send has suits agrees);
+      agrees = subst (λ t. Agrees t (f (thread x.local i))) (sym (is ∙ clock))
+          (ended_agrees result x.local.clock v.world (thread x.local i) send has suits agrees);
       good = ended_good result x.local.clock (thread x.local i) send has good;
       fresh = ended_fresh result x.local.clock (thread x.local i) send has;
       stays_true = ended_stays_true result (kept y.local i) i send has order;

@@ -26,7 +26,8 @@ found_there : (p : Declaration → Bool) (ds : List Declaration) → find p ds �
 found_there p [] = refl
 found_there p (d ∷ ds) = by (p d) (found_there p ds)
   where
-    by : (b : Bool) → find p ds ≡ slice_get ds (position_or_len p ds) → cond b (Some d) (find p ds) ≡ slice_get (d ∷ ds) (cond (not b) (1 + position_or_len p ds) 0)
+    by : (b : Bool) → find p ds ≡ slice_get ds (position_or_len p ds) →
+        cond b (Some d) (find p ds) ≡ slice_get (d ∷ ds) (cond (not b) (1 + position_or_len p ds) 0)
     by true h = refl
     by false h = let next : suc (position_or_len p ds) ≡ 1 + position_or_len p ds = omega arith in h ∙ ap (slice_get (d ∷ ds)) next
 
@@ -44,18 +45,21 @@ found_placed m t q at =
     found_there (λ (d : Declaration). same_id d.id t) m.threads ∙ ap (slice_get m.threads) is ∙ slice_get-get_or m.threads q undeclared lt
 
 -- A call to a thread of another processor
-other_processor : (m : Machine) (r q : ℕ) (t : GlobalId) → place_of m t ≡ Some q → place_of m (declared m r).id ≡ Some r → (home m q ≡ home m r → ⊥) → (is_declared m t && not (same_cpu m t (declared m r).id)) ≡ true
+other_processor : (m : Machine) (r q : ℕ) (t : GlobalId) → place_of m t ≡ Some q → place_of m (declared m r).id ≡ Some r → (home m q ≡ home m r → ⊥) →
+    (is_declared m t && not (same_cpu m t (declared m r).id)) ≡ true
 other_processor m r q t at here split =
     let there = found_placed m t q at in
     let mine = found_placed m (declared m r).id r here in
     let apart = other_is (home m q) (home m r) split in
     rw (at, there, mine, apart) refl
 
-call_elsewhere : (m : Machine) (r q : ℕ) (send : Send) (found : Found) (shown : GlobalId) → found.declared ≡ declared m r → place_of m (declared m r).id ≡ Some r → destination_place m send.to ≡ Some q → (home m q ≡ home m r → ⊥) →
+call_elsewhere : (m : Machine) (r q : ℕ) (send : Send) (found : Found) (shown : GlobalId) → found.declared ≡ declared m r →
+    place_of m (declared m r).id ≡ Some r → destination_place m send.to ≡ Some q → (home m q ≡ home m r → ⊥) →
     call_accepts m found (Some send) shown ≡ receive_accepts m send.receive shown (declared m r).id
 call_elsewhere m r q send found shown is here to split = by send.to refl to
   where
-    by : (id : Id) → send.to ≡ id → destination_place m id ≡ Some q → call_accepts m found (Some send) shown ≡ receive_accepts m send.receive shown (declared m r).id
+    by : (id : Id) → send.to ≡ id → destination_place m id ≡ Some q →
+        call_accepts m found (Some send) shown ≡ receive_accepts m send.receive shown (declared m r).id
     by NilThread e to = cc
     by AnyThread e to = cc
     by AnyLocalThread e to = cc
@@ -72,8 +76,10 @@ abbrev refuses_in : Machine → Found → GlobalId → Phase → Bool
 refuses_in m found shown phase = is_alive phase && not (may_still_accept m found shown phase)
 
 -- What home learns of its own decided call does not make it accept a sender that the call would not have accepted.
-goes_on_refusable : (m : Machine) (r q clock now : ℕ) (send call : Send) (t world : Thread) → place_of m (declared m r).id ≡ Some r → destination_place m call.to ≡ Some q → (home m q ≡ home m r → ⊥) →
-    t.phase ≡ Sending → t.send ≡ Some call → Agrees world (goes_on call.receive now t) → is_refusable m send (Some (seen m r clock t)) ≡ true → is_refusable m send (Some (seen m r clock world)) ≡ true
+goes_on_refusable : (m : Machine) (r q clock now : ℕ) (send call : Send) (t world : Thread) → place_of m (declared m r).id ≡ Some r →
+    destination_place m call.to ≡ Some q → (home m q ≡ home m r → ⊥) →
+    t.phase ≡ Sending → t.send ≡ Some call → Agrees world (goes_on call.receive now t) → is_refusable m send (Some (seen m r clock t)) ≡ true →
+    is_refusable m send (Some (seen m r clock world)) ≡ true
 goes_on_refusable m r q clock now send call t world here to split sending has agrees h = by call.receive refl agrees
   where
     before : not (receive_accepts m call.receive send.message.shown (declared m r).id) ≡ true
@@ -88,7 +94,8 @@ ready_refusable : (m : Machine) (r clock : ℕ) (send : Send) (world : Thread) �
 ready_refusable m r clock send world is = rw is refl
 
 -- where the world has it as home does
-pub same_refusable : (m : Machine) (r clock : ℕ) (send : Send) (t world : Thread) → Agrees world t → is_refusable m send (Some (seen m r clock t)) ≡ true → is_refusable m send (Some (seen m r clock world)) ≡ true
+pub same_refusable : (m : Machine) (r clock : ℕ) (send : Send) (t world : Thread) → Agrees world t → is_refusable m send (Some (seen m r clock t)) ≡ true →
+    is_refusable m send (Some (seen m r clock world)) ≡ true
 same_refusable m r clock send t world a h = by t.phase refl a
   where
     one : world ≡ t → is_refusable m send (Some (seen m r clock world)) ≡ true
@@ -98,19 +105,22 @@ same_refusable m r clock send t world a h = by t.phase refl a
     by Ready is a = one a
     by Sending is a = one a
     by (Receiving receive since) is a =
-        let waiting : refuses_in m (seen m r clock t) send.message.shown (Receiving receive since) ≡ true = subst (λ p. refuses_in m (seen m r clock t) send.message.shown p ≡ true) is h in
+        let waiting : refuses_in m (seen m r clock t) send.message.shown (Receiving receive since) ≡ true =
+            subst (λ p. refuses_in m (seen m r clock t) send.message.shown p ≡ true) is h in
         let same = a.same in
         rw same waiting
     by Ordering is a = one a
     by Ended is a = one a
-    by Deleted is a = let gone : refuses_in m (seen m r clock t) send.message.shown Deleted ≡ true = subst (λ p. refuses_in m (seen m r clock t) send.message.shown p ≡ true) is h in cc
+    by Deleted is a = let gone : refuses_in m (seen m r clock t) send.message.shown Deleted ≡ true =
+        subst (λ p. refuses_in m (seen m r clock t) send.message.shown p ≡ true) is h in cc
 
 alive_refusable : (m : Machine) (r clock : ℕ) (send : Send) (t : Thread) → is_refusable m send (Some (seen m r clock t)) ≡ true → is_alive t.phase ≡ true
 alive_refusable m r clock send t h = (both (is_alive t.phase) _ h).0
 
 -- where its own call was decided
 decided_refusable : (m : Machine) (r clock : ℕ) (send : Send) (result : Result) (t world : Thread) → place_of m (declared m r).id ≡ Some r →
-    (call : Send) (q : ℕ) → t.send ≡ Some call → destination_place m call.to ≡ Some q → (home m q ≡ home m r → ⊥) → Suits t.phase t.send t.order → Agrees world (ended result clock t) →
+    (call : Send) (q : ℕ) → t.send ≡ Some call → destination_place m call.to ≡ Some q → (home m q ≡ home m r → ⊥) → Suits t.phase t.send t.order →
+    Agrees world (ended result clock t) →
     is_refusable m send (Some (seen m r clock t)) ≡ true → is_refusable m send (Some (seen m r clock world)) ≡ true
 decided_refusable m r clock send result t world here call q has to split suits a h = by result a
   where
@@ -129,7 +139,8 @@ decided_refusable m r clock send result t world here call q has to split suits a
         in_phase Deleted alive s = cc
 
     fallen : (u : Thread) → u.phase ≡ Ready → Agrees world u → is_refusable m send (Some (seen m r clock world)) ≡ true
-    fallen u is a = let ready : is_ready u.phase ≡ true = ap is_ready is in ready_refusable m r clock send world (ap (λ (t : Thread). t.phase) (ready_is world u ready a) ∙ is)
+    fallen u is a = let ready : is_ready u.phase ≡ true = ap is_ready is in
+        ready_refusable m r clock send world (ap (λ (t : Thread). t.phase) (ready_is world u ready a) ∙ is)
 
     refused_ready : (code : ℕ) → (refused code t).phase ≡ Ready
     refused_ready code = rw alive refl
@@ -146,7 +157,8 @@ decided_refusable m r clock send result t world here call q has to split suits a
         let delivered_is : ended Delivered clock t ≡ goes_on call.receive clock t = rw (has, alive) refl in
         goes_on_refusable m r q clock clock send call t world here to split sending has (subst (Agrees world) delivered_is a) h
 
-obeyed_refusable : (m : Machine) (r clock : ℕ) (send : Send) (t world : Thread) → Agrees world (obeyed t) → is_refusable m send (Some (seen m r clock t)) ≡ true → is_refusable m send (Some (seen m r clock world)) ≡ true
+obeyed_refusable : (m : Machine) (r clock : ℕ) (send : Send) (t world : Thread) → Agrees world (obeyed t) →
+    is_refusable m send (Some (seen m r clock t)) ≡ true → is_refusable m send (Some (seen m r clock world)) ≡ true
 obeyed_refusable m r clock send t world a h =
     let alive = alive_refusable m r clock send t h in
     let ready : (obeyed t).phase ≡ Ready = rw alive refl in
@@ -160,7 +172,8 @@ refusable_known m r send v here known h = where_then m r v known
     (λ quiet none row a. same_refusable m r clock send t v.world a h)
     (λ own quiet has row a. same_refusable m r clock send t v.world a h)
     (λ p is row a. same_refusable m r clock send t v.world a h)
-    (λ p name result is content row a. decided_refusable m r clock send result t v.world here row.goes.send row.goes.r row.goes.has row.goes.to row.goes.split known.kept.at_home.good.suits a h)
+    (λ p name result is content row a.
+    decided_refusable m r clock send result t v.world here row.goes.send row.goes.r row.goes.has row.goes.to row.goes.split known.kept.at_home.good.suits a h)
     (λ p is row a. same_refusable m r clock send t v.world a h)
     (λ p caller is content row a. obeyed_refusable m r clock send t v.world a h)
   where

@@ -33,8 +33,11 @@ pub record HasSend (m : Machine) (cpu i : ℕ) (s : Scene) (w : World) (x : Work
   pub goes : Goes m cpu s w (i ∷ []) x
   pub at : IsSendAt m cpu i send (view m (amid cpu s x) goes.now i)
 
-pub refuses_goes : (m : Machine) (cpu i : ℕ) (s : Scene) (w : World) (x : Work) (refusal : Refusal) (send : Send) (g : Thread → Thread) → (h : HasSend m cpu i s w x send) →
-    g (world_thread h.goes.now i) ≡ ended (Refused refusal) (at_home m i (view m (amid cpu s x) h.goes.now i)).clock (world_thread h.goes.now i) → next m h.goes.now (refusal_step refusal (last_name m x.local i)) ≡ Some (change (unqueued h.goes.now i) i g) → Goes m cpu s w [] (refuses m cpu refusal i x)
+pub refuses_goes : (m : Machine) (cpu i : ℕ) (s : Scene) (w : World) (x : Work) (refusal : Refusal) (send : Send) (g : Thread → Thread) →
+    (h : HasSend m cpu i s w x send) →
+    g (world_thread h.goes.now i) ≡ ended (Refused refusal) (at_home m i (view m (amid cpu s x) h.goes.now i)).clock (world_thread h.goes.now i) →
+        next m h.goes.now (refusal_step refusal (last_name m x.local i)) ≡ Some (change (unqueued h.goes.now i) i g) →
+        Goes m cpu s w [] (refuses m cpu refusal i x)
 refuses_goes m cpu i s w x refusal send g h is possible =
     let u : World = change (unqueued h.goes.now i) i g in
     let y : Work = x ▷ tells (refusal_step refusal (last_name m x.local i)) in
@@ -47,7 +50,8 @@ refuses_goes m cpu i s w x refusal send g h is possible =
 
 -- Nobody is there
 
-pub nowhere_goes : (m : Machine) (cpu i : ℕ) (s : Scene) (w : World) (x : Work) (send : Send) → HasSend m cpu i s w x send → destination_place m send.to ≡ None → (send.to ≡ NilThread → ⊥) → Goes m cpu s w [] (refuses m cpu Nobody i x)
+pub nowhere_goes : (m : Machine) (cpu i : ℕ) (s : Scene) (w : World) (x : Work) (send : Send) → HasSend m cpu i s w x send →
+    destination_place m send.to ≡ None → (send.to ≡ NilThread → ⊥) → Goes m cpu s w [] (refuses m cpu Nobody i x)
 nowhere_goes m cpu i s w x send h to not_nil =
     let pending = pending_is m cpu i send (i ∷ []) s x h.goes.now h.machine h.within h.goes.relates h.at in
     let nobody = nowhere_is m h.goes.now send.to to not_nil in
@@ -59,7 +63,8 @@ deleted_known m r v known gone = where_then m r v known
     (λ quiet none row a. left t gone a)
     (λ send quiet has row a. left t gone a)
     (λ p is row a. left t gone a)
-    (λ p name result is content row a. left (ended result clock t) (ap (λ (u : Thread). u.phase) (ended_deleted result clock t row.goes.send gone row.goes.has) ∙ gone) a)
+    (λ p name result is content row a.
+    left (ended result clock t) (ap (λ (u : Thread). u.phase) (ended_deleted result clock t row.goes.send gone row.goes.has) ∙ gone) a)
     (λ p is row a. left t gone a)
     (λ p caller is content row a. left (obeyed t) obeyed_gone a)
   where
@@ -81,7 +86,8 @@ IsSeen m r v = Known m r v ⊎ Agrees v.world (at_home m r v).thread
 
 deleted_seen : (m : Machine) (r : ℕ) (v : View) → IsSeen m r v → (at_home m r v).thread.phase ≡ Deleted → v.world.phase ≡ Deleted
 deleted_seen m r v (inl known) gone = deleted_known m r v known gone
-deleted_seen m r v (inr agrees) gone = let left : AgreesIn Deleted v.world (at_home m r v).thread = subst (λ p. AgreesIn p v.world (at_home m r v).thread) gone agrees in left.deleted
+deleted_seen m r v (inr agrees) gone = let left : AgreesIn Deleted v.world (at_home m r v).thread =
+    subst (λ p. AgreesIn p v.world (at_home m r v).thread) gone agrees in left.deleted
 
 refusable_seen : (m : Machine) (r : ℕ) (send : Send) (v : View) → place_of m (declared m r).id ≡ Some r → IsSeen m r v →
     is_refusable m send (Some (record { at = r; declared = declared m r; now = (at_home m r v).thread; clock = (at_home m r v).clock })) ≡ true →
@@ -96,7 +102,8 @@ pub record IsReceiver (m : Machine) (cpu r : ℕ) (s : Scene) (w : World) (x : W
   pub to : destination_place m send.to ≡ Some r
   pub seen : IsSeen m r (view m (amid cpu s x) w r)
 
-pub deleted_goes : (m : Machine) (cpu i r : ℕ) (s : Scene) (w : World) (x : Work) (send : Send) → (h : HasSend m cpu i s w x send) → IsReceiver m cpu r s h.goes.now x send → is_deleted (thread x.local r).phase ≡ true → Goes m cpu s w [] (refuses m cpu Nobody i x)
+pub deleted_goes : (m : Machine) (cpu i r : ℕ) (s : Scene) (w : World) (x : Work) (send : Send) → (h : HasSend m cpu i s w x send) →
+    IsReceiver m cpu r s h.goes.now x send → is_deleted (thread x.local r).phase ≡ true → Goes m cpu s w [] (refuses m cpu Nobody i x)
 deleted_goes m cpu i r s w x send h q gone =
     let pending = pending_is m cpu i send (i ∷ []) s x h.goes.now h.machine h.within h.goes.relates h.at in
     let receiver = receiver_is m r send.to (i ∷ []) (amid cpu s x) h.goes.now h.machine q.within h.goes.relates q.to in
@@ -105,7 +112,8 @@ deleted_goes m cpu i r s w x send h q gone =
     let nobody = no_destination send.to is q.to in
     refuses_goes m cpu i s w x Nobody send (refused 4) h refl (rw (pending, receiver, nobody) refl)
   where
-    no_destination : (to : Id) → (world_thread h.goes.now r).phase ≡ Deleted → destination_place m to ≡ Some r → is_no_destination to (Some (place_found m (amid cpu s x) h.goes.now r)) ≡ true
+    no_destination : (to : Id) → (world_thread h.goes.now r).phase ≡ Deleted → destination_place m to ≡ Some r →
+        is_no_destination to (Some (place_found m (amid cpu s x) h.goes.now r)) ≡ true
     no_destination NilThread is to = cc
     no_destination AnyThread is to = refl
     no_destination AnyLocalThread is to = refl
@@ -113,7 +121,8 @@ deleted_goes m cpu i r s w x send h q gone =
     no_destination (GlobalThread t) is to = rw is refl
 
 -- It is of timeout zero, and its receiver does not wait for it.
-pub zero_goes : (m : Machine) (cpu i r : ℕ) (s : Scene) (w : World) (x : Work) (send : Send) → (h : HasSend m cpu i s w x send) → IsReceiver m cpu r s h.goes.now x send →
+pub zero_goes : (m : Machine) (cpu i r : ℕ) (s : Scene) (w : World) (x : Work) (send : Send) → (h : HasSend m cpu i s w x send) →
+    IsReceiver m cpu r s h.goes.now x send →
     zero_refusable m (held m x.local r) (thread x.local i).send ≡ true → Goes m cpu s w [] (refuses m cpu TimedOut i x)
 zero_goes m cpu i r s w x send h q refusable =
     let now = h.goes.now in
@@ -121,12 +130,15 @@ zero_goes m cpu i r s w x send h q refusable =
     let pending = pending_is m cpu i send (i ∷ []) s x now h.machine h.within h.goes.relates h.at in
     let receiver = receiver_is m r send.to (i ∷ []) (amid cpu s x) now h.machine q.within h.goes.relates q.to in
     let held_here = held_is m cpu i send s x now h.at in
-    let tests = both (is_zero held_here.held.period) (is_refusable m held_here.held (Some (held m x.local r))) (subst (λ o. zero_refusable m (held m x.local r) o ≡ true) held_here.has refusable) in
+    let tests = both (is_zero held_here.held.period) (is_refusable m held_here.held (Some (held m x.local r)))
+        (subst (λ o. zero_refusable m (held m x.local r) o ≡ true) held_here.has refusable) in
     let zero : is_zero send.period ≡ true = sym held_here.zero ∙ tests.0 in
     let was = home_is m cpu r s x now q.home in
     let at_r : is_refusable m send (Some (record { at = r; declared = declared m r; now = (at_home m r v).thread; clock = (at_home m r v).clock })) ≡ true =
-    subst (λ (k : Kept). is_refusable m send (Some (record { at = r; declared = declared m r; now = k.thread; clock = k.clock })) ≡ true) (sym was) (other_send held_here.held send (held m x.local r) held_here.message tests.1) in
-    let in_world : is_refusable m send (Some (place_found m (amid cpu s x) now r)) ≡ true = refusable_seen m r send v (h.machine.placed r q.within) q.seen at_r in
+    subst (λ (k : Kept). is_refusable m send (Some (record { at = r; declared = declared m r; now = k.thread; clock = k.clock })) ≡ true) (sym was)
+        (other_send held_here.held send (held m x.local r) held_here.message tests.1) in
+    let in_world : is_refusable m send (Some (place_found m (amid cpu s x) now r)) ≡ true =
+        refusable_seen m r send v (h.machine.placed r q.within) q.seen at_r in
     let passed = zero_passed send.period send.since (at_home m i (view m (amid cpu s x) now i)).clock zero (since (view m (amid cpu s x) now i) h.at) in
     refuses_goes m cpu i s w x TimedOut send (refused 2) h refl (rw (pending, passed, zero, receiver, in_world) refl)
   where

@@ -68,9 +68,11 @@ entries_of m r i v known = where_then m i v known
     (λ quiet none row agrees. unplaced row.unplaced)
     (λ send quiet has row agrees. same_or_apart (AllByRecursion (IsEntry m r i v) ((v.kept (home m r)).listed r)) row.r r
     (λ same. let listed = subst (λ q. (v.kept (home m q)).listed q ≡ entry m q i send ∷ []) same row.listed in
-    subst (AllByRecursion (IsEntry m r i v)) (sym listed) (record { send = send; has = has; quiet = quiet; agrees = agrees; waits = row; receiver = same; is = refl }, tt))
+    subst (AllByRecursion (IsEntry m r i v)) (sym listed)
+        (record { send = send; has = has; quiet = quiet; agrees = agrees; waits = row; receiver = same; is = refl }, tt))
     (λ apart. none_listed m r i v ((v.kept (home m r)).listed r)
-    (same_or_apart ((v.kept (home m r)).listed r ≡ []) (home m r) (home m row.r) (λ h. subst (λ c. (v.kept c).listed r ≡ []) (sym h) (row.other_lists r apart)) (λ ne. row.elsewhere (home m r) r ne))))
+    (same_or_apart ((v.kept (home m r)).listed r ≡ []) (home m r) (home m row.r) (λ h. subst (λ c. (v.kept c).listed r ≡ []) (sym h) (row.other_lists r apart))
+    (λ ne. row.elsewhere (home m r) r ne))))
     (λ p is row agrees. unplaced row.unplaced)
     (λ p name result is content row agrees. unplaced row.unplaced)
     (λ p is row agrees. unplaced row.orders.unplaced)
@@ -87,7 +89,8 @@ entry_at m r i v e stands w =
     let good = stands.known.kept.at_home.good in
     record {
       kept = stands.known.kept;
-      out = stands.ready ∙ sender_unready i (at_home m i v).thread.phase w.send (at_home m i v).thread.order (subst (λ o. Suits (at_home m i v).thread.phase o (at_home m i v).thread.order) w.has good.suits);
+      out = stands.ready ∙ sender_unready i (at_home m i v).thread.phase w.send (at_home m i v).thread.order
+          (subst (λ o. Suits (at_home m i v).thread.phase o (at_home m i v).thread.order) w.has good.suits);
       has = w.has;
       order = row.order;
       quiet = w.quiet;
@@ -97,7 +100,8 @@ entry_at m r i v e stands w =
         r = row.r;
         to = row.to;
         at = at;
-        stand_in = subst (λ c. IsStandIn m row.r w.send (at_home m i v).thread.context.begun (v.kept c).thread.send (v.kept c).thread.context.begun) at (row.stand_in (λ h. away (sym h ∙ at)));
+        stand_in = subst (λ c. IsStandIn m row.r w.send (at_home m i v).thread.context.begun (v.kept c).thread.send (v.kept c).thread.context.begun) at
+            (row.stand_in (λ h. away (sym h ∙ at)));
       };
       no_other = λ c away ne. row.no_other c away (λ h. ne (sym (h ∙ at)));
     }
@@ -112,16 +116,23 @@ past_none n i (e ∷ es) le h = let lt = h.0 in let apart = other_is i e.block (
 abbrev pub IsEntryHere : Machine → Scene → World → ℕ → plain.Waiting → Type 0
 IsEntryHere m s w r e = (e.block < length m.threads) × IsEntry m r e.block (view m s w e.block) e
 
-of_block : (m : Machine) (s : Scene) (w : World) (r i : ℕ) (es : List plain.Waiting) → i < length m.threads → AllByRecursion (IsEntry m r i (view m s w i)) es → AllByRecursion (IsEntryHere m s w r) es
-of_block m s w r i es lt all = all-map (IsEntry m r i (view m s w i)) (IsEntryHere m s w r) (λ e h. let same : i ≡ e.block = sym (ap (λ (e : plain.Waiting). e.block) h.is) in
+of_block : (m : Machine) (s : Scene) (w : World) (r i : ℕ) (es : List plain.Waiting) → i < length m.threads → AllByRecursion (IsEntry m r i (view m s w i)) es →
+    AllByRecursion (IsEntryHere m s w r) es
+of_block m s w r i es lt all = all-map (IsEntry m r i (view m s w i)) (IsEntryHere m s w r) (λ e h. let same : i ≡ e.block =
+    sym (ap (λ (e : plain.Waiting). e.block) h.is) in
     (subst (λ j. j < length m.threads) same lt, subst (λ j. IsEntry m r j (view m s w j) e) same h)) es all
 
-pub entries_here : (m : Machine) (s : Scene) (w : World) (r : ℕ) → IsMachine m → r < length m.threads → RelatesExcept m (Matches m) [] s w → AllByRecursion (IsEntryHere m s w r) (senders m s r)
-entries_here m s w r machine lt rel = all_by_place (IsEntryHere m s w r) (λ (e : plain.Waiting). e.block) (senders m s r) (λ i. by i (cases_lt i (length m.threads)))
+pub entries_here : (m : Machine) (s : Scene) (w : World) (r : ℕ) → IsMachine m → r < length m.threads → RelatesExcept m (Matches m) [] s w →
+    AllByRecursion (IsEntryHere m s w r) (senders m s r)
+entries_here m s w r machine lt rel =
+    all_by_place (IsEntryHere m s w r) (λ (e : plain.Waiting). e.block) (senders m s r) (λ i. by i (cases_lt i (length m.threads)))
   where
-    by : (i : ℕ) → ((i < length m.threads) ⊎ (length m.threads ≤ i)) → AllByRecursion (IsEntryHere m s w r) (filter (λ (e : plain.Waiting). i == e.block) (senders m s r))
-    by i (inl here) = of_block m s w r i (filter (λ (e : plain.Waiting). i == e.block) (senders m s r)) here (entries_of m r i (view m s w i) (rel.places i here tt).known)
-    by i (inr past) = subst (AllByRecursion (IsEntryHere m s w r)) (sym (past_none (length m.threads) i (senders m s r) past ((rel.sized (home m r) (machine.homed r lt)).listed r))) tt
+    by : (i : ℕ) → ((i < length m.threads) ⊎ (length m.threads ≤ i)) →
+        AllByRecursion (IsEntryHere m s w r) (filter (λ (e : plain.Waiting). i == e.block) (senders m s r))
+    by i (inl here) = of_block m s w r i (filter (λ (e : plain.Waiting). i == e.block) (senders m s r)) here
+        (entries_of m r i (view m s w i) (rel.places i here tt).known)
+    by i (inr past) = subst (AllByRecursion (IsEntryHere m s w r))
+        (sym (past_none (length m.threads) i (senders m s r) past ((rel.sized (home m r) (machine.homed r lt)).listed r))) tt
 
 -- The first that a receiver accepts
 
@@ -135,7 +146,8 @@ entry_accepted m s w r from e size h =
     let local = ap (λ (e : plain.Waiting). e.local) is.is in
     rw (slice_get-get_or w.threads e.block opening_thread, has, shown, local) refl
 
-first_of : (m : Machine) (s : Scene) (w : World) (r : ℕ) (from : Id) (es : List plain.Waiting) → length w.threads ≡ length m.threads → AllByRecursion (IsEntryHere m s w r) es →
+first_of : (m : Machine) (s : Scene) (w : World) (r : ℕ) (from : Id) (es : List plain.Waiting) → length w.threads ≡ length m.threads →
+    AllByRecursion (IsEntryHere m s w r) es →
     find (λ i. shows_accepted m from (declared m r).id (slice_get w.threads i)) (blocks es) ≡ plain.first_taken from es
 first_of m s w r from [] size all = refl
 first_of m s w r from (e ∷ es) size all =
@@ -143,11 +155,13 @@ first_of m s w r from (e ∷ es) size all =
     rw here (by (takes from e.shown e.local) (first_of m s w r from es size all.1))
   where
     by : (b : Bool) → find (λ i. shows_accepted m from (declared m r).id (slice_get w.threads i)) (blocks es) ≡ plain.first_taken from es →
-        cond b (Some e.block) (find (λ i. shows_accepted m from (declared m r).id (slice_get w.threads i)) (blocks es)) ≡ option_map (λ (x : plain.Waiting). x.block) (cond b (Some e) (find (λ (x : plain.Waiting). takes from x.shown x.local) es))
+        cond b (Some e.block) (find (λ i. shows_accepted m from (declared m r).id (slice_get w.threads i)) (blocks es)) ≡ option_map
+        (λ (x : plain.Waiting). x.block) (cond b (Some e) (find (λ (x : plain.Waiting). takes from x.shown x.local) es))
     by true h = refl
     by false h = h
 
-pub first_accepted_is : (m : Machine) (s : Scene) (w : World) (r : ℕ) (from : Id) (found : Found) → IsMachine m → r < length m.threads → found.at ≡ r → found.declared ≡ declared m r → RelatesExcept m (Matches m) [] s w →
+pub first_accepted_is : (m : Machine) (s : Scene) (w : World) (r : ℕ) (from : Id) (found : Found) → IsMachine m → r < length m.threads → found.at ≡ r →
+    found.declared ≡ declared m r → RelatesExcept m (Matches m) [] s w →
     first_accepted m w found from ≡ plain.first_taken from (senders m s r)
 first_accepted_is m s w r from found machine lt at declared_is rel =
     let list = rel.lists r lt in
@@ -159,10 +173,16 @@ pub record IsFirstSender (m : Machine) (s : Scene) (w : World) (r i : ℕ) : Typ
   pub within : i < length m.threads
   pub is : IsEntry m r i (view m s w i) entry
 
-pub first_entry : (m : Machine) (s : Scene) (w : World) (r i : ℕ) (p : plain.Waiting → Bool) (es : List plain.Waiting) → AllByRecursion (IsEntryHere m s w r) es → option_map (λ (x : plain.Waiting). x.block) (find p es) ≡ Some i → IsFirstSender m s w r i
+pub first_entry : (m : Machine) (s : Scene) (w : World) (r i : ℕ) (p : plain.Waiting → Bool) (es : List plain.Waiting) →
+    AllByRecursion (IsEntryHere m s w r) es → option_map (λ (x : plain.Waiting). x.block) (find p es) ≡ Some i → IsFirstSender m s w r i
 first_entry m s w r i p [] all h = cc
 first_entry m s w r i p (e ∷ es) all h = by (p e) h (first_entry m s w r i p es all.1)
   where
-    by : (b : Bool) → option_map (λ (x : plain.Waiting). x.block) (cond b (Some e) (find p es)) ≡ Some i → (option_map (λ (x : plain.Waiting). x.block) (find p es) ≡ Some i → IsFirstSender m s w r i) → IsFirstSender m s w r i
-    by true h rest = let same : e.block ≡ i = cc in record { entry = e; within = subst (λ j. j < length m.threads) same all.0.0; is = subst (λ j. IsEntry m r j (view m s w j) e) same all.0.1 }
+    by : (b : Bool) → option_map (λ (x : plain.Waiting). x.block) (cond b (Some e) (find p es)) ≡ Some i →
+        (option_map (λ (x : plain.Waiting). x.block) (find p es) ≡ Some i → IsFirstSender m s w r i) → IsFirstSender m s w r i
+    by true h rest = let same : e.block ≡ i = cc in record {
+      entry = e;
+      within = subst (λ j. j < length m.threads) same all.0.0;
+      is = subst (λ j. IsEntry m r j (view m s w j) e) same all.0.1;
+    }
     by false h rest = rest h

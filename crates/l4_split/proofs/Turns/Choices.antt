@@ -59,7 +59,8 @@ IsDuty m cpu l i CancelsOwn = (plain.is_queued l.lists i ≡ true) × ((thread l
 IsDuty m cpu l i CancelsReceive = (receive : Receive) × (IsInReceive (thread l i).phase receive × ((thread l i).cancel_receive ≡ true))
 IsDuty m cpu l i (DeliversFirst sender) = first_acceptable l i ≡ Some sender
 IsDuty m cpu l i ClosesReceive =
-    (receive : Receive) × (IsInReceive (thread l i).phase receive × ((is_nobody receive.from (held_by m l receive.from) ≡ true) × (first_acceptable l i ≡ None)))
+    (receive : Receive) × (IsInReceive (thread l i).phase receive
+    × ((is_nobody receive.from (held_by m l receive.from) ≡ true) × (first_acceptable l i ≡ None)))
 IsDuty m cpu l i (RefusesZero sender) =
     (e : plain.Waiting) × (StandsIn e (plain.list_of l.lists i) × ((e.block ≡ sender) × (zero_refusable m (held m l i) (thread l e.block).send ≡ true)))
 
@@ -150,7 +151,8 @@ own_filter m cpu (i ∷ is) below = by (is_own m cpu i) refl (own_filter m cpu i
 
 all_own : (m : Machine) (cpu : ℕ) → AllByRecursion (IsOwn m cpu) (own_places m cpu)
 all_own m cpu = own_filter m cpu (range_with_len 0 (length m.threads))
-    (all-map (λ i. i < 0 + length m.threads) (λ i. i < length m.threads) (λ i lt. omega arith) (range_with_len 0 (length m.threads)) (range_below 0 (length m.threads)))
+    (all-map (λ i. i < 0 + length m.threads) (λ i. i < length m.threads) (λ i lt. omega arith) (range_with_len 0 (length m.threads))
+    (range_below 0 (length m.threads)))
 
 -- What is true of all own places is true of each of them.
 pub own_at : (m : Machine) (cpu i : ℕ) (P : ℕ → Type 0) → IsOwn m cpu i → AllByRecursion P (own_places m cpu) → P i
@@ -160,7 +162,8 @@ own_at m cpu i P here all = (subst (AllByRecursion P) entry (all-filter P (λ j.
     own = let is = here.home in rw is (same_nat cpu)
 
     entry : filter (λ j. i == j) (own_places m cpu) ≡ i ∷ []
-    entry = filter_kept (λ j. i == j) (is_own m cpu) (λ j same. subst (λ k. is_own m cpu k ≡ true) (eqb-true i j same) own) (range_with_len 0 (length m.threads))
+    entry = filter_kept (λ j. i == j) (is_own m cpu) (λ j same. subst (λ k. is_own m cpu k ≡ true) (eqb-true i j same) own)
+        (range_with_len 0 (length m.threads))
         ∙ filter_range 0 (length m.threads) i (omega arith) (let lt = here.within in omega arith)
 
 -- No thread of this processor has a duty.
@@ -192,7 +195,8 @@ IsChoice m cpu l (ByDue i) =
     (deadline : ℕ) × ((others : List (ℕ × ℕ)) × ((l.lists.armed ≡ (deadline, i) ∷ others) × ((nat_le deadline l.clock ≡ true) × HasNoDuty m cpu l)))
 IsChoice m cpu l (ByReady i) = (others : List ℕ) × (l.lists.ready ≡ i ∷ others)
 
-chosen_duty : (m : Machine) (cpu : ℕ) (l : Local) (c : Choice) (is : List ℕ) → AllByRecursion (IsOwn m cpu) is → first_duty m cpu l is ≡ Some c → IsChoice m cpu l c
+chosen_duty : (m : Machine) (cpu : ℕ) (l : Local) (c : Choice) (is : List ℕ) → AllByRecursion (IsOwn m cpu) is → first_duty m cpu l is ≡ Some c →
+    IsChoice m cpu l c
 chosen_duty m cpu l c [] own h = cc
 chosen_duty m cpu l c (i ∷ is) own h =
     first_then (option_map (ByDuty i) (duty_of m cpu l (held m l i))) (first_duty m cpu l is ∷ []) c h
@@ -216,7 +220,8 @@ chosen_due m cpu l c none (a ∷ others) at h = by (nat_le a.0 l.clock) refl h
     by true past h = subst (IsChoice m cpu l) (some_is (ByDue a.1) c h) (a.0, (others, (at, (past, none))))
     by false past h = cc
 
-chosen_ready : (m : Machine) (cpu : ℕ) (l : Local) (c : Choice) (ready : List ℕ) → l.lists.ready ≡ ready → option_map ByReady (slice_get ready 0) ≡ Some c → IsChoice m cpu l c
+chosen_ready : (m : Machine) (cpu : ℕ) (l : Local) (c : Choice) (ready : List ℕ) → l.lists.ready ≡ ready → option_map ByReady (slice_get ready 0) ≡ Some c →
+    IsChoice m cpu l c
 chosen_ready m cpu l c [] at h = cc
 chosen_ready m cpu l c (i ∷ others) at h = subst (IsChoice m cpu l) (some_is (ByReady i) c h) (others, at)
 

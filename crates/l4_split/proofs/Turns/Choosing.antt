@@ -39,7 +39,8 @@ use Rattle.l4_split.proofs.Orders.Giving.{gives_goes}
 
 -- A duty
 
-accepted_goes : (m : Machine) (cpu r i : ℕ) (s : Scene) (w : World) (x : Work) → IsHere m cpu r → cpu < m.cpus → Goes m cpu s w [] x → first_acceptable x.local r ≡ Some i → Goes m cpu s w [] (delivers m cpu r i x)
+accepted_goes : (m : Machine) (cpu r i : ℕ) (s : Scene) (w : World) (x : Work) → IsHere m cpu r → cpu < m.cpus → Goes m cpu s w [] x →
+    first_acceptable x.local r ≡ Some i → Goes m cpu s w [] (delivers m cpu r i x)
 accepted_goes m cpu r i s w x here processor e h = by (thread x.local r).phase refl h
   where
     by : (p : Phase) → (thread x.local r).phase ≡ p → first_of_list x.local.lists r p ≡ Some i → Goes m cpu s w [] (delivers m cpu r i x)
@@ -51,34 +52,41 @@ accepted_goes m cpu r i s w x here processor e h = by (thread x.local r).phase r
     by Deleted is h = cc
 
 -- An entry of the list of a thread of this processor is a send that waits there.
-listed_at : (m : Machine) (cpu r i : ℕ) (s : Scene) (w : World) (x : Work) (f : plain.Waiting) → IsHere m cpu r → cpu < m.cpus → (e : Goes m cpu s w [] x) → StandsIn f (plain.list_of x.local.lists r) → f.block ≡ i → IsListedSend m cpu r i s w x
+listed_at : (m : Machine) (cpu r i : ℕ) (s : Scene) (w : World) (x : Work) (f : plain.Waiting) → IsHere m cpu r → cpu < m.cpus → (e : Goes m cpu s w [] x) →
+    StandsIn f (plain.list_of x.local.lists r) → f.block ≡ i → IsListedSend m cpu r i s w x
 listed_at m cpu r i s w x f here processor e at same =
     let list = ap (λ (l : Local). plain.list_of l.lists r) (put_home m cpu r s x.local here.home) in
     let all = subst (AllByRecursion (IsEntryHere m (amid cpu s x) e.now r)) list (entries_here m (amid cpu s x) e.now r here.machine here.within e.relates) in
     let is = entry_of_all (IsEntryHere m (amid cpu s x) e.now r) f (plain.list_of x.local.lists r) at all in
     subst (λ i. IsListedSend m cpu r i s w x) same (listed_send m cpu r f.block s w x f here processor e is.0 is.1)
 
-pub duty_goes : (m : Machine) (cpu i : ℕ) (s : Scene) (w : World) (x : Work) (duty : Duty) → IsHere m cpu i → cpu < m.cpus → Goes m cpu s w [] x → IsDuty m cpu x.local i duty → Goes m cpu s w [] (does_duty m cpu i duty x)
+pub duty_goes : (m : Machine) (cpu i : ℕ) (s : Scene) (w : World) (x : Work) (duty : Duty) → IsHere m cpu i → cpu < m.cpus → Goes m cpu s w [] x →
+    IsDuty m cpu x.local i duty → Goes m cpu s w [] (does_duty m cpu i duty x)
 duty_goes m cpu i s w x DropsOwn here processor e d =
     let q = queued_here m cpu i s w x processor e here.machine here.within d.1 in
     let was = home_is m cpu i s x q.1.has.goes.now here.home in
     drops_goes m cpu q.0 i s w x q.1 (ap (λ (k : Kept). k.thread.phase) was ∙ deleted_phase (thread x.local i).phase d.0)
-duty_goes m cpu i s w x (RefusesFirst sender) here processor e d = refuses_first_goes m cpu i sender s w x (listed_at m cpu i sender s w x d.1.0 here processor e d.1.1.0 d.1.1.1) d.0
+duty_goes m cpu i s w x (RefusesFirst sender) here processor e d =
+    refuses_first_goes m cpu i sender s w x (listed_at m cpu i sender s w x d.1.0 here processor e d.1.1.0 d.1.1.1) d.0
 duty_goes m cpu i s w x (TellsGone to) here processor e d = tells_gone_goes m cpu to i s w x here processor e d.0 d.1
 duty_goes m cpu i s w x CancelsOwn here processor e d =
     let q = queued_here m cpu i s w x processor e here.machine here.within d.0 in
     let was = home_is m cpu i s x q.1.has.goes.now here.home in
     cancels_goes m cpu q.0 i s w x q.1 (ap (λ (k : Kept). k.thread.cancel_send) was ∙ d.1)
-duty_goes m cpu i s w x CancelsReceive here processor e d = cancel_goes m cpu i s w x d.0 d.1.0.since (record { here = here; processor = processor; goes = e; receiving = d.1.0.is }) d.1.1
+duty_goes m cpu i s w x CancelsReceive here processor e d =
+    cancel_goes m cpu i s w x d.0 d.1.0.since (record { here = here; processor = processor; goes = e; receiving = d.1.0.is }) d.1.1
 duty_goes m cpu i s w x (DeliversFirst sender) here processor e d = accepted_goes m cpu i sender s w x here processor e d
-duty_goes m cpu i s w x ClosesReceive here processor e d = nobody_goes m cpu i s w x d.0 d.1.0.since (record { here = here; processor = processor; goes = e; receiving = d.1.0.is }) d.1.1.0 d.1.1.1
+duty_goes m cpu i s w x ClosesReceive here processor e d =
+    nobody_goes m cpu i s w x d.0 d.1.0.since (record { here = here; processor = processor; goes = e; receiving = d.1.0.is }) d.1.1.0 d.1.1.1
 duty_goes m cpu i s w x (RefusesZero sender) here processor e d =
-    refuses_zero_goes m cpu i sender s w x (listed_at m cpu i sender s w x d.0 here processor e d.1.0 d.1.1.0) (ap (λ j. zero_refusable m (held m x.local i) (thread x.local j).send) (sym d.1.1.0) ∙ d.1.1.1)
+    refuses_zero_goes m cpu i sender s w x (listed_at m cpu i sender s w x d.0 here processor e d.1.0 d.1.1.0)
+    (ap (λ j. zero_refusable m (held m x.local i) (thread x.local j).send) (sym d.1.1.0) ∙ d.1.1.1)
 
 -- The core's turn: the first duty, else the first due timeout, else one instruction of the first ready thread.
 
 -- An instruction
-acts_goes : (m : Machine) (cpu i : ℕ) (s : Scene) (w : World) (x : Work) → cpu < m.cpus → (e : Goes m cpu s w (i ∷ []) x) → IsPicked m cpu i s x e.now → Goes m cpu s w [] (acts m cpu i (act_of m (held m x.local i)) x)
+acts_goes : (m : Machine) (cpu i : ℕ) (s : Scene) (w : World) (x : Work) → cpu < m.cpus → (e : Goes m cpu s w (i ∷ []) x) → IsPicked m cpu i s x e.now →
+    Goes m cpu s w [] (acts m cpu i (act_of m (held m x.local i)) x)
 acts_goes m cpu i s w x processor e r = by (act_of m (held m x.local i)) refl
   where
     by : (a : Act) → act_of m (held m x.local i) ≡ a → Goes m cpu s w [] (acts m cpu i a x)
@@ -110,7 +118,14 @@ ready_entry i Deleted is h = none_ready i is h
 
 popped_spares : (m : Machine) (l : Local) (i : ℕ) (is : List ℕ) → l.lists.ready ≡ i ∷ is → Spares m (i ∷ []) l (relists plain.popped l)
 popped_spares m l i is at = record {
-  sized = λ z. record { threads = z.threads; lists = z.lists; told = z.told; ready = all-drop (λ j. j < length m.threads) l.lists.ready z.ready; armed = z.armed; listed = z.listed };
+  sized = λ z. record {
+    threads = z.threads;
+    lists = z.lists;
+    told = z.told;
+    ready = all-drop (λ j. j < length m.threads) l.lists.ready z.ready;
+    armed = z.armed;
+    listed = z.listed;
+  };
   clock = refl;
   kept = λ j out. popped_other l i j is at (λ e. out.0 (sym e));
 }
@@ -119,7 +134,8 @@ popped_spares m l i is at = record {
 abbrev with_ready : (ℕ → List ℕ) → View → View
 with_ready ready v = record v { kept = λ cpu. record (v.kept cpu) { ready = ready cpu } }
 
-known_with_ready : (m : Machine) (i : ℕ) (ready : ℕ → List ℕ) (v : View) → ((cpu : ℕ) → (cpu ≡ home m i → ⊥) → ready cpu ≡ []) → Known m i v → Known m i (with_ready ready v)
+known_with_ready : (m : Machine) (i : ℕ) (ready : ℕ → List ℕ) (v : View) → ((cpu : ℕ) → (cpu ≡ home m i → ⊥) → ready cpu ≡ []) → Known m i v →
+    Known m i (with_ready ready v)
 known_with_ready m i ready v none h = record {
   agrees = h.agrees;
   row = h.row;
@@ -134,7 +150,8 @@ pub record IsFirstReady (m : Machine) (cpu i : ℕ) (s : Scene) (w : World) (x :
   pub goes : Goes m cpu s w (i ∷ []) x
   pub picked : IsPicked m cpu i s x goes.now
 
-pub ready_goes : (m : Machine) (cpu : ℕ) (s : Scene) (w : World) (x : Work) (i : ℕ) (is : List ℕ) → IsMachine m → cpu < m.cpus → Goes m cpu s w [] x → x.local.lists.ready ≡ i ∷ is → IsFirstReady m cpu i s w (x ▷ does (relists plain.popped))
+pub ready_goes : (m : Machine) (cpu : ℕ) (s : Scene) (w : World) (x : Work) (i : ℕ) (is : List ℕ) → IsMachine m → cpu < m.cpus → Goes m cpu s w [] x →
+    x.local.lists.ready ≡ i ∷ is → IsFirstReady m cpu i s w (x ▷ does (relists plain.popped))
 ready_goes m cpu s w x i is machine processor e at =
     let y : Work = x ▷ does (relists plain.popped) in
     let v : View = view m (amid cpu s x) e.now i in
@@ -143,35 +160,46 @@ ready_goes m cpu s w x i is machine processor e at =
     let h = e.relates.places i lt tt in
     let old : v.kept cpu ≡ kept x.local i = ap (λ l. kept l i) (put_here cpu cpu x.local s.locals refl) in
     let entries : (v.kept cpu).ready ≡ i ∷ filter (λ k. i == k) is = ap (λ (k : Kept). k.ready) old ∙ ap (filter (λ k. i == k)) at ∙ first_kept i is in
-    let home_is_cpu : home m i ≡ cpu = same_or_apart (home m i ≡ cpu) cpu (home m i) (λ same. sym same) (λ ne. none_ready i (filter (λ k. i == k) is) (sym (h.known.kept.elsewhere cpu ne).ready ∙ entries)) in
+    let home_is_cpu : home m i ≡ cpu =
+        same_or_apart (home m i ≡ cpu) cpu (home m i) (λ same. sym same)
+        (λ ne. none_ready i (filter (λ k. i == k) is) (sym (h.known.kept.elsewhere cpu ne).ready ∙ entries)) in
     let was : at_home m i v ≡ kept x.local i = home_is m cpu i s x e.now home_is_cpu in
-    let mine : readied (thread x.local i).phase i [] ≡ i ∷ filter (λ k. i == k) is = sym (ap (λ (k : Kept). readied k.thread.phase i []) was) ∙ sym h.ready ∙ ap (λ c. (v.kept c).ready) home_is_cpu ∙ entries in
+    let mine : readied (thread x.local i).phase i [] ≡ i ∷ filter (λ k. i == k) is =
+        sym (ap (λ (k : Kept). readied k.thread.phase i []) was) ∙ sym h.ready ∙ ap (λ c. (v.kept c).ready) home_is_cpu ∙ entries in
     let r = ready_entry i (thread x.local i).phase (filter (λ k. i == k) is) mine in
     record {
       goes = record {
         now = e.now;
         reaches = e.reaches;
-        relates = local_changes m cpu (i ∷ []) s e.now x (relists plain.popped) (popped_spares m x.local i is at) refl (leaves_out m i [] (amid cpu s x) e.now e.relates);
+        relates = local_changes m cpu (i ∷ []) s e.now x (relists plain.popped) (popped_spares m x.local i is at) refl
+            (leaves_out m i [] (amid cpu s x) e.now e.relates);
       };
       picked = record {
         here = record { machine = machine; within = lt; home = home_is_cpu };
-        known = subst (Known m i) (sym seen) (known_with_ready m i (λ c. (kept (put cpu y.local s.locals c) i).ready) v (λ c ne. ap (λ (k : Kept). k.ready) (put_other cpu c i x.local y.local s.locals (λ same. ne (sym same ∙ sym home_is_cpu))) ∙ (h.known.kept.elsewhere c ne).ready) h.known);
+        known = subst (Known m i) (sym seen)
+            (known_with_ready m i (λ c. (kept (put cpu y.local s.locals c) i).ready) v
+            (λ c ne. ap (λ (k : Kept). k.ready) (put_other cpu c i x.local y.local s.locals (λ same. ne (sym same ∙ sym home_is_cpu)))
+            ∙ (h.known.kept.elsewhere c ne).ready) h.known);
         out = ap (λ xs. filter (λ k. i == k) (drop 1 xs)) at ∙ r.1;
         ready = r.0;
       };
     }
   where
-    seen_at : (c : ℕ) (b : Bool) → kept (cond b (relists plain.popped x.local) (s.locals c)) i ≡ record (kept (cond b x.local (s.locals c)) i) { ready = (kept (cond b (relists plain.popped x.local) (s.locals c)) i).ready }
+    seen_at : (c : ℕ) (b : Bool) →
+        kept (cond b (relists plain.popped x.local) (s.locals c)) i ≡ record
+        (kept (cond b x.local (s.locals c)) i) { ready = (kept (cond b (relists plain.popped x.local) (s.locals c)) i).ready }
     seen_at c true = refl
     seen_at c false = refl
 
-    seen : view m (amid cpu s (x ▷ does (relists plain.popped))) e.now i ≡ with_ready (λ c. (kept (put cpu (relists plain.popped x.local) s.locals c) i).ready) (view m (amid cpu s x) e.now i)
+    seen : view m (amid cpu s (x ▷ does (relists plain.popped))) e.now i ≡ with_ready (λ c. (kept (put cpu (relists plain.popped x.local) s.locals c) i).ready)
+        (view m (amid cpu s x) e.now i)
     seen = λ d. record (view m (amid cpu s x) e.now i) { kept = λ c. seen_at c (cpu == c) d }
 
 -- The choice
 
 due_first : (m : Machine) (cpu : ℕ) (l : Local) (t : Found) → duty_of m cpu l t ≡ None → duty_delivers_first l t ≡ None
-due_first m cpu l t h = by (duty_drops_own l t) (duty_refuses_waiting l t) (duty_tells_gone m cpu l t) (duty_cancels_own l t) (duty_cancels_receive t) (duty_delivers_first l t) (duty_closes_receive m l t ∷ duty_refuses_zero m l t ∷ []) h
+due_first m cpu l t h = by (duty_drops_own l t) (duty_refuses_waiting l t) (duty_tells_gone m cpu l t) (duty_cancels_own l t) (duty_cancels_receive t)
+    (duty_delivers_first l t) (duty_closes_receive m l t ∷ duty_refuses_zero m l t ∷ []) h
   where
     by : (a b c d e f : Option Duty) (rest : List (Option Duty)) → first_some (a ∷ b ∷ c ∷ d ∷ e ∷ f ∷ rest) ≡ None → f ≡ None
     by None None None None None None rest h = refl
@@ -182,7 +210,8 @@ due_first m cpu l t h = by (duty_drops_own l t) (duty_refuses_waiting l t) (duty
     by None (Some y) c d e f rest h = cc
     by (Some y) b c d e f rest h = cc
 
-choice_goes : (m : Machine) (cpu : ℕ) (s : Scene) (w : World) (l : Local) (c : Choice) → IsMachine m → cpu < m.cpus → Goes m cpu s w [] (opened 0 l) → IsChoice m cpu l c → Goes m cpu s w [] (does_choice m cpu c (opened 0 l))
+choice_goes : (m : Machine) (cpu : ℕ) (s : Scene) (w : World) (l : Local) (c : Choice) → IsMachine m → cpu < m.cpus → Goes m cpu s w [] (opened 0 l) →
+    IsChoice m cpu l c → Goes m cpu s w [] (does_choice m cpu c (opened 0 l))
 choice_goes m cpu s w l (ByDuty i duty) machine processor e c =
     duty_goes m cpu i s w (opened 0 l) duty (record { machine = machine; within = c.0.within; home = c.0.home }) processor e c.1
 choice_goes m cpu s w l (ByDue i) machine processor e c =
@@ -193,5 +222,7 @@ choice_goes m cpu s w l (ByReady i) machine processor e c =
     let r = ready_goes m cpu s w (opened 0 l) i c.0 machine processor e c.1 in
     acts_goes m cpu i s w (opened 0 l ▷ does (relists plain.popped)) processor r.goes r.picked
 
-pub turn_goes : (m : Machine) (cpu : ℕ) (s : Scene) (w : World) (x : Work) → IsMachine m → cpu < m.cpus → RelatesExcept m (Matches m) [] s w → turn m cpu (s.locals cpu) ≡ Some x → Goes m cpu s w [] x
-turn_goes m cpu s w x machine processor rel h = turn_then m cpu (s.locals cpu) x (Goes m cpu s w []) h λ c is. choice_goes m cpu s w (s.locals cpu) c machine processor (opened_goes m cpu 0 [] s w rel) is
+pub turn_goes : (m : Machine) (cpu : ℕ) (s : Scene) (w : World) (x : Work) → IsMachine m → cpu < m.cpus → RelatesExcept m (Matches m) [] s w →
+    turn m cpu (s.locals cpu) ≡ Some x → Goes m cpu s w [] x
+turn_goes m cpu s w x machine processor rel h =
+    turn_then m cpu (s.locals cpu) x (Goes m cpu s w []) h λ c is. choice_goes m cpu s w (s.locals cpu) c machine processor (opened_goes m cpu 0 [] s w rel) is

@@ -35,7 +35,8 @@ pub record IsListedSend (m : Machine) (cpu r i : ℕ) (s : Scene) (w : World) (x
   pub receiver : IsReceiver m cpu r s has.goes.now x send
   pub queued : is_queued has.goes.now.waiting i ≡ true
 
-pub listed_send : (m : Machine) (cpu r i : ℕ) (s : Scene) (w : World) (x : Work) (seat : plain.Waiting) → IsHere m cpu r → cpu < m.cpus → (e : Goes m cpu s w [] x) → i < length m.threads → IsEntry m r i (view m (amid cpu s x) e.now i) seat → IsListedSend m cpu r i s w x
+pub listed_send : (m : Machine) (cpu r i : ℕ) (s : Scene) (w : World) (x : Work) (seat : plain.Waiting) → IsHere m cpu r → cpu < m.cpus →
+    (e : Goes m cpu s w [] x) → i < length m.threads → IsEntry m r i (view m (amid cpu s x) e.now i) seat → IsListedSend m cpu r i s w x
 listed_send m cpu r i s w x seat here processor e lt is =
     let v : View = view m (amid cpu s x) e.now i in
     let q = is.receiver in
@@ -51,19 +52,23 @@ listed_send m cpu r i s w x seat here processor e lt is =
       };
       receiver = record { within = here.within; home = here.home; to = is.waits.to ∙ ap Some q; seen = inl (e.relates.places r here.within tt).known };
       queued = any_list (λ x. i == x) e.now.waiting r
-          (ap (list_any (λ x. i == x)) (e.relates.lists r here.within) ∙ any_block i (senders m (amid cpu s x) r) ∙ any_kept (is_of i) (senders m (amid cpu s x) r) [] _ listed);
+          (ap (list_any (λ x. i == x)) (e.relates.lists r here.within) ∙ any_block i (senders m (amid cpu s x) r)
+          ∙ any_kept (is_of i) (senders m (amid cpu s x) r) [] _ listed);
     }
 
 -- What waits at a deleted thread, and what is of timeout zero and not waited for
 
-pub refuses_first_goes : (m : Machine) (cpu r i : ℕ) (s : Scene) (w : World) (x : Work) → IsListedSend m cpu r i s w x → is_deleted (thread x.local r).phase ≡ true → Goes m cpu s w [] (refuses m cpu Nobody i x)
+pub refuses_first_goes : (m : Machine) (cpu r i : ℕ) (s : Scene) (w : World) (x : Work) → IsListedSend m cpu r i s w x →
+    is_deleted (thread x.local r).phase ≡ true → Goes m cpu s w [] (refuses m cpu Nobody i x)
 refuses_first_goes m cpu r i s w x l gone = deleted_goes m cpu i r s w x l.send l.has l.receiver gone
 
-pub refuses_zero_goes : (m : Machine) (cpu r i : ℕ) (s : Scene) (w : World) (x : Work) → IsListedSend m cpu r i s w x → zero_refusable m (held m x.local r) (thread x.local i).send ≡ true → Goes m cpu s w [] (refuses m cpu TimedOut i x)
+pub refuses_zero_goes : (m : Machine) (cpu r i : ℕ) (s : Scene) (w : World) (x : Work) → IsListedSend m cpu r i s w x →
+    zero_refusable m (held m x.local r) (thread x.local i).send ≡ true → Goes m cpu s w [] (refuses m cpu TimedOut i x)
 refuses_zero_goes m cpu r i s w x l h = zero_goes m cpu i r s w x l.send l.has l.receiver h
 
 -- Its period is over.
-pub refuses_timed_goes : (m : Machine) (cpu r i : ℕ) (s : Scene) (w : World) (x : Work) → (l : IsListedSend m cpu r i s w x) → is_zero l.send.period ≡ false → has_passed l.send.period l.send.since (at_home m i (view m (amid cpu s x) l.has.goes.now i)).clock ≡ true → Goes m cpu s w [] (refuses m cpu TimedOut i x)
+pub refuses_timed_goes : (m : Machine) (cpu r i : ℕ) (s : Scene) (w : World) (x : Work) → (l : IsListedSend m cpu r i s w x) → is_zero l.send.period ≡ false →
+    has_passed l.send.period l.send.since (at_home m i (view m (amid cpu s x) l.has.goes.now i)).clock ≡ true → Goes m cpu s w [] (refuses m cpu TimedOut i x)
 refuses_timed_goes m cpu r i s w x l finite passed =
     let h = l.has in
     let pending = pending_is m cpu i l.send (i ∷ []) s x h.goes.now h.machine h.within h.goes.relates h.at in
@@ -83,7 +88,8 @@ agrees_wish world t a = by t.phase a
     by Ended a = ap (λ (t : Thread). t.cancel_send) a
     by Deleted a = a.cancel_send
 
-pub cancels_goes : (m : Machine) (cpu r i : ℕ) (s : Scene) (w : World) (x : Work) → (l : IsListedSend m cpu r i s w x) → (at_home m i (view m (amid cpu s x) l.has.goes.now i)).thread.cancel_send ≡ true → Goes m cpu s w [] (refuses m cpu Cancelled i x)
+pub cancels_goes : (m : Machine) (cpu r i : ℕ) (s : Scene) (w : World) (x : Work) → (l : IsListedSend m cpu r i s w x) →
+    (at_home m i (view m (amid cpu s x) l.has.goes.now i)).thread.cancel_send ≡ true → Goes m cpu s w [] (refuses m cpu Cancelled i x)
 cancels_goes m cpu r i s w x l wish =
     let h = l.has in
     let v : View = view m (amid cpu s x) h.goes.now i in
@@ -92,7 +98,8 @@ cancels_goes m cpu r i s w x l wish =
     let wished : (world_thread h.goes.now i).cancel_send ≡ true = agrees_wish v.world (at_home m i v).thread h.at.agrees ∙ wish in
     refuses_goes m cpu i s w x Cancelled l.send (refused 6) h refl (rw (pending, queued, wished) refl)
 
-pub drops_goes : (m : Machine) (cpu r i : ℕ) (s : Scene) (w : World) (x : Work) → (l : IsListedSend m cpu r i s w x) → (at_home m i (view m (amid cpu s x) l.has.goes.now i)).thread.phase ≡ Deleted → Goes m cpu s w [] (refuses m cpu Dropped i x)
+pub drops_goes : (m : Machine) (cpu r i : ℕ) (s : Scene) (w : World) (x : Work) → (l : IsListedSend m cpu r i s w x) →
+    (at_home m i (view m (amid cpu s x) l.has.goes.now i)).thread.phase ≡ Deleted → Goes m cpu s w [] (refuses m cpu Dropped i x)
 drops_goes m cpu r i s w x l gone =
     let h = l.has in
     let v : View = view m (amid cpu s x) h.goes.now i in
@@ -128,10 +135,13 @@ queued_where m cpu i q v known some = where_then m i v known
     (λ p is row a. absurd (some (row.orders.unplaced.listed cpu q)))
     (λ p caller is content row a. absurd (some (row.orders.unplaced.listed cpu q)))
 
-pub queued_here : (m : Machine) (cpu i : ℕ) (s : Scene) (w : World) (x : Work) → cpu < m.cpus → (e : Goes m cpu s w [] x) → IsMachine m → i < length m.threads → plain.is_queued x.local.lists i ≡ true → (r : ℕ) × IsListedSend m cpu r i s w x
+pub queued_here : (m : Machine) (cpu i : ℕ) (s : Scene) (w : World) (x : Work) → cpu < m.cpus → (e : Goes m cpu s w [] x) → IsMachine m → i < length m.threads →
+    plain.is_queued x.local.lists i ≡ true → (r : ℕ) × IsListedSend m cpu r i s w x
 queued_here m cpu i s w x processor e machine lt queued =
     let v : View = view m (amid cpu s x) e.now i in
     let at = any_at (list_any (λ (f : plain.Waiting). i == f.block)) x.local.lists.waiting queued in
     let here : v.kept cpu ≡ kept x.local i = ap (λ l. kept l i) (put_here cpu cpu x.local s.locals refl) in
-    let q = queued_where m cpu i at.0 v (e.relates.places i lt tt).known (λ none. let no = none_kept (is_of i) (plain.list_of x.local.lists at.0) (sym (ap (λ (k : Kept). k.listed at.0) here) ∙ none) in let yes = at.1 in cc (no, yes)) in
+    let q = queued_where m cpu i at.0 v (e.relates.places i lt tt).known
+        (λ none. let no = none_kept (is_of i) (plain.list_of x.local.lists at.0) (sym (ap (λ (k : Kept). k.listed at.0) here) ∙ none) in let yes = at.1 in
+        cc (no, yes)) in
     (q.r, listed_send m cpu q.r i s w x q.entry (record { machine = machine; within = q.within; home = q.here }) processor e lt q.is)

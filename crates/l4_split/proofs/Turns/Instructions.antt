@@ -66,15 +66,19 @@ running_is m cpu i s x w r =
     }
 
 -- The world finds a running thread as its home has it.
-pub running_found : (m : Machine) (cpu i : ℕ) (s : Scene) (w : World) (x : Work) → (e : Goes m cpu s w (i ∷ []) x) → IsPicked m cpu i s x e.now → found m e.now (declared m i).id ≡ Some (held m x.local i)
+pub running_found : (m : Machine) (cpu i : ℕ) (s : Scene) (w : World) (x : Work) → (e : Goes m cpu s w (i ∷ []) x) → IsPicked m cpu i s x e.now →
+    found m e.now (declared m i).id ≡ Some (held m x.local i)
 running_found m cpu i s w x e r =
     found_here m cpu i (i ∷ []) s e.now x r.here e.relates
     ∙ ap (λ t. Some (record { at = i; declared = declared m i; now = t; clock = x.local.clock })) (running_is m cpu i s x e.now r).same
 
 -- A change of a running thread that leaves it without send and order.
-running_quiet : (m : Machine) (cpu i : ℕ) (s : Scene) (w : World) (x : Work) (f : Thread → Thread) → (e : Goes m cpu s w (i ∷ []) x) → IsPicked m cpu i s x e.now →
-    (f (thread x.local i)).send ≡ (thread x.local i).send → (f (thread x.local i)).order ≡ (thread x.local i).order → (f (thread x.local i)).context.begun ≡ (thread x.local i).context.begun →
-    (IsGood x.local.clock (thread x.local i) → IsGood x.local.clock (f (thread x.local i))) → IsFresh x.local.clock (f (thread x.local i)).phase (f (thread x.local i)).send →
+running_quiet : (m : Machine) (cpu i : ℕ) (s : Scene) (w : World) (x : Work) (f : Thread → Thread) → (e : Goes m cpu s w (i ∷ []) x) →
+    IsPicked m cpu i s x e.now →
+    (f (thread x.local i)).send ≡ (thread x.local i).send → (f (thread x.local i)).order ≡ (thread x.local i).order →
+    (f (thread x.local i)).context.begun ≡ (thread x.local i).context.begun →
+    (IsGood x.local.clock (thread x.local i) → IsGood x.local.clock (f (thread x.local i))) →
+    IsFresh x.local.clock (f (thread x.local i)).phase (f (thread x.local i)).send →
     IsQuiet m i (view m (amid cpu s x) e.now i) (kept x.local i) f f
 running_quiet m cpu i s w x f e r send order begun good fresh =
     let is = running_is m cpu i s x e.now r in
@@ -99,17 +103,20 @@ ran_fresh : (i : Instr) (clock : ℕ) (send : Option Send) → IsFresh clock (ph
 ran_fresh End clock send = tt
 ran_fresh _ clock send = tt
 
-pub runs_alone_goes : (m : Machine) (cpu i : ℕ) (s : Scene) (w : World) (x : Work) → (e : Goes m cpu s w (i ∷ []) x) → IsPicked m cpu i s x e.now → runs_alone (act_of m (held m x.local i)) ≡ true → Goes m cpu s w [] (runs_alone_at m i x)
+pub runs_alone_goes : (m : Machine) (cpu i : ℕ) (s : Scene) (w : World) (x : Work) → (e : Goes m cpu s w (i ∷ []) x) → IsPicked m cpu i s x e.now →
+    runs_alone (act_of m (held m x.local i)) ≡ true → Goes m cpu s w [] (runs_alone_at m i x)
 runs_alone_goes m cpu i s w x e r alone =
     let found_is = running_found m cpu i s w x e r in
     let ready = r.ready in
     let instr : Instr = instruction (held m x.local i) in
     comes_quiet m cpu i s w x (RanLocal (declared m i).id) (runs instr) (runs instr) r.here e
-    (running_quiet m cpu i s w x (runs instr) e r refl refl (begun-ran instr (thread x.local i).context) (runs_good x.local.clock instr (thread x.local i) ready) (ran_fresh instr x.local.clock _))
+    (running_quiet m cpu i s w x (runs instr) e r refl refl (begun-ran instr (thread x.local i).context)
+    (runs_good x.local.clock instr (thread x.local i) ready) (ran_fresh instr x.local.clock _))
     (rw (found_is, ready, alone) refl)
 
 -- wait
-pub waits_goes : (m : Machine) (cpu i : ℕ) (s : Scene) (w : World) (x : Work) (receive : Receive) → (e : Goes m cpu s w (i ∷ []) x) → IsPicked m cpu i s x e.now → receive_of (act_of m (held m x.local i)) ≡ Some receive → Goes m cpu s w [] (waits_at m i receive x)
+pub waits_goes : (m : Machine) (cpu i : ℕ) (s : Scene) (w : World) (x : Work) (receive : Receive) → (e : Goes m cpu s w (i ∷ []) x) →
+    IsPicked m cpu i s x e.now → receive_of (act_of m (held m x.local i)) ≡ Some receive → Goes m cpu s w [] (waits_at m i receive x)
 waits_goes m cpu i s w x receive e r receives =
     let found_is = running_found m cpu i s w x e r in
     let ready = r.ready in

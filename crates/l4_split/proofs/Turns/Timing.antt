@@ -46,7 +46,8 @@ deadline_is i Ready send a others h = none_armed a others h
 deadline_is i Sending None a others h = none_armed a others h
 deadline_is i Sending (Some send) a others h = by (is_zero send.period) refl send.period refl h
   where
-    by : (b : Bool) → is_zero send.period ≡ b → (period : Period) → send.period ≡ period → armed_for (cond b None period) send.since i [] ≡ a ∷ others → IsDeadline a.0 Sending (Some send) others
+    by : (b : Bool) → is_zero send.period ≡ b → (period : Period) → send.period ≡ period → armed_for (cond b None period) send.since i [] ≡ a ∷ others →
+        IsDeadline a.0 Sending (Some send) others
     by true z period is h = none_armed a others h
     by false z None is h = none_armed a others h
     by false z (Some n) is h =
@@ -76,18 +77,28 @@ skipped j a others ne = let apart = other_is j a.1 (λ e. ne (sym e)) in rw apar
 first_kept : (a : ℕ × ℕ) (others : List (ℕ × ℕ)) → entries a.1 (a ∷ others) ≡ a ∷ entries a.1 others
 first_kept a others = let same = same_nat a.1 in rw same refl
 
-pub popped_spares : (m : Machine) (l : Local) (a : ℕ × ℕ) (others : List (ℕ × ℕ)) → l.lists.armed ≡ a ∷ others → Spares m (a.1 ∷ []) l (relists plain.popped_due l)
+pub popped_spares : (m : Machine) (l : Local) (a : ℕ × ℕ) (others : List (ℕ × ℕ)) → l.lists.armed ≡ a ∷ others →
+    Spares m (a.1 ∷ []) l (relists plain.popped_due l)
 popped_spares m l a others at = record {
-  sized = λ z. record { threads = z.threads; lists = z.lists; told = z.told; ready = z.ready; armed = all-drop (λ (e : ℕ × ℕ). e.1 < length m.threads) l.lists.armed z.armed; listed = z.listed };
+  sized = λ z. record {
+    threads = z.threads;
+    lists = z.lists;
+    told = z.told;
+    ready = z.ready;
+    armed = all-drop (λ (e : ℕ × ℕ). e.1 < length m.threads) l.lists.armed z.armed;
+    listed = z.listed;
+  };
   clock = refl;
-  kept = λ j out. ap (λ es. record (kept l j) { armed = es }) (ap (λ es. entries j (drop 1 es)) at ∙ sym (skipped j a others (λ e. out.0 (sym e))) ∙ sym (ap (entries j) at));
+  kept = λ j out. ap (λ es. record (kept l j) { armed = es })
+      (ap (λ es. entries j (drop 1 es)) at ∙ sym (skipped j a others (λ e. out.0 (sym e))) ∙ sym (ap (entries j) at));
 }
 
 -- Nothing else is said of what is armed.
 abbrev with_armed : (ℕ → List (ℕ × ℕ)) → View → View
 with_armed armed v = record v { kept = λ cpu. record (v.kept cpu) { armed = armed cpu } }
 
-matches_with_armed : (m : Machine) (i : ℕ) (armed : ℕ → List (ℕ × ℕ)) (v : View) → IsArmed i (at_home m i v).thread (armed (home m i)) → ((cpu : ℕ) → (cpu ≡ home m i → ⊥) → armed cpu ≡ []) → Matches m i v → Matches m i (with_armed armed v)
+matches_with_armed : (m : Machine) (i : ℕ) (armed : ℕ → List (ℕ × ℕ)) (v : View) → IsArmed i (at_home m i v).thread (armed (home m i)) →
+    ((cpu : ℕ) → (cpu ≡ home m i → ⊥) → armed cpu ≡ []) → Matches m i v → Matches m i (with_armed armed v)
 matches_with_armed m i armed v here none h = record {
   known = record {
     agrees = h.known.agrees;
@@ -107,7 +118,8 @@ pub record IsDue (m : Machine) (cpu d i : ℕ) (s : Scene) (w : World) (x : Work
   pub goes : Goes m cpu s w [] x
   pub just : Justifies d (thread x.local i).phase (thread x.local i).send
 
-pub due_goes : (m : Machine) (cpu : ℕ) (s : Scene) (w : World) (x : Work) (a : ℕ × ℕ) (others : List (ℕ × ℕ)) → IsMachine m → cpu < m.cpus → (e : Goes m cpu s w [] x) → x.local.lists.armed ≡ a ∷ others → IsDue m cpu a.0 a.1 s w (x ▷ does (relists plain.popped_due))
+pub due_goes : (m : Machine) (cpu : ℕ) (s : Scene) (w : World) (x : Work) (a : ℕ × ℕ) (others : List (ℕ × ℕ)) → IsMachine m → cpu < m.cpus →
+    (e : Goes m cpu s w [] x) → x.local.lists.armed ≡ a ∷ others → IsDue m cpu a.0 a.1 s w (x ▷ does (relists plain.popped_due))
 due_goes m cpu s w x a others machine processor e at =
     let i : ℕ = a.1 in
     let y : Work = x ▷ does (relists plain.popped_due) in
@@ -118,7 +130,9 @@ due_goes m cpu s w x a others machine processor e at =
     let h = e.relates.places i lt tt in
     let old : v.kept cpu ≡ kept x.local i = ap (λ l. kept l i) (put_here cpu cpu x.local s.locals refl) in
     let armed : (v.kept cpu).armed ≡ a ∷ entries i others = ap (λ (k : Kept). k.armed) old ∙ ap (entries i) at ∙ first_kept a others in
-    let home_is_cpu : home m i ≡ cpu = same_or_apart (home m i ≡ cpu) cpu (home m i) (λ same. sym same) (λ ne. none_armed a (entries i others) (sym (h.known.kept.elsewhere cpu ne).armed ∙ armed)) in
+    let home_is_cpu : home m i ≡ cpu =
+        same_or_apart (home m i ≡ cpu) cpu (home m i) (λ same. sym same)
+        (λ ne. none_armed a (entries i others) (sym (h.known.kept.elsewhere cpu ne).armed ∙ armed)) in
     let here : IsHere m cpu i = record { machine = machine; within = lt; home = home_is_cpu } in
     let was : at_home m i v ≡ kept x.local i = home_is m cpu i s x e.now home_is_cpu in
     let mine : (at_home m i v).armed ≡ a ∷ entries i others = ap (λ c. (v.kept c).armed) home_is_cpu ∙ armed in
@@ -130,17 +144,25 @@ due_goes m cpu s w x a others machine processor e at =
       goes = record {
         now = e.now;
         reaches = e.reaches;
-        relates = takes_in m i [] (amid cpu s y) e.now (local_changes m cpu (i ∷ []) s e.now x (relists plain.popped_due) (popped_spares m x.local a others at) refl (leaves_out m i [] (amid cpu s x) e.now e.relates))
-            (subst (Matches m i) (sym (seen i)) (matches_with_armed m i (λ c. (after.kept c).armed) v (inr left) (λ c ne. ap (λ (k : Kept). k.armed) (put_other cpu c i x.local y.local s.locals (λ same. ne (sym same ∙ sym home_is_cpu))) ∙ (h.known.kept.elsewhere c ne).armed) h));
+        relates = takes_in m i [] (amid cpu s y) e.now
+            (local_changes m cpu (i ∷ []) s e.now x (relists plain.popped_due) (popped_spares m x.local a others at) refl
+            (leaves_out m i [] (amid cpu s x) e.now e.relates))
+            (subst (Matches m i) (sym (seen i))
+            (matches_with_armed m i (λ c. (after.kept c).armed) v (inr left)
+            (λ c ne. ap (λ (k : Kept). k.armed) (put_other cpu c i x.local y.local s.locals (λ same. ne (sym same ∙ sym home_is_cpu)))
+            ∙ (h.known.kept.elsewhere c ne).armed) h));
       };
       just = subst (λ (k : Kept). Justifies a.0 k.thread.phase k.thread.send) was deadline.just;
     }
   where
-    seen_at : (i c : ℕ) (b : Bool) → kept (cond b (relists plain.popped_due x.local) (s.locals c)) i ≡ record (kept (cond b x.local (s.locals c)) i) { armed = (kept (cond b (relists plain.popped_due x.local) (s.locals c)) i).armed }
+    seen_at : (i c : ℕ) (b : Bool) →
+        kept (cond b (relists plain.popped_due x.local) (s.locals c)) i ≡ record
+        (kept (cond b x.local (s.locals c)) i) { armed = (kept (cond b (relists plain.popped_due x.local) (s.locals c)) i).armed }
     seen_at i c true = refl
     seen_at i c false = refl
 
-    seen : (i : ℕ) → view m (amid cpu s (x ▷ does (relists plain.popped_due))) e.now i ≡ with_armed (λ c. (kept (put cpu (relists plain.popped_due x.local) s.locals c) i).armed) (view m (amid cpu s x) e.now i)
+    seen : (i : ℕ) → view m (amid cpu s (x ▷ does (relists plain.popped_due))) e.now i ≡ with_armed
+        (λ c. (kept (put cpu (relists plain.popped_due x.local) s.locals c) i).armed) (view m (amid cpu s x) e.now i)
     seen i = λ d. record (view m (amid cpu s x) e.now i) { kept = λ c. seen_at i c (cpu == c) d }
 
     armed_is : (i : ℕ) (t : Thread) (a : ℕ × ℕ) (others armed : List (ℕ × ℕ)) → armed ≡ a ∷ others → IsArmed i t armed → IsDeadline a.0 t.phase t.send others
@@ -153,23 +175,29 @@ later_passed : (period : Period) (since d now : ℕ) → has_passed period since
 later_passed None since d now h le = cc
 later_passed (Some n) since d now h le = grind (arith, nat_tests)
 
-pub times_out_goes : (m : Machine) (cpu d i : ℕ) (s : Scene) (w : World) (x : Work) → cpu < m.cpus → IsDue m cpu d i s w x → nat_le d x.local.clock ≡ true → first_acceptable x.local i ≡ None → Goes m cpu s w [] (times_out m cpu i x)
+pub times_out_goes : (m : Machine) (cpu d i : ℕ) (s : Scene) (w : World) (x : Work) → cpu < m.cpus → IsDue m cpu d i s w x → nat_le d x.local.clock ≡ true →
+    first_acceptable x.local i ≡ None → Goes m cpu s w [] (times_out m cpu i x)
 times_out_goes m cpu d i s w x processor h past none = by (thread x.local i).phase (thread x.local i).send refl refl h.just
   where
-    receiving_now : is_some (receive_now (thread x.local i).phase) ≡ true → Goes m cpu s w [] (fails_receive m ReceiveTimeout 3 i x) → Goes m cpu s w [] (times_out m cpu i x)
+    receiving_now : is_some (receive_now (thread x.local i).phase) ≡ true → Goes m cpu s w [] (fails_receive m ReceiveTimeout 3 i x) →
+        Goes m cpu s w [] (times_out m cpu i x)
     receiving_now is g = rw is g
 
-    sending_now : is_some (receive_now (thread x.local i).phase) ≡ false → Goes m cpu s w [] (cond (plain.is_queued x.local.lists i) (refuses m cpu TimedOut i x) (withdraws m ByTimeout i (split_place m cpu x.local i) x)) → Goes m cpu s w [] (times_out m cpu i x)
+    sending_now : is_some (receive_now (thread x.local i).phase) ≡ false →
+        Goes m cpu s w [] (cond (plain.is_queued x.local.lists i) (refuses m cpu TimedOut i x) (withdraws m ByTimeout i (split_place m cpu x.local i) x)) →
+        Goes m cpu s w [] (times_out m cpu i x)
     sending_now is g = rw is g
 
-    queued_goes : (send : Send) → (thread x.local i).send ≡ Some send → has_passed send.period send.since x.local.clock ≡ true → is_zero send.period ≡ false → plain.is_queued x.local.lists i ≡ true → Goes m cpu s w [] (refuses m cpu TimedOut i x)
+    queued_goes : (send : Send) → (thread x.local i).send ≡ Some send → has_passed send.period send.since x.local.clock ≡ true → is_zero send.period ≡ false →
+        plain.is_queued x.local.lists i ≡ true → Goes m cpu s w [] (refuses m cpu TimedOut i x)
     queued_goes send has passed finite queued =
         let q = queued_here m cpu i s w x processor h.goes h.here.machine h.here.within queued in
         let l = q.1 in
         let was = home_is m cpu i s x l.has.goes.now h.here.home in
         let same : send ≡ l.send = some_is send l.send (sym has ∙ sym (ap (λ (k : Kept). k.thread.send) was) ∙ l.has.at.has) in
         refuses_timed_goes m cpu q.0 i s w x l (ap (λ (s : Send). is_zero s.period) (sym same) ∙ finite)
-        (subst (λ (s : Send). has_passed s.period s.since (at_home m i (view m (amid cpu s_here x) l.has.goes.now i)).clock ≡ true) same (subst (λ (k : Kept). has_passed send.period send.since k.clock ≡ true) (sym was) passed))
+        (subst (λ (s : Send). has_passed s.period s.since (at_home m i (view m (amid cpu s_here x) l.has.goes.now i)).clock ≡ true) same
+        (subst (λ (k : Kept). has_passed send.period send.since k.clock ≡ true) (sym was) passed))
       where
         s_here : Scene
         s_here = s
@@ -177,13 +205,15 @@ times_out_goes m cpu d i s w x processor h past none = by (thread x.local i).pha
     by : (p : Phase) (o : Option Send) → (thread x.local i).phase ≡ p → (thread x.local i).send ≡ o → Justifies d p o → Goes m cpu s w [] (times_out m cpu i x)
     by (Receiving receive since) o is has just =
         receiving_now (ap (λ p. is_some (receive_now p)) is)
-        (receive_timeout_goes m cpu i s w x receive since (record { here = h.here; processor = processor; goes = h.goes; receiving = is }) (later_passed receive.period since d x.local.clock just past) none)
+        (receive_timeout_goes m cpu i s w x receive since (record { here = h.here; processor = processor; goes = h.goes; receiving = is })
+        (later_passed receive.period since d x.local.clock just past) none)
     by Sending (Some send) is has just =
         let passed = later_passed send.period send.since d x.local.clock just.0 past in
         sending_now (ap (λ p. is_some (receive_now p)) is)
         (cond_keeps (Goes m cpu s w []) (plain.is_queued x.local.lists i) (refuses m cpu TimedOut i x) (withdraws m ByTimeout i (split_place m cpu x.local i) x)
         (λ queued. queued_goes send has passed just.1 queued)
-        (λ other. withdraws_goes m cpu i ByTimeout s w x h.here h.goes (subst (λ o. IfSome o (IsCause ByTimeout x.local.clock (thread x.local i))) (sym has) (passed, just.1))))
+        (λ other. withdraws_goes m cpu i ByTimeout s w x h.here h.goes
+        (subst (λ o. IfSome o (IsCause ByTimeout x.local.clock (thread x.local i))) (sym has) (passed, just.1))))
     by Sending None is has just = absurd just
     by Ready o is has just = absurd just
     by Ordering o is has just = absurd just

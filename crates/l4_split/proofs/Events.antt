@@ -50,7 +50,7 @@ event_then m g (Handles cpu from) h P counted is letter_then turn_then tick_then
     let place = local_at g.locals cpu l at in
     let lt : cpu < m.cpus = omega (arith, place.0, counted) in
     done_then (handle m cpu l letter) (done cpu (taken from cpu g)) h P
-        (λ x handled. letter_then cpu from letter x lt first (ap (λ k. handle m cpu k letter) place.1 ∙ handled)) rest
+    (λ x handled. letter_then cpu from letter x lt first (ap (λ k. handle m cpu k letter) place.1 ∙ handled)) rest
 event_then m g (Turns cpu) h P counted is letter_then turn_then tick_then =
     bind_then (slice_get g.locals cpu) _ h is λ l at rest.
     let place = local_at g.locals cpu l at in

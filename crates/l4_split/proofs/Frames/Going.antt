@@ -159,8 +159,11 @@ pub opened_relates : (m : Machine) (cpu stamp : ℕ) (except : List ℕ) (s : Sc
     RelatesExcept m (Matches m) except (amid cpu s (opened stamp (s.locals cpu))) w
 opened_relates m cpu stamp except s w rel =
     local_changes m cpu except s w (record { local = s.locals cpu; steps = []; letters = [] }) (λ l. (opened stamp l).local)
-    (record { sized = λ z. record { threads = z.threads; lists = z.lists; told = z.told; ready = z.ready; armed = z.armed; listed = z.listed }; clock = refl;
-    kept = λ j out. refl }) refl
+    (record {
+      sized = λ z. record { threads = z.threads; lists = z.lists; told = z.told; ready = z.ready; armed = z.armed; listed = z.listed };
+      clock = refl;
+      kept = λ j out. refl;
+    }) refl
     (subst (λ s. RelatesExcept m (Matches m) except s w) (opened_scene cpu s) rel)
 
 pub opened_goes : (m : Machine) (cpu stamp : ℕ) (except : List ℕ) (s : Scene) (w : World) → RelatesExcept m (Matches m) except s w →

@@ -50,12 +50,12 @@ unqueued_spares m i except l about = record {
 -- what a list is after it, here and elsewhere
 put_without : (cpu c i q : ℕ) (l : Local) (locals : ℕ → Local) → ((cpu ≡ c → ⊥) → (kept (put cpu l locals c) i).listed q ≡ []) →
     plain.list_of (put cpu (relists (plain.unqueued i) l) locals c).lists q ≡ filter (λ (e : plain.Waiting). not (i == e.block))
-        (plain.list_of (put cpu l locals c).lists q)
+    (plain.list_of (put cpu l locals c).lists q)
 put_without cpu c i q l locals elsewhere = by (cpu == c) (λ h. elsewhere (apart cpu c h)) refl
   where
     by : (b : Bool) → ((cpu == c) ≡ false → filter (is_of i) (plain.list_of (put cpu l locals c).lists q) ≡ []) → (cpu == c) ≡ b →
         plain.list_of (cond b (relists (plain.unqueued i) l) (locals c)).lists q ≡ filter (λ (e : plain.Waiting). not (i == e.block))
-            (plain.list_of (cond b l (locals c)).lists q)
+        (plain.list_of (cond b l (locals c)).lists q)
     by true none is = list_unqueued l i q
     by false none is = sym (filter_stays i (plain.list_of (locals c).lists q)
         (subst (λ b. filter (is_of i) (plain.list_of (cond b l (locals c)).lists q) ≡ []) is (none is)))

@@ -96,13 +96,13 @@ list_unqueued l i r = get_or-map (filter (λ (e : plain.Waiting). not (i == e.bl
 pub unqueued_other : (l : Local) (i j : ℕ) → (i ≡ j → ⊥) → kept (relists (plain.unqueued i) l) j ≡ kept l j
 unqueued_other l i j ne =
     let listed = λ (r : ℕ). ap (filter (is_of j)) (list_unqueued l i r)
-        ∙ filter_kept (is_of j) (λ (e : plain.Waiting). not (i == e.block)) (λ e is. of_other i j e.block ne is) (plain.list_of l.lists r) in
+    ∙ filter_kept (is_of j) (λ (e : plain.Waiting). not (i == e.block)) (λ e is. of_other i j e.block ne is) (plain.list_of l.lists r) in
     λ d. record (kept l j) { listed = λ r. listed r d }
 
 pub unqueued_here : (l : Local) (i : ℕ) → kept (relists (plain.unqueued i) l) i ≡ record (kept l i) { listed = λ r. [] }
 unqueued_here l i =
     let listed = λ (r : ℕ). ap (filter (is_of i)) (list_unqueued l i r)
-        ∙ filter_out (is_of i) (λ (e : plain.Waiting). not (i == e.block)) (λ e is. not_kept (i == e.block) is) (plain.list_of l.lists r) in
+    ∙ filter_out (is_of i) (λ (e : plain.Waiting). not (i == e.block)) (λ e is. not_kept (i == e.block) is) (plain.list_of l.lists r) in
     λ d. record (kept l i) { listed = λ r. listed r d }
 
 -- A send is appended to a list
@@ -115,7 +115,7 @@ pub queued_other : (l : Local) (r j : ℕ) (e : plain.Waiting) → r < length l.
 queued_other l r j e lt ne =
     let apart = other_is j e.block (swapped ne) in
     let listed = λ (q : ℕ). list_queued r e l.lists (λ es. filter (is_of j) es ≡ filter (is_of j) (plain.list_of l.lists q)) q lt
-        (λ is. filter_last_other (is_of j) (plain.list_of l.lists q) e apart) (λ other. refl) in
+    (λ is. filter_last_other (is_of j) (plain.list_of l.lists q) e apart) (λ other. refl) in
     λ d. record (kept l j) { listed = λ q. listed q d }
 
 pub queued_listed : (l : Local) (r : ℕ) (e : plain.Waiting) → r < length l.lists.waiting →

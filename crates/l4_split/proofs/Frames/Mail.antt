@@ -40,7 +40,7 @@ pub mail_posted : (cpu to : ℕ) (content : Content) (s : Scene) (x : Work) →
     (amid cpu s (x ▷ posts to content)).mail ≡ (amid cpu s x).mail ++ posted cpu (to, record { stamp = x.local.stamp; content = content }) ∷ []
 mail_posted cpu to content s x =
     ap (λ ps. s.mail ++ ps) (map_push (posted cpu) x.letters (to, record { stamp = x.local.stamp; content = content }))
-        ∙ sym (append_assoc s.mail (map (posted cpu) x.letters) _)
+    ∙ sym (append_assoc s.mail (map (posted cpu) x.letters) _)
 
 pub letter_posted : {P : ℕ → View → Type 0} (m : Machine) (cpu to i : ℕ) (content : Content) (except : List ℕ) (s : Scene) (w : World) (x : Work) →
     place_of m (subject content) ≡ Some i → IsAbout i except →
@@ -133,7 +133,7 @@ only_locator m i v send (x ∷ z ∷ xs) ys p h = absurd h
 pub taken_here : (m : Machine) (from to i : ℕ) (letter : Letter) (mail : List Posted) (v : View) (send : Option Send) →
     place_of m (subject letter.content) ≡ Some i → is_locator letter.content ≡ true → IsFirstLetter from to letter mail →
     Row m i (seats m i v) (locators (filter (is_about m i) mail)) send →
-        IsTaken (record { from = from; to = to; letter = letter }) (filter (is_about m i) mail) (filter (is_about m i) (without_first from to mail))
+    IsTaken (record { from = from; to = to; letter = letter }) (filter (is_about m i) mail) (filter (is_about m i) (without_first from to mail))
 taken_here m from to i letter mail v send is says f row =
     let p : Posted = record { from = from; to = to; letter = letter } in
     let word : Posted → Bool = λ q. is_locator q.letter.content in

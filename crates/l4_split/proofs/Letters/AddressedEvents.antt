@@ -72,7 +72,7 @@ duty_addressed m cpu i x (RefusesFirst sender) machine z lt a d =
     refuses_addressed m cpu sender Nobody x (entry_thread m x.local i sender d.1.0 machine z d.1.1.0 d.1.1.1) a
 duty_addressed m cpu i x (TellsGone to) machine z lt a d =
     posts_addressed m to (GoneLetter (declared m i).id) (x ▷ does (has_told to i)) (is_known m i (record { machine = machine; within = lt }))
-        (next_below m cpu (slice_index_or x.local.told i 0) to d.1) a
+    (next_below m cpu (slice_index_or x.local.told i 0) to d.1) a
 duty_addressed m cpu i x CancelsOwn machine z lt a d = refuses_addressed m cpu i Cancelled x (record { machine = machine; within = lt }) a
 duty_addressed m cpu i x CancelsReceive machine z lt a d = a
 duty_addressed m cpu i x (DeliversFirst sender) machine z lt a d =
@@ -92,13 +92,13 @@ choice_addressed : (m : Machine) (cpu : ℕ) (l : Local) (c : Choice) → IsMach
     IsAddressed m (does_choice m cpu c (opened 0 l))
 choice_addressed m cpu l (ByDuty i duty) machine z c =
     duty_addressed m cpu i (opened 0 l) duty machine
-        (record { threads = z.threads; lists = z.lists; told = z.told; ready = z.ready; armed = z.armed; listed = z.listed }) c.0.within tt c.1
+    (record { threads = z.threads; lists = z.lists; told = z.told; ready = z.ready; armed = z.armed; listed = z.listed }) c.0.within tt c.1
 choice_addressed m cpu l (ByDue i) machine z c =
     due_addressed m cpu i (opened 0 l ▷ does (relists plain.popped_due))
-        (record { machine = machine; within = (subst (AllByRecursion (λ (e : ℕ × ℕ). e.1 < length m.threads)) c.1.1.0 z.armed).0 }) tt
+    (record { machine = machine; within = (subst (AllByRecursion (λ (e : ℕ × ℕ). e.1 < length m.threads)) c.1.1.0 z.armed).0 }) tt
 choice_addressed m cpu l (ByReady i) machine z c =
     acts_addressed m cpu i (act_of m (held m l i)) (opened 0 l ▷ does (relists plain.popped))
-        (record { machine = machine; within = (subst (AllByRecursion (λ i. i < length m.threads)) c.1 z.ready).0 }) tt
+    (record { machine = machine; within = (subst (AllByRecursion (λ i. i < length m.threads)) c.1 z.ready).0 }) tt
 
 pub turn_addressed : (m : Machine) (cpu : ℕ) (l : Local) (x : Work) → IsMachine m → IsSized m l → turn m cpu l ≡ Some x → IsAddressed m x
 turn_addressed m cpu l x machine z h = turn_then m cpu l x (IsAddressed m) h λ c is. choice_addressed m cpu l c machine z is

@@ -95,7 +95,7 @@ handles_gone m from cpu letter s w x id h content is =
         let size : i < length y.local.threads = omega (arith, sized.threads) in
         let old : v.kept cpu ≡ kept y.local i = ap (λ l. kept l i) (put_here cpu cpu y.local s.locals refl) in
         let new : after.kept cpu ≡ record (kept y.local i) { thread = is_gone_now (thread y.local i) } =
-            ap (λ l. kept l i) (put_here cpu cpu z.local s.locals refl) ∙ changes_here y.local i is_gone_now size in
+        ap (λ l. kept l i) (put_here cpu cpu z.local s.locals refl) ∙ changes_here y.local i is_gone_now size in
         let other = λ (c : ℕ) (ne : cpu ≡ c → ⊥). put_other cpu c i y.local z.local s.locals ne in
         let all : (c : ℕ) → IsMarked (v.kept c) (after.kept c) = λ c. same_or_apart (IsMarked (v.kept c) (after.kept c)) cpu c
         (λ e. subst (λ c. IsMarked (v.kept c) (after.kept c)) e
@@ -164,15 +164,17 @@ tells_gone_goes m cpu to i s w x here processor e gone untold =
     let y : Work = x ▷ does (has_told to i) in
     let v : View = view m (amid cpu s y) e.now i in
     let rel = takes_in m i [] (amid cpu s y) e.now
-        (local_changes m cpu (i ∷ []) s e.now x (has_told to i) (told_spares m to i x.local) refl (leaves_out m i [] (amid cpu s x) e.now e.relates))
+    (local_changes m cpu (i ∷ []) s e.now x (has_told to i) (told_spares m to i x.local) refl (leaves_out m i [] (amid cpu s x) e.now e.relates))
     (subst (Matches m i) (sym seen)
     (matches_with_told m i (λ c. (kept (put cpu (has_told to i x.local) s.locals c) i).told) (view m (amid cpu s x) e.now i)
     (e.relates.places i here.within tt))) in
     let was : at_home m i v ≡ kept y.local i = home_is m cpu i s y e.now here.home in
     notice_goes m cpu to i (GoneLetter (declared m i).id) s w y (record { now = e.now; reaches = e.reaches; relates = rel }) here.within
-        (here.machine.placed i here.within) refl
-    (ap (λ (k : Kept). k.thread.phase) was
-    ∙ deleted_phase (thread x.local i).phase gone, λ h. next_untold_other m cpu (slice_index_or x.local.told i 0) to untold (h ∙ here.home))
+    (here.machine.placed i here.within) refl (
+      ap (λ (k : Kept). k.thread.phase) was
+          ∙ deleted_phase (thread x.local i).phase gone,
+      λ h. next_untold_other m cpu (slice_index_or x.local.told i 0) to untold (h ∙ here.home),
+    )
   where
     seen_at : (c : ℕ) (b : Bool) →
         kept (cond b (has_told to i x.local) (s.locals c)) i ≡ record

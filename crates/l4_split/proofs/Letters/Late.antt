@@ -51,13 +51,13 @@ noticed m from cpu i letter s w h lt about late =
     let here = about_place m i i p about ∙ same_nat i in
     let old : before.mail ≡ filter mine f.before ++ p ∷ filter mine f.after = ap (filter mine) f.is ∙ keeps_one mine f.before f.after p here in
     let new : after.mail ≡ filter mine f.before ++ filter mine f.after =
-        ap (filter mine) (append-nil (without_first from cpu s.mail) ∙ f.left) ∙ filter-append mine f.before f.after in
+    ap (filter mine) (append-nil (without_first from cpu s.mail) ∙ f.left) ∙ filter-append mine f.before f.after in
     let same_words : locators after.mail ≡ locators before.mail =
-        ap locators new ∙ sym (filter_skips word (filter mine f.before) (filter mine f.after) p late) ∙ sym (ap locators old) in
+    ap locators new ∙ sym (filter_skips word (filter mine f.before) (filter mine f.after) p late) ∙ sym (ap locators old) in
     let old_notices : notices before.mail ≡ notices (filter mine f.before) ++ p ∷ notices (filter mine f.after) =
-        ap notices old ∙ keeps_one (λ q. not (word q)) (filter mine f.before) (filter mine f.after) p (rw late refl) in
+    ap notices old ∙ keeps_one (λ q. not (word q)) (filter mine f.before) (filter mine f.after) p (rw late refl) in
     let new_notices : notices after.mail ≡ notices (filter mine f.before) ++ notices (filter mine f.after) =
-        ap notices new ∙ filter-append (λ q. not (word q)) (filter mine f.before) (filter mine f.after) in
+    ap notices new ∙ filter-append (λ q. not (word q)) (filter mine f.before) (filter mine f.after) in
     let k : Kept = at_home m i before in
     let was = subst (AllByRecursion (IsNotice m i k)) old_notices stands.known.kept.notices in
     let left : Matches m i (record before { mail = after.mail }) = record {
@@ -96,7 +96,7 @@ handles_withdraw m from cpu letter s w x name receiver cause h content is =
     let about : place_of m (subject letter.content) ≡ Some i = ap (λ c. place_of m (subject c)) content ∙ at_i.0 in
     let n = noticed m from cpu i letter s w h lt about (ap is_locator content) in
     let says : IsWithdrawal m i (at_home m i (view m s w i)).clock (at_home m i (view m s w i)).thread
-        (record { from = from; to = cpu; letter = letter }) name receiver cause =
+    (record { from = from; to = cpu; letter = letter }) name receiver cause =
     subst (IsNoticeOf m i (at_home m i (view m s w i)) (record { from = from; to = cpu; letter = letter })) content n.says in
     let e : Goes m cpu (without from cpu s) w [] y = record { now = w; reaches = refl; relates = n.relates } in
     subst (Goes m cpu (without from cpu s) w []) (some_is _ x rest)

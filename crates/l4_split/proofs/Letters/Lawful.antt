@@ -45,7 +45,7 @@ send_facts : (m : Machine) (i : ℕ) (send : Send) (w : World) → WorldFacts m 
 send_facts m i send w facts lt has =
     let size : i < length w.threads = omega (arith, facts.threads_counted) in
     let all = facts.each_thread i (declared m i) (world_thread w i) (slice_get-get_or m.threads i undeclared lt)
-        (slice_get-get_or w.threads i opening_thread size) in
+    (slice_get-get_or w.threads i opening_thread size) in
     let now : ℕ = slice_index w.clocks (declared m i).cpu in
     (now, subst (λ o. IfSome o (IsSendOf m (declared m i).id now)) has all.send)
 
@@ -71,7 +71,7 @@ pub done_lawful : (m : Machine) (i : ℕ) (s : Scene) (w : World) (p : Posted) (
     IsDecided m i (seats m i (view m s w i)) p name → is_some (handled m p.to p.letter.content x) ≡ true
 done_lawful m i s w p x name result content machine lt at row =
     let same : thread x.local i ≡ (at_home m i (view m s w i)).thread =
-        ap (λ ts. slice_index_or ts i opening_thread) at ∙ ap (λ c. thread (s.locals c) i) row.to in
+    ap (λ ts. slice_index_or ts i opening_thread) at ∙ ap (λ c. thread (s.locals c) i) row.to in
     let id = ap (λ n. n.thread) row.name in
     let own = own_is m p.to name.thread i (ap (place_of m) id ∙ machine.placed i lt) row.to in
     let has : (thread x.local i).send ≡ Some row.goes.send = ap (λ (t : Thread). t.send) same ∙ row.goes.has in
@@ -111,7 +111,7 @@ obeyed_lawful m i s w p x caller content about at stands row =
     let own = own_is m p.to caller i about row.to in
     let test = calls t row.orders.order row.orders.has row.orders.no_send stands.known.kept.at_home.good.suits in
     let here : (is_deleted (thread x.local i).phase || is_ordering (thread x.local i).phase) ≡ true =
-        ap (λ (u : Thread). is_deleted u.phase || is_ordering u.phase) same ∙ test in
+    ap (λ (u : Thread). is_deleted u.phase || is_ordering u.phase) same ∙ test in
     rw (content, own, here) refl
 
 -- Every letter under way can be handled where it goes.
@@ -143,7 +143,7 @@ locator_row m i s w p u says stands =
     let word : Posted → Bool = λ q. is_locator q.letter.content in
     let here = about_place m i i p u.about ∙ same_nat i in
     let at = ap locators (ap (filter (is_about m i)) u.is ∙ keeps_one (is_about m i) u.before u.after p here)
-        ∙ keeps_one word (filter (is_about m i) u.before) (filter (is_about m i) u.after) p says in
+    ∙ keeps_one word (filter (is_about m i) u.before) (filter (is_about m i) u.after) p says in
     only_row m i k v k.thread.send (locators (filter (is_about m i) u.before)) (locators (filter (is_about m i) u.after)) p
     (subst (λ ps. Row m i (seats m i v) ps k.thread.send) at stands.known.row)
     (subst (λ ps. Agrees v.world (learned ps k.clock k.thread)) at stands.known.agrees)
@@ -155,9 +155,9 @@ late_notice m i s w p u late stands =
     let other : Posted → Bool = λ q. not (is_locator q.letter.content) in
     let here = about_place m i i p u.about ∙ same_nat i in
     let at = ap notices (ap (filter (is_about m i)) u.is ∙ keeps_one (is_about m i) u.before u.after p here)
-        ∙ keeps_one other (filter (is_about m i) u.before) (filter (is_about m i) u.after) p (rw late refl) in
+    ∙ keeps_one other (filter (is_about m i) u.before) (filter (is_about m i) u.after) p (rw late refl) in
     one_of (IsNotice m i (at_home m i v)) (notices (filter (is_about m i) u.before)) (notices (filter (is_about m i) u.after)) p
-        (subst (AllByRecursion (IsNotice m i (at_home m i v))) at stands.known.kept.notices)
+    (subst (AllByRecursion (IsNotice m i (at_home m i v))) at stands.known.kept.notices)
 
 -- Any letter under way
 
@@ -246,5 +246,5 @@ first_lawful m g w from cpu letter l machine rel facts addressed first at =
     let f = first_letter from cpu letter g.mail first in
     let about = one_of (λ (p : Posted). IsAddressedTo m p.to p.letter.content) f.before f.after _ (subst (AreAddressed m) f.is addressed) in
     let handled_there = under_way_lawful m (scene g) w
-        (record { from = from; to = cpu; letter = letter }) f.before f.after letter.stamp machine rel facts about.0 f.is in
+    (record { from = from; to = cpu; letter = letter }) f.before f.after letter.stamp machine rel facts about.0 f.is in
     subst (λ k. is_some (handle m cpu k letter) ≡ true) (local_at g.locals cpu l at).1 handled_there

@@ -25,7 +25,7 @@ pub notice_relates : (m : Machine) (cpu to i : ℕ) (content : Content) (except 
     RelatesExcept m (Matches m) except (amid cpu s x) w → NotIn i except → i < length m.threads → place_of m (subject content) ≡ Some i →
     is_locator content ≡ false →
     IsNotice m i (at_home m i (view m (amid cpu s x) w i)) (posted cpu (to, record { stamp = x.local.stamp; content = content })) →
-        RelatesExcept m (Matches m) except (amid cpu s (posts to content x)) w
+    RelatesExcept m (Matches m) except (amid cpu s (posts to content x)) w
 notice_relates m cpu to i content except s w x rel out lt about late notice =
     let p : Posted = posted cpu (to, record { stamp = x.local.stamp; content = content }) in
     let v : View = view m (amid cpu s x) w i in
@@ -33,7 +33,7 @@ notice_relates m cpu to i content except s w x rel out lt about late notice =
     let mail : after.mail ≡ v.mail ++ p ∷ [] = mail_here m cpu to i content s w x about in
     let word : locators after.mail ≡ locators v.mail = ap locators mail ∙ filter_last_other (λ (q : Posted). is_locator q.letter.content) v.mail p late in
     let others : notices after.mail ≡ notices v.mail ++ p ∷ [] =
-        ap notices mail ∙ filter_last (λ (q : Posted). not (is_locator q.letter.content)) v.mail p (rw late refl) in
+    ap notices mail ∙ filter_last (λ (q : Posted). not (is_locator q.letter.content)) v.mail p (rw late refl) in
     let h = rel.places i lt out in
     takes_in m i except (amid cpu s (posts to content x)) w
     (letter_posted m cpu to i content (i ∷ except) s w x about (first_about i except) (leaves_out m i except (amid cpu s x) w rel)) (record {
@@ -94,7 +94,7 @@ withdraws_steps m cause i (Some r) x = refl
 pub notice_goes : (m : Machine) (cpu to i : ℕ) (content : Content) (s : Scene) (w : World) (x : Work) → (e : Goes m cpu s w [] x) → i < length m.threads →
     place_of m (subject content) ≡ Some i → is_locator content ≡ false →
     IsNotice m i (at_home m i (view m (amid cpu s x) e.now i)) (posted cpu (to, record { stamp = x.local.stamp; content = content })) →
-        Goes m cpu s w [] (posts to content x)
+    Goes m cpu s w [] (posts to content x)
 notice_goes m cpu to i content s w x e lt about late notice = record {
   now = e.now;
   reaches = e.reaches;

@@ -167,7 +167,7 @@ asked_while_decided what result clock world t send has order suits a = by what t
     cancelled what ne Deleted is s =
         let before : ended result clock t ≡ decided t = ended_deleted result clock t send is has in
         let after : ended result clock (asked what t) ≡ decided (asked what t) =
-            ended_deleted result clock (asked what t) send (asked_phase what t ne ∙ is) (send_asked what t ∙ has) in
+        ended_deleted result clock (asked what t) send (asked_phase what t ne ∙ is) (send_asked what t ∙ has) in
         subst (Agrees (asked what world)) (ap (asked what) before ∙ asked_decided what t ne is ∙ sym after) (asked_agrees what world (ended result clock t) a)
 
     by : (what : What) (p : Phase) → t.phase ≡ p → Suits p (Some send) t.order → Agrees (asked what world) (ended result clock (asked what t))

@@ -166,11 +166,11 @@ asked_matches m j what v after world mail here listed clock other h =
     let t : Thread = k.thread in
     let thread_is : (at_home m j after).thread ≡ asked what t = ap (λ (k : Kept). k.thread) here ∙ asked_thread what j k in
     let same_at : (P : ℕ → Type 0) → P (home m j) → ((c : ℕ) → (c ≡ home m j → ⊥) → P c) → (c : ℕ) → P c =
-        λ P at_home away c. same_or_apart (P c) c (home m j) (λ e. subst P (sym e) at_home) (λ ne. away c ne) in
+    λ P at_home away c. same_or_apart (P c) c (home m j) (λ e. subst P (sym e) at_home) (λ ne. away c ne) in
     let sent = same_at (λ c. (after.kept c).thread.send ≡ (v.kept c).thread.send) (ap (λ (t : Thread). t.send) thread_is ∙ send_asked what t)
-        (λ c ne. ap (λ (k : Kept). k.thread.send) (other c ne)) in
+    (λ c ne. ap (λ (k : Kept). k.thread.send) (other c ne)) in
     let begun = same_at (λ c. (after.kept c).thread.context.begun ≡ (v.kept c).thread.context.begun)
-        (ap (λ (t : Thread). t.context.begun) thread_is ∙ begun_asked what t)
+    (ap (λ (t : Thread). t.context.begun) thread_is ∙ begun_asked what t)
     (λ c ne. ap (λ (k : Kept). k.thread.context.begun) (other c ne)) in
     let lists = same_at (λ c. (after.kept c).listed ≡ (v.kept c).listed) listed (λ c ne. ap (λ (k : Kept). k.listed) (other c ne)) in
     let order = ap (λ (t : Thread). t.order) thread_is ∙ order-asked what t in
@@ -263,8 +263,11 @@ asks_relates m cpu j what except s w x here stands rel =
     takes_in m j except (amid cpu s y) u
     (world_changes m j (j ∷ except) (amid cpu s y) w (asked what) (first_about j except)
     (local_changes m cpu (j ∷ except) s w x (asks what j)
-    (record { sized = asks_sized m what j except x.local here.within; clock = asks_clock what x.local j;
-    kept = λ i out. asks_other what x.local j i (λ e. out.0 (sym e)) }) (asks_lists what x.local j) rel))
+    (record {
+      sized = asks_sized m what j except x.local here.within;
+      clock = asks_clock what x.local j;
+      kept = λ i out. asks_other what x.local j i (λ e. out.0 (sym e));
+    }) (asks_lists what x.local j) rel))
     (asked_matches m j what v after (get-changed (asked what) w.threads j opening_thread in_world) refl
     (is ∙ asks_here what x.local j size ∙ sym (ap (asked_kept what j) was))
     (ap (λ (k : Kept). k.listed) is ∙ kept_lists (asks what j x.local) x.local j (asks_lists what x.local j) ∙ sym (ap (λ (k : Kept). k.listed) was))

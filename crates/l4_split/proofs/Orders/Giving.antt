@@ -112,7 +112,7 @@ foreign_goes m cpu i j order s w y h at away =
     let placed = h.here.machine.placed i h.here.within in
     let mail : after.mail ≡ v.mail ++ p ∷ [] = mail_here m cpu (home m j) i (OrderLetter (declared m i).id order.target order.what) s e.now y placed in
     let word : locators after.mail ≡ p ∷ [] =
-        ap locators mail ∙ filter_last (λ (q : Posted). is_locator q.letter.content) v.mail p refl ∙ ap (λ ps. ps ++ p ∷ []) c.quiet in
+    ap locators mail ∙ filter_last (λ (q : Posted). is_locator q.letter.content) v.mail p refl ∙ ap (λ ps. ps ++ p ∷ []) c.quiet in
     let others : notices after.mail ≡ notices v.mail = ap notices mail ∙ filter_last_other (λ (q : Posted). not (is_locator q.letter.content)) v.mail p refl in
     let moves : Moves m i v after = record {
       elsewhere = λ q ne. same_alike (v.kept q) (after.kept q) refl;
@@ -121,7 +121,7 @@ foreign_goes m cpu i j order s w y h at away =
     } in
     let keeps = moves_kept m i v after c.kept moves c.kept.at_home in
     let suits : Suits (at_home m i v).thread.phase (at_home m i v).thread.send (Some order) =
-        subst (Suits (at_home m i v).thread.phase (at_home m i v).thread.send) c.has c.kept.at_home.good.suits in
+    subst (Suits (at_home m i v).thread.phase (at_home m i v).thread.send) c.has c.kept.at_home.good.suits in
     let row : IsOrdered m i (seats m i after) p = record {
       orders = record {
         no_send = c.send;
@@ -181,7 +181,7 @@ other_obeyed m cpu i j order s w y h target ne =
     let v : View = view m (amid cpu s y) now i in
     let after : View = view m (amid cpu s z) (change now j (asked order.what)) i in
     let same_local : kept z.local i ≡ kept y.local i =
-        ap (λ l. kept l i) (obeys_local m cpu j (declared m i).id order.what y) ∙ asks_other order.what y.local j i ne in
+    ap (λ l. kept l i) (obeys_local m cpu j (declared m i).id order.what y) ∙ asks_other order.what y.local j i ne in
     let kept_is : after.kept ≡ v.kept = λ d p. put_same (λ l. kept l i) cpu p y.local z.local s.locals same_local d in
     let mail_is : after.mail ≡ v.mail = obeys_mail m cpu j i (declared m i).id order.what s y (target.machine.placed j target.within) ne in
     let world_is : after.world ≡ v.world = get_other (asked order.what) now.threads j i ne in
@@ -226,24 +226,27 @@ self_obeyed m cpu i order s w y h =
     let in_world : i < length now.threads = omega (arith, rel.sized_world.threads, h.here.within) in
     let was : at_home m i v ≡ kept y.local i = home_is m cpu i s y now h.here.home in
     let is : at_home m i after ≡ asked_kept what i (at_home m i v) =
-        home_is m cpu i s z u h.here.home ∙ asks_here what y.local i size ∙ sym (ap (asked_kept what i) was) in
+    home_is m cpu i s z u h.here.home ∙ asks_here what y.local i size ∙ sym (ap (asked_kept what i) was) in
     let listed : (at_home m i after).listed ≡ (at_home m i v).listed =
-        ap (λ (k : Kept). k.listed) (home_is m cpu i s z u h.here.home) ∙ kept_lists (asks what i y.local) y.local i (asks_lists what y.local i)
-        ∙ sym (ap (λ (k : Kept). k.listed) was) in
+    ap (λ (k : Kept). k.listed) (home_is m cpu i s z u h.here.home) ∙ kept_lists (asks what i y.local) y.local i (asks_lists what y.local i)
+    ∙ sym (ap (λ (k : Kept). k.listed) was) in
     let thread_is : (at_home m i after).thread ≡ asked what (at_home m i v).thread = ap (λ (k : Kept). k.thread) is ∙ asked_thread what i (at_home m i v) in
     let other = λ (p : ℕ) (ne : p ≡ home m i → ⊥). put_other cpu p i y.local z.local s.locals (λ e. ne (sym e ∙ sym h.here.home)) in
     let relates = world_changes m i (i ∷ []) (amid cpu s z) now (asked what) (first_about i [])
     (local_changes m cpu (i ∷ []) s now y (asks what i)
-    (record { sized = asks_sized m what i [] y.local h.here.within; clock = asks_clock what y.local i;
-    kept = λ j out. asks_other what y.local i j (λ e. out.0 (sym e)) }) (asks_lists what y.local i) rel) in
+    (record {
+      sized = asks_sized m what i [] y.local h.here.within;
+      clock = asks_clock what y.local i;
+      kept = λ j out. asks_other what y.local i j (λ e. out.0 (sym e));
+    }) (asks_lists what y.local i) rel) in
     let moves : Moves m i v after = record {
       elsewhere = λ p ne. same_alike (v.kept p) (after.kept p) (other p ne);
       notices = refl;
       stays_true = subst (StaysTrue (at_home m i v)) (sym is) (asked_stays_true what i (at_home m i v));
     } in
     let none : (thread z.local i).send ≡ None =
-        sym (ap (λ (k : Kept). k.thread.send) (home_is m cpu i s z u h.here.home)) ∙ ap (λ (t : Thread). t.send) thread_is
-        ∙ send_asked what (at_home m i v).thread ∙ c.send in
+    sym (ap (λ (k : Kept). k.thread.send) (home_is m cpu i s z u h.here.home)) ∙ ap (λ (t : Thread). t.send) thread_is
+    ∙ send_asked what (at_home m i v).thread ∙ c.send in
     let calls : IsCalling m i order after = record {
       kept = moves_kept m i v after c.kept moves (subst (IsKeptAtHome i) (sym is) (asked_at_home what i (at_home m i v) c.kept.at_home));
       out = ap (λ (k : Kept). k.ready) is ∙ asked_out what i (at_home m i v) c.out;

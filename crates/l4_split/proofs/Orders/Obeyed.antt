@@ -69,7 +69,7 @@ obeyed_relates m cpu i s w x before p caller here content t rel =
     let none : (thread x.local i).send ≡ None = sym (ap (λ (k : Kept). k.thread.send) was) ∙ row.orders.no_send in
     let good : IsGood x.local.clock (thread x.local i) = subst (λ (k : Kept). IsGood k.clock k.thread) was t.stands.known.kept.at_home.good in
     let suits : Suits (thread x.local i).phase (thread x.local i).send (Some row.orders.order) =
-        subst (Suits (thread x.local i).phase (thread x.local i).send) has good.suits in
+    subst (Suits (thread x.local i).phase (thread x.local i).send) has good.suits in
     let agrees : Agrees before.world (obeyed (thread x.local i)) = subst (λ (k : Kept). Agrees before.world (obeyed k.thread)) was
     (subst (λ c. Agrees before.world (learns c (at_home m i before).clock (at_home m i before).thread)) content (taken_agrees m i before v p t)) in
     let c = comes m cpu i [] s w x obeyed (λ t. t) here rel in

@@ -56,13 +56,13 @@ obeys_relates m cpu j caller what except s w x here out rel =
     let stands = rel.places j here.within out in
     let v : View = view m (amid cpu s x) w j in
     let asked_now : RelatesExcept m (Matches m) except (amid cpu s y) u =
-        asks_relates m cpu j what except s w z here stands (leaves_out m j except (amid cpu s x) w rel) in
+    asks_relates m cpu j what except s w z here stands (leaves_out m j except (amid cpu s x) w rel) in
     let sized = sized_here m cpu j except s w x here rel in
     let size : j < length x.local.threads = omega (arith, sized.threads, here.within) in
     let was : at_home m j v ≡ kept x.local j = home_is m cpu j s x w here.home in
     let good = subst (λ (k : Kept). IsGood k.clock k.thread) was stands.known.kept.at_home.good in
     let now : (thread y.local j) ≡ asked what (thread x.local j) =
-        ap (λ (k : Kept). k.thread) (asks_here what x.local j size) ∙ asked_thread what j (kept x.local j) in
+    ap (λ (k : Kept). k.thread) (asks_here what x.local j size) ∙ asked_thread what j (kept x.local j) in
     cond_keeps (λ a. RelatesExcept m (Matches m) except (amid cpu s a) u) (is_deleted (thread x.local j).phase) y (withdraws_for m cpu j (cause_of what) y)
     (λ gone. asked_now)
     (λ alive. withdraws_for_relates m cpu j what (cause_of what) except s u y refl here asked_now out (λ cause why.
@@ -74,7 +74,7 @@ pub obeys_steps : (m : Machine) (cpu j : ℕ) (caller : GlobalId) (what : What) 
 obeys_steps m cpu j caller what x =
     let y : Work = x ▷ tells (Obey caller) ▷ does (asks what j) in
     cond_both (λ (a : Work). a.steps) (x.steps ++ Obey caller ∷ []) (is_deleted (thread x.local j).phase) y (withdraws_for m cpu j (cause_of what) y) refl
-        (for (cause_of what) y)
+    (for (cause_of what) y)
   where
     for : (o : Option Cause) (y : Work) → (withdraws_for m cpu j o y).steps ≡ y.steps
     for None y = refl

@@ -56,8 +56,8 @@ obeyed_agrees world t order has suits a = by t.phase refl suits a
           cancel_send = a.cancel_send;
         } in
         subst (λ x. Agrees x (obeyed t)) (sym u)
-            (subst (Agrees (record world { order = None })) (sym v)
-            (subst (λ p. AgreesIn p (record world { order = None }) (record t { order = None })) (sym is) left))
+        (subst (Agrees (record world { order = None })) (sym v)
+        (subst (λ p. AgreesIn p (record world { order = None }) (record t { order = None })) (sym is) left))
 
 -- Of another thread than the target nothing changes.
 
@@ -65,7 +65,7 @@ pub obeys_local : (m : Machine) (cpu j : ℕ) (caller : GlobalId) (what : What) 
 obeys_local m cpu j caller what x =
     let y : Work = x ▷ tells (Obey caller) ▷ does (asks what j) in
     cond_both (λ (a : Work). a.local) (asks what j x.local) (is_deleted (thread x.local j).phase) y (withdraws_for m cpu j (cause_of what) y) refl
-        (for (cause_of what) y)
+    (for (cause_of what) y)
   where
     go : (cause : Cause) (o : Option ℕ) (y : Work) → (withdraws m cause j o y).local ≡ y.local
     go cause None y = refl
@@ -80,7 +80,7 @@ pub obeys_mail : (m : Machine) (cpu j i : ℕ) (caller : GlobalId) (what : What)
 obeys_mail m cpu j i caller what s x placed ne =
     let y : Work = x ▷ tells (Obey caller) ▷ does (asks what j) in
     cond_both (λ (a : Work). filter (is_about m i) (amid cpu s a).mail) (filter (is_about m i) (amid cpu s x).mail) (is_deleted (thread x.local j).phase) y
-        (withdraws_for m cpu j (cause_of what) y) refl (for (cause_of what) y)
+    (withdraws_for m cpu j (cause_of what) y) refl (for (cause_of what) y)
   where
     go : (cause : Cause) (o : Option ℕ) (y : Work) →
         filter (is_about m i) (amid cpu s (withdraws m cause j o y)).mail ≡ filter (is_about m i) (amid cpu s y).mail
@@ -111,7 +111,7 @@ order_goes m cpu i j s w x before p caller target what here lt away at_i at_j to
     let o = row.orders in
     let says = order_letter caller target what (declared m i).id o.order (sym content ∙ row.letter) in
     let agrees : Agrees before.world (at_home m i before).thread =
-        subst (λ c. Agrees before.world (learns c (at_home m i before).clock (at_home m i before).thread)) content (taken_agrees m i before v p t) in
+    subst (λ c. Agrees before.world (learns c (at_home m i before).clock (at_home m i before).thread)) content (taken_agrees m i before v p t) in
     let ne : j ≡ i → ⊥ = λ e. away (sym (ap (home m) e) ∙ here.home) in
     let y : Work = obeys m cpu caller what j x in
     let z : Work = posts (home m i) (OrderDoneLetter caller) y in
@@ -120,24 +120,24 @@ order_goes m cpu i j s w x before p caller target what here lt away at_i at_j to
     let q : Posted = posted cpu (home m i, record { stamp = y.local.stamp; content = OrderDoneLetter caller }) in
     let rel1 = obeys_relates m cpu j caller what (i ∷ []) s w x here (ne, tt) rel in
     let rel3 = letter_posted m cpu (home m i) i (OrderDoneLetter caller) (i ∷ []) s u2 y at_i (first_about i [])
-        (world_changes m i (i ∷ []) (amid cpu s y) u1 obeyed (first_about i []) rel1) in
+    (world_changes m i (i ∷ []) (amid cpu s y) u1 obeyed (first_about i []) rel1) in
     let after : View = view m (amid cpu s z) u2 i in
     let same_local : kept y.local i ≡ kept x.local i = ap (λ l. kept l i) (obeys_local m cpu j caller what x) ∙ asks_other what x.local j i ne in
     let same_kept : after.kept ≡ before.kept =
-        λ d c. (put_same (λ l. kept l i) cpu c x.local y.local s.locals same_local ∙ ap (λ (f : ℕ → Kept). f c) t.kept) d in
+    λ d c. (put_same (λ l. kept l i) cpu c x.local y.local s.locals same_local ∙ ap (λ (f : ℕ → Kept). f c) t.kept) d in
     let mail : after.mail ≡ v.mail ++ q ∷ [] =
-        mail_here m cpu (home m i) i (OrderDoneLetter caller) s u2 y at_i
-        ∙ ap (λ ps. ps ++ q ∷ []) (obeys_mail m cpu j i caller what s x (here.machine.placed j here.within) ne) in
+    mail_here m cpu (home m i) i (OrderDoneLetter caller) s u2 y at_i
+    ∙ ap (λ ps. ps ++ q ∷ []) (obeys_mail m cpu j i caller what s x (here.machine.placed j here.within) ne) in
     let word : locators after.mail ≡ q ∷ [] =
-        ap locators mail ∙ filter_last (λ (a : Posted). is_locator a.letter.content) v.mail q refl ∙ ap (λ ps. ps ++ q ∷ []) t.quiet in
+    ap locators mail ∙ filter_last (λ (a : Posted). is_locator a.letter.content) v.mail q refl ∙ ap (λ ps. ps ++ q ∷ []) t.quiet in
     let others : notices after.mail ≡ notices before.mail =
-        ap notices mail ∙ filter_last_other (λ (a : Posted). not (is_locator a.letter.content)) v.mail q refl ∙ t.notices in
+    ap notices mail ∙ filter_last_other (λ (a : Posted). not (is_locator a.letter.content)) v.mail q refl ∙ t.notices in
     let home_same : at_home m i after ≡ at_home m i before = ap (λ (f : ℕ → Kept). f (home m i)) same_kept in
     let in_world : i < length u1.threads = let size = rel1.sized_world.threads in omega arith in
     let world : after.world ≡ obeyed before.world =
-        get-changed obeyed u1.threads i opening_thread in_world ∙ ap obeyed (get_other (asked what) w.threads j i ne ∙ t.world) in
+    get-changed obeyed u1.threads i opening_thread in_world ∙ ap obeyed (get_other (asked what) w.threads j i ne ∙ t.world) in
     let suits : Suits (at_home m i before).thread.phase (at_home m i before).thread.send (Some o.order) =
-        subst (Suits (at_home m i before).thread.phase (at_home m i before).thread.send) o.has t.stands.known.kept.at_home.good.suits in
+    subst (Suits (at_home m i before).thread.phase (at_home m i before).thread.send) o.has t.stands.known.kept.at_home.good.suits in
     let moves : Moves m i before after = record {
       elsewhere = λ c away. same_alike (before.kept c) (after.kept c) (ap (λ (f : ℕ → Kept). f c) same_kept);
       notices = others;
@@ -160,7 +160,7 @@ order_goes m cpu i j s w x before p caller target what here lt away at_i at_j to
     } in
     let found_now = found_at_is m i (i ∷ []) (amid cpu s x) w here.machine lt rel in
     let ordering : (world_thread w i).order ≡ Some o.order =
-        ap (λ (u : Thread). u.order) t.world ∙ agrees_order before.world (at_home m i before).thread agrees ∙ o.has in
+    ap (λ (u : Thread). u.order) t.world ∙ agrees_order before.world (at_home m i before).thread agrees ∙ o.has in
     let place : place_of m o.order.target ≡ Some j = o.place ∙ ap Some which in
     let possible : next m w (Obey caller) ≡ Some (change (change w j (asked o.order.what)) i obeyed) = rw (at_i, found_now, ordering, place) refl in
     let steps : z.steps ≡ Obey caller ∷ [] = obeys_steps m cpu j caller what x ∙ ap (λ ss. ss ++ Obey caller ∷ []) nothing in

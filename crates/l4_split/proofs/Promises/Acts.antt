@@ -102,12 +102,12 @@ arrives_keeps m cpu r i s x processor here p =
         let y : Work = x ▷ tells_send m Queue i ▷ does (relists (plain.queued r (entry m r i send))) in
         let q : StaysPromised m cpu s y = relists_keeps m cpu [] s x (plain.queued r (entry m r i send)) processor refl p in
         cond_keeps (StaysPromised m cpu s) (is_place (first_acceptable y.local r) i) (delivers m cpu r i y) y
-            (λ first. delivers_keeps m cpu r i s y processor here first q) (λ none. q)
+        (λ first. delivers_keeps m cpu r i s y processor here first q) (λ none. q)
 
 -- A send begins.
 pub begins_keeps : (m : Machine) (cpu i : ℕ) (send : Send) (s : Scene) (x : Work) → cpu < m.cpus → home m i ≡ cpu → is_ready (thread x.local i).phase ≡ true →
     AllByRecursion (λ (q : Posted). IsNotWithdrawalOf (last_name m (comes_to i (begins send) x.local) i) q.letter.content) (amid cpu s x).mail →
-        StaysPromised m cpu s x → StaysPromised m cpu s (begins_send m cpu i send x)
+    StaysPromised m cpu s x → StaysPromised m cpu s (begins_send m cpu i send x)
 begins_keeps m cpu i send s x processor here ready none p = by (destination_place m send.to)
   where
     y : Work

@@ -130,7 +130,7 @@ acts_keeps m cpu i s w l is processor here ready stands p = by (act_of m (held m
         let name : Name = last_name m (comes_to i (begins send) x.local) i in
         let next : name.k ≡ (thread l i).context.begun + 1 = ap (λ (k : Kept). k.thread.context.begun) (comes_here x.local i (begins send) (omega arith)) in
         let old : (at_home m i (view m s w i)).thread.context.begun ≡ (thread l i).context.begun =
-            ap (λ c. (thread (s.locals c) i).context.begun) here.home ∙ sym (ap (λ l. (thread l i).context.begun) is) in
+        ap (λ c. (thread (s.locals c) i).context.begun) here.home ∙ sym (ap (λ l. (thread l i).context.begun) is) in
         begins_keeps m cpu i send s x processor here.home ready
         (subst (AllByRecursion (λ (q : Posted). IsNotWithdrawalOf name q.letter.content)) (sym (append-nil s.mail))
         (none_of_next m i s w name (here.machine.placed i lt) (omega arith) stands)) p

@@ -67,9 +67,9 @@ letter_keeps m from cpu letter s w x (DoneLetter name result) h first content pr
           let is_j : i ≡ j = same_place m i j name.thread at.0 h.machine lt (ap (λ (n : Name). n.thread) same) in
           let here : home m j ≡ cpu = sym (ap (home m) is_j) ∙ at.1 in
           let now : kept_at (amid cpu s (y ▷ does (comes_to i f))) (home m j) j ≡ kept (comes_to i f y.local) j =
-              ap (λ l. kept l j) (put_home m cpu j s (comes_to i f y.local) here) in
+          ap (λ l. kept l j) (put_home m cpu j s (comes_to i f y.local) here) in
           let none : (kept (comes_to i f y.local) j).thread.send ≡ None =
-              subst (λ j. j < length m.threads → (kept (comes_to i f y.local) j).thread.send ≡ None) is_j
+          subst (λ j. j < length m.threads → (kept (comes_to i f y.local) j).thread.send ≡ None) is_j
           (λ lt. ap (λ (k : Kept). k.thread.send) (comes_here y.local i f (omega arith)) ∙ ended_none result y.local.clock (thread y.local i)) lt in
           some_none send (sym has ∙ ap (λ (k : Kept). k.thread.send) now ∙ none);
     }) (comes_on m cpu i s y f h.processor at.1 (ended_afresh result y.local.clock (thread y.local i)) p))

@@ -173,7 +173,7 @@ comes_keeps m cpu j except s x f processor here settles p =
     let size : length x.local.threads ≡ length m.threads = size_now m cpu (j ∷ except) s x processor p in
     let now = local_keeps m cpu (j ∷ except) s x (comes_to j f) processor (comes_harmless m cpu j except x.local f here settles.calm) p in
     let is : j < length m.threads → kept_at (amid cpu s (x ▷ does (comes_to j f))) (home m j) j ≡ come j f (kept x.local j) =
-        λ lt. ap (λ l. kept l j) (put_home m cpu j s (comes_to j f x.local) here) ∙ comes_here x.local j f (omega arith) in
+    λ lt. ap (λ l. kept l j) (put_home m cpu j s (comes_to j f x.local) here) ∙ comes_here x.local j f (omega arith) in
     let calm : j < length m.threads → IsCalm (thread x.local j) = λ lt. subst IsCalm (ap (λ l. thread l j) (put_home m cpu j s x.local here)) (p.calm j lt) in
     takes_one m j except (amid cpu s (x ▷ does (comes_to j f))) now
     (λ lt. subst (IsArmedUnlessSplit m j) (sym (is lt)) (come_armed m j f (kept x.local j)))

@@ -60,9 +60,9 @@ withdraws_keeps m cpu j cause s x here armed p = by (split_place m cpu x.local j
         (λ lt. subst (IsArmedUnlessSplit m j) (sym is) (armed lt))
         (λ lt send r has to away ending.
         let same : q ≡ r = some_is q r
-            (sym some ∙ split_is m cpu r x.local j send (sym (ap (λ (k : Kept). k.thread.send) is) ∙ has) to (λ e. away (e ∙ sym here))) in
+        (sym some ∙ split_is m cpu r x.local j send (sym (ap (λ (k : Kept). k.thread.send) is) ∙ has) to (λ e. away (e ∙ sym here))) in
         subst (AnyOf (IsAnswer (name_of m j (kept_at (amid cpu s x) (home m j) j).thread) (home m j) (home m r)))
-            (sym (mail_posted cpu (declared m q).cpu letter s x))
+        (sym (mail_posted cpu (declared m q).cpu letter s x))
         (any_last _ (amid cpu s x).mail last (ap (λ (k : Kept). name_of m j k.thread) is, (sym here, ap (home m) same))))
 
 -- A deleted thread stays as it is, but for its registers.
@@ -106,7 +106,7 @@ changes_harmless m cpu j except l f here calm = record {
 changes_steady : (m : Machine) (cpu j : ℕ) (s : Scene) (x : Work) (f : Thread → Thread) → cpu < m.cpus → home m j ≡ cpu →
     (IsCalm (thread x.local j) → IsCalm (f (thread x.local j))) →
     IsSteady m j (kept x.local j) (record (kept x.local j) { thread = f (thread x.local j) }) → StaysPromised m cpu s x →
-        StaysPromised m cpu s (x ▷ does (changes j f))
+    StaysPromised m cpu s (x ▷ does (changes j f))
 changes_steady m cpu j s x f processor here calm steady p =
     let spared = changes_harmless m cpu j [] x.local f here calm in
     local_keeps m cpu [] s x (changes j f) processor (record {
@@ -188,6 +188,6 @@ pub obeys_keeps : (m : Machine) (cpu j : ℕ) (caller : GlobalId) (what : What) 
     StaysPromised m cpu s (obeys m cpu caller what j x)
 obeys_keeps m cpu j caller what s x processor here p =
     cond_keeps (StaysPromised m cpu s) (is_deleted (thread x.local j).phase) (asks_at j what caller x)
-        (asks_at j what caller x ▷ withdraws_for m cpu j (cause_of what))
+    (asks_at j what caller x ▷ withdraws_for m cpu j (cause_of what))
     (λ gone. asks_dead m cpu j caller what s x processor here (deleted_phase (thread x.local j).phase gone) p)
     (λ alive. asks_living m cpu j caller what s x processor here p)

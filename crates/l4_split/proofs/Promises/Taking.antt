@@ -86,7 +86,7 @@ taken_keeps m from cpu letter s x f spent p = record {
     answered : (i r : ℕ) (send : Send) → i < length m.threads → (kept_at (amid cpu s x) (home m i) i).thread.send ≡ Some send →
         destination_place m send.to ≡ Some r → (home m r ≡ home m i → ⊥) →
         IsAnswer (name_of m i (kept_at (amid cpu s x) (home m i) i).thread) (home m i) (home m r) last
-            ⊎ AnyOf (IsAnswer (name_of m i (kept_at (amid cpu s x) (home m i) i).thread) (home m i) (home m r)) (amid cpu (without from cpu s) x).mail →
+        ⊎ AnyOf (IsAnswer (name_of m i (kept_at (amid cpu s x) (home m i) i).thread) (home m i) (home m r)) (amid cpu (without from cpu s) x).mail →
         AnyOf (IsAnswer (name_of m i (kept_at (amid cpu s x) (home m i) i).thread) (home m i) (home m r)) (amid cpu (without from cpu s) x).mail
     answered i r send lt has to away (inl mine) = spent.answer i r send lt has to away mine
     answered i r send lt has to away (inr other) = other

@@ -93,7 +93,7 @@ tells_keeps m cpu to i s x processor here untold p = record {
     told_other : (j : ℕ) → j < length m.threads → (i ≡ j → ⊥) → IsTold m j (kept_at after (home m j) j).told (phases after j) after.mail
     told_other j lt ne c c_lt away below =
         let same = put_same (λ l. (kept l j).told) cpu (home m j) x.local (has_told to i x.local) s.locals
-            (get_other_place (λ n. to + 1) x.local.told i j 0 ne) in
+        (get_other_place (λ n. to + 1) x.local.told i j 0 ne) in
         later j c (p.told j lt c c_lt away (subst (λ n. c < n) same below))
 
     told_here : i < length m.threads → IsTold m i (kept_at after (home m i) i).told (phases after i) after.mail

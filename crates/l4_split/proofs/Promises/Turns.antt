@@ -39,7 +39,7 @@ pub opened_keeps : (m : Machine) (cpu stamp : ℕ) (except : List ℕ) (s : Scen
     Promised m except (amid cpu s (opened stamp (s.locals cpu)))
 opened_keeps m cpu stamp except s processor p =
     local_keeps m cpu except s (record { local = s.locals cpu; steps = []; letters = [] }) (λ l. (opened stamp l).local) processor
-        (same_harmless m cpu except (s.locals cpu) (opened stamp (s.locals cpu)).local.stamp (s.locals cpu).clock)
+    (same_harmless m cpu except (s.locals cpu) (opened stamp (s.locals cpu)).local.stamp (s.locals cpu).clock)
     (subst (Promised m except) (opened_scene cpu s) p)
 
 pub ticks_keeps : (m : Machine) (cpu to : ℕ) (s : Scene) (x : Work) → cpu < m.cpus → StaysPromised m cpu s x → StaysPromised m cpu s (x ▷ does (clock_is to))

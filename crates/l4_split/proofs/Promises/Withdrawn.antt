@@ -56,7 +56,7 @@ not_behind : {P : Type 0} (s : Name) (receiver : GlobalId) (cause : Cause) (from
     AnyOf (IsSendBetween s from cpu) mail → P
 not_behind {P = P} s receiver cause from cpu letter mail content first order h =
     by (filter (is_between from cpu) mail) first (order_filter (is_between from cpu) mail order)
-        (any_filtered (IsSendBetween s from cpu) (is_between from cpu) mail (λ p h. between p h) h)
+    (any_filtered (IsSendBetween s from cpu) (is_between from cpu) mail (λ p h. between p h) h)
   where
     between : (p : Posted) → IsSendBetween s from cpu p → is_between from cpu p ≡ true
     between p h = subst (λ f. ((p.from == f) && (p.to == cpu)) ≡ true) h.0
@@ -179,7 +179,7 @@ withdraw_keeps m from cpu letter s w x name receiver cause h first content promi
             let at : home m row.r ≡ cpu = ap (home m) r_is ∙ sym here in
             let listed = sym (ap (λ c. (v.kept c).listed row.r) at) ∙ row.listed in
             let number : (thread y.local j).context.begun ≡ name.k =
-                sym (ap (λ c. (v.kept c).thread.context.begun) at) ∙ (row.stand_in (λ e. away (sym (ap (home m) r_is) ∙ e))).number ∙ sym number_is in
+            sym (ap (λ c. (v.kept c).thread.context.begun) at) ∙ (row.stand_in (λ e. away (sym (ap (home m) r_is) ∙ e))).number ∙ sym number_is in
             and_true (plain.is_queued y.local.lists j) ((thread y.local j).context.begun == name.k)
-                (any_list (is_of j) y.local.lists.waiting row.r (any_kept (is_of j) _ [] _ listed))
+            (any_list (is_of j) y.local.lists.waiting row.r (any_kept (is_of j) _ [] _ listed))
             (subst (λ n. ((thread y.local j).context.begun == n) ≡ true) number (same_nat (thread y.local j).context.begun)) none

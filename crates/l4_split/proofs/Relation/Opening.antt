@@ -57,13 +57,13 @@ at_processor m P cpu here past = by (cases_lt cpu m.cpus)
 own_entry : (m : Machine) (i : ℕ) → i < length m.threads → filter (λ j. i == j) (own_places m (home m i)) ≡ i ∷ []
 own_entry m i lt =
     filter_kept (λ j. i == j) (is_own m (home m i)) (λ j is. subst (λ k. is_own m (home m i) k ≡ true) (eqb-true i j is) (same_nat (home m i)))
-        (range_with_len 0 (length m.threads))
+    (range_with_len 0 (length m.threads))
     ∙ filter_range 0 (length m.threads) i (omega arith) (omega arith)
 
 other_entry : (m : Machine) (cpu i : ℕ) → (cpu ≡ home m i → ⊥) → filter (λ j. i == j) (own_places m cpu) ≡ []
 other_entry m cpu i ne =
     filter_out (λ j. i == j) (is_own m cpu) (λ j is. subst (λ k. is_own m cpu k ≡ false) (eqb-true i j is) (other_is (home m i) cpu (λ e. ne (sym e))))
-        (range_with_len 0 (length m.threads))
+    (range_with_len 0 (length m.threads))
 
 pub home_kept : (m : Machine) (i : ℕ) → IsMachine m → i < length m.threads → kept ((scene (opening_system m)).locals (home m i)) i ≡ opened i (i ∷ [])
 home_kept m i is lt =

@@ -57,7 +57,7 @@ idle_from : (m : Machine) (cpu : ℕ) (l : Local) (i : ℕ) → duty_of m cpu l 
 idle_from m cpu l i h ready armed =
     let t : Found = held m l i in
     let d = none_of (duty_drops_own l t ∷ duty_refuses_waiting l t ∷ duty_tells_gone m cpu l t ∷ duty_cancels_own l t ∷ duty_cancels_receive
-        t ∷ duty_delivers_first l t ∷ duty_closes_receive m l t ∷ duty_refuses_zero m l t ∷ []) h in
+    t ∷ duty_delivers_first l t ∷ duty_closes_receive m l t ∷ duty_refuses_zero m l t ∷ []) h in
     record {
       no_drop = guarded (is_deleted (thread l i).phase) (plain.is_queued l.lists i) DropsOwn d.0;
       no_refusal = refuses_none (is_deleted (thread l i).phase) (plain.list_of l.lists i) d.1.0;
@@ -78,7 +78,7 @@ idle_processor : (m : Machine) (cpu : ℕ) (l : Local) (i : ℕ) → home m i �
 idle_processor m cpu l i here lt h =
     let t = both (not (is_busy m cpu l)) (is_empty l.lists.armed) h in
     let none = none_of (first_duty m cpu l (own_places m cpu) ∷ option_map ByDue (plain.due_block l.clock l.lists.armed) ∷ option_map ByReady
-        (slice_get l.lists.ready 0) ∷ []) (idle (choice m cpu l) t.0) in
+    (slice_get l.lists.ready 0) ∷ []) (idle (choice m cpu l) t.0) in
     idle_from m cpu l i (has_no_duty m cpu l none.0 i (record { within = lt; home = here })) (no_first l.lists.ready none.1.1.0) (nothing l.lists.armed t.1)
   where
     idle : (o : Option Choice) → not (is_some o) ≡ true → o ≡ None
@@ -119,8 +119,8 @@ pub is_idle : (m : Machine) (g : System) (i : ℕ) → IsMachine m → i < lengt
 is_idle m g i machine lt size h =
     let homed = machine.homed i lt in
     by (slice_get g.locals (home m i)) refl
-        (all_in_range (local_at_rest m g) 0 m.cpus (home m i) (both (list_all (local_at_rest m g) (processors m)) (is_empty g.mail) h).0 (omega arith)
-        (omega arith))
+    (all_in_range (local_at_rest m g) 0 m.cpus (home m i) (both (list_all (local_at_rest m g) (processors m)) (is_empty g.mail) h).0 (omega arith)
+    (omega arith))
   where
     past : (ls : List Local) (cpu : ℕ) → slice_get ls cpu ≡ None → slice_index_or ls cpu nowhere ≡ nowhere
     past [] cpu h = refl

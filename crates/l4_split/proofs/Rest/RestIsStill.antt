@@ -54,7 +54,7 @@ stands_at_home : (m : Machine) (s : Scene) (w : World) (i : ℕ) (send : Send) �
 stands_at_home m s w i send h same =
     let e : plain.Waiting = entry m h.row.r i send in
     any_list (is_of i) (s.locals (home m i)).lists.waiting h.row.r
-        (any_kept (is_of i) _ [] e (subst (λ c. filter (is_of i) (plain.list_of (s.locals c).lists h.row.r) ≡ e ∷ []) same h.row.listed))
+    (any_kept (is_of i) _ [] e (subst (λ c. filter (is_of i) (plain.list_of (s.locals c).lists h.row.r) ≡ e ∷ []) same h.row.listed))
 
 no_drop : (m : Machine) (s : Scene) (w : World) (i : ℕ) (send : Send) → WaitsAtRest m s w i send → is_deleted (own m s i).phase ≡ true → ⊥
 no_drop m s w i send h gone = same_or_apart ⊥ (home m h.row.r) (home m i)
@@ -90,7 +90,7 @@ endless m s w i n send h period not_zero =
 at_receiver : (m : Machine) (s : Scene) (w : World) (i : ℕ) (send : Send) (clock : ℕ) → (h : WaitsAtRest m s w i send) → is_zero send.period ≡ true →
     is_refusable m send (Some (record { at = h.row.r; declared = declared m h.row.r; now = own m s h.row.r; clock = clock })) ≡ true →
     zero_refusable m (record { at = h.row.r; declared = declared m h.row.r; now = own m s h.row.r; clock = clock })
-        (thread (s.locals (home m h.row.r)) i).send ≡ true
+    (thread (s.locals (home m h.row.r)) i).send ≡ true
 at_receiver m s w i send clock h at_once refusable = same_or_apart _ (home m h.row.r) (home m i)
     (λ same. let has : (thread (s.locals (home m h.row.r)) i).send ≡ Some send = ap (λ c. (thread (s.locals c) i).send) same ∙ h.has in
     rw (has, at_once) refusable)
@@ -103,11 +103,11 @@ stays m s w i send clocks h at_once refusable =
     let l : Local = s.locals (home m r) in
     let lt = to_within m s w i send h in
     let here = refusable_at_home m r (slice_index clocks (declared m r).cpu) l.clock send (world_thread w r) (own m s r)
-        (own_agrees m s w r h.rest lt) refusable in
+    (own_agrees m s w r h.rest lt) refusable in
     let it = any_in (λ (e : plain.Waiting). zero_refusable m (held m l r) (thread l e.block).send ≡ false) (is_of i) (plain.list_of l.lists r)
-        (h.rest.idle r lt).no_zero (any_kept (is_of i) _ [] (entry m r i send) h.row.listed) in
+    (h.rest.idle r lt).no_zero (any_kept (is_of i) _ [] (entry m r i send) h.row.listed) in
     let none : zero_refusable m (held m l r) (thread l i).send ≡ false =
-        ap (λ j. zero_refusable m (held m l r) (thread l j).send) (eqb-true i it.0.block it.1) ∙ it.2 in
+    ap (λ j. zero_refusable m (held m l r) (thread l j).send) (eqb-true i it.0.block it.1) ∙ it.2 in
     let some = at_receiver m s w i send l.clock h at_once here in
     cc (none, some)
 
@@ -165,7 +165,7 @@ settled_receive m s w i receive rest lt receiving_there =
     let now = receiving_is (own m s i) receive receiving in
     let is = now.is in
     let none = receiving_has_none (own m s i).phase receive now.since (own m s i).send (own m s i).order is
-        (rest.relates.places i lt tt).known.kept.at_home.good.suits in
+    (rest.relates.places i lt tt).known.kept.at_home.good.suits in
     let idle = rest.idle i lt in
     record {
       endless = λ n period. finite n period now.since is none.0;

@@ -44,7 +44,7 @@ no_mail m s w i rest = ap (filter (is_about m i)) rest.quiet
 pub own_agrees : (m : Machine) (s : Scene) (w : World) (i : ℕ) → IsAtRest m s w → i < length m.threads → Agrees (world_thread w i) (own m s i)
 own_agrees m s w i rest lt =
     subst (λ mail. Agrees (world_thread w i) (learned (locators mail) (s.locals (home m i)).clock (own m s i))) (no_mail m s w i rest)
-        (rest.relates.places i lt tt).known.agrees
+    (rest.relates.places i lt tt).known.agrees
 
 pub own_shown : (m : Machine) (s : Scene) (w : World) (i : ℕ) → IsAtRest m s w → i < length m.threads → IsShown (world_thread w i) (own m s i)
 own_shown m s w i rest lt = is_shown (world_thread w i) (own m s i) (own_agrees m s w i rest lt)
@@ -70,7 +70,7 @@ no_order m s w i rest lt = (own_shown m s w i rest lt).order ∙ by (own m s i).
 pub unready : (m : Machine) (s : Scene) (w : World) (i : ℕ) → IsAtRest m s w → i < length m.threads → is_ready (world_thread w i).phase ≡ true → ⊥
 unready m s w i rest lt ready =
     none (own m s i).phase (sym (rest.relates.places i lt tt).ready ∙ ap (filter (λ j. i == j)) (rest.idle i lt).none_ready)
-        (sym (own_shown m s w i rest lt).ready ∙ ready)
+    (sym (own_shown m s w i rest lt).ready ∙ ready)
   where
     none : (p : Phase) → readied p i [] ≡ [] → is_ready p ≡ true → ⊥
     none Ready h is = cc

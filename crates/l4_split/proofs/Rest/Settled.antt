@@ -123,7 +123,7 @@ pub no_timeout : (m : Machine) (w : World) (clocks : List ℕ) (p : Pending) →
     is_timed_out m (at_clocks w clocks) p ≡ true → ⊥
 no_timeout m w clocks p settled it due =
     let t = both (has_passed p.send.period p.send.since p.sender.clock)
-        (cond (is_zero p.send.period) (is_refusable m p.send (receiver_of m (at_clocks w clocks) p)) (is_waiting (at_clocks w clocks) p)) due in
+    (cond (is_zero p.send.period) (is_refusable m p.send (receiver_of m (at_clocks w clocks) p)) (is_waiting (at_clocks w clocks) p)) due in
     by (is_zero p.send.period) refl t.1 t.0
   where
     by : (b : Bool) → is_zero p.send.period ≡ b →
@@ -144,7 +144,7 @@ pub no_nobody : (m : Machine) (w : World) (clocks : List ℕ) (p : Pending) → 
     is_no_destination p.send.to (receiver_of m (at_clocks w clocks) p) ≡ true → ⊥
 no_nobody m w clocks p settled it nobody =
     it.settled.alive (gone m w clocks p.send.to it.settled.receiver it.settled.to
-        (sym (ap (is_no_destination p.send.to) (to_is m w clocks p settled it)) ∙ nobody))
+    (sym (ap (is_no_destination p.send.to) (to_is m w clocks p settled it)) ∙ nobody))
 
 pub no_delivery : (m : Machine) (w : World) (clocks : List ℕ) (p : Pending) (r : Found) (receive : Receive) (first : ℕ) → IsSettled m w →
     IsPending m w clocks p → receiver_of m (at_clocks w clocks) p ≡ Some r → receive_now r.now.phase ≡ Some receive →
@@ -155,7 +155,7 @@ no_delivery m w clocks p r receive first settled it to receiving accepted =
     let s = (settled.threads it.settled.receiver lt).receives receive (ap (λ (t : Found). receive_now t.now.phase) is ∙ receiving) in
     let none = s.none clocks in
     let some : first_accepted m w (there m w clocks it.settled.receiver) receive.from ≡ Some first =
-        ap (λ (t : Found). first_accepted m (at_clocks w clocks) t receive.from) is ∙ accepted in
+    ap (λ (t : Found). first_accepted m (at_clocks w clocks) t receive.from) is ∙ accepted in
     cc (none, some)
 
 -- No step of a thread is possible.

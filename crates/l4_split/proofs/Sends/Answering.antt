@@ -61,17 +61,17 @@ decided_away m cpu i except s w x result send g here at is rel =
     let size : i < length x.local.threads = omega (arith, sized.threads, here.within) in
     let left = unqueues m cpu i (i ∷ except) s w x (first_about i except) at.elsewhere rel in
     let dropped = local_changes m cpu (i ∷ except) s u y (changes i decided)
-        (changes_spares m i (i ∷ except) y.local decided (first_about i except)) refl left in
+    (changes_spares m i (i ∷ except) y.local decided (first_about i except)) refl left in
     let sent = letter_posted m cpu (home m i) i (DoneLetter name result) (i ∷ except) s u z placed (first_about i except) dropped in
     let relates = world_changes m i (i ∷ except) (amid cpu s a) u g (first_about i except) sent in
     let mail : after.mail ≡ v.mail ++ p ∷ [] = mail_here m cpu (home m i) i (DoneLetter name result) s u z placed in
     let word : locators after.mail ≡ p ∷ [] =
-        ap locators mail ∙ filter_last (λ (q : Posted). is_locator q.letter.content) v.mail p refl ∙ ap (λ ps. ps ++ p ∷ []) at.quiet in
+    ap locators mail ∙ filter_last (λ (q : Posted). is_locator q.letter.content) v.mail p refl ∙ ap (λ ps. ps ++ p ∷ []) at.quiet in
     let others : notices after.mail ≡ notices v.mail = ap notices mail ∙ filter_last_other (λ (q : Posted). not (is_locator q.letter.content)) v.mail p refl in
     let old : v.kept cpu ≡ kept x.local i = ap (λ l. kept l i) (put_here cpu cpu x.local s.locals refl) in
     let new : after.kept cpu ≡ record (kept x.local i) { listed = λ q. []; thread = decided (thread x.local i) } =
     ap (λ l. kept l i) (put_here cpu cpu z.local s.locals refl) ∙ changes_here y.local i decided size
-        ∙ ap (λ (k : Kept). record k { thread = decided (thread x.local i) }) (unqueued_here x.local i) in
+    ∙ ap (λ (k : Kept). record k { thread = decided (thread x.local i) }) (unqueued_here x.local i) in
     let same = λ (c : ℕ) (ne : cpu ≡ c → ⊥). put_other cpu c i x.local z.local s.locals ne in
     let home_same : at_home m i after ≡ at_home m i v = same (home m i) (λ h. here.away (sym h)) in
     let world : after.world ≡ g v.world = get-changed g w.threads i opening_thread in_world in
@@ -87,7 +87,7 @@ decided_away m cpu i except s w x result send g here at is rel =
     let keeps = moves_kept m i v after at.kept moves (subst (IsKeptAtHome i) (sym home_same) at.kept.at_home) in
     let thread_same : (at_home m i after).thread ≡ (at_home m i v).thread = ap (λ (k : Kept). k.thread) home_same in
     let suits : Suits (at_home m i v).thread.phase (Some send) (at_home m i v).thread.order =
-        subst (λ o. Suits (at_home m i v).thread.phase o (at_home m i v).thread.order) at.has at.kept.at_home.good.suits in
+    subst (λ o. Suits (at_home m i v).thread.phase o (at_home m i v).thread.order) at.has at.kept.at_home.good.suits in
     let learns = ended_agrees result (at_home m i v).clock v.world (at_home m i v).thread send at.has suits at.agrees in
     let row : IsDecided m i (seats m i after) p name = record {
       goes = record {

@@ -102,9 +102,9 @@ posted_goes m cpu i r s w x send h here to away =
     let p : Posted = posted cpu (home m r, record { stamp = x.local.stamp; content = SendLetter name (declared m r).id send.message (is_zero send.period) }) in
     let placed = h.has.machine.placed i h.has.within in
     let mail : after.mail ≡ v.mail ++ p ∷ [] =
-        mail_here m cpu (home m r) i (SendLetter name (declared m r).id send.message (is_zero send.period)) s e.now x placed in
+    mail_here m cpu (home m r) i (SendLetter name (declared m r).id send.message (is_zero send.period)) s e.now x placed in
     let word : locators after.mail ≡ p ∷ [] =
-        ap locators mail ∙ filter_last (λ (q : Posted). is_locator q.letter.content) v.mail p refl ∙ ap (λ ps. ps ++ p ∷ []) at.quiet in
+    ap locators mail ∙ filter_last (λ (q : Posted). is_locator q.letter.content) v.mail p refl ∙ ap (λ ps. ps ++ p ∷ []) at.quiet in
     let others : notices after.mail ≡ notices v.mail = ap notices mail ∙ filter_last_other (λ (q : Posted). not (is_locator q.letter.content)) v.mail p refl in
     let was = home_is m cpu i s x e.now here in
     let moves : Moves m i v after = record {
@@ -114,7 +114,7 @@ posted_goes m cpu i r s w x send h here to away =
     } in
     let keeps = moves_kept m i v after at.kept moves at.kept.at_home in
     let suits : Suits (at_home m i v).thread.phase (Some send) (at_home m i v).thread.order =
-        subst (λ o. Suits (at_home m i v).thread.phase o (at_home m i v).thread.order) at.has at.kept.at_home.good.suits in
+    subst (λ o. Suits (at_home m i v).thread.phase o (at_home m i v).thread.order) at.has at.kept.at_home.good.suits in
     let row : IsSent m i (seats m i after) p = record {
       goes = record { send = send; has = at.has; order = at.order; r = r; to = to; split = λ same. away (same ∙ here) };
       letter = ap (λ k. SendLetter (record { thread = (declared m i).id; k = k }) (declared m r).id send.message (is_zero send.period))

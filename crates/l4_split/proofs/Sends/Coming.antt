@@ -69,7 +69,7 @@ done_relates m cpu i s w x before p name result here content t rel =
     let order : (thread x.local i).order ≡ None = sym (ap (λ (k : Kept). k.thread.order) was) ∙ row.goes.order in
     let good : IsGood x.local.clock (thread x.local i) = subst (λ (k : Kept). IsGood k.clock k.thread) was t.stands.known.kept.at_home.good in
     let suits : Suits (thread x.local i).phase (Some row.goes.send) (thread x.local i).order =
-        subst (λ o. Suits (thread x.local i).phase o (thread x.local i).order) has good.suits in
+    subst (λ o. Suits (thread x.local i).phase o (thread x.local i).order) has good.suits in
     let none = ended_none result x.local.clock (thread x.local i) row.goes.send has order in
     let agrees : Agrees before.world (f (thread x.local i)) = subst (λ (k : Kept). Agrees before.world (ended result k.clock k.thread)) was
     (subst (λ c. Agrees before.world (learns c (at_home m i before).clock (at_home m i before).thread)) content (taken_agrees m i before v p t)) in
@@ -121,8 +121,8 @@ send_goes m cpu i r s w x before p name receiver message zero_timeout here to co
     let send : Send = row.goes.send in
     let says = letter_of m i row.goes.r (at_home m i before).thread send name receiver message zero_timeout (sym content ∙ row.letter) in
     let which : row.goes.r ≡ r =
-        some_is row.goes.r r (sym (here.machine.placed row.goes.r (destination_within m send.to row.goes.r row.goes.to))
-        ∙ sym (ap (place_of m) says.receiver_is) ∙ placed) in
+    some_is row.goes.r r (sym (here.machine.placed row.goes.r (destination_within m send.to row.goes.r row.goes.to))
+    ∙ sym (ap (place_of m) says.receiver_is) ∙ placed) in
     let at_r : home m r ≡ cpu = sym (ap (home m) which) ∙ sym row.to ∙ to in
     let is_receiver = says.receiver_is ∙ ap (λ q. (declared m q).id) which in
     let f : Thread → Thread = stands_in name.k (stand_in receiver message zero_timeout) in
@@ -133,7 +133,7 @@ send_goes m cpu i r s w x before p name receiver message zero_timeout here to co
     let rel = local_changes m cpu (i ∷ []) s now x (changes i f) (changes_spares m i (i ∷ []) x.local f (first_about i [])) refl e.relates in
     let old : v.kept cpu ≡ kept x.local i = ap (λ l. kept l i) (put_here cpu cpu x.local s.locals refl) in
     let new : after.kept cpu ≡ record (kept x.local i) { thread = f (thread x.local i) } =
-        ap (λ l. kept l i) (put_here cpu cpu y.local s.locals refl) ∙ changes_here x.local i f size in
+    ap (λ l. kept l i) (put_here cpu cpu y.local s.locals refl) ∙ changes_here x.local i f size in
     let same = λ (c : ℕ) (ne : cpu ≡ c → ⊥). put_other cpu c i x.local y.local s.locals ne in
     let alike : (c : ℕ) → IsAlike (v.kept c) (after.kept c) = λ c. same_or_apart (IsAlike (v.kept c) (after.kept c)) cpu c
     (λ h. subst (λ c. IsAlike (v.kept c) (after.kept c)) h
@@ -148,7 +148,7 @@ send_goes m cpu i r s w x before p name receiver message zero_timeout here to co
       stays_true = subst (StaysTrue (at_home m i v)) (sym home_same) (same_stays_true (at_home m i v));
     } in
     let suits : Suits (at_home m i before).thread.phase (Some send) (at_home m i before).thread.order =
-        subst (λ o. Suits (at_home m i before).thread.phase o (at_home m i before).thread.order) row.goes.has t.stands.known.kept.at_home.good.suits in
+    subst (λ o. Suits (at_home m i before).thread.phase o (at_home m i before).thread.order) row.goes.has t.stands.known.kept.at_home.good.suits in
     let listed : (c q : ℕ) → (after.kept c).listed q ≡ [] = λ c q. same_or_apart ((after.kept c).listed q ≡ []) cpu c
     (λ h. subst (λ c. (after.kept c).listed q ≡ []) h
     (ap (λ (k : Kept). k.listed q) new ∙ sym (ap (λ (k : Kept). k.listed q) old) ∙ ap (λ (f : ℕ → Kept). (f cpu).listed q) t.kept ∙ row.unplaced.listed cpu q))

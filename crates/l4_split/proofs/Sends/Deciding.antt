@@ -155,7 +155,7 @@ decided_here m cpu i except s w x result send g here at is relates =
     let agrees : Agrees v.world (thread x.local i) = subst (λ (k : Kept). Agrees v.world k.thread) was at.agrees in
     let none = ended_none result x.local.clock (thread x.local i) send has order in
     let suits : Suits (thread x.local i).phase (Some send) (thread x.local i).order =
-        subst (λ o. Suits (thread x.local i).phase o (thread x.local i).order) has good.suits in
+    subst (λ o. Suits (thread x.local i).phase o (thread x.local i).order) has good.suits in
     let left = unqueues m cpu i (i ∷ except) s w x (first_about i except) at.elsewhere relates in
     let now : view m (amid cpu s y) u i ≡ without_lists v = view_unqueued m cpu i s w x at.elsewhere in
     let c = comes m cpu i except s u y f g here left in

@@ -94,7 +94,7 @@ first_at : (m : Machine) (cpu r i : ℕ) (s : Scene) (w : World) (x : Work) (fro
     plain.first_taken from (plain.list_of x.local.lists r) ≡ Some i → IsFirstSender m (amid cpu s x) w r i
 first_at m cpu r i s w x from here rel first =
     let list : senders m (amid cpu s x) r ≡ plain.list_of x.local.lists r =
-        ap (λ (l : Local). plain.list_of l.lists r) (put_home m cpu r s x.local here.home) in
+    ap (λ (l : Local). plain.list_of l.lists r) (put_home m cpu r s x.local here.home) in
     first_entry m (amid cpu s x) w r i (λ (e : plain.Waiting). takes from e.shown e.local) (senders m (amid cpu s x) r)
     (entries_here m (amid cpu s x) w r here.machine here.within rel) (ap (plain.first_taken from) list ∙ first)
 
@@ -116,28 +116,28 @@ message_goes m cpu r i s w x receive since send here processor e is first at lt 
     let a = receiving_at m cpu r s now x receive since here (rel.places r here.within tt) is in
     let c = comes m cpu r [] s now x f f here (leaves_out m r [] (amid cpu s x) now rel) in
     let q = receiving_quiet m cpu r s now x receive since f a is refl refl refl refl
-        (receives_good x.local.clock send.message tag (thread x.local r) receive since is a.good)
-        (receives_agrees send.message tag receive since (world_thread now r) (thread x.local r) is a.agrees) in
+    (receives_good x.local.clock send.message tag (thread x.local r) receive since is a.good)
+    (receives_agrees send.message tag receive since (world_thread now r) (thread x.local r) is a.agrees) in
     let rel1 = takes_in m r [] (amid cpu s x1) w1 c.relates (quiet_matches m cpu r [] s now x f f here c q) in
     let i1 = first_at m cpu r i s w1 x1 receive.from here rel1 first in
     let at1 : IsSendAt m cpu i i1.is.send (view m (amid cpu s x1) w1 i) =
-        subst (λ p. IsSendAt m p i i1.is.send (view m (amid cpu s x1) w1 i)) here.home
-        (entry_at m r i (view m (amid cpu s x1) w1 i) i1.entry (rel1.places i lt tt) i1.is) in
+    subst (λ p. IsSendAt m p i i1.is.send (view m (amid cpu s x1) w1 i)) here.home
+    (entry_at m r i (view m (amid cpu s x1) w1 i) i1.entry (rel1.places i lt tt) i1.is) in
     let has : (world_thread w1 i).send ≡ Some send =
-        part-changed_at (λ (t : Thread). t.send) f (λ t. refl) now.threads r i opening_thread ∙ agrees_send (world_thread now i) _ at.agrees ∙ at.has in
+    part-changed_at (λ (t : Thread). t.send) f (λ t. refl) now.threads r i opening_thread ∙ agrees_send (world_thread now i) _ at.agrees ∙ at.has in
     let same_clock : (at_home m i (view m (amid cpu s x1) w1 i)).clock ≡ clock = put_same (λ l. l.clock) cpu (home m i) x.local x1.local s.locals refl in
     let ended_is : g (world_thread w1 i) ≡ ended Delivered (at_home m i (view m (amid cpu s x1) w1 i)).clock (world_thread w1 i) =
-        ap (λ k. delivered send k (world_thread w1 i)) (sym same_clock)
-        ∙ sym (ap (λ o. was_delivered o (at_home m i (view m (amid cpu s x1) w1 i)).clock (world_thread w1 i)) has) in
+    ap (λ k. delivered send k (world_thread w1 i)) (sym same_clock)
+    ∙ sym (ap (λ o. was_delivered o (at_home m i (view m (amid cpu s x1) w1 i)).clock (world_thread w1 i)) has) in
     let steps = ends_steps m cpu i x1 Delivered in
     let pending = pending_is m cpu i send [] s x now here.machine lt rel at in
     let receiver = receiver_is m r send.to [] (amid cpu s x) now here.machine here.within rel to in
     let waits = a.earlier.same in
     let list : senders m (amid cpu s x) r ≡ plain.list_of x.local.lists r =
-        ap (λ (l : Local). plain.list_of l.lists r) (put_home m cpu r s x.local here.home) in
+    ap (λ (l : Local). plain.list_of l.lists r) (put_home m cpu r s x.local here.home) in
     let accepted : first_accepted m now (place_found m (amid cpu s x) now r) receive.from ≡ Some i =
-        first_accepted_is m (amid cpu s x) now r receive.from (place_found m (amid cpu s x) now r) here.machine here.within refl refl rel
-        ∙ ap (plain.first_taken receive.from) list ∙ first in
+    first_accepted_is m (amid cpu s x) now r receive.from (place_found m (amid cpu s x) now r) here.machine here.within refl refl rel
+    ∙ ap (plain.first_taken receive.from) list ∙ first in
     let t0 = same_nat i in
     let t1 = same_ids (declared m r).id in
     let t2 = same_ids send.message.shown in
@@ -159,7 +159,7 @@ delivers_goes m cpu r i s w x receive since here processor e is first =
     let f = first_at m cpu r i s e.now x receive.from here e.relates first in
     let v : View = view m (amid cpu s x) e.now i in
     let at : IsSendAt m cpu i f.is.send v =
-        subst (λ p. IsSendAt m p i f.is.send v) here.home (entry_at m r i v f.entry (e.relates.places i f.within tt) f.is) in
+    subst (λ p. IsSendAt m p i f.is.send v) here.home (entry_at m r i v f.entry (e.relates.places i f.within tt) f.is) in
     let held = held_is m cpu i f.is.send s x e.now at in
     let has = held.has in
     let goes = message_goes m cpu r i s w x receive since f.is.send here processor e is first at f.within (f.is.waits.to ∙ ap Some f.is.receiver) in

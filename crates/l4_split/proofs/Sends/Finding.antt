@@ -97,7 +97,7 @@ pending_is m cpu i send except s x w machine lt rel at =
     let v : View = view m (amid cpu s x) w i in
     let is = found_is m i except (amid cpu s x) w machine lt rel in
     let begun : (thread x.local i).context.begun ≡ (world_thread w i).context.begun =
-        (held_is m cpu i send s x w at).begun_is ∙ sym (agrees_begun v.world (at_home m i v).thread at.agrees) in
+    (held_is m cpu i send s x w at).begun_is ∙ sym (agrees_begun v.world (at_home m i v).thread at.agrees) in
     let has : (world_thread w i).send ≡ Some send = agrees_send v.world (at_home m i v).thread at.agrees ∙ at.has in
     let same = same_nat (world_thread w i).context.begun in
     rw (is, begun, same, has) refl

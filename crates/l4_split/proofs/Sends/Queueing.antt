@@ -119,7 +119,7 @@ queued_matches m cpu i r s w x send at free home_is to within =
     let here : after.kept cpu ≡ kept l i = ap (λ l. kept l i) (put_here cpu cpu l s.locals refl) in
     let there : after.kept (home m r) ≡ kept l i = ap after.kept home_is ∙ here in
     let suits : Suits (at_home m i v).thread.phase (Some send) (at_home m i v).thread.order =
-        subst (λ o. Suits (at_home m i v).thread.phase o (at_home m i v).thread.order) at.has at.kept.at_home.good.suits in
+    subst (λ o. Suits (at_home m i v).thread.phase o (at_home m i v).thread.order) at.has at.kept.at_home.good.suits in
     let row : IsWaiting m i send (seats m i after) = record {
       order = ap (λ (t : Thread). t.order) thread_same ∙ at.order;
       r = r;
@@ -131,10 +131,10 @@ queued_matches m cpu i r s w x send at free home_is to within =
       stand_in = λ split. let f = at.foreign (λ h. split (home_is ∙ sym h)) in
           let which : f.r ≡ r = some_is f.r r (sym f.to ∙ to) in
           let known : IsStandIn m r send (at_home m i v).thread.context.begun (v.kept cpu).thread.send (v.kept cpu).thread.context.begun =
-              subst (λ q. IsStandIn m q send (at_home m i v).thread.context.begun (v.kept cpu).thread.send (v.kept cpu).thread.context.begun) which
-              f.stand_in in
+          subst (λ q. IsStandIn m q send (at_home m i v).thread.context.begun (v.kept cpu).thread.send (v.kept cpu).thread.context.begun) which
+          f.stand_in in
           let held : (after.kept (home m r)).thread ≡ (v.kept cpu).thread =
-              ap (λ c. (after.kept c).thread) home_is ∙ ap (λ (u : View). (u.kept cpu).thread) same in
+          ap (λ c. (after.kept c).thread) home_is ∙ ap (λ (u : View). (u.kept cpu).thread) same in
           record {
             has = ap (λ (t : Thread). t.send) held ∙ known.has;
             number = ap (λ (t : Thread). t.context.begun) held ∙ known.number ∙ sym (ap (λ (t : Thread). t.context.begun) thread_same);

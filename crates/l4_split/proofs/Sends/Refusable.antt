@@ -106,7 +106,7 @@ same_refusable m r clock send t world a h = by t.phase refl a
     by Sending is a = one a
     by (Receiving receive since) is a =
         let waiting : refuses_in m (seen m r clock t) send.message.shown (Receiving receive since) ≡ true =
-            subst (λ p. refuses_in m (seen m r clock t) send.message.shown p ≡ true) is h in
+        subst (λ p. refuses_in m (seen m r clock t) send.message.shown p ≡ true) is h in
         let same = a.same in
         rw same waiting
     by Ordering is a = one a

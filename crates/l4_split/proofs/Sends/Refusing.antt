@@ -36,8 +36,8 @@ pub record HasSend (m : Machine) (cpu i : ℕ) (s : Scene) (w : World) (x : Work
 pub refuses_goes : (m : Machine) (cpu i : ℕ) (s : Scene) (w : World) (x : Work) (refusal : Refusal) (send : Send) (g : Thread → Thread) →
     (h : HasSend m cpu i s w x send) →
     g (world_thread h.goes.now i) ≡ ended (Refused refusal) (at_home m i (view m (amid cpu s x) h.goes.now i)).clock (world_thread h.goes.now i) →
-        next m h.goes.now (refusal_step refusal (last_name m x.local i)) ≡ Some (change (unqueued h.goes.now i) i g) →
-        Goes m cpu s w [] (refuses m cpu refusal i x)
+    next m h.goes.now (refusal_step refusal (last_name m x.local i)) ≡ Some (change (unqueued h.goes.now i) i g) →
+    Goes m cpu s w [] (refuses m cpu refusal i x)
 refuses_goes m cpu i s w x refusal send g h is possible =
     let u : World = change (unqueued h.goes.now i) i g in
     let y : Work = x ▷ tells (refusal_step refusal (last_name m x.local i)) in
@@ -131,14 +131,14 @@ zero_goes m cpu i r s w x send h q refusable =
     let receiver = receiver_is m r send.to (i ∷ []) (amid cpu s x) now h.machine q.within h.goes.relates q.to in
     let held_here = held_is m cpu i send s x now h.at in
     let tests = both (is_zero held_here.held.period) (is_refusable m held_here.held (Some (held m x.local r)))
-        (subst (λ o. zero_refusable m (held m x.local r) o ≡ true) held_here.has refusable) in
+    (subst (λ o. zero_refusable m (held m x.local r) o ≡ true) held_here.has refusable) in
     let zero : is_zero send.period ≡ true = sym held_here.zero ∙ tests.0 in
     let was = home_is m cpu r s x now q.home in
     let at_r : is_refusable m send (Some (record { at = r; declared = declared m r; now = (at_home m r v).thread; clock = (at_home m r v).clock })) ≡ true =
     subst (λ (k : Kept). is_refusable m send (Some (record { at = r; declared = declared m r; now = k.thread; clock = k.clock })) ≡ true) (sym was)
-        (other_send held_here.held send (held m x.local r) held_here.message tests.1) in
+    (other_send held_here.held send (held m x.local r) held_here.message tests.1) in
     let in_world : is_refusable m send (Some (place_found m (amid cpu s x) now r)) ≡ true =
-        refusable_seen m r send v (h.machine.placed r q.within) q.seen at_r in
+    refusable_seen m r send v (h.machine.placed r q.within) q.seen at_r in
     let passed = zero_passed send.period send.since (at_home m i (view m (amid cpu s x) now i)).clock zero (since (view m (amid cpu s x) now i) h.at) in
     refuses_goes m cpu i s w x TimedOut send (refused 2) h refl (rw (pending, passed, zero, receiver, in_world) refl)
   where

@@ -69,7 +69,7 @@ entries_of m r i v known = where_then m i v known
     (λ send quiet has row agrees. same_or_apart (AllByRecursion (IsEntry m r i v) ((v.kept (home m r)).listed r)) row.r r
     (λ same. let listed = subst (λ q. (v.kept (home m q)).listed q ≡ entry m q i send ∷ []) same row.listed in
     subst (AllByRecursion (IsEntry m r i v)) (sym listed)
-        (record { send = send; has = has; quiet = quiet; agrees = agrees; waits = row; receiver = same; is = refl }, tt))
+    (record { send = send; has = has; quiet = quiet; agrees = agrees; waits = row; receiver = same; is = refl }, tt))
     (λ apart. none_listed m r i v ((v.kept (home m r)).listed r)
     (same_or_apart ((v.kept (home m r)).listed r ≡ []) (home m r) (home m row.r) (λ h. subst (λ c. (v.kept c).listed r ≡ []) (sym h) (row.other_lists r apart))
     (λ ne. row.elsewhere (home m r) r ne))))

@@ -161,11 +161,11 @@ ready_goes m cpu s w x i is machine processor e at =
     let old : v.kept cpu ≡ kept x.local i = ap (λ l. kept l i) (put_here cpu cpu x.local s.locals refl) in
     let entries : (v.kept cpu).ready ≡ i ∷ filter (λ k. i == k) is = ap (λ (k : Kept). k.ready) old ∙ ap (filter (λ k. i == k)) at ∙ first_kept i is in
     let home_is_cpu : home m i ≡ cpu =
-        same_or_apart (home m i ≡ cpu) cpu (home m i) (λ same. sym same)
-        (λ ne. none_ready i (filter (λ k. i == k) is) (sym (h.known.kept.elsewhere cpu ne).ready ∙ entries)) in
+    same_or_apart (home m i ≡ cpu) cpu (home m i) (λ same. sym same)
+    (λ ne. none_ready i (filter (λ k. i == k) is) (sym (h.known.kept.elsewhere cpu ne).ready ∙ entries)) in
     let was : at_home m i v ≡ kept x.local i = home_is m cpu i s x e.now home_is_cpu in
     let mine : readied (thread x.local i).phase i [] ≡ i ∷ filter (λ k. i == k) is =
-        sym (ap (λ (k : Kept). readied k.thread.phase i []) was) ∙ sym h.ready ∙ ap (λ c. (v.kept c).ready) home_is_cpu ∙ entries in
+    sym (ap (λ (k : Kept). readied k.thread.phase i []) was) ∙ sym h.ready ∙ ap (λ c. (v.kept c).ready) home_is_cpu ∙ entries in
     let r = ready_entry i (thread x.local i).phase (filter (λ k. i == k) is) mine in
     record {
       goes = record {

@@ -142,6 +142,6 @@ queued_here m cpu i s w x processor e machine lt queued =
     let at = any_at (list_any (λ (f : plain.Waiting). i == f.block)) x.local.lists.waiting queued in
     let here : v.kept cpu ≡ kept x.local i = ap (λ l. kept l i) (put_here cpu cpu x.local s.locals refl) in
     let q = queued_where m cpu i at.0 v (e.relates.places i lt tt).known
-        (λ none. let no = none_kept (is_of i) (plain.list_of x.local.lists at.0) (sym (ap (λ (k : Kept). k.listed at.0) here) ∙ none) in let yes = at.1 in
-        cc (no, yes)) in
+    (λ none. let no = none_kept (is_of i) (plain.list_of x.local.lists at.0) (sym (ap (λ (k : Kept). k.listed at.0) here) ∙ none) in let yes = at.1 in
+    cc (no, yes)) in
     (q.r, listed_send m cpu q.r i s w x q.entry (record { machine = machine; within = q.within; home = q.here }) processor e lt q.is)

@@ -65,7 +65,7 @@ none_accepted : (m : Machine) (cpu i : ℕ) (s : Scene) (w : World) (x : Work) (
     first_accepted m h.goes.now (place_found m (amid cpu s x) h.goes.now i) receive.from ≡ None
 none_accepted m cpu i s w x receive since h none =
     let list : senders m (amid cpu s x) i ≡ plain.list_of x.local.lists i =
-        ap (λ (l : Local). plain.list_of l.lists i) (put_home m cpu i s x.local h.here.home) in
+    ap (λ (l : Local). plain.list_of l.lists i) (put_home m cpu i s x.local h.here.home) in
     let is = h.receiving in
     let here : plain.first_taken receive.from (plain.list_of x.local.lists i) ≡ None = sym (ap (first_of_list x.local.lists i) is) ∙ none in
     first_accepted_is m (amid cpu s x) h.goes.now i receive.from
@@ -96,8 +96,8 @@ receive_timeout_goes m cpu i s w x receive since h passed none =
     let phase : (world_thread h.goes.now i).phase ≡ Receiving receive earlier.began = ap (λ (t : Thread). t.phase) earlier.same in
     let clock : (put cpu x.local s.locals (home m i)).clock ≡ x.local.clock = ap (λ (l : Local). l.clock) (put_home m cpu i s x.local h.here.home) in
     let over : has_passed receive.period earlier.began (put cpu x.local s.locals (home m i)).clock ≡ true =
-        subst (λ k. has_passed receive.period earlier.began k ≡ true) (sym clock)
-        (passed_earlier receive.period earlier.began since x.local.clock earlier.no_later passed) in
+    subst (λ k. has_passed receive.period earlier.began k ≡ true) (sym clock)
+    (passed_earlier receive.period earlier.began since x.local.clock earlier.no_later passed) in
     let nobody_accepted = none_accepted m cpu i s w x receive since h none in
     fails_goes m cpu i s w x receive since ReceiveTimeout 3 h (rw (found_now, phase, over, nobody_accepted) refl)
 

@@ -95,7 +95,7 @@ tick_goes m cpu to s w x processor e above below =
     let v : World = record now { clocks = slice_set now.clocks cpu to } in
     let in_world : cpu < length now.clocks = omega (arith, rel.sized_world.clocks) in
     let clock : slice_index_or now.clocks cpu 0 ≡ x.local.clock =
-        rel.clocks cpu processor ∙ ap (λ (l : Local). l.clock) (put_here cpu cpu x.local s.locals refl) in
+    rel.clocks cpu processor ∙ ap (λ (l : Local). l.clock) (put_here cpu cpu x.local s.locals refl) in
     let at : slice_get now.clocks cpu ≡ Some x.local.clock = slice_get-get_or now.clocks cpu 0 in_world ∙ ap Some clock in
     let lt = ltb-true x.local.clock to above in
     let clocks : ℕ → ℕ = λ c. (put cpu y.local s.locals c).clock in

@@ -131,8 +131,8 @@ due_goes m cpu s w x a others machine processor e at =
     let old : v.kept cpu ≡ kept x.local i = ap (λ l. kept l i) (put_here cpu cpu x.local s.locals refl) in
     let armed : (v.kept cpu).armed ≡ a ∷ entries i others = ap (λ (k : Kept). k.armed) old ∙ ap (entries i) at ∙ first_kept a others in
     let home_is_cpu : home m i ≡ cpu =
-        same_or_apart (home m i ≡ cpu) cpu (home m i) (λ same. sym same)
-        (λ ne. none_armed a (entries i others) (sym (h.known.kept.elsewhere cpu ne).armed ∙ armed)) in
+    same_or_apart (home m i ≡ cpu) cpu (home m i) (λ same. sym same)
+    (λ ne. none_armed a (entries i others) (sym (h.known.kept.elsewhere cpu ne).armed ∙ armed)) in
     let here : IsHere m cpu i = record { machine = machine; within = lt; home = home_is_cpu } in
     let was : at_home m i v ≡ kept x.local i = home_is m cpu i s x e.now home_is_cpu in
     let mine : (at_home m i v).armed ≡ a ∷ entries i others = ap (λ c. (v.kept c).armed) home_is_cpu ∙ armed in

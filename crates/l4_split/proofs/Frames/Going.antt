@@ -24,6 +24,8 @@ use Rattle.std.proofs.lemmas.Bool.{eqb-true}
 use Rattle.std.proofs.lemmas.List.{append-nil}
 use Rattle.l4_core_model.specs.Turns.{opened}
 
+-- The event goes on from a world, for all threads but those left out: the steps that it has told so far lead from that world to one
+-- that is related to the scene it has made.
 pub record Goes (m : Machine) (cpu : ℕ) (s : Scene) (w : World) (except : List ℕ) (x : Work) : Type 0 where
   pub now : World
   pub reaches : run m w x.steps ≡ Some now

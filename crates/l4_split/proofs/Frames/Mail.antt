@@ -112,6 +112,7 @@ letter_taken m from to i letter except s w is about f r =
 
 -- Of its own thread, it was the letter that says where its send or order is, and no such letter is left.
 
+-- A locator is taken out of the letters about its thread.
 pub record IsTaken (p : Posted) (mail after : List Posted) : Type 0 where
   pub was : locators mail ≡ p ∷ []
   pub none_left : locators after ≡ []

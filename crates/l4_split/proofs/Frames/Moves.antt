@@ -116,6 +116,7 @@ located_known m i v p kept word row agrees = record {
 
 -- What home keeps after a thread has come to a phase that begins now
 
+-- A phase begins now: its deadline counts from the clock.
 abbrev pub IsFresh : ℕ → Phase → Option Send → Type 0
 IsFresh clock (Receiving receive since) send = since ≡ clock
 IsFresh clock Sending (Some send) = send.since ≡ clock

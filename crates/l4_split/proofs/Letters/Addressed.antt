@@ -23,6 +23,7 @@ use Rattle.l4_split.proofs.Relation.Views.{subject}
 abbrev pub IsAddressedTo : Machine → (to : ℕ) → Content → Type 0
 IsAddressedTo m to content = (is_declared m (subject content) ≡ true) × (to < m.cpus)
 
+-- So is each letter that an event has posted.
 abbrev pub IsAddressed : Machine → Work → Type 0
 IsAddressed m x = AllByRecursion (λ (p : ℕ × Letter). IsAddressedTo m p.0 p.1.content) x.letters
 

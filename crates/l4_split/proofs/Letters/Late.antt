@@ -34,6 +34,7 @@ use Rattle.l4_split.proofs.Letters.Receiving.{without, IsLetter, at_work, foreig
 
 -- A late letter is taken out: what it says is true, and all else is as it was.
 
+-- After a notice was taken out all is still related, and what it says is true.
 pub record IsNoticed (m : Machine) (from cpu i : ℕ) (letter : Letter) (s : Scene) (w : World) : Type 0 where
   pub relates : RelatesExcept m (Matches m) [] (amid cpu (without from cpu s) (at_work cpu letter s)) w
   pub says : IsNotice m i (at_home m i (view m s w i)) (record { from = from; to = cpu; letter = letter })

@@ -222,6 +222,8 @@ under_way_lawful m s w p before after stamp machine rel facts declared at =
     })
     (rel.places here.0 (place_within m (subject p.letter.content) here.0 here.1) tt) refl
 
+-- Each letter under way is about a declared thread, and goes to a processor of the machine. The relation says nothing of a letter
+-- about a thread that is not declared, so this is a fact of its own.
 abbrev pub AreAddressed : Machine → List Posted → Type 0
 AreAddressed m mail = AllByRecursion (λ (p : Posted). IsAddressedTo m p.to p.letter.content) mail
 

@@ -41,6 +41,7 @@ use Rattle.l4_core_model.proofs.Orders.{target_declared}
 abbrev given : Machine → ℕ → Asked → Work → Work
 given m i order x = x ▷ does (comes_to i (orders order)) ▷ tells (Order (declared m i).id order.target order.what)
 
+-- The event has told that a thread of this processor gives an order, and all but that thread is related.
 pub record HasCalled (m : Machine) (cpu i : ℕ) (order : Asked) (s : Scene) (w : World) (y : Work) : Type 0 where
   pub here : IsHere m cpu i
   pub goes : Goes m cpu s w (i ∷ []) y

@@ -32,6 +32,8 @@ steady_answered m i k after mail steady h send r has to away ending =
     let old = steady.ending send has ending in
     subst (λ b. AnyOf (IsAnswer (record { thread = (declared m i).id; k = b }) (home m i) (home m r)) mail) old.1.1 (h send r old.0 to away old.1.0)
 
+-- A change of a processor's state leaves what is promised as it is: of its own threads, but for those left out, what they are armed
+-- for and whether their sends are to end, and of the others what it knows to be deleted.
 pub record IsHarmless (m : Machine) (cpu : ℕ) (except : List ℕ) (l after : Local) : Type 0 where
   pub threads : length after.threads ≡ length l.threads
   pub told_ones : length after.told ≡ length l.told

@@ -29,12 +29,12 @@ use Rattle.l4_split.proofs.Promises.Acts.{StaysPromised, refuses_keeps}
 use Rattle.l4_split.proofs.Promises.Turns.{opened_keeps}
 use Rattle.l4_split.proofs.Promises.Taking.{taken_any, taken_keeps, same_place}
 
--- Of a send and of its decision
-
+-- A letter brings this send,
 abbrev IsSendOf : Name → Content → Type 0
 IsSendOf s (SendLetter t receiver message zero_timeout) = t ≡ s
 IsSendOf s _ = ⊥
 
+-- or tells how it was decided.
 abbrev IsDoneOf : Name → Content → Type 0
 IsDoneOf s (DoneLetter t result) = s ≡ t
 IsDoneOf s _ = ⊥

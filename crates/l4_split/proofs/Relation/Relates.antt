@@ -1,4 +1,4 @@
--- The relation between the processors and the world.
+-- The relation between a system and the world: what its processors and its letters are when the steps told so far have led there.
 use Rattle.std.specs.Prelude.{ℕ, ◌<◌, ◌≡◌, List, [], length, slice_index_or}
 use Rattle.std.specs.List.{AllByRecursion}
 use Rattle.l4_model.specs.Machine.{Machine}
@@ -12,6 +12,7 @@ use Rattle.l4_core_model.proofs.Fit.{NotIn}
 use Rattle.l4_split.proofs.Relation.Views.{Scene, View, view, home, scene}
 use Rattle.l4_split.proofs.Relation.Rows.{Matches}
 
+-- They are places of the machine.
 abbrev pub AreWithin : Machine → List ℕ → Type 0
 AreWithin m places = AllByRecursion (λ i. i < length m.threads) places
 
@@ -24,16 +25,18 @@ pub record IsSized (m : Machine) (l : Local) : Type 0 where
   pub armed : AllByRecursion (λ (e : ℕ × ℕ). e.1 < length m.threads) l.lists.armed
   pub listed : (r : ℕ) → AllByRecursion (λ (e : plain.Waiting). e.block < length m.threads) (plain.list_of l.lists r)
 
+-- So has the world.
 pub record IsSizedWorld (m : Machine) (w : World) : Type 0 where
   pub threads : length w.threads ≡ length m.threads
   pub lists : length w.waiting ≡ length m.threads
   pub clocks : length w.clocks ≡ m.cpus
 
--- The list of a receiver, as its processor has it.
+-- The list of those who wait at a receiver, as its home has it.
 abbrev pub senders : Machine → Scene → (receiver : ℕ) → List plain.Waiting
 senders m s r = plain.list_of (s.locals (home m r)).lists r
 
--- What is known of all but the places that an act is about, and what is said of each of the others.
+-- The relation, but for the places that an event is just about: sizes, clocks, each receiver's list, and this fact of each other place.
+-- It is stated for any fact of a view, since an event is followed by facts that compute from the views.
 pub record RelatesExcept (m : Machine) (Fact : ℕ → View → Type 0) (except : List ℕ) (s : Scene) (w : World) : Type 0 where
   pub sized : (cpu : ℕ) → cpu < m.cpus → IsSized m (s.locals cpu)
   pub sized_world : IsSizedWorld m w
@@ -41,5 +44,6 @@ pub record RelatesExcept (m : Machine) (Fact : ℕ → View → Type 0) (except 
   pub lists : (r : ℕ) → r < length m.threads → list_at w.waiting r ≡ blocks (senders m s r)
   pub places : (i : ℕ) → i < length m.threads → NotIn i except → Fact i (view m s w i)
 
+-- The relation whole.
 abbrev pub Relates : Machine → System → World → Type 0
 Relates m g w = RelatesExcept m (Matches m) [] (scene g) w

@@ -16,13 +16,14 @@ use Rattle.l4_split.proofs.Relation.Views.{Kept, View, home, notices, locators}
 
 -- The thread in the world
 
--- A thread of the world is as its home has it, but for two things. A receive phase that follows a delivery began when the message
--- was delivered, which home hears later. Of a deleted thread no registers count.
+-- The world has a thread as its home does, but for two things. A receive phase that follows a delivery began when the message was
+-- delivered, of which home hears later:
 pub record IsEarlier (receive : Receive) (since : ℕ) (world t : Thread) : Type 0 where
   pub began : ℕ
   pub no_later : began ≤ since
   pub same : world ≡ record t { phase = Receiving receive began }
 
+-- and of a deleted thread no registers count.
 pub record IsLeft (world t : Thread) : Type 0 where
   pub deleted : world.phase ≡ Deleted
   pub begun : world.context.begun ≡ t.context.begun
@@ -30,6 +31,7 @@ pub record IsLeft (world t : Thread) : Type 0 where
   pub order : world.order ≡ t.order
   pub cancel_send : world.cancel_send ≡ t.cancel_send
 
+-- The thread of the world and its home's agree, by the phase that it is in at home.
 abbrev pub AgreesIn : Phase → (world t : Thread) → Type 0
 AgreesIn (Receiving receive since) world t = IsEarlier receive since world t
 AgreesIn Deleted world t = IsLeft world t
@@ -38,7 +40,7 @@ AgreesIn _ world t = world ≡ t
 abbrev pub Agrees : (world t : Thread) → Type 0
 Agrees world t = AgreesIn t.phase world t
 
--- The thread as its home has it once the letter under way to it is handled.
+-- The thread as its home will have it once the letter that is under way to it is handled, with the clock that home has now.
 abbrev pub learns : Content → (clock : ℕ) → Thread → Thread
 learns (DoneLetter s result) clock t = ended result clock t
 learns (OrderDoneLetter caller) clock t = obeyed t
@@ -151,6 +153,7 @@ pub record IsObeyed (m : Machine) (i : ℕ) (v : Seats) (p : Posted) : Type 0 wh
   pub from : p.from ≡ home m orders.target
   pub to : p.to ≡ home m i
 
+-- What the letter that is under way says of where the send or the order is.
 abbrev pub RowOf : Machine → ℕ → Seats → Posted → Content → Type 0
 RowOf m i v p (SendLetter s receiver message zero_timeout) = IsSent m i v p
 RowOf m i v p (DoneLetter s result) = IsDecided m i v p s
@@ -158,8 +161,8 @@ RowOf m i v p (OrderLetter caller target what) = IsOrdered m i v p
 RowOf m i v p (OrderDoneLetter caller) = IsObeyed m i v p
 RowOf m i v p _ = ⊥
 
--- The row of the table of where a send or an order is (docs/MODEL.md). It is told by the letter under way that says so, or where
--- there is none by the send.
+-- The row of the table of where a thread's send or order is (docs/MODEL.md, "Several processors"). The locator under way tells it, or
+-- where there is none whether the thread has a send.
 abbrev pub Row : Machine → ℕ → Seats → List Posted → Option Send → Type 0
 Row m i v [] None = IsPlain m i v
 Row m i v [] (Some send) = IsWaiting m i send v
@@ -177,10 +180,11 @@ since_of _ (Some send) = send.since
 abbrev pub deadlines : ℕ → Phase → Option Send → List (ℕ × ℕ)
 deadlines i phase send = armed_for (armed_period phase send) (since_of phase send) i []
 
--- A deadline has gone once it is past.
+-- The deadline of its phase is armed, or has gone since it was past.
 abbrev pub IsArmed : ℕ → Thread → List (ℕ × ℕ) → Type 0
 IsArmed i t armed = (armed ≡ deadlines i t.phase t.send) ⊎ (armed ≡ [])
 
+-- What is true of a thread at home, whatever it sends or orders.
 pub record IsHomeEntry (i clock : ℕ) (t : Thread) (armed_entries : List (ℕ × ℕ)) : Type 0 where
   pub good : IsGood clock t
   pub armed : IsArmed i t armed_entries
@@ -190,6 +194,7 @@ IsKeptAtHome i k = IsHomeEntry i k.clock k.thread k.armed
 
 -- Elsewhere
 
+-- On another processor it is neither ready nor armed, and known to be deleted only where it is.
 pub record IsForeignEntry (home_phase phase : Phase) (ready_entries : List ℕ) (armed_entries : List (ℕ × ℕ)) : Type 0 where
   pub ready : ready_entries ≡ []
   pub armed : armed_entries ≡ []
@@ -206,6 +211,7 @@ IsCause ByTimeout clock t send = (has_passed send.period send.since clock ≡ tr
 IsCause ByCancel clock t send = t.cancel_send ≡ true
 IsCause ByDeletion clock t send = t.phase ≡ Deleted
 
+-- A withdrawal under way is of a send that the thread has begun, and if it has not begun another one since, its cause is true.
 pub record IsWithdrawal (m : Machine) (i clock : ℕ) (t : Thread) (p : Posted) (s : Name) (receiver : GlobalId) (cause : Cause) : Type 0 where
   pub r : ℕ
   pub place : place_of m receiver ≡ Some r
@@ -214,6 +220,7 @@ pub record IsWithdrawal (m : Machine) (i clock : ℕ) (t : Thread) (p : Posted) 
   pub number : s.k ≤ t.context.begun
   pub true_cause : s.k ≡ t.context.begun → IfSome t.send (IsCause cause clock t)
 
+-- A notice under way is true of the thread at home. That a thread is gone is told to others than its home.
 abbrev pub IsNoticeAt : Machine → (i clock : ℕ) → Thread → Posted → Content → Type 0
 IsNoticeAt m i clock t p (WithdrawLetter s receiver cause) = IsWithdrawal m i clock t p s receiver cause
 IsNoticeAt m i clock t p (GoneLetter id) = (t.phase ≡ Deleted) × (p.to ≡ home m i → ⊥)
@@ -225,18 +232,19 @@ IsNoticeOf m i k p c = IsNoticeAt m i k.clock k.thread p c
 abbrev pub IsNotice : Machine → ℕ → Kept → Posted → Type 0
 IsNotice m i k p = IsNoticeOf m i k p p.letter.content
 
--- What the processors keep of it and the late letters say of it, wherever its send or order is.
+-- What is true of what the processors keep of a thread and of the notices about it, wherever its send or order is.
 pub record IsKept (m : Machine) (i : ℕ) (v : View) : Type 0 where
   pub at_home : IsKeptAtHome i (v.kept (home m i))
   pub elsewhere : (cpu : ℕ) → (cpu ≡ home m i → ⊥) → IsKeptElsewhere (v.kept (home m i)).thread (v.kept cpu)
   pub notices : AllByRecursion (IsNotice m i (v.kept (home m i))) (notices v.mail)
 
--- All that is said of one place, but for its entry among the ready ones.
+-- What is known of one thread: all that the relation says of it but for its entry among the ready ones, which is out while it runs.
 pub record Known (m : Machine) (i : ℕ) (v : View) : Type 0 where
   pub agrees : Agrees v.world (learned (locators v.mail) (v.kept (home m i)).clock (v.kept (home m i)).thread)
   pub row : Row m i (seats m i v) (locators v.mail) (v.kept (home m i)).thread.send
   pub kept : IsKept m i v
 
+-- The processors and the letters match the world in one thread: this is the relation at one place.
 -- A ready thread stands among the ready ones once, any other one does not.
 pub record Matches (m : Machine) (i : ℕ) (v : View) : Type 0 where
   pub known : Known m i v

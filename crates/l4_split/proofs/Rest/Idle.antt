@@ -20,6 +20,7 @@ use Rattle.l4_core_model.proofs.Remembers.{apart}
 use Rattle.l4_core_model.proofs.Duties.{accepts_none}
 use Rattle.l4_split.proofs.Relation.Views.{home, nowhere}
 
+-- A thread of a processor that is idle and has nothing armed: none of its duties is one.
 pub record IsIdle (m : Machine) (cpu : ℕ) (l : Local) (i : ℕ) : Type 0 where
   pub no_drop : is_deleted (thread l i).phase ≡ true → plain.is_queued l.lists i ≡ true → ⊥
   pub no_refusal : is_deleted (thread l i).phase ≡ true → plain.list_of l.lists i ≡ []

@@ -18,6 +18,7 @@ use Rattle.l4_split.proofs.Relation.Relates.{RelatesExcept, Relates}
 use Rattle.l4_split.proofs.Rest.Seen.{IsShown, is_shown}
 use Rattle.l4_split.proofs.Rest.Idle.{IsIdle, is_idle, none_posted}
 
+-- A scene at rest, with the world that it is related to.
 pub record IsAtRest (m : Machine) (s : Scene) (w : World) : Type 0 where
   pub machine : IsMachine m
   pub relates : RelatesExcept m (Matches m) [] s w

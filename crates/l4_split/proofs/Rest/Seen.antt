@@ -8,6 +8,7 @@ use Rattle.l4_model.specs.Conditions.{is_refusable, call_accepts}
 use Rattle.l4_split.proofs.Relation.Rows.{Agrees, AgreesIn}
 use Rattle.l4_split.proofs.Sends.Refusable.{seen}
 
+-- The world shows a thread as home has it, in all that steps ask of it.
 pub record IsShown (world t : Thread) : Type 0 where
   pub ready : is_ready world.phase ≡ is_ready t.phase
   pub deleted : is_deleted world.phase ≡ is_deleted t.phase

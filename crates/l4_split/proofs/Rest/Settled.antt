@@ -41,12 +41,14 @@ pub record IsSettledReceive (m : Machine) (w : World) (i : ℕ) (receive : Recei
   pub somebody : (clocks : List ℕ) → is_nobody receive.from (option_map (there m w clocks) (destination_place m receive.from)) ≡ true → ⊥
   pub no_wish : (world_thread w i).cancel_receive ≡ true → ⊥
 
+-- A thread can do nothing: it is not ready, has no order, and its send or its receive phase goes on.
 pub record IsSettledThread (m : Machine) (w : World) (i : ℕ) : Type 0 where
   pub unready : is_ready (world_thread w i).phase ≡ true → ⊥
   pub no_order : (world_thread w i).order ≡ None
   pub sends : (send : Send) → (world_thread w i).send ≡ Some send → IsSettledSend m w i send
   pub receives : (receive : Receive) → receive_now (world_thread w i).phase ≡ Some receive → IsSettledReceive m w i receive
 
+-- All threads of a world are so.
 pub record IsSettled (m : Machine) (w : World) : Type 0 where
   pub size : length w.threads ≡ length m.threads
   pub threads : (i : ℕ) → i < length m.threads → IsSettledThread m w i
@@ -56,6 +58,7 @@ pub record IsSettled (m : Machine) (w : World) : Type 0 where
 abbrev pub at_clocks : World → List ℕ → World
 at_clocks w clocks = record w { clocks = clocks }
 
+-- What is found under an id stands at some place.
 pub record IsFound (m : Machine) (w : World) (clocks : List ℕ) (t : Found) : Type 0 where
   pub at : ℕ
   pub within : at < length m.threads
@@ -87,6 +90,7 @@ found_to m w clocks (GlobalThread t) size = by (place_of m t) refl
     by None is = rw is refl
     by (Some i) is = let at = found_there m w clocks i size (place_within m t i is) in rw is at
 
+-- An undecided send is that of some place, and settled.
 pub record IsPending (m : Machine) (w : World) (clocks : List ℕ) (p : Pending) : Type 0 where
   pub at : ℕ
   pub within : at < length m.threads

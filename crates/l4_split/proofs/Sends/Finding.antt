@@ -46,8 +46,8 @@ receiver_is m r AnyLocalThread except s w machine lt rel to = cc
 receiver_is m r (LocalThread word) except s w machine lt rel to = cc
 receiver_is m r (GlobalThread t) except s w machine lt rel to = rw to (found_at_is m r except s w machine lt rel)
 
--- A send on a processor, by its name there
-
+-- What this processor has in the place of a send is the send itself, or a stand-in with its message, its number and whether its
+-- timeout is zero.
 pub record IsHeld (m : Machine) (i : ℕ) (send : Send) (begun : ℕ) (t : Thread) : Type 0 where
   pub held : Send
   pub has : t.send ≡ Some held

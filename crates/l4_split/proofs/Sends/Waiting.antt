@@ -51,6 +51,7 @@ agrees_begun world t a = by t.phase a
 
 -- An entry of the thread at place i in the list of the one at r
 
+-- It is the entry of the send that waits there, and of no other letter is anything said.
 pub record IsEntry (m : Machine) (r i : ℕ) (v : View) (e : plain.Waiting) : Type 0 where
   pub send : Send
   pub has : (at_home m i v).thread.send ≡ Some send

@@ -146,6 +146,7 @@ known_with_ready m i ready v none h = record {
   };
 }
 
+-- The first ready thread was taken out of the ready ones, and all others are related.
 pub record IsFirstReady (m : Machine) (cpu i : ℕ) (s : Scene) (w : World) (x : Work) : Type 0 where
   pub goes : Goes m cpu s w (i ∷ []) x
   pub picked : IsPicked m cpu i s x goes.now

@@ -29,6 +29,7 @@ use Rattle.l4_split.proofs.Sends.Refusing.{HasSend, IsReceiver, refuses_goes, de
 
 -- A send that waits at a thread of this processor
 
+-- It is on this processor with its receiver, and stands in a list of the world.
 pub record IsListedSend (m : Machine) (cpu r i : ℕ) (s : Scene) (w : World) (x : Work) : Type 0 where
   pub send : Send
   pub has : HasSend m cpu i s w x send
@@ -109,8 +110,7 @@ drops_goes m cpu r i s w x l gone =
     let deleted : (world_thread h.goes.now i).phase ≡ Deleted = left.deleted in
     refuses_goes m cpu i s w x Dropped l.send decided h (rw deleted refl) (rw (pending, queued, deleted) refl)
 
--- A send that waits somewhere on this processor
-
+-- A send that waits somewhere on this processor, with its receiver and its entry
 pub record IsQueuedHere (m : Machine) (cpu i : ℕ) (v : View) : Type 0 where
   pub r : ℕ
   pub entry : plain.Waiting

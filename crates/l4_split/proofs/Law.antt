@@ -1,4 +1,4 @@
--- What any letter brings about is possible.
+-- What is known of a core run stays known event by event, and the laws follow.
 use Rattle.std.proofs.Common.{◌≡◌, ℕ, Some, [], List, ap, arith, length, map, refl, subst, sym, true, ◌<◌, ◌∙◌, ◌∷◌}
 use Rattle.l4_model.specs.Machine.{Machine}
 use Rattle.l4_model.specs.World.{World, opening}
@@ -47,7 +47,10 @@ use Rattle.l4_split.proofs.Promises.Handling.{letter_keeps}
 use Rattle.l4_split.proofs.Relation.Relates.{Relates, RelatesExcept}
 use Rattle.l4_split.proofs.Frames.Mail.{first_letter}
 
-pub letter_goes : (m : Machine) (from cpu : ℕ) (letter : Letter) (s : Scene) (w : World) (x : Work) (c : Content) → IsLetter m from cpu letter s w →
+-- An event
+
+-- Whatever letter a processor handles, the steps that it tells are possible.
+letter_goes : (m : Machine) (from cpu : ℕ) (letter : Letter) (s : Scene) (w : World) (x : Work) (c : Content) → IsLetter m from cpu letter s w →
     letter.content ≡ c → handled m cpu c (at_work cpu letter s) ≡ Some x → Goes m cpu (without from cpu s) w [] x
 letter_goes m from cpu letter s w x (SendLetter name receiver message zero_timeout) h content is =
     handles_send m from cpu letter s w x name receiver message zero_timeout h content is
@@ -138,6 +141,7 @@ goes_on_facts m (e ∷ es) r last machine f h =
     bind_then (happens m r.system e) _ last h λ happened is rest.
     goes_on_facts m es (then_event r happened) last machine (step_facts m r e happened machine f is) rest
 
+-- This is known of every core run.
 pub run_facts : (m : Machine) (r : Run) → IsMachine m → IsCoreRun m r → RunFacts m r
 run_facts m r machine is = goes_on_facts m is.0 (opening_run m) r machine (opening_facts m machine) is.1
 
@@ -154,6 +158,7 @@ letters_lawful m r machine f =
 pub rest_still : (m : Machine) (r : Run) → IsMachine m → (f : RunFacts m r) → at_rest m r.system ≡ true → IsStill m f.world
 rest_still m r machine f rest = resting_still m r.system f.world machine f.relates f.promised rest
 
+-- So every core run is lawful.
 pub run_lawful : (m : Machine) (r : Run) → IsMachine m → RunFacts m r → IsLawfulRun m r
 run_lawful m r machine f = record {
   history = (f.world, f.reaches);

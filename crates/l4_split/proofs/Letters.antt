@@ -1,3 +1,4 @@
+-- Letters: handled, late, and lawful where they go.
 pub mod Receiving
 pub mod Noticing
 pub mod Late

@@ -1,4 +1,4 @@
--- The entries of one place in a list.
+-- Lists: the entries of one place in them, and what is true of all or of one of their elements.
 use Rattle.std.proofs.Common.{◌≡◌, ℕ, zero, suc, ◌+◌, ◌<◌, ◌≤◌, Bool, true, false, cond, List, [], ◌∷◌, ◌++◌, filter, length, refl, ap, arith}
 use Rattle.std.specs.Prelude.{◌==◌, nat_le, slice_index_or, ◌||◌}
 use Rattle.std.specs.List.{range_with_len, AllByRecursion, list_any}

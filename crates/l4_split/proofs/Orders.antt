@@ -1,3 +1,4 @@
+-- Orders: given, obeyed, and answered.
 pub mod Asked
 pub mod Asking
 pub mod Obeying

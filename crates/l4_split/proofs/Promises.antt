@@ -1,3 +1,4 @@
+-- What the processors and the letters promise each other is kept by each piece of an event.
 pub mod Promised
 pub mod Letters
 pub mod Frames

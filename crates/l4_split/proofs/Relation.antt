@@ -1,3 +1,4 @@
+-- The relation between a system and the world, its definitions first.
 pub mod Views
 pub mod Rows
 pub mod Relates

@@ -1,3 +1,4 @@
+-- A run at rest is still.
 pub mod Idle
 pub mod Seen
 pub mod Resting

@@ -1,3 +1,4 @@
+-- Sends: begun, come to their receivers, queued, refused, delivered, and answered.
 pub mod Deciding
 pub mod Answering
 pub mod Waiting

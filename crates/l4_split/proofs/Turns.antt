@@ -1,3 +1,4 @@
+-- Turns and ticks.
 pub mod Choices
 pub mod Instructions
 pub mod Failing

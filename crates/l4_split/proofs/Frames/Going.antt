@@ -104,6 +104,7 @@ pub record IsQuiet (m : Machine) (i : ℕ) (v : View) (k : Kept) (f : Thread →
   pub fresh : IsFresh k.clock (f k.thread).phase (f k.thread).send
   pub stays_true : StaysTrue k (come i f k)
 
+-- A thread that comes to a phase with neither send nor order matches the world as before.
 pub quiet_matches : {P : ℕ → View → Type 0} (m : Machine) (cpu i : ℕ) (except : List ℕ) (s : Scene) (w : World) (x : Work) (f g : Thread → Thread) →
     IsHere m cpu i →
     IsCome P m i except (kept x.local i) f g (amid cpu s x) (amid cpu s (x ▷ does (comes_to i f))) w →
@@ -157,6 +158,7 @@ opened_scene cpu s =
     at c true is = ap s.locals (sym (eqb-true cpu c is))
     at c false is = refl
 
+-- An event opens on a related scene.
 pub opened_relates : (m : Machine) (cpu stamp : ℕ) (except : List ℕ) (s : Scene) (w : World) → RelatesExcept m (Matches m) except s w →
     RelatesExcept m (Matches m) except (amid cpu s (opened stamp (s.locals cpu))) w
 opened_relates m cpu stamp except s w rel =

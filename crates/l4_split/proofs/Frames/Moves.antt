@@ -64,7 +64,7 @@ moved_elsewhere m i v after known moves cpu ne =
       gone = λ h. ap is_deleted (moves.stays_true.deleted (deleted_phase _ (old.gone (sym (ap is_deleted same.phase) ∙ h))));
     }
 
-pub moved_notice : (m : Machine) (i : ℕ) (k after : Kept) (p : Posted) (c : Content) → StaysTrue k after → IsNoticeOf m i k p c → IsNoticeOf m i after p c
+moved_notice : (m : Machine) (i : ℕ) (k after : Kept) (p : Posted) (c : Content) → StaysTrue k after → IsNoticeOf m i k p c → IsNoticeOf m i after p c
 moved_notice m i k after p (SendLetter s receiver message zero_timeout) stays_true h = h
 moved_notice m i k after p (DoneLetter s result) stays_true h = h
 moved_notice m i k after p (WithdrawLetter s receiver cause) stays_true h = record {

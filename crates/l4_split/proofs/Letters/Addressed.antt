@@ -35,12 +35,14 @@ pub record IsThread (m : Machine) (i : ℕ) : Type 0 where
 pub thread_at : (m : Machine) (id : GlobalId) (i : ℕ) → IsMachine m → place_of m id ≡ Some i → IsThread m i
 thread_at m id i machine at = record { machine = machine; within = place_within m id i at }
 
+-- A thread of the machine is declared, and its home is a processor of the machine.
 pub is_known : (m : Machine) (i : ℕ) → IsThread m i → is_declared m (declared m i).id ≡ true
 is_known m i t = ap (λ o. is_some o) (t.machine.placed i t.within)
 
 pub home_below : (m : Machine) (i : ℕ) → IsThread m i → (declared m i).cpu < m.cpus
 home_below m i t = t.machine.homed i t.within
 
+-- A letter more.
 pub posts_addressed : (m : Machine) (to : ℕ) (content : Content) (x : Work) → is_declared m (subject content) ≡ true → to < m.cpus → IsAddressed m x →
     IsAddressed m (posts to content x)
 posts_addressed m to content x about lt a =
@@ -54,6 +56,7 @@ ends_addressed m cpu i result x t a = cond_keeps (IsAddressed m) (is_own m cpu i
     (λ other. posts_addressed m (declared m i).cpu (DoneLetter (last_name m x.local i) result)
     (x ▷ does (relists (plain.unqueued i)) ▷ does (changes i decided)) (is_known m i t) (home_below m i t) a)
 
+-- A send that is refused, delivered, or comes to its receiver's processor is answered with such a letter.
 pub refuses_addressed : (m : Machine) (cpu i : ℕ) (refusal : Refusal) (x : Work) → IsThread m i → IsAddressed m x → IsAddressed m (refuses m cpu refusal i x)
 refuses_addressed m cpu i refusal x t a = ends_addressed m cpu i (Refused refusal) (x ▷ tells_send m (refusal_step refusal) i) t a
 
@@ -95,6 +98,7 @@ split_within m cpu None r h = cc
 split_within m cpu (Some send) r h = split_cases m cpu send (λ o. o ≡ Some r → r < length m.threads) (λ h. cc)
     (λ q to away h. subst (λ r. r < length m.threads) (some_is q r h) (destination_within m send.to q to)) h
 
+-- The withdrawal of a send goes to its receiver's home.
 pub withdraws_addressed : (m : Machine) (cpu : ℕ) (cause : Cause) (i : ℕ) (x : Work) → IsThread m i → IsAddressed m x →
     IsAddressed m (withdraws m cause i (split_place m cpu x.local i) x)
 withdraws_addressed m cpu cause i x t a = by (split_place m cpu x.local i) refl

@@ -1,4 +1,4 @@
--- The letters that a turn posts are about declared threads: all that it does is done to places of the machine.
+-- All that turns and letters bring about is addressed: it is done to places of the machine.
 use Rattle.l4_core_model.specs.Plain.{Waiting, armed, popped_due}
 use Rattle.std.proofs.Common.{◌≡◌, ℕ, ◌+◌, ◌<◌, Bool, true, false, cond, Option, Some, None, List, length, refl, subst, ap}
 use Rattle.std.specs.Prelude.{is_some, find, slice_index_or, ◌==◌, nat_lt, ◌||◌, is_none}
@@ -100,12 +100,11 @@ choice_addressed m cpu l (ByReady i) machine z c =
     acts_addressed m cpu i (act_of m (held m l i)) (opened 0 l ▷ does (relists plain.popped))
     (record { machine = machine; within = (subst (AllByRecursion (λ i. i < length m.threads)) c.1 z.ready).0 }) tt
 
+-- All that a turn posts is so addressed.
 pub turn_addressed : (m : Machine) (cpu : ℕ) (l : Local) (x : Work) → IsMachine m → IsSized m l → turn m cpu l ≡ Some x → IsAddressed m x
 turn_addressed m cpu l x machine z h = turn_then m cpu l x (IsAddressed m) h λ c is. choice_addressed m cpu l c machine z is
 
--- What a letter brings about posts letters about declared threads.
-
--- A letter is handled.
+-- A letter
 
 pub handled_addressed : (m : Machine) (cpu : ℕ) (c : Content) (x y : Work) → IsMachine m → IsAddressed m x → handled m cpu c x ≡ Some y → IsAddressed m y
 handled_addressed m cpu (SendLetter s receiver message zero_timeout) x y machine a h =

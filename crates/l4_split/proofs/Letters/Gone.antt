@@ -67,6 +67,7 @@ marked_matches m i v after marked same world mail gone h =
     } in
     subst (Matches m i) (λ d. record { world = sym world d; kept = after.kept; mail = sym mail d }) stands
 
+-- A processor hears that a thread of another one is gone.
 pub handles_gone : (m : Machine) (from cpu : ℕ) (letter : Letter) (s : Scene) (w : World) (x : Work) (id : GlobalId) → IsLetter m from cpu letter s w →
     letter.content ≡ GoneLetter id →
     handled m cpu (GoneLetter id) (at_work cpu letter s) ≡ Some x → Goes m cpu (without from cpu s) w [] x
@@ -157,6 +158,7 @@ matches_with_told m i told v h = record {
   ready = h.ready;
 }
 
+-- The home of a deleted thread tells one processor more.
 pub tells_gone_goes : (m : Machine) (cpu to i : ℕ) (s : Scene) (w : World) (x : Work) → IsHere m cpu i → cpu < m.cpus → Goes m cpu s w [] x →
     is_deleted (thread x.local i).phase ≡ true → next_untold m cpu (slice_index_or x.local.told i 0) ≡ Some to →
     Goes m cpu s w [] (x ▷ does (has_told to i) ▷ posts to (GoneLetter (declared m i).id))

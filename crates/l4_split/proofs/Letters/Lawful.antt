@@ -1,4 +1,4 @@
--- What is said of the thread of a letter makes the letter lawful where it goes.
+-- Every letter under way can be handled where it goes.
 use Rattle.std.proofs.Common.{◌≡◌, ℕ, ◌<◌, true, Some, None, length, refl, ap, sym, ◌∙◌, subst, arith, Bool, false, Option, List, [], ◌∷◌, ◌++◌, filter, append_assoc}
 use Rattle.std.specs.Prelude.{◌||◌, is_some, IfSome, slice_index, slice_index_or, not, slice_get, IsSomeAnd}
 use Rattle.std.proofs.lemmas.Option.{slice_get-get_or}
@@ -31,10 +31,10 @@ use Rattle.l4_split.proofs.Sends.Waiting.{agrees_send}
 
 -- Looking a thread up where a letter is handled
 
-pub own_is : (m : Machine) (cpu : ℕ) (id : GlobalId) (i : ℕ) → place_of m id ≡ Some i → cpu ≡ home m i → own_place m cpu id ≡ Some i
+own_is : (m : Machine) (cpu : ℕ) (id : GlobalId) (i : ℕ) → place_of m id ≡ Some i → cpu ≡ home m i → own_place m cpu id ≡ Some i
 own_is m cpu id i at here = let same = same_nat (home m i) in rw (at, here, same) refl
 
-pub foreign_is : (m : Machine) (cpu : ℕ) (id : GlobalId) (i : ℕ) → place_of m id ≡ Some i → (home m i ≡ cpu → ⊥) → foreign_place m cpu id ≡ Some i
+foreign_is : (m : Machine) (cpu : ℕ) (id : GlobalId) (i : ℕ) → place_of m id ≡ Some i → (home m i ≡ cpu → ⊥) → foreign_place m cpu id ≡ Some i
 foreign_is m cpu id i at away = let other = other_is (home m i) cpu away in rw (at, other) refl
 
 -- Each letter that says where a send or an order is
@@ -49,7 +49,8 @@ send_facts m i send w facts lt has =
     let now : ℕ = slice_index w.clocks (declared m i).cpu in
     (now, subst (λ o. IfSome o (IsSendOf m (declared m i).id now)) has all.send)
 
-pub sent_lawful : (m : Machine) (i : ℕ) (s : Scene) (w : World) (p : Posted) (x : Work) → IsMachine m → WorldFacts m w → i < length m.threads →
+-- A send under way comes to its receiver's home, where no send stands in its sender's place yet.
+sent_lawful : (m : Machine) (i : ℕ) (s : Scene) (w : World) (p : Posted) (x : Work) → IsMachine m → WorldFacts m w → i < length m.threads →
     x.local.threads ≡ (s.locals p.to).threads →
     (world_thread w i).send ≡ (at_home m i (view m s w i)).thread.send → IsSent m i (seats m i (view m s w i)) p →
     is_some (handled m p.to p.letter.content x) ≡ true
@@ -66,7 +67,8 @@ sent_lawful m i s w p x machine facts lt at same row =
     let letter = row.letter in
     rw (letter, own, foreign, none, actual, shown) refl
 
-pub done_lawful : (m : Machine) (i : ℕ) (s : Scene) (w : World) (p : Posted) (x : Work) (name : _) (result : _) → p.letter.content ≡ DoneLetter name result →
+-- The answer to a send comes home, where the send is still the last one.
+done_lawful : (m : Machine) (i : ℕ) (s : Scene) (w : World) (p : Posted) (x : Work) (name : _) (result : _) → p.letter.content ≡ DoneLetter name result →
     IsMachine m → i < length m.threads → x.local.threads ≡ (s.locals p.to).threads →
     IsDecided m i (seats m i (view m s w i)) p name → is_some (handled m p.to p.letter.content x) ≡ true
 done_lawful m i s w p x name result content machine lt at row =
@@ -82,7 +84,8 @@ done_lawful m i s w p x name result content machine lt at row =
     let number = same_nat name.k in
     rw (content, own, split, k, number) refl
 
-pub ordered_lawful : (m : Machine) (i : ℕ) (s : Scene) (w : World) (p : Posted) (x : Work) → IsMachine m → i < length m.threads →
+-- An order comes to its target's home.
+ordered_lawful : (m : Machine) (i : ℕ) (s : Scene) (w : World) (p : Posted) (x : Work) → IsMachine m → i < length m.threads →
     IsOrdered m i (seats m i (view m s w i)) p → is_some (handled m p.to p.letter.content x) ≡ true
 ordered_lawful m i s w p x machine lt row =
     let own = own_is m p.to row.orders.order.target row.orders.target row.orders.place row.to in
@@ -102,7 +105,8 @@ calls t order has none suits = by t.phase suits
     by Ended s = let no = s.1 in cc
     by Deleted s = refl
 
-pub obeyed_lawful : (m : Machine) (i : ℕ) (s : Scene) (w : World) (p : Posted) (x : Work) (caller : GlobalId) → p.letter.content ≡ OrderDoneLetter caller →
+-- The answer to an order comes home, where its caller still waits or is deleted.
+obeyed_lawful : (m : Machine) (i : ℕ) (s : Scene) (w : World) (p : Posted) (x : Work) (caller : GlobalId) → p.letter.content ≡ OrderDoneLetter caller →
     place_of m caller ≡ Some i → x.local.threads ≡ (s.locals p.to).threads →
     Matches m i (view m s w i) → IsObeyed m i (seats m i (view m s w i)) p → is_some (handled m p.to p.letter.content x) ≡ true
 obeyed_lawful m i s w p x caller content about at stands row =
@@ -114,7 +118,7 @@ obeyed_lawful m i s w p x caller content about at stands row =
     ap (λ (u : Thread). is_deleted u.phase || is_ordering u.phase) same ∙ test in
     rw (content, own, here) refl
 
--- Every letter under way can be handled where it goes.
+-- The letters of one thread
 
 -- A letter stands somewhere among those under way, and is about the thread at a place.
 pub record IsUnderWay (m : Machine) (i : ℕ) (p : Posted) (mail : List Posted) : Type 0 where
@@ -227,6 +231,7 @@ under_way_lawful m s w p before after stamp machine rel facts declared at =
 abbrev pub AreAddressed : Machine → List Posted → Type 0
 AreAddressed m mail = AllByRecursion (λ (p : Posted). IsAddressedTo m p.to p.letter.content) mail
 
+-- Each letter under way goes to a processor that can handle it.
 pub all_lawful : (m : Machine) (g : System) (w : World) → IsMachine m → length g.locals ≡ m.cpus → Relates m g w → WorldFacts m w → AreAddressed m g.mail →
     AllByRecursion (IsLawfulLetter m g) g.mail
 all_lawful m g w machine counted rel facts addressed = by [] g.mail refl addressed

@@ -21,7 +21,8 @@ use Rattle.l4_split.proofs.Frames.Mail.{letter_posted, mail_here}
 use Rattle.l4_split.proofs.Frames.Moves.{at_home}
 use Rattle.l4_split.proofs.Frames.Going.{Goes, IsHere, home_is}
 
-pub notice_relates : (m : Machine) (cpu to i : ℕ) (content : Content) (except : List ℕ) (s : Scene) (w : World) (x : Work) →
+-- A true notice may be posted.
+notice_relates : (m : Machine) (cpu to i : ℕ) (content : Content) (except : List ℕ) (s : Scene) (w : World) (x : Work) →
     RelatesExcept m (Matches m) except (amid cpu s x) w → NotIn i except → i < length m.threads → place_of m (subject content) ≡ Some i →
     is_locator content ≡ false →
     IsNotice m i (at_home m i (view m (amid cpu s x) w i)) (posted cpu (to, record { stamp = x.local.stamp; content = content })) →
@@ -91,6 +92,7 @@ pub withdraws_steps : (m : Machine) (cause : Cause) (i : ℕ) (to : Option ℕ) 
 withdraws_steps m cause i None x = refl
 withdraws_steps m cause i (Some r) x = refl
 
+-- So an event may post it.
 pub notice_goes : (m : Machine) (cpu to i : ℕ) (content : Content) (s : Scene) (w : World) (x : Work) → (e : Goes m cpu s w [] x) → i < length m.threads →
     place_of m (subject content) ≡ Some i → is_locator content ≡ false →
     IsNotice m i (at_home m i (view m (amid cpu s x) e.now i)) (posted cpu (to, record { stamp = x.local.stamp; content = content })) →
@@ -101,6 +103,7 @@ notice_goes m cpu to i content s w x e lt about late notice = record {
   relates = notice_relates m cpu to i content [] s e.now x e.relates tt lt about late notice;
 }
 
+-- So an event may withdraw a send whose cause is true.
 pub withdraws_goes : (m : Machine) (cpu i : ℕ) (cause : Cause) (s : Scene) (w : World) (x : Work) → IsHere m cpu i → Goes m cpu s w [] x →
     IfSome (thread x.local i).send (IsCause cause x.local.clock (thread x.local i)) → Goes m cpu s w [] (withdraws m cause i (split_place m cpu x.local i) x)
 withdraws_goes m cpu i cause s w x here e just =

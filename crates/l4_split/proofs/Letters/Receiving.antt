@@ -80,6 +80,7 @@ taken_out m from cpu i letter s w h lt about says =
       world = refl;
     }
 
+-- Its thread is left out once the letter was taken out; all others are related as before.
 pub taken_relates : (m : Machine) (from cpu i : ℕ) (letter : Letter) (s : Scene) (w : World) → IsLetter m from cpu letter s w →
     place_of m (subject letter.content) ≡ Some i → RelatesExcept m (Matches m) (i ∷ []) (amid cpu (without from cpu s) (at_work cpu letter s)) w
 taken_relates m from cpu i letter s w h about =

@@ -31,7 +31,7 @@ use Rattle.l4_split.proofs.Frames.Going.{IsHere, home_is, put_other, sized_here}
 
 -- What is asked of a thread leaves its send and its order as they are.
 
-pub begun_asked : (what : What) (t : Thread) → (asked what t).context.begun ≡ t.context.begun
+begun_asked : (what : What) (t : Thread) → (asked what t).context.begun ≡ t.context.begun
 begun_asked what t = ap (λ (s : Status). s.begun) (status-asked what t)
 
 -- The world and home agree again, whatever letter is under way.
@@ -45,7 +45,7 @@ obeyed_deleted world t a = record {
   cancel_send = agrees_wish world (obeyed t) a ∙ cond_both (λ (u : Thread). u.cancel_send) t.cancel_send (is_alive t.phase) _ _ refl refl;
 }
 
-pub asked_learned : (m : Machine) (i : ℕ) (what : What) (v : View) → Known m i v →
+asked_learned : (m : Machine) (i : ℕ) (what : What) (v : View) → Known m i v →
     Agrees (asked what v.world) (learned (locators v.mail) (at_home m i v).clock (asked what (at_home m i v).thread))
 asked_learned m i what v known = where_then m i v known
     (λ quiet none row a. seen (learned_is [] quiet) (asked_agrees what v.world t a))
@@ -118,7 +118,7 @@ asked_at_home CancelReceive j k h = record { good = asked_good CancelReceive k.c
 asked_at_home CancelBoth j k h = record { good = asked_good CancelBoth k.clock k.thread h.good; armed = h.armed }
 asked_at_home Delete j k h = record { good = asked_good Delete k.clock k.thread h.good; armed = inr refl }
 
-pub asked_ready : (what : What) (j : ℕ) (k : Kept) → k.ready ≡ readied k.thread.phase j [] →
+asked_ready : (what : What) (j : ℕ) (k : Kept) → k.ready ≡ readied k.thread.phase j [] →
     (asked_kept what j k).ready ≡ readied (asked_kept what j k).thread.phase j []
 asked_ready CancelSend j k h = h
 asked_ready CancelReceive j k h = h
@@ -247,6 +247,7 @@ asks_lists Delete l j = refl
 pub kept_lists : (a b : Local) (j : ℕ) → a.lists.waiting ≡ b.lists.waiting → (kept a j).listed ≡ (kept b j).listed
 kept_lists a b j e = ap (λ ess. λ r. filter (is_of j) (slice_index_or ess r [])) e
 
+-- All stays related where a thread of this processor is asked, in the world and here.
 pub asks_relates : (m : Machine) (cpu j : ℕ) (what : What) (except : List ℕ) (s : Scene) (w : World) (x : Work) → IsHere m cpu j →
     Matches m j (view m (amid cpu s x) w j) → RelatesExcept m (Matches m) (j ∷ except) (amid cpu s x) w →
     RelatesExcept m (Matches m) except (amid cpu s (x ▷ does (asks what j))) (change w j (asked what))

@@ -1,4 +1,4 @@
--- A letter says that an order is done.
+-- The caller of an order goes on once it is done, which its home hears by a letter where the target is of another processor.
 use Rattle.std.proofs.Common.{◌≡◌, ℕ, false, Option, Some, None, [], ◌∷◌, refl, ap, sym, ◌∙◌, subst, arith}
 use Rattle.std.specs.Prelude.{◌||◌}
 use Rattle.l4_model.specs.Words.{GlobalId}
@@ -26,13 +26,13 @@ use Rattle.l4_split.proofs.Orders.Ordered.{obeyed_agrees}
 
 -- What becomes of the caller
 
-pub obeyed_send : (t : Thread) → (obeyed t).send ≡ t.send
+obeyed_send : (t : Thread) → (obeyed t).send ≡ t.send
 obeyed_send t = cond_both (λ (u : Thread). u.send) t.send (is_alive t.phase) _ _ refl refl
 
-pub obeyed_order : (t : Thread) → (obeyed t).order ≡ None
+obeyed_order : (t : Thread) → (obeyed t).order ≡ None
 obeyed_order t = cond_both (λ (u : Thread). u.order) None (is_alive t.phase) _ _ refl refl
 
-pub obeyed_begun : (t : Thread) → (obeyed t).context.begun ≡ t.context.begun
+obeyed_begun : (t : Thread) → (obeyed t).context.begun ≡ t.context.begun
 obeyed_begun t = cond_both (λ (u : Thread). u.context.begun) t.context.begun (is_alive t.phase) _ _ refl refl
 
 pub obeyed_deleted : (t : Thread) → t.phase ≡ Deleted → (obeyed t).phase ≡ Deleted
@@ -46,7 +46,7 @@ caller_fresh clock Ordering send h = tt
 caller_fresh clock Ended send h = tt
 caller_fresh clock Deleted send h = tt
 
-pub obeyed_fresh : (clock : ℕ) (t : Thread) → IsFresh clock (obeyed t).phase (obeyed t).send
+obeyed_fresh : (clock : ℕ) (t : Thread) → IsFresh clock (obeyed t).phase (obeyed t).send
 obeyed_fresh clock t = cond_keeps (λ (u : Thread). IsFresh clock u.phase u.send) (is_alive t.phase) _ _ (λ alive. tt)
     (λ gone. caller_fresh clock t.phase t.send gone)
 
@@ -96,6 +96,7 @@ obeyed_relates m cpu i s w x before p caller here content t rel =
     subst (RelatesExcept m (Matches m) [] (amid cpu s (x ▷ does (comes_to i obeyed)))) (ap (λ ts. record w { threads = ts }) (unchanged w.threads i))
     (takes_in m i [] (amid cpu s (x ▷ does (comes_to i obeyed))) (change w i (λ t. t)) c.relates (quiet_matches m cpu i [] s w x obeyed (λ t. t) here c q))
 
+-- A caller hears that its order is done.
 pub handles_order_done : (m : Machine) (from cpu : ℕ) (letter : Letter) (s : Scene) (w : World) (x : Work) (caller : GlobalId) →
     IsLetter m from cpu letter s w → letter.content ≡ OrderDoneLetter caller →
     handled m cpu (OrderDoneLetter caller) (at_work cpu letter s) ≡ Some x → Goes m cpu (without from cpu s) w [] x
@@ -115,7 +116,7 @@ handles_order_done m from cpu letter s w x caller h content is =
           (record { machine = h.machine; within = lt; home = at.1 }) content t rel;
     })
 
--- A thread gives an order: it is done here, or goes to its target's processor.
+-- Where the target is of the same processor, the order is done in the event that gives it.
 
 -- A thread of this processor that has given an order, which is neither done nor under way
 pub record IsCalling (m : Machine) (i : ℕ) (order : Asked) (v : View) : Type 0 where

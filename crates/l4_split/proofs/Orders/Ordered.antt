@@ -100,7 +100,8 @@ order_letter : (caller target : GlobalId) (what : What) (id : GlobalId) (order :
     OrderLetter caller target what ≡ OrderLetter id order.target order.what → (target ≡ order.target) × (what ≡ order.what)
 order_letter caller target what id order h = (cc, cc)
 
-pub order_goes : (m : Machine) (cpu i j : ℕ) (s : Scene) (w : World) (x : Work) (before : View) (p : Posted) (caller target : GlobalId) (what : What) →
+-- The order of another processor's thread is obeyed, and the answer is posted: in the world its caller goes on at once.
+order_goes : (m : Machine) (cpu i j : ℕ) (s : Scene) (w : World) (x : Work) (before : View) (p : Posted) (caller target : GlobalId) (what : What) →
     IsHere m cpu j → i < length m.threads → (home m i ≡ cpu → ⊥) → place_of m caller ≡ Some i → place_of m target ≡ Some j → p.to ≡ cpu →
     p.letter.content ≡ OrderLetter caller target what →
     IsTakenOut m i before (view m (amid cpu s x) w i) p → RelatesExcept m (Matches m) (i ∷ []) (amid cpu s x) w → x.steps ≡ [] →
@@ -178,6 +179,7 @@ order_goes m cpu i j s w x before p caller target what here lt away at_i at_j to
       });
     }
 
+-- The letter of an order is handled.
 pub handles_order : (m : Machine) (from cpu : ℕ) (letter : Letter) (s : Scene) (w : World) (x : Work) (caller target : GlobalId) (what : What) →
     IsLetter m from cpu letter s w → letter.content ≡ OrderLetter caller target what →
     handled m cpu (OrderLetter caller target what) (at_work cpu letter s) ≡ Some x → Goes m cpu (without from cpu s) w [] x

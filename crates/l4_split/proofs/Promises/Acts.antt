@@ -36,7 +36,7 @@ ends_here m cpu i result s x processor here p =
     (ended_afresh result x.local.clock (thread x.local i))
     (relists_keeps m cpu (i ∷ []) s x (plain.unqueued i) processor refl p)
 
-pub ends_away : (m : Machine) (cpu i : ℕ) (result : Result) (except : List ℕ) (s : Scene) (x : Work) → cpu < m.cpus → (home m i ≡ cpu → ⊥) →
+ends_away : (m : Machine) (cpu i : ℕ) (result : Result) (except : List ℕ) (s : Scene) (x : Work) → cpu < m.cpus → (home m i ≡ cpu → ⊥) →
     Promised m except (amid cpu s x) →
     Promised m except (amid cpu s
     (x ▷ does (relists (plain.unqueued i)) ▷ does (changes i decided) ▷ posts (declared m i).cpu (DoneLetter (last_name m x.local i) result)))
@@ -47,12 +47,14 @@ ends_away m cpu i result except s x processor away p =
     (changes_away m cpu i except s (x ▷ does (relists (plain.unqueued i))) decided processor away (λ h. h)
     (relists_keeps m cpu except s x (plain.unqueued i) processor refl p))
 
-pub ends_keeps : (m : Machine) (cpu i : ℕ) (result : Result) (s : Scene) (x : Work) → cpu < m.cpus → StaysPromised m cpu s x →
+-- A decision on this processor, wherever the sender is of.
+ends_keeps : (m : Machine) (cpu i : ℕ) (result : Result) (s : Scene) (x : Work) → cpu < m.cpus → StaysPromised m cpu s x →
     StaysPromised m cpu s (ends m cpu result i x)
 ends_keeps m cpu i result s x processor p = cond_keeps (StaysPromised m cpu s) (is_own m cpu i) _ _
     (λ own. ends_here m cpu i result s x processor (eqb-true (home m i) cpu own) (leaves_one m i [] (amid cpu s x) p))
     (λ other. ends_away m cpu i result [] s x processor (apart (home m i) cpu other) p)
 
+-- A refusal.
 pub refuses_keeps : (m : Machine) (cpu i : ℕ) (refusal : Refusal) (s : Scene) (x : Work) → cpu < m.cpus → StaysPromised m cpu s x →
     StaysPromised m cpu s (refuses m cpu refusal i x)
 refuses_keeps m cpu i refusal s x processor p = ends_keeps m cpu i (Refused refusal) s (x ▷ tells_send m (refusal_step refusal) i) processor p
@@ -71,6 +73,7 @@ first_wishless m l r i h = by (thread l r).phase refl h
     by Ended is h = cc
     by Deleted is h = cc
 
+-- A delivery to the first that is accepted.
 pub delivers_keeps : (m : Machine) (cpu r i : ℕ) (s : Scene) (x : Work) → cpu < m.cpus → home m r ≡ cpu → is_place (first_acceptable x.local r) i ≡ true →
     StaysPromised m cpu s x → StaysPromised m cpu s (delivers m cpu r i x)
 delivers_keeps m cpu r i s x processor here first p = by (thread x.local i).send
@@ -135,6 +138,7 @@ runs_keeps m cpu i s x processor here ready p =
     let instr : Instr = instruction (held m x.local i) in
     comes_on m cpu i s (x ▷ tells (RanLocal (declared m i).id)) (runs instr) processor here (runs_afresh instr (thread x.local i) ready) p
 
+-- A wait.
 pub waits_keeps : (m : Machine) (cpu i : ℕ) (receive : Receive) (s : Scene) (x : Work) → cpu < m.cpus → home m i ≡ cpu →
     is_ready (thread x.local i).phase ≡ true → StaysPromised m cpu s x → StaysPromised m cpu s (waits_at m i receive x)
 waits_keeps m cpu i receive s x processor here ready p =

@@ -1,4 +1,4 @@
--- A send that is not split stands in a list of its own processor.
+-- What is promised is kept by the core's turn.
 use Rattle.l4_model.proofs.Chains.{some_is}
 use Rattle.l4_split.proofs.Relation.Whereabouts.{where_then, not_both}
 use Rattle.l4_core_model.specs.Local.{destination_place, Local, thread, held, last_name, relists, comes_to}
@@ -34,7 +34,9 @@ use Rattle.l4_split.proofs.Promises.Locals.{size_now, relists_keeps}
 use Rattle.l4_split.proofs.Promises.Acts.{StaysPromised, begins_keeps, runs_keeps, waits_keeps}
 use Rattle.l4_split.proofs.Promises.Giving.{gives_keeps}
 
-pub listed_here : (m : Machine) (i : ℕ) (s : Scene) (w : World) → Matches m i (view m s w i) → IsListedHere m i (s.locals (home m i))
+-- A send that is not split stands in a list of its own processor.
+
+listed_here : (m : Machine) (i : ℕ) (s : Scene) (w : World) → Matches m i (view m s w i) → IsListedHere m i (s.locals (home m i))
 listed_here m i s w stands send has whole = where_then m i v stands.known
     (λ quiet none row a. not_both _ send has none)
     (λ other quiet is row a. waits other (some_is other send (sym is ∙ has)) row)
@@ -58,7 +60,7 @@ listed_here m i s w stands send has whole = where_then m i v stands.known
         (any_kept (is_of i) _ [] _ (sym (ap (λ c. (v.kept c).listed row.r) here) ∙ row.listed)))
         (λ away. absurd (whole (row.r, (ap (λ (s : Send). destination_place m s.to) (sym same) ∙ row.to, away))))
 
--- What is promised is kept by the core's turn.
+-- A turn
 
 -- No send that is still to begin was withdrawn.
 
@@ -151,6 +153,7 @@ choice_keeps m cpu s w (ByReady i) machine processor rel p c =
     acts_keeps m cpu i s w (s.locals cpu) refl processor r.picked.here r.picked.ready (rel.places i r.picked.here.within tt)
     (relists_keeps m cpu [] s (opened 0 (s.locals cpu)) plain.popped processor refl p)
 
+-- A turn.
 pub turn_keeps : (m : Machine) (cpu : ℕ) (s : Scene) (w : World) (x : Work) → IsMachine m → cpu < m.cpus → RelatesExcept m (Matches m) [] s w →
     Promised m [] s → turn m cpu (s.locals cpu) ≡ Some x → StaysPromised m cpu s x
 turn_keeps m cpu s w x machine processor rel promised h =

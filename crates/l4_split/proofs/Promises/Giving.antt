@@ -27,6 +27,7 @@ use Rattle.l4_split.proofs.Promises.Orders.{comes_dead, obeys_keeps}
 abbrev pub HasAsked : Thread → Type 0
 HasAsked t = (t.phase ≡ Ordering) ⊎ (t.phase ≡ Deleted)
 
+-- A caller goes on.
 pub obeyed_keeps : (m : Machine) (cpu i : ℕ) (s : Scene) (x : Work) → cpu < m.cpus → home m i ≡ cpu → HasAsked (thread x.local i) → StaysPromised m cpu s x →
     StaysPromised m cpu s (x ▷ does (comes_to i obeyed))
 obeyed_keeps m cpu i s x processor here (inl waits) p =
@@ -72,6 +73,7 @@ obeys_asked m cpu i j caller what x lt is =
     (λ gone. asks_asked what i j x.local lt is)
     (λ alive. subst (λ l. HasAsked (thread l i)) (sym (withdraws_local m cpu j (cause_of what) y)) (asks_asked what i j x.local lt is))
 
+-- An instruction gives an order.
 pub gives_keeps : (m : Machine) (cpu i : ℕ) (order : Asked) (s : Scene) (x : Work) → cpu < m.cpus → i < length m.threads → home m i ≡ cpu →
     is_ready (thread x.local i).phase ≡ true → StaysPromised m cpu s x → StaysPromised m cpu s (gives_order m cpu i order x)
 gives_keeps m cpu i order s x processor lt here ready p = by (place_of m order.target)

@@ -35,6 +35,7 @@ has_asked Ordering h = inl refl
 has_asked Ended h = cc
 has_asked Deleted h = inr refl
 
+-- Any letter.
 pub letter_keeps : (m : Machine) (from cpu : ℕ) (letter : Letter) (s : Scene) (w : World) (x : Work) (c : Content) → IsLetter m from cpu letter s w →
     slice_get (letters s.mail from cpu) 0 ≡ Some letter → letter.content ≡ c → Promised m [] s → handled m cpu c (at_work cpu letter s) ≡ Some x →
     StaysPromised m cpu (without from cpu s) x

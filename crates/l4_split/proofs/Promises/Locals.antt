@@ -50,6 +50,7 @@ pub size_now : (m : Machine) (cpu : ℕ) (except : List ℕ) (s : Scene) (x : Wo
     length x.local.threads ≡ length m.threads
 size_now m cpu except s x lt p = subst (λ (l : Local). length l.threads ≡ length m.threads) (here_local cpu s x.local) (p.threads cpu lt)
 
+-- A harmless change.
 pub local_keeps : (m : Machine) (cpu : ℕ) (except : List ℕ) (s : Scene) (x : Work) (f : Local → Local) → cpu < m.cpus →
     IsHarmless m cpu except x.local (f x.local) → Promised m except (amid cpu s x) → Promised m except (amid cpu s (x ▷ does f))
 local_keeps m cpu except s x f processor spared p = record {
@@ -146,7 +147,7 @@ come_armed m i f k other none = none_armed _ k.clock i none
 come_not_late : {P : Type 0} (i : ℕ) (f : Thread → Thread) (k : Kept) → IsLate (come i f k) → P
 come_not_late i f k late = absurd (late.1 (none_armed _ k.clock i late.0))
 
-pub come_answered : (m : Machine) (i : ℕ) (f : Thread → Thread) (k : Kept) (mail : List Posted) →
+come_answered : (m : Machine) (i : ℕ) (f : Thread → Thread) (k : Kept) (mail : List Posted) →
     (((f k.thread).send ≡ None) ⊎ (((f k.thread).cancel_send ≡ false) × ((f k.thread).phase ≡ Deleted → ⊥))) → IsAnswered m i (come i f k) mail
 come_answered m i f k mail (inl none) send r has to away ending = let no_send = sym none ∙ has in cc
 come_answered m i f k mail (inr quiet) send r has to away (inl late) = come_not_late i f k late
@@ -168,6 +169,7 @@ comes_harmless m cpu j except l f here calm = record {
   away = λ i lt away h. ap (λ (k : Kept). k.thread.phase) (comes_other l j i f (λ e. away (sym (ap (home m) e) ∙ here))) ∙ h;
 }
 
+-- A thread of this processor comes to a phase that starts afresh.
 pub comes_keeps : (m : Machine) (cpu j : ℕ) (except : List ℕ) (s : Scene) (x : Work) (f : Thread → Thread) → cpu < m.cpus → home m j ≡ cpu →
     StartsAfresh (thread x.local j) (f (thread x.local j)) →
     Promised m (j ∷ except) (amid cpu s x) → Promised m except (amid cpu s (x ▷ does (comes_to j f)))

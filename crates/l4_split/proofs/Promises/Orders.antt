@@ -35,6 +35,7 @@ split_is m cpu r l j send has to away =
     let other : is_own m cpu r ≡ false = other_is (home m r) cpu away in
     ap (split_receiver m cpu) has ∙ (rw (to, other) refl)
 
+-- Its withdrawal is the answer, where it is to end.
 pub withdraws_keeps : (m : Machine) (cpu j : ℕ) (cause : Cause) (s : Scene) (x : Work) → home m j ≡ cpu →
     (j < length m.threads → IsArmedUnlessSplit m j (kept x.local j)) → Promised m (j ∷ []) (amid cpu s x) →
     StaysPromised m cpu s (withdraws m cause j (split_place m cpu x.local j) x)
@@ -184,6 +185,7 @@ asks_living m cpu j caller Delete s x processor here p =
     (local_keeps m cpu (j ∷ []) s y (comes_to j (asked Delete)) processor
     (comes_harmless m cpu j [] y.local (asked Delete) here (λ h unsent living. absurd (living refl))) (leaves_one m j [] (amid cpu s y) q))
 
+-- The target of an order obeys.
 pub obeys_keeps : (m : Machine) (cpu j : ℕ) (caller : GlobalId) (what : What) (s : Scene) (x : Work) → cpu < m.cpus → home m j ≡ cpu → StaysPromised m cpu s x →
     StaysPromised m cpu s (obeys m cpu caller what j x)
 obeys_keeps m cpu j caller what s x processor here p =

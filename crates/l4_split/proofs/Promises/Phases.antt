@@ -13,7 +13,7 @@ pub record IsWishless (p : Phase) : Type 0 where
   pub unsent : p ≡ Sending → ⊥
   pub alive : p ≡ Deleted → ⊥
 
-pub ready_wishless : (p : Phase) → is_ready p ≡ true → IsWishless p
+ready_wishless : (p : Phase) → is_ready p ≡ true → IsWishless p
 ready_wishless p ready = record {
   unsent = λ e. let h : is_ready Sending ≡ true = subst (λ p. is_ready p ≡ true) e ready in cc;
   alive = λ e. let h : is_ready Deleted ≡ true = subst (λ p. is_ready p ≡ true) e ready in cc;

@@ -56,6 +56,7 @@ pub record IsSpent (m : Machine) (from cpu : ℕ) (letter : Letter) (s : Scene) 
       IsAnswer (name_of m i (kept_at (amid cpu s x) (home m i) i).thread) (home m i) (home m r) (record { from = from; to = cpu; letter = letter }) →
       AnyOf (IsAnswer (name_of m i (kept_at (amid cpu s x) (home m i) i).thread) (home m i) (home m r)) (amid cpu (without from cpu s) x).mail
 
+-- Once what rested on it is done, the letter may go.
 pub taken_keeps : (m : Machine) (from cpu : ℕ) (letter : Letter) (s : Scene) (x : Work) → IsFirstLetter from cpu letter s.mail → IsSpent m from cpu letter s x →
     StaysPromised m cpu s x → StaysPromised m cpu (without from cpu s) x
 taken_keeps m from cpu letter s x f spent p = record {

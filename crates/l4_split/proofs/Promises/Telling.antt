@@ -50,6 +50,7 @@ told_now m cpu told to h c lt away = by (told == cpu) refl h
         bounded false h = cc
         bounded true h = which b is (some_is _ to h)
 
+-- One processor more is told of a deletion.
 pub tells_keeps : (m : Machine) (cpu to i : ℕ) (s : Scene) (x : Work) → cpu < m.cpus → home m i ≡ cpu →
     next_untold m cpu (slice_index_or x.local.told i 0) ≡ Some to → StaysPromised m cpu s x →
     StaysPromised m cpu s (x ▷ does (has_told to i) ▷ posts to (GoneLetter (declared m i).id))

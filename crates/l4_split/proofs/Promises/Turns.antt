@@ -35,6 +35,7 @@ same_harmless m cpu except l stamp clock = record {
   away = λ i lt away h. h;
 }
 
+-- An event opens.
 pub opened_keeps : (m : Machine) (cpu stamp : ℕ) (except : List ℕ) (s : Scene) → cpu < m.cpus → Promised m except s →
     Promised m except (amid cpu s (opened stamp (s.locals cpu)))
 opened_keeps m cpu stamp except s processor p =
@@ -42,6 +43,7 @@ opened_keeps m cpu stamp except s processor p =
     (same_harmless m cpu except (s.locals cpu) (opened stamp (s.locals cpu)).local.stamp (s.locals cpu).clock)
     (subst (Promised m except) (opened_scene cpu s) p)
 
+-- A tick.
 pub ticks_keeps : (m : Machine) (cpu to : ℕ) (s : Scene) (x : Work) → cpu < m.cpus → StaysPromised m cpu s x → StaysPromised m cpu s (x ▷ does (clock_is to))
 ticks_keeps m cpu to s x processor p = local_keeps m cpu [] s x (clock_is to) processor (same_harmless m cpu [] x.local x.local.stamp to) p
 
@@ -79,6 +81,7 @@ times_out_keeps m cpu i s x processor here listed p =
     (λ away. absurd (apart (home m i) cpu away here)))
     (λ split. withdraws_keeps m cpu i ByTimeout s x here (λ lt. armed_unless m i x.local other split listed) p))
 
+-- A due timeout.
 pub due_keeps : (m : Machine) (cpu : ℕ) (s : Scene) (x : Work) (a : ℕ × ℕ) (others : List (ℕ × ℕ)) → cpu < m.cpus → home m a.1 ≡ cpu →
     IsListedHere m a.1 x.local → x.local.lists.armed ≡ a ∷ others → StaysPromised m cpu s x →
     StaysPromised m cpu s (x ▷ does (relists plain.popped_due) ▷ times_out m cpu a.1)

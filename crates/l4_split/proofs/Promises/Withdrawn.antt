@@ -87,6 +87,7 @@ not_behind {P = P} s receiver cause from cpu letter mail content first order h =
 and_true : {P : Type 0} (a b : Bool) → a ≡ true → b ≡ true → (a && b) ≡ false → P
 and_true a b p q h = let p = p in let q = q in cc
 
+-- A withdrawal is handled.
 pub withdraw_keeps : (m : Machine) (from cpu : ℕ) (letter : Letter) (s : Scene) (w : World) (x : Work) (name : Name) (receiver : GlobalId) (cause : Cause) →
     IsLetter m from cpu letter s w → slice_get (letters s.mail from cpu) 0 ≡ Some letter →
     letter.content ≡ WithdrawLetter name receiver cause → Promised m [] s → handled m cpu (WithdrawLetter name receiver cause) (at_work cpu letter s) ≡ Some x →

@@ -94,7 +94,7 @@ was_delivered_later (Some send) now later world t le a = by (is_alive t.phase) a
     by true a = goes_on_later send.receive now later world t le a
     by false a = a
 
-pub ended_later : (result : Result) (now later : ℕ) (world t : Thread) → now ≤ later → Agrees world (ended result now t) → Agrees world (ended result later t)
+ended_later : (result : Result) (now later : ℕ) (world t : Thread) → now ≤ later → Agrees world (ended result now t) → Agrees world (ended result later t)
 ended_later Delivered now later world t le a = was_delivered_later t.send now later world t le a
 ended_later (Refused TimedOut) now later world t le a = a
 ended_later (Refused Nobody) now later world t le a = a

@@ -1,4 +1,4 @@
--- The opening system and the opening world are related.
+-- At the opening all is related, and all is promised.
 use Rattle.l4_core_model.proofs.Single.{range_below}
 use Rattle.l4_core_model.proofs.Law.{get-same}
 use Rattle.std.proofs.Common.{◌≡◌, ℕ, zero, suc, ◌+◌, ◌<◌, ◌≤◌, true, false, List, [], ◌∷◌, map, filter, length, refl, ap, sym, ◌∙◌, subst, arith, inl, inr, ◌⊎◌, Some, None}
@@ -43,7 +43,7 @@ opening_kept m cpu i =
     let told = get-same 0 m.threads i in
     λ d. record { thread = threads d; ready = filter (λ j. i == j) (own_places m cpu); armed = []; listed = λ r. lists r d; told = told d; clock = 0 }
 
-pub in_range : (m : Machine) (cpu : ℕ) → cpu < m.cpus → (scene (opening_system m)).locals cpu ≡ opening_local m cpu
+in_range : (m : Machine) (cpu : ℕ) → cpu < m.cpus → (scene (opening_system m)).locals cpu ≡ opening_local m cpu
 in_range m cpu lt = at_range (opening_local m) nowhere 0 m.cpus cpu lt ∙ ap (opening_local m) (omega arith)
 
 -- what a processor has, and what is past the last one
@@ -65,7 +65,7 @@ other_entry m cpu i ne =
     filter_out (λ j. i == j) (is_own m cpu) (λ j is. subst (λ k. is_own m cpu k ≡ false) (eqb-true i j is) (other_is (home m i) cpu (λ e. ne (sym e))))
     (range_with_len 0 (length m.threads))
 
-pub home_kept : (m : Machine) (i : ℕ) → IsMachine m → i < length m.threads → kept ((scene (opening_system m)).locals (home m i)) i ≡ opened i (i ∷ [])
+home_kept : (m : Machine) (i : ℕ) → IsMachine m → i < length m.threads → kept ((scene (opening_system m)).locals (home m i)) i ≡ opened i (i ∷ [])
 home_kept m i is lt =
     ap (λ l. kept l i) (in_range m (home m i) (is.homed i lt))
     ∙ opening_kept m (home m i) i ∙ ap (opened i) (own_entry m i lt)
@@ -113,6 +113,7 @@ opening_list : (m : Machine) (r : ℕ) → list_at (opening m).waiting r ≡ blo
 opening_list m r =
     get-same [] m.threads r ∙ sym (at_processor m (λ l. blocks (plain.list_of l.lists r) ≡ []) (home m r) (λ lt. ap blocks (get-same [] m.threads r)) refl)
 
+-- At the opening all is related.
 pub opening_relates : (m : Machine) → IsMachine m → Relates m (opening_system m) (opening m)
 opening_relates m is = record {
   sized = λ cpu lt. subst (IsSized m) (sym (in_range m cpu lt)) (opening_sized m cpu);

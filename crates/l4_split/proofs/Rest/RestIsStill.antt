@@ -1,4 +1,4 @@
--- At rest an undecided send waits, and nothing can decide it.
+-- Where a machine is at rest, nothing but clocks can go on in the world.
 use Rattle.l4_split.proofs.Lists.{any_block, any_kept, any_list}
 use Rattle.l4_model.proofs.Rows.Writing.{send}
 use Rattle.l4_core_model.specs.Plain.{Waiting}
@@ -31,6 +31,8 @@ use Rattle.l4_core_model.specs.Runs.{System, at_rest, IsMachine}
 use Rattle.l4_core_model.proofs.Duties.{receiving_is}
 use Rattle.l4_core_model.proofs.Good.{receiving_has_none}
 use Rattle.l4_split.proofs.Sends.Waiting.{first_accepted_is}
+
+-- An undecided send waits, and nothing can decide it.
 
 -- A send that waits, at home or elsewhere
 record WaitsAtRest (m : Machine) (s : Scene) (w : World) (i : ℕ) (send : Send) : Type 0 where
@@ -120,7 +122,7 @@ receiver_alive m s w i send h gone =
     let one = h.row.listed in
     cc (none, one)
 
-pub settled_send : (m : Machine) (s : Scene) (w : World) (i : ℕ) (send : Send) → IsAtRest m s w → i < length m.threads → (world_thread w i).send ≡ Some send →
+settled_send : (m : Machine) (s : Scene) (w : World) (i : ℕ) (send : Send) → IsAtRest m s w → i < length m.threads → (world_thread w i).send ≡ Some send →
     IsSettledSend m w i send
 settled_send m s w i send rest lt has_there =
     let seen = own_shown m s w i rest lt in
@@ -141,7 +143,7 @@ settled_send m s w i send rest lt has_there =
       no_drop = λ gone. no_drop m s w i send h (sym seen.deleted ∙ gone);
     }
 
--- Where a machine is at rest, nothing but clocks can go on in the world.
+-- A receive phase goes on.
 
 -- Whom the world knows to be gone, each processor knows to be gone.
 nobody_here : (m : Machine) (s : Scene) (w : World) (cpu : ℕ) (clocks : List ℕ) (from : Id) → IsAtRest m s w → cpu < m.cpus →

@@ -70,14 +70,14 @@ found_there m w clocks i size lt =
     let in_world : i < length w.threads = omega (arith, size) in
     rw (slice_get-get_or m.threads i undeclared, slice_get-get_or w.threads i opening_thread) refl
 
-pub is_found : (m : Machine) (w : World) (clocks : List ℕ) (id : GlobalId) (t : Found) → IsSettled m w → found m (at_clocks w clocks) id ≡ Some t →
+is_found : (m : Machine) (w : World) (clocks : List ℕ) (id : GlobalId) (t : Found) → IsSettled m w → found m (at_clocks w clocks) id ≡ Some t →
     IsFound m w clocks t
 is_found m w clocks id t settled h =
     bind_then (place_of m id) _ t h λ i at rest.
     let lt = place_within m id i at in
     record { at = i; within = lt; is = some_is (there m w clocks i) t (sym (found_there m w clocks i settled.size lt) ∙ rest) }
 
-pub found_to : (m : Machine) (w : World) (clocks : List ℕ) (to : Id) → length w.threads ≡ length m.threads →
+found_to : (m : Machine) (w : World) (clocks : List ℕ) (to : Id) → length w.threads ≡ length m.threads →
     found_by m (at_clocks w clocks) to ≡ option_map (there m w clocks) (destination_place m to)
 found_to m w clocks NilThread size = refl
 found_to m w clocks AnyThread size = refl
@@ -97,7 +97,7 @@ pub record IsPending (m : Machine) (w : World) (clocks : List ℕ) (p : Pending)
   pub is : there m w clocks at ≡ p.sender
   pub settled : IsSettledSend m w at p.send
 
-pub is_pending : (m : Machine) (w : World) (clocks : List ℕ) (s : Name) (p : Pending) → IsSettled m w → undecided m (at_clocks w clocks) s ≡ Some p →
+is_pending : (m : Machine) (w : World) (clocks : List ℕ) (s : Name) (p : Pending) → IsSettled m w → undecided m (at_clocks w clocks) s ≡ Some p →
     IsPending m w clocks p
 is_pending m w clocks s p settled h =
     bind_then (found m (at_clocks w clocks) s.thread) _ p h λ t at rest.
@@ -118,12 +118,12 @@ to_is : (m : Machine) (w : World) (clocks : List ℕ) (p : Pending) → IsSettle
     receiver_of m (at_clocks w clocks) p ≡ Some (there m w clocks it.settled.receiver)
 to_is m w clocks p settled it = found_to m w clocks p.send.to settled.size ∙ ap (option_map (there m w clocks)) it.settled.to
 
-pub no_queue : (m : Machine) (w : World) (clocks : List ℕ) (p : Pending) → IsPending m w clocks p → not (is_waiting (at_clocks w clocks) p) ≡ true → ⊥
+no_queue : (m : Machine) (w : World) (clocks : List ℕ) (p : Pending) → IsPending m w clocks p → not (is_waiting (at_clocks w clocks) p) ≡ true → ⊥
 no_queue m w clocks p it free =
     let waits : is_waiting (at_clocks w clocks) p ≡ true = sym (ap (λ (t : Found). is_queued w.waiting t.at) it.is) ∙ it.settled.waits in
     let not_free = ap not waits in cc
 
-pub no_timeout : (m : Machine) (w : World) (clocks : List ℕ) (p : Pending) → IsSettled m w → IsPending m w clocks p →
+no_timeout : (m : Machine) (w : World) (clocks : List ℕ) (p : Pending) → IsSettled m w → IsPending m w clocks p →
     is_timed_out m (at_clocks w clocks) p ≡ true → ⊥
 no_timeout m w clocks p settled it due =
     let t = both (has_passed p.send.period p.send.since p.sender.clock)
@@ -144,7 +144,7 @@ gone m w clocks AnyLocalThread r to h = cc
 gone m w clocks (LocalThread word) r to h = cc
 gone m w clocks (GlobalThread t) r to h = h
 
-pub no_nobody : (m : Machine) (w : World) (clocks : List ℕ) (p : Pending) → IsSettled m w → IsPending m w clocks p →
+no_nobody : (m : Machine) (w : World) (clocks : List ℕ) (p : Pending) → IsSettled m w → IsPending m w clocks p →
     is_no_destination p.send.to (receiver_of m (at_clocks w clocks) p) ≡ true → ⊥
 no_nobody m w clocks p settled it nobody =
     it.settled.alive (gone m w clocks p.send.to it.settled.receiver it.settled.to
@@ -164,7 +164,7 @@ no_delivery m w clocks p r receive first settled it to receiving accepted =
 
 -- No step of a thread is possible.
 
-pub passed_finite : (m : Machine) (w : World) (t : Found) (receive : Receive) → receive_now t.now.phase ≡ Some receive → receive_passed t t.now.phase ≡ true →
+passed_finite : (m : Machine) (w : World) (t : Found) (receive : Receive) → receive_now t.now.phase ≡ Some receive → receive_passed t t.now.phase ≡ true →
     ((n : ℕ) → receive.period ≡ Some n → ⊥) → ⊥
 passed_finite m w t receive receiving passed endless = by t.now.phase receiving passed
   where
@@ -177,7 +177,7 @@ passed_finite m w t receive receiving passed endless = by t.now.phase receiving 
     by Ended r h = cc
     by Deleted r h = cc
 
-pub no_ready : (m : Machine) (w : World) (clocks : List ℕ) (id : GlobalId) (t : Found) → IsSettled m w → found m (at_clocks w clocks) id ≡ Some t →
+no_ready : (m : Machine) (w : World) (clocks : List ℕ) (id : GlobalId) (t : Found) → IsSettled m w → found m (at_clocks w clocks) id ≡ Some t →
     is_ready t.now.phase ≡ true → ⊥
 no_ready m w clocks id t settled h ready = let f = is_found m w clocks id t settled h in
     (settled.threads f.at f.within).unready (ap (λ (t : Found). is_ready t.now.phase) f.is ∙ ready)

@@ -57,6 +57,7 @@ unchanged [] i = refl
 unchanged (t ∷ ts) zero = refl
 unchanged (t ∷ ts) (suc i) = ap (λ us. t ∷ us) (unchanged ts i)
 
+-- The answer to a send comes home: the world is as it was, and home agrees with it again.
 pub done_relates : (m : Machine) (cpu i : ℕ) (s : Scene) (w : World) (x : Work) (before : View) (p : Posted) (name : Name) (result : Result) → IsHere m cpu i →
     p.letter.content ≡ DoneLetter name result → IsTakenOut m i before (view m (amid cpu s x) w i) p →
     RelatesExcept m (Matches m) (i ∷ []) (amid cpu s x) w → RelatesExcept m (Matches m) [] (amid cpu s (x ▷ does (comes_to i (ended result x.local.clock)))) w
@@ -110,6 +111,7 @@ letter_of m i r t send name receiver message zero_timeout h =
     let name_is : name ≡ name_of m i t = cc in
     record { number = ap (λ (s : Name). s.k) name_is; receiver_is = cc; message_is = cc; zero_is = cc }
 
+-- The letter of a send comes to its receiver's home: a stand-in takes its place there, and it is in hand.
 pub send_goes : (m : Machine) (cpu i r : ℕ) (s : Scene) (w : World) (x : Work) (before : View) (p : Posted) (name : Name) (receiver : GlobalId)
     (message : Message) (zero_timeout : Bool) → IsAway m cpu i → p.to ≡ cpu → p.letter.content ≡ SendLetter name receiver message zero_timeout →
     (e : Goes m cpu s w (i ∷ []) x) → IsTakenOut m i before (view m (amid cpu s x) e.now i) p → place_of m receiver ≡ Some r → r < length m.threads →

@@ -1,4 +1,4 @@
--- The first waiting send that a receiver accepts is delivered to it.
+-- The first waiting send that a receiver accepts is delivered to it; so is a send in hand that arrives where it is waited for.
 use Rattle.std.proofs.Common.{◌≡◌, ℕ, ◌<◌, Some, None, [], length, refl, ap, sym, ◌∙◌, subst, arith, true, inl, inr}
 use Rattle.l4_model.specs.Words.{Id}
 use Rattle.l4_model.specs.Machine.{Machine}
@@ -152,6 +152,7 @@ message_goes m cpu r i s w x receive since send here processor e is first at lt 
       relates = ends_relates m cpu i [] s w1 x1 Delivered i1.is.send g here.machine processor lt at1 ended_is (leaves_out m i [] (amid cpu s x1) w1 rel1);
     }
 
+-- The first that a receiver accepts is delivered to it, whatever processor its sender is of.
 pub delivers_goes : (m : Machine) (cpu r i : ℕ) (s : Scene) (w : World) (x : Work) (receive : Receive) (since : ℕ) → IsHere m cpu r → cpu < m.cpus →
     Goes m cpu s w [] x → (thread x.local r).phase ≡ Receiving receive since →
     plain.first_taken receive.from (plain.list_of x.local.lists r) ≡ Some i → Goes m cpu s w [] (delivers m cpu r i x)
@@ -182,6 +183,7 @@ if_first_goes m cpu i r s w y here processor e = cond_keeps (Goes m cpu s w []) 
     delivers_goes m cpu r i s w y t.receive t.since here processor e t.receiving t.first)
     (λ otherwise. e)
 
+-- A send in hand arrives at its receiver.
 pub arrives_goes : (m : Machine) (cpu i r : ℕ) (s : Scene) (w : World) (x : Work) (send : Send) → IsInHand m cpu i s w x send → home m r ≡ cpu →
     r < length m.threads → destination_place m send.to ≡ Some r → Goes m cpu s w [] (arrives m cpu r i x)
 arrives_goes m cpu i r s w x send h home_is lt to =

@@ -153,6 +153,7 @@ queued_matches m cpu i r s w x send at free home_is to within =
           ∙ ap (λ (t : Thread). readied t.phase i []) (sym thread_same);
     }
 
+-- It may be queued where its receiver is alive.
 pub queue_goes : (m : Machine) (cpu i r : ℕ) (s : Scene) (w : World) (x : Work) (send : Send) → (h : IsInHand m cpu i s w x send) →
     IsReceiver m cpu r s h.has.goes.now x send → is_alive (thread x.local r).phase ≡ true →
     Goes m cpu s w [] (x ▷ tells (Queue (last_name m x.local i)) ▷ does (relists (plain.queued r (entry m r i send))))

@@ -33,6 +33,7 @@ pub record HasSend (m : Machine) (cpu i : ℕ) (s : Scene) (w : World) (x : Work
   pub goes : Goes m cpu s w (i ∷ []) x
   pub at : IsSendAt m cpu i send (view m (amid cpu s x) goes.now i)
 
+-- A send on this processor may be refused where the world allows the step.
 pub refuses_goes : (m : Machine) (cpu i : ℕ) (s : Scene) (w : World) (x : Work) (refusal : Refusal) (send : Send) (g : Thread → Thread) →
     (h : HasSend m cpu i s w x send) →
     g (world_thread h.goes.now i) ≡ ended (Refused refusal) (at_home m i (view m (amid cpu s x) h.goes.now i)).clock (world_thread h.goes.now i) →
@@ -102,6 +103,7 @@ pub record IsReceiver (m : Machine) (cpu r : ℕ) (s : Scene) (w : World) (x : W
   pub to : destination_place m send.to ≡ Some r
   pub seen : IsSeen m r (view m (amid cpu s x) w r)
 
+-- Its receiver is deleted.
 pub deleted_goes : (m : Machine) (cpu i r : ℕ) (s : Scene) (w : World) (x : Work) (send : Send) → (h : HasSend m cpu i s w x send) →
     IsReceiver m cpu r s h.goes.now x send → is_deleted (thread x.local r).phase ≡ true → Goes m cpu s w [] (refuses m cpu Nobody i x)
 deleted_goes m cpu i r s w x send h q gone =

@@ -64,7 +64,7 @@ pub record IsEntry (m : Machine) (r i : ℕ) (v : View) (e : plain.Waiting) : Ty
 none_listed : (m : Machine) (r i : ℕ) (v : View) (es : List plain.Waiting) → es ≡ [] → AllByRecursion (IsEntry m r i v) es
 none_listed m r i v es none = subst (AllByRecursion (IsEntry m r i v)) (sym none) tt
 
-pub entries_of : (m : Machine) (r i : ℕ) (v : View) → Known m i v → AllByRecursion (IsEntry m r i v) ((v.kept (home m r)).listed r)
+entries_of : (m : Machine) (r i : ℕ) (v : View) → Known m i v → AllByRecursion (IsEntry m r i v) ((v.kept (home m r)).listed r)
 entries_of m r i v known = where_then m i v known
     (λ quiet none row agrees. unplaced row.unplaced)
     (λ send quiet has row agrees. same_or_apart (AllByRecursion (IsEntry m r i v) ((v.kept (home m r)).listed r)) row.r r

@@ -64,7 +64,7 @@ IsDuty m cpu l i ClosesReceive =
 IsDuty m cpu l i (RefusesZero sender) =
     (e : plain.Waiting) × (StandsIn e (plain.list_of l.lists i) × ((e.block ≡ sender) × (zero_refusable m (held m l i) (thread l e.block).send ≡ true)))
 
-pub in_receive : (l : Local) (i : ℕ) (receive : Receive) → receive_now (thread l i).phase ≡ Some receive → IsInReceive (thread l i).phase receive
+in_receive : (l : Local) (i : ℕ) (receive : Receive) → receive_now (thread l i).phase ≡ Some receive → IsInReceive (thread l i).phase receive
 in_receive l i receive h = let is = receiving_is (thread l i) receive h in record { since = is.since; is = is.is }
 
 pub in_some_receive : (l : Local) (i : ℕ) → is_some (receive_now (thread l i).phase) ≡ true → (receive : Receive) × IsInReceive (thread l i).phase receive
@@ -155,7 +155,7 @@ all_own m cpu = own_filter m cpu (range_with_len 0 (length m.threads))
     (range_below 0 (length m.threads)))
 
 -- What is true of all own places is true of each of them.
-pub own_at : (m : Machine) (cpu i : ℕ) (P : ℕ → Type 0) → IsOwn m cpu i → AllByRecursion P (own_places m cpu) → P i
+own_at : (m : Machine) (cpu i : ℕ) (P : ℕ → Type 0) → IsOwn m cpu i → AllByRecursion P (own_places m cpu) → P i
 own_at m cpu i P here all = (subst (AllByRecursion P) entry (all-filter P (λ j. i == j) (own_places m cpu) all)).0
   where
     own : is_own m cpu i ≡ true

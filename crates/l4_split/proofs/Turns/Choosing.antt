@@ -60,7 +60,8 @@ listed_at m cpu r i s w x f here processor e at same =
     let is = entry_of_all (IsEntryHere m (amid cpu s x) e.now r) f (plain.list_of x.local.lists r) at all in
     subst (λ i. IsListedSend m cpu r i s w x) same (listed_send m cpu r f.block s w x f here processor e is.0 is.1)
 
-pub duty_goes : (m : Machine) (cpu i : ℕ) (s : Scene) (w : World) (x : Work) (duty : Duty) → IsHere m cpu i → cpu < m.cpus → Goes m cpu s w [] x →
+-- Whatever duty is done, its step is possible.
+duty_goes : (m : Machine) (cpu i : ℕ) (s : Scene) (w : World) (x : Work) (duty : Duty) → IsHere m cpu i → cpu < m.cpus → Goes m cpu s w [] x →
     IsDuty m cpu x.local i duty → Goes m cpu s w [] (does_duty m cpu i duty x)
 duty_goes m cpu i s w x DropsOwn here processor e d =
     let q = queued_here m cpu i s w x processor e here.machine here.within d.1 in
@@ -81,8 +82,6 @@ duty_goes m cpu i s w x ClosesReceive here processor e d =
 duty_goes m cpu i s w x (RefusesZero sender) here processor e d =
     refuses_zero_goes m cpu i sender s w x (listed_at m cpu i sender s w x d.0 here processor e d.1.0 d.1.1.0)
     (ap (λ j. zero_refusable m (held m x.local i) (thread x.local j).send) (sym d.1.1.0) ∙ d.1.1.1)
-
--- The core's turn: the first duty, else the first due timeout, else one instruction of the first ready thread.
 
 -- An instruction
 acts_goes : (m : Machine) (cpu i : ℕ) (s : Scene) (w : World) (x : Work) → cpu < m.cpus → (e : Goes m cpu s w (i ∷ []) x) → IsPicked m cpu i s x e.now →
@@ -151,6 +150,7 @@ pub record IsFirstReady (m : Machine) (cpu i : ℕ) (s : Scene) (w : World) (x :
   pub goes : Goes m cpu s w (i ∷ []) x
   pub picked : IsPicked m cpu i s x goes.now
 
+-- The first ready thread is taken out.
 pub ready_goes : (m : Machine) (cpu : ℕ) (s : Scene) (w : World) (x : Work) (i : ℕ) (is : List ℕ) → IsMachine m → cpu < m.cpus → Goes m cpu s w [] x →
     x.local.lists.ready ≡ i ∷ is → IsFirstReady m cpu i s w (x ▷ does (relists plain.popped))
 ready_goes m cpu s w x i is machine processor e at =
@@ -223,6 +223,7 @@ choice_goes m cpu s w l (ByReady i) machine processor e c =
     let r = ready_goes m cpu s w (opened 0 l) i c.0 machine processor e c.1 in
     acts_goes m cpu i s w (opened 0 l ▷ does (relists plain.popped)) processor r.goes r.picked
 
+-- Whatever a turn does, its steps are possible.
 pub turn_goes : (m : Machine) (cpu : ℕ) (s : Scene) (w : World) (x : Work) → IsMachine m → cpu < m.cpus → RelatesExcept m (Matches m) [] s w →
     turn m cpu (s.locals cpu) ≡ Some x → Goes m cpu s w [] x
 turn_goes m cpu s w x machine processor rel h =

@@ -63,6 +63,7 @@ pub refuses_first_goes : (m : Machine) (cpu r i : ℕ) (s : Scene) (w : World) (
     is_deleted (thread x.local r).phase ≡ true → Goes m cpu s w [] (refuses m cpu Nobody i x)
 refuses_first_goes m cpu r i s w x l gone = deleted_goes m cpu i r s w x l.send l.has l.receiver gone
 
+-- It is of timeout zero, and its receiver does not wait for it.
 pub refuses_zero_goes : (m : Machine) (cpu r i : ℕ) (s : Scene) (w : World) (x : Work) → IsListedSend m cpu r i s w x →
     zero_refusable m (held m x.local r) (thread x.local i).send ≡ true → Goes m cpu s w [] (refuses m cpu TimedOut i x)
 refuses_zero_goes m cpu r i s w x l h = zero_goes m cpu i r s w x l.send l.has l.receiver h
@@ -89,6 +90,7 @@ agrees_wish world t a = by t.phase a
     by Ended a = ap (λ (t : Thread). t.cancel_send) a
     by Deleted a = a.cancel_send
 
+-- It is to be cancelled.
 pub cancels_goes : (m : Machine) (cpu r i : ℕ) (s : Scene) (w : World) (x : Work) → (l : IsListedSend m cpu r i s w x) →
     (at_home m i (view m (amid cpu s x) l.has.goes.now i)).thread.cancel_send ≡ true → Goes m cpu s w [] (refuses m cpu Cancelled i x)
 cancels_goes m cpu r i s w x l wish =
@@ -99,6 +101,7 @@ cancels_goes m cpu r i s w x l wish =
     let wished : (world_thread h.goes.now i).cancel_send ≡ true = agrees_wish v.world (at_home m i v).thread h.at.agrees ∙ wish in
     refuses_goes m cpu i s w x Cancelled l.send (refused 6) h refl (rw (pending, queued, wished) refl)
 
+-- Its sender is deleted.
 pub drops_goes : (m : Machine) (cpu r i : ℕ) (s : Scene) (w : World) (x : Work) → (l : IsListedSend m cpu r i s w x) →
     (at_home m i (view m (amid cpu s x) l.has.goes.now i)).thread.phase ≡ Deleted → Goes m cpu s w [] (refuses m cpu Dropped i x)
 drops_goes m cpu r i s w x l gone =

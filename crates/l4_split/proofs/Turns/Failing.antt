@@ -87,6 +87,7 @@ passed_earlier : (period : Period) (began since now : ℕ) → began ≤ since �
 passed_earlier None began since now le h = cc
 passed_earlier (Some n) began since now le h = grind (arith, nat_tests)
 
+-- A receive phase times out.
 pub receive_timeout_goes : (m : Machine) (cpu i : ℕ) (s : Scene) (w : World) (x : Work) (receive : Receive) (since : ℕ) →
     IsReceivingHere m cpu i s w x receive since → has_passed receive.period since x.local.clock ≡ true → first_acceptable x.local i ≡ None →
     Goes m cpu s w [] (fails_receive m ReceiveTimeout 3 i x)
@@ -132,6 +133,7 @@ nobody_in_world m cpu s w x (GlobalThread t) machine rel h = by (place_of m t) r
         let found_now = found_at_is m j [] (amid cpu s x) w machine lt rel in
         rw (at, found_now, gone) refl
 
+-- A receive phase is closed for nobody.
 pub nobody_goes : (m : Machine) (cpu i : ℕ) (s : Scene) (w : World) (x : Work) (receive : Receive) (since : ℕ) → IsReceivingHere m cpu i s w x receive since →
     is_nobody receive.from (held_by m x.local receive.from) ≡ true → first_acceptable x.local i ≡ None →
     Goes m cpu s w [] (fails_receive m ReceiveNobody 5 i x)

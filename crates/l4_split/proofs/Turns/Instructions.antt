@@ -103,6 +103,7 @@ ran_fresh : (i : Instr) (clock : ℕ) (send : Option Send) → IsFresh clock (ph
 ran_fresh End clock send = tt
 ran_fresh _ clock send = tt
 
+-- An instruction that concerns nobody else.
 pub runs_alone_goes : (m : Machine) (cpu i : ℕ) (s : Scene) (w : World) (x : Work) → (e : Goes m cpu s w (i ∷ []) x) → IsPicked m cpu i s x e.now →
     runs_alone (act_of m (held m x.local i)) ≡ true → Goes m cpu s w [] (runs_alone_at m i x)
 runs_alone_goes m cpu i s w x e r alone =

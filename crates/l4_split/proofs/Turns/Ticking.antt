@@ -54,7 +54,7 @@ notice_later m i k clock p (GoneLetter id) le h = h
 notice_later m i k clock p (OrderLetter caller target what) le h = h
 notice_later m i k clock p (OrderDoneLetter caller) le h = h
 
-pub matches_later : (m : Machine) (i : ℕ) (clocks : ℕ → ℕ) (v : View) → (at_home m i v).clock ≤ clocks (home m i) → Matches m i v →
+matches_later : (m : Machine) (i : ℕ) (clocks : ℕ → ℕ) (v : View) → (at_home m i v).clock ≤ clocks (home m i) → Matches m i v →
     Matches m i (with_clocks clocks v)
 matches_later m i clocks v le h =
     let k : Kept = at_home m i v in
@@ -86,6 +86,7 @@ tick_possible : (m : Machine) (w : World) (cpu to now : ℕ) → slice_get w.clo
     next m w (Tick cpu to) ≡ Some (record w { clocks = slice_set w.clocks cpu to })
 tick_possible m w cpu to now at above below = rw (at, above, below) refl
 
+-- A tick.
 pub tick_goes : (m : Machine) (cpu to : ℕ) (s : Scene) (w : World) (x : Work) → cpu < m.cpus → Goes m cpu s w [] x → nat_lt x.local.clock to ≡ true →
     nat_lt to (2 ^ 62) ≡ true → Goes m cpu s w [] (x ▷ tells (Tick cpu to) ▷ does (clock_is to))
 tick_goes m cpu to s w x processor e above below =

@@ -118,6 +118,7 @@ pub record IsDue (m : Machine) (cpu d i : ℕ) (s : Scene) (w : World) (x : Work
   pub goes : Goes m cpu s w [] x
   pub just : Justifies d (thread x.local i).phase (thread x.local i).send
 
+-- A thread whose deadline was armed here is of this processor, and its deadline is that of its phase.
 pub due_goes : (m : Machine) (cpu : ℕ) (s : Scene) (w : World) (x : Work) (a : ℕ × ℕ) (others : List (ℕ × ℕ)) → IsMachine m → cpu < m.cpus →
     (e : Goes m cpu s w [] x) → x.local.lists.armed ≡ a ∷ others → IsDue m cpu a.0 a.1 s w (x ▷ does (relists plain.popped_due))
 due_goes m cpu s w x a others machine processor e at =
@@ -175,6 +176,7 @@ later_passed : (period : Period) (since d now : ℕ) → has_passed period since
 later_passed None since d now h le = cc
 later_passed (Some n) since d now h le = grind (arith, nat_tests)
 
+-- Whatever is due fails, is refused or is withdrawn.
 pub times_out_goes : (m : Machine) (cpu d i : ℕ) (s : Scene) (w : World) (x : Work) → cpu < m.cpus → IsDue m cpu d i s w x → nat_le d x.local.clock ≡ true →
     first_acceptable x.local i ≡ None → Goes m cpu s w [] (times_out m cpu i x)
 times_out_goes m cpu d i s w x processor h past none = by (thread x.local i).phase (thread x.local i).send refl refl h.just

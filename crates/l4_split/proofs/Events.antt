@@ -1,4 +1,5 @@
 -- An event of a core run: a processor handles a letter, has a turn, or ticks.
+use Rattle.std.proofs.lemmas.Option.{slice_get_within, slice_get-get_or}
 use Rattle.l4_split.proofs.Lists.{get_other_place}
 use Rattle.l4_split.proofs.Turns.Choices.{turn_then}
 use Rattle.std.specs.Option.{option_map}
@@ -16,7 +17,7 @@ use Rattle.l4_core_model.specs.Turns.{advance, clock_is, opened, turn}
 use Rattle.l4_core_model.specs.Acts.{Work, does, tells, ◌▷◌}
 use Rattle.l4_model.specs.World.{changed}
 use Rattle.l4_core_model.specs.Runs.{Handles, Happened, Happening, System, Ticks, Turns, done, happens, letters, taken}
-use Rattle.std.proofs.Common.{Bool, List, None, Option, Some, [], ap, arith, cond, false, length, refl, subst, suc, sym, true, zero, ℕ, ◌<◌, ◌^◌, ◌∙◌, ◌∷◌, ◌≡◌}
+use Rattle.std.proofs.Common.{Bool, List, None, Option, Some, ap, arith, cond, false, length, refl, subst, sym, true, ℕ, ◌<◌, ◌^◌, ◌∙◌, ◌≡◌}
 use Rattle.l4_core_model.specs.Letters.{Letter}
 
 -- The scene after an event is the one under way.
@@ -30,9 +31,9 @@ done_scene cpu g x lt = λ d. record { locals = λ c. at c (cpu == c) refl d; ma
     at c false is = sym (get_other_place (λ l. x.local) g.locals cpu c nowhere (apart cpu c is))
 
 pub local_at : (ls : List Local) (cpu : ℕ) (l : Local) → slice_get ls cpu ≡ Some l → (cpu < length ls) × (slice_index_or ls cpu nowhere ≡ l)
-local_at [] cpu l h = cc
-local_at (k ∷ ls) zero l h = (omega arith, some_is k l h)
-local_at (k ∷ ls) (suc cpu) l h = let rest = local_at ls cpu l h in (omega (arith, rest.0), rest.1)
+local_at ls cpu l h =
+    let lt = slice_get_within ls cpu l h in
+    (lt, some_is (slice_index_or ls cpu nowhere) l (sym (slice_get-get_or ls cpu nowhere lt) ∙ h))
 
 done_then : (o : Option Work) (f : Work → Happened) (h : Happened) (P : Happened → Type 0) → ((x : Work) → o ≡ Some x → P (f x)) → option_map f o ≡ Some h → P h
 done_then None f h P then is = cc

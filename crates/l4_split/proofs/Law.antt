@@ -156,7 +156,7 @@ letters_lawful m r machine f =
     }
 
 pub rest_still : (m : Machine) (r : Run) → IsMachine m → (f : RunFacts m r) → at_rest m r.system ≡ true → IsStill m f.world
-rest_still m r machine f rest = resting_still m r.system f.world machine f.relates f.promised rest
+rest_still m r machine f rest = resting_still m r.system f.world machine f.counted f.relates f.promised rest
 
 -- So every core run is lawful.
 pub run_lawful : (m : Machine) (r : Run) → IsMachine m → RunFacts m r → IsLawfulRun m r

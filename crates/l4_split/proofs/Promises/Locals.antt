@@ -155,18 +155,48 @@ come_answered m i f k mail (inr quiet) send r has to away (inr (inl wish)) = let
 come_answered m i f k mail (inr quiet) send r has to away (inr (inr gone)) = absurd (quiet.1 gone)
 
 -- It is left out, and nothing is said of its send.
+
+one_harmless : (m : Machine) (cpu j : ℕ) (except : List ℕ) (l after : Local) → home m j ≡ cpu → length after.threads ≡ length l.threads →
+    length after.told ≡ length l.told → ((i : ℕ) → (kept after i).told ≡ (kept l i).told) → ((i : ℕ) → (j ≡ i → ⊥) → kept after i ≡ kept l i) →
+    (j < length l.threads → IsCalm (thread l j) → IsCalm (thread after j)) → IsHarmless m cpu (j ∷ except) l after
+one_harmless m cpu j except l after here threads told_ones told other calm = record {
+  threads = threads;
+  told_ones = told_ones;
+  told = told;
+  calm = λ i lt home_i h. same_or_apart (IsCalm (thread after i)) j i
+      (λ e. subst (λ i. i < length l.threads → IsCalm (thread l i) → IsCalm (thread after i)) e calm lt h)
+      (λ ne. subst IsCalm (sym (ap (λ (k : Kept). k.thread) (other i ne))) h);
+  steady = λ i lt home_i out. same_steady m i (kept l i) (kept after i) (other i (λ e. out.0 (sym e)));
+  away = λ i lt away h. ap (λ (k : Kept). k.thread.phase) (other i (λ e. away (sym (ap (home m) e) ∙ here))) ∙ h;
+}
+
 pub comes_harmless : (m : Machine) (cpu j : ℕ) (except : List ℕ) (l : Local) (f : Thread → Thread) → home m j ≡ cpu →
-    (IsCalm (thread l j) → IsCalm (f (thread l j))) → IsHarmless m cpu (j ∷ except) l (comes_to j f l)
-comes_harmless m cpu j except l f here calm = record {
-  threads = length-changed f l.threads j;
-  told_ones = refl;
-  told = λ i. refl;
-  calm = λ i lt home_i h. same_or_apart (IsCalm (thread (comes_to j f l) i)) j i
-      (λ e. subst (λ i. i < length l.threads → IsCalm (thread l i) → IsCalm (thread (comes_to j f l) i)) e
-      (λ lt h. subst IsCalm (sym (ap (λ (k : Kept). k.thread) (comes_here l j f lt))) (calm h)) lt h)
-      (λ ne. subst IsCalm (sym (ap (λ (k : Kept). k.thread) (comes_other l j i f ne))) h);
-  steady = λ i lt home_i out. same_steady m i (kept l i) (kept (comes_to j f l) i) (comes_other l j i f (λ e. out.0 (sym e)));
-  away = λ i lt away h. ap (λ (k : Kept). k.thread.phase) (comes_other l j i f (λ e. away (sym (ap (home m) e) ∙ here))) ∙ h;
+    (IsCalm (thread l j) → IsCalm (f (thread l j))) →
+    IsHarmless m cpu (j ∷ except) l (comes_to j f l)
+comes_harmless m cpu j except l f here calm =
+    one_harmless m cpu j except l (comes_to j f l) here (length-changed f l.threads j) refl (λ i. refl) (λ i ne. comes_other l j i f ne)
+    (λ lt h. subst IsCalm (sym (ap (λ (k : Kept). k.thread) (comes_here l j f lt))) (calm h))
+
+pub changes_harmless : (m : Machine) (cpu j : ℕ) (except : List ℕ) (l : Local) (f : Thread → Thread) → home m j ≡ cpu →
+    (IsCalm (thread l j) → IsCalm (f (thread l j))) →
+    IsHarmless m cpu (j ∷ except) l (changes j f l)
+changes_harmless m cpu j except l f here calm =
+    one_harmless m cpu j except l (changes j f l) here (length-changed f l.threads j) refl (λ i. refl) (λ i ne. changes_other l j i f ne)
+    (λ lt h. subst IsCalm (sym (ap (λ (k : Kept). k.thread) (changes_here l j f lt))) (calm h))
+
+-- It is taken in again where what was promised of it is still true.
+pub takes_harmless : (m : Machine) (cpu j : ℕ) (l after : Local) → IsHarmless m cpu (j ∷ []) l after →
+    (j < length l.threads → IsSteady m j (kept l j) (kept after j)) →
+    IsHarmless m cpu [] l after
+takes_harmless m cpu j l after harmless steady = record {
+  threads = harmless.threads;
+  told_ones = harmless.told_ones;
+  told = harmless.told;
+  calm = harmless.calm;
+  steady = λ i lt home_i out. same_or_apart (IsSteady m i (kept l i) (kept after i)) j i
+      (λ e. subst (λ i. i < length l.threads → IsSteady m i (kept l i) (kept after i)) e steady lt)
+      (λ ne. harmless.steady i lt home_i ((λ e. ne (sym e)), tt));
+  away = harmless.away;
 }
 
 -- A thread of this processor comes to a phase that starts afresh.

@@ -1,6 +1,6 @@
 -- What is promised is kept where a send is withdrawn, and where an order is given or obeyed.
 use Rattle.l4_split.proofs.Lists.{all_true, other_is}
-use Rattle.std.proofs.Common.{◌≡◌, ℕ, ◌<◌, Bool, true, false, Option, Some, None, List, [], ◌∷◌, length, refl, ap, sym, ◌∙◌, subst, inr, arith}
+use Rattle.std.proofs.Common.{◌≡◌, ℕ, ◌<◌, Bool, true, false, Option, Some, None, [], ◌∷◌, length, refl, ap, sym, ◌∙◌, subst, inr, arith}
 use Rattle.std.specs.Prelude.{◌||◌}
 use Rattle.l4_model.specs.Words.{GlobalId}
 use Rattle.l4_model.specs.Machine.{Machine, What, CancelSend, CancelReceive, CancelBoth, Delete}
@@ -13,18 +13,16 @@ use Rattle.l4_core_model.specs.Letters.{Cause, ByCancel, ByDeletion, WithdrawLet
 use Rattle.l4_core_model.specs.Local.{Local, declared, is_own, thread, destination_place, last_name, relists, changes, comes_to}
 use Rattle.l4_core_model.specs.Acts.{Work, ◌▷◌, tells, does, posts, asks, split_receiver, split_place, withdraws, withdraws_for, obeys}
 use Rattle.l4_core_model.specs.Runs.{Posted, posted}
-use Rattle.l4_core_model.proofs.Knows.{length-changed}
-use Rattle.l4_core_model.proofs.Remembers.{same_or_apart}
 use Rattle.l4_split.proofs.Relation.Views.{Kept, Scene, kept, home, amid}
 use Rattle.l4_split.proofs.Relation.Rows.{name_of}
-use Rattle.l4_split.proofs.Frames.Locals.{come, comes_here, changes_here, changes_other}
+use Rattle.l4_split.proofs.Frames.Locals.{come, comes_here, changes_here}
 use Rattle.l4_split.proofs.Frames.Mail.{mail_posted}
 use Rattle.l4_split.proofs.Frames.Moves.{deleted_phase}
 use Rattle.l4_split.proofs.Frames.Going.{put_home}
 use Rattle.l4_split.proofs.Promises.Promised.{AnyOf, MayFollow, IsAnswer, IsArmedUnlessSplit, IsCalm, kept_at, Promised}
 use Rattle.l4_split.proofs.Promises.Letters.{any_last}
 use Rattle.l4_split.proofs.Promises.Frames.{leaves_one, takes_one, posts_keeps}
-use Rattle.l4_split.proofs.Promises.Locals.{IsSteady, same_steady, IsHarmless, size_now, local_keeps, relists_keeps, come_armed, comes_harmless}
+use Rattle.l4_split.proofs.Promises.Locals.{IsSteady, size_now, local_keeps, relists_keeps, come_armed, comes_harmless, takes_harmless, changes_harmless}
 use Rattle.l4_split.proofs.Promises.Acts.{StaysPromised}
 
 -- A split send is withdrawn.
@@ -72,55 +70,21 @@ pub comes_dead : (m : Machine) (cpu j : ℕ) (s : Scene) (x : Work) (f : Thread 
     (f (thread x.local j)).send ≡ (thread x.local j).send → (thread x.local j).context.begun ≡ (f (thread x.local j)).context.begun → StaysPromised m cpu s x →
     StaysPromised m cpu s (x ▷ does (comes_to j f))
 comes_dead m cpu j s x f processor here dead after send begun p =
-    let spared = comes_harmless m cpu j [] x.local f here (λ h unsent living. absurd (living after)) in
-    local_keeps m cpu [] s x (comes_to j f) processor (record {
-      threads = spared.threads;
-      told_ones = spared.told_ones;
-      told = spared.told;
-      calm = spared.calm;
-      steady = λ i lt home_i out. same_or_apart (IsSteady m i (kept x.local i) (kept (comes_to j f x.local) i)) j i
-          (λ e. subst (λ i. i < length x.local.threads → IsSteady m i (kept x.local i) (kept (comes_to j f x.local) i)) e
-          (λ lt. subst (IsSteady m j (kept x.local j)) (sym (comes_here x.local j f lt)) steady) lt)
-          (λ ne. spared.steady i lt home_i ((λ e. ne (sym e)), tt));
-      away = spared.away;
-    }) p
-  where
-    steady : IsSteady m j (kept x.local j) (come j f (kept x.local j))
-    steady = record { armed = λ h. come_armed m j f (kept x.local j); ending = λ to_end has ending. (sym send ∙ has, (inr (inr dead), begun)) }
+    let steady : IsSteady m j (kept x.local j) (come j f (kept x.local j)) =
+    record { armed = λ h. come_armed m j f (kept x.local j); ending = λ to_end has ending. (sym send ∙ has, (inr (inr dead), begun)) } in
+    local_keeps m cpu [] s x (comes_to j f) processor (takes_harmless m cpu j x.local (comes_to j f x.local)
+    (comes_harmless m cpu j [] x.local f here (λ h unsent living. absurd (living after)))
+    (λ lt. subst (IsSteady m j (kept x.local j)) (sym (comes_here x.local j f lt)) steady)) p
 
 -- What is asked of a thread
-
-changes_harmless : (m : Machine) (cpu j : ℕ) (except : List ℕ) (l : Local) (f : Thread → Thread) → home m j ≡ cpu →
-    (IsCalm (thread l j) → IsCalm (f (thread l j))) → IsHarmless m cpu (j ∷ except) l (changes j f l)
-changes_harmless m cpu j except l f here calm = record {
-  threads = length-changed f l.threads j;
-  told_ones = refl;
-  told = λ i. refl;
-  calm = λ i lt home_i h. same_or_apart (IsCalm (thread (changes j f l) i)) j i
-      (λ e. subst (λ i. i < length l.threads → IsCalm (thread l i) → IsCalm (thread (changes j f l) i)) e
-      (λ lt h. subst IsCalm (sym (ap (λ (k : Kept). k.thread) (changes_here l j f lt))) (calm h)) lt h)
-      (λ ne. subst IsCalm (sym (ap (λ (k : Kept). k.thread) (changes_other l j i f ne))) h);
-  steady = λ i lt home_i out. same_steady m i (kept l i) (kept (changes j f l) i) (changes_other l j i f (λ e. out.0 (sym e)));
-  away = λ i lt away h. ap (λ (k : Kept). k.thread.phase) (changes_other l j i f (λ e. away (sym (ap (home m) e) ∙ here))) ∙ h;
-}
 
 changes_steady : (m : Machine) (cpu j : ℕ) (s : Scene) (x : Work) (f : Thread → Thread) → cpu < m.cpus → home m j ≡ cpu →
     (IsCalm (thread x.local j) → IsCalm (f (thread x.local j))) →
     IsSteady m j (kept x.local j) (record (kept x.local j) { thread = f (thread x.local j) }) → StaysPromised m cpu s x →
     StaysPromised m cpu s (x ▷ does (changes j f))
 changes_steady m cpu j s x f processor here calm steady p =
-    let spared = changes_harmless m cpu j [] x.local f here calm in
-    local_keeps m cpu [] s x (changes j f) processor (record {
-      threads = spared.threads;
-      told_ones = spared.told_ones;
-      told = spared.told;
-      calm = spared.calm;
-      steady = λ i lt home_i out. same_or_apart (IsSteady m i (kept x.local i) (kept (changes j f x.local) i)) j i
-          (λ e. subst (λ i. i < length x.local.threads → IsSteady m i (kept x.local i) (kept (changes j f x.local) i)) e
-          (λ lt. subst (IsSteady m j (kept x.local j)) (sym (changes_here x.local j f lt)) steady) lt)
-          (λ ne. spared.steady i lt home_i ((λ e. ne (sym e)), tt));
-      away = spared.away;
-    }) p
+    local_keeps m cpu [] s x (changes j f) processor (takes_harmless m cpu j x.local (changes j f x.local) (changes_harmless m cpu j [] x.local f here calm)
+    (λ lt. subst (IsSteady m j (kept x.local j)) (sym (changes_here x.local j f lt)) steady)) p
 
 not_sending : (p : Phase) → (p ≡ Sending → ⊥) → is_sending p ≡ false
 not_sending Sending h = absurd (h refl)

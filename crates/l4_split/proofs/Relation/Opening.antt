@@ -1,10 +1,13 @@
 -- At the opening all is related, and all is promised.
+use Rattle.l4_split.proofs.Turns.Choices.{own_entry}
+use Rattle.l4_core_model.specs.Runs.{processors}
+use Rattle.std.proofs.lemmas.List.FromFn.{get_or-map-range_with_len, length-map-range_with_len}
 use Rattle.l4_core_model.proofs.Single.{range_below}
 use Rattle.l4_core_model.proofs.Law.{get-same}
-use Rattle.std.proofs.Common.{◌≡◌, ℕ, zero, suc, ◌+◌, ◌<◌, ◌≤◌, true, false, List, [], ◌∷◌, map, filter, length, refl, ap, sym, ◌∙◌, subst, arith, inl, inr, ◌⊎◌, Some, None}
-use Rattle.std.specs.Prelude.{◌==◌, slice_index_or}
+use Rattle.std.proofs.Common.{◌≡◌, ℕ, ◌+◌, ◌<◌, ◌≤◌, false, List, [], ◌∷◌, map, filter, length, refl, ap, sym, ◌∙◌, subst, arith, inl, inr, ◌⊎◌, Some, None}
+use Rattle.std.specs.Prelude.{◌==◌}
 use Rattle.std.specs.List.{range_with_len, AllByRecursion}
-use Rattle.std.proofs.lemmas.List.{length-map, get_or-replicate, length-replicate}
+use Rattle.std.proofs.lemmas.List.{length-map, get_or-replicate, length-replicate, get_or_past}
 use Rattle.std.proofs.lemmas.Bool.{eqb-true, cases_lt}
 use Rattle.l4_model.specs.Machine.{Machine}
 use Rattle.l4_model.specs.World.{opening, opening_thread, Send}
@@ -12,24 +15,14 @@ use Rattle.l4_model.specs.Reached.{list_at}
 use Rattle.l4_core_model.specs.Plain as plain
 use Rattle.l4_core_model.specs.Local.{Local, is_own, own_places, opening_local}
 use Rattle.l4_core_model.specs.Runs.{opening_system, IsMachine}
-use Rattle.l4_core_model.proofs.Knows.{blocks, same_nat}
+use Rattle.l4_core_model.proofs.Knows.{blocks}
 use Rattle.l4_core_model.proofs.Fit.{all-map, all-filter}
 use Rattle.l4_core_model.proofs.Remembers.{same_or_apart}
-use Rattle.l4_split.proofs.Lists.{filter_kept, filter_out, filter_range, other_is}
+use Rattle.l4_split.proofs.Lists.{filter_out, other_is}
 use Rattle.l4_split.proofs.Relation.Views.{Kept, View, kept, view, home, nowhere, scene}
 use Rattle.l4_split.proofs.Relation.Rows.{Matches}
 use Rattle.l4_split.proofs.Relation.Relates.{IsSized, Relates, senders}
 use Rattle.l4_split.proofs.Promises.Promised.{IsArmedUnlessSplit, IsCalm, IsAnswered, Promised}
-
-at_range : {A : Type 0} (f : ℕ → A) (d : A) (a n i : ℕ) → i < n → slice_index_or (map f (range_with_len a n)) i d ≡ f (a + i)
-at_range f d a zero i lt = absurd (omega arith)
-at_range f d a (suc n) zero lt = ap f (omega arith)
-at_range f d a (suc n) (suc i) lt = at_range f d (a + 1) n i (omega arith) ∙ ap f (omega arith)
-
-past_range : {A : Type 0} (f : ℕ → A) (d : A) (a n i : ℕ) → n ≤ i → slice_index_or (map f (range_with_len a n)) i d ≡ d
-past_range f d a zero i le = refl
-past_range f d a (suc n) zero le = absurd (omega arith)
-past_range f d a (suc n) (suc i) le = past_range f d (a + 1) n i (omega arith)
 
 -- What is kept of a thread where nothing has happened yet.
 
@@ -44,7 +37,7 @@ opening_kept m cpu i =
     λ d. record { thread = threads d; ready = filter (λ j. i == j) (own_places m cpu); armed = []; listed = λ r. lists r d; told = told d; clock = 0 }
 
 in_range : (m : Machine) (cpu : ℕ) → cpu < m.cpus → (scene (opening_system m)).locals cpu ≡ opening_local m cpu
-in_range m cpu lt = at_range (opening_local m) nowhere 0 m.cpus cpu lt ∙ ap (opening_local m) (omega arith)
+in_range m cpu lt = get_or-map-range_with_len (opening_local m) 0 m.cpus cpu cpu nowhere lt (omega arith)
 
 -- what a processor has, and what is past the last one
 at_processor : (m : Machine) (P : Local → Type 0) (cpu : ℕ) → (cpu < m.cpus → P (opening_local m cpu)) → P nowhere → P ((scene (opening_system m)).locals cpu)
@@ -52,13 +45,8 @@ at_processor m P cpu here past = by (cases_lt cpu m.cpus)
   where
     by : ((cpu < m.cpus) ⊎ (m.cpus ≤ cpu)) → P ((scene (opening_system m)).locals cpu)
     by (inl lt) = subst P (sym (in_range m cpu lt)) (here lt)
-    by (inr le) = subst P (sym (past_range (opening_local m) nowhere 0 m.cpus cpu le)) past
-
-own_entry : (m : Machine) (i : ℕ) → i < length m.threads → filter (λ j. i == j) (own_places m (home m i)) ≡ i ∷ []
-own_entry m i lt =
-    filter_kept (λ j. i == j) (is_own m (home m i)) (λ j is. subst (λ k. is_own m (home m i) k ≡ true) (eqb-true i j is) (same_nat (home m i)))
-    (range_with_len 0 (length m.threads))
-    ∙ filter_range 0 (length m.threads) i (omega arith) (omega arith)
+    by (inr le) = subst P (sym
+        (get_or_past (map (opening_local m) (processors m)) cpu nowhere (let size = length-map-range_with_len (opening_local m) 0 m.cpus in omega arith))) past
 
 other_entry : (m : Machine) (cpu i : ℕ) → (cpu ≡ home m i → ⊥) → filter (λ j. i == j) (own_places m cpu) ≡ []
 other_entry m cpu i ne =
@@ -68,7 +56,7 @@ other_entry m cpu i ne =
 home_kept : (m : Machine) (i : ℕ) → IsMachine m → i < length m.threads → kept ((scene (opening_system m)).locals (home m i)) i ≡ opened i (i ∷ [])
 home_kept m i is lt =
     ap (λ l. kept l i) (in_range m (home m i) (is.homed i lt))
-    ∙ opening_kept m (home m i) i ∙ ap (opened i) (own_entry m i lt)
+    ∙ opening_kept m (home m i) i ∙ ap (opened i) (own_entry m (home m i) i (record { within = lt; home = refl }))
 
 other_kept : (m : Machine) (cpu i : ℕ) → (cpu ≡ home m i → ⊥) → kept ((scene (opening_system m)).locals cpu) i ≡ opened i []
 other_kept m cpu i ne = at_processor m (λ l. kept l i ≡ opened i []) cpu (λ lt. opening_kept m cpu i ∙ ap (opened i) (other_entry m cpu i ne)) refl

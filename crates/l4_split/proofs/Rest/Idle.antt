@@ -1,7 +1,8 @@
 -- What is known of a thread where its processor has nothing to do.
+use Rattle.std.proofs.lemmas.Option.{slice_get-get_or}
 use Rattle.l4_split.proofs.Turns.Choices.{has_no_duty}
 use Rattle.l4_core_model.proofs.Resting.{none_of, guarded, found_none}
-use Rattle.std.proofs.Common.{◌≡◌, ℕ, zero, suc, ◌+◌, ◌<◌, ◌≤◌, Bool, true, false, Option, Some, None, List, [], ◌∷◌, length, refl, ap, sym, ◌∙◌, subst, arith}
+use Rattle.std.proofs.Common.{◌≡◌, ℕ, zero, suc, ◌+◌, ◌<◌, ◌≤◌, Bool, true, false, Option, Some, None, List, [], ◌∷◌, length, refl, ap, ◌∙◌, arith}
 use Rattle.std.specs.Prelude.{◌==◌, ◌&&◌, not, is_some, slice_get, slice_index_or}
 use Rattle.std.specs.Option.{option_map}
 use Rattle.std.specs.List.{AllByRecursion, list_all, range_with_len}
@@ -114,28 +115,11 @@ none_posted m g h = nothing g.mail (both (list_all (local_at_rest m g) (processo
     nothing (p ∷ ps) h = cc
 
 -- The processor of a thread has nothing to do.
-pub is_idle : (m : Machine) (g : System) (i : ℕ) → IsMachine m → i < length m.threads →
-    length (slice_index_or g.locals (home m i) nowhere).threads ≡ length m.threads → at_rest m g ≡ true →
+pub is_idle : (m : Machine) (g : System) (i : ℕ) → IsMachine m → i < length m.threads → length g.locals ≡ m.cpus → at_rest m g ≡ true →
     IsIdle m (home m i) (slice_index_or g.locals (home m i) nowhere) i
-is_idle m g i machine lt size h =
-    let homed = machine.homed i lt in
-    by (slice_get g.locals (home m i)) refl
-    (all_in_range (local_at_rest m g) 0 m.cpus (home m i) (both (list_all (local_at_rest m g) (processors m)) (is_empty g.mail) h).0 (omega arith)
-    (omega arith))
-  where
-    past : (ls : List Local) (cpu : ℕ) → slice_get ls cpu ≡ None → slice_index_or ls cpu nowhere ≡ nowhere
-    past [] cpu h = refl
-    past (l ∷ ls) zero h = cc
-    past (l ∷ ls) (suc cpu) h = past ls cpu h
-
-    here : (ls : List Local) (cpu : ℕ) (l : Local) → slice_get ls cpu ≡ Some l → slice_index_or ls cpu nowhere ≡ l
-    here [] cpu l h = cc
-    here (k ∷ ls) zero l h = some_is k l h
-    here (k ∷ ls) (suc cpu) l h = here ls cpu l h
-
-    by : (o : Option Local) → slice_get g.locals (home m i) ≡ o → local_at_rest m g (home m i) ≡ true →
-        IsIdle m (home m i) (slice_index_or g.locals (home m i) nowhere) i
-    by None is t = let none : 0 ≡ length m.threads = sym (ap (λ (l : Local). length l.threads) (past g.locals (home m i) is)) ∙ size in absurd (omega arith)
-    by (Some l) is t =
-        let rests : (not (is_busy m (home m i) l) && is_empty l.lists.armed) ≡ true = rw is at t in
-        subst (λ l. IsIdle m (home m i) l i) (sym (here g.locals (home m i) l is)) (idle_processor m (home m i) l i refl lt rests)
+is_idle m g i machine lt counted h =
+    let homed : home m i < length g.locals = omega (arith, machine.homed i lt, counted) in
+    let all = (both (list_all (local_at_rest m g) (processors m)) (is_empty g.mail) h).0 in
+    let here = all_in_range (local_at_rest m g) 0 m.cpus (home m i) all (omega arith) (omega arith) in
+    let at = slice_get-get_or g.locals (home m i) nowhere homed in
+    idle_processor m (home m i) (slice_index_or g.locals (home m i) nowhere) i refl lt (rw at at here)

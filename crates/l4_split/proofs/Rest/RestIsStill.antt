@@ -195,7 +195,8 @@ settled_thread m s w i rest lt = record {
   receives = λ receive is. settled_receive m s w i receive rest lt is;
 }
 
-pub resting_still : (m : Machine) (g : System) (w : World) → IsMachine m → Relates m g w → Promised m [] (scene g) → at_rest m g ≡ true → IsStill m w
-resting_still m g w machine rel promised h =
-    let rest = is_at_rest m g w machine rel promised h in
+pub resting_still : (m : Machine) (g : System) (w : World) → IsMachine m → length g.locals ≡ m.cpus → Relates m g w → Promised m [] (scene g) →
+    at_rest m g ≡ true → IsStill m w
+resting_still m g w machine counted rel promised h =
+    let rest = is_at_rest m g w machine counted rel promised h in
     settled_still m w (record { size = rel.sized_world.threads; threads = λ i lt. settled_thread m (scene g) w i rest lt })

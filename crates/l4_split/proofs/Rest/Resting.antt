@@ -26,13 +26,14 @@ pub record IsAtRest (m : Machine) (s : Scene) (w : World) : Type 0 where
   pub quiet : s.mail ≡ []
   pub idle : (i : ℕ) → i < length m.threads → IsIdle m (home m i) (s.locals (home m i)) i
 
-pub is_at_rest : (m : Machine) (g : System) (w : World) → IsMachine m → Relates m g w → Promised m [] (scene g) → at_rest m g ≡ true → IsAtRest m (scene g) w
-is_at_rest m g w machine rel promised h = record {
+pub is_at_rest : (m : Machine) (g : System) (w : World) → IsMachine m → length g.locals ≡ m.cpus → Relates m g w → Promised m [] (scene g) →
+    at_rest m g ≡ true → IsAtRest m (scene g) w
+is_at_rest m g w machine counted rel promised h = record {
   machine = machine;
   relates = rel;
   promised = promised;
   quiet = none_posted m g h;
-  idle = λ i lt. is_idle m g i machine lt (rel.sized (home m i) (machine.homed i lt)).threads h;
+  idle = λ i lt. is_idle m g i machine lt counted h;
 }
 
 -- The thread at a place, as its home has it.

@@ -1,7 +1,8 @@
 -- Where home refuses a send of timeout zero, the world may: its receiver neither accepts it now nor will once its call is decided.
+use Rattle.std.proofs.lemmas.List.Folds.{find_at}
 use Rattle.l4_split.proofs.Relation.Whereabouts.{where_then}
-use Rattle.std.proofs.Common.{◌≡◌, ℕ, suc, ◌+◌, Bool, true, false, cond, Option, Some, None, List, [], ◌∷◌, length, refl, ap, sym, ◌∙◌, subst, arith}
-use Rattle.std.specs.Prelude.{◌&&◌, not, nat_lt, find, slice_get}
+use Rattle.std.proofs.Common.{◌≡◌, ℕ, Bool, true, false, cond, Option, Some, None, length, refl, ap, sym, ◌∙◌, subst}
+use Rattle.std.specs.Prelude.{◌&&◌, not, nat_lt, slice_get}
 use Rattle.std.specs.List.{position_or_len}
 use Rattle.std.proofs.lemmas.Option.{slice_get-get_or}
 use Rattle.l4_model.specs.Words.{GlobalId, Id, NilThread, AnyThread, AnyLocalThread, LocalThread, GlobalThread, same_id}
@@ -22,15 +23,6 @@ use Rattle.l4_split.proofs.Frames.Moves.{at_home}
 
 -- A declaration is found at its place.
 
-found_there : (p : Declaration → Bool) (ds : List Declaration) → find p ds ≡ slice_get ds (position_or_len p ds)
-found_there p [] = refl
-found_there p (d ∷ ds) = by (p d) (found_there p ds)
-  where
-    by : (b : Bool) → find p ds ≡ slice_get ds (position_or_len p ds) →
-        cond b (Some d) (find p ds) ≡ slice_get (d ∷ ds) (cond (not b) (1 + position_or_len p ds) 0)
-    by true h = refl
-    by false h = let next : suc (position_or_len p ds) ≡ 1 + position_or_len p ds = omega arith in h ∙ ap (slice_get (d ∷ ds)) next
-
 place_is : (n count q : ℕ) → cond (nat_lt n count) (Some n) None ≡ Some q → n ≡ q
 place_is n count q h = by (nat_lt n count) h
   where
@@ -42,7 +34,7 @@ found_placed : (m : Machine) (t : GlobalId) (q : ℕ) → place_of m t ≡ Some 
 found_placed m t q at =
     let is = place_is (position_or_len (λ (d : Declaration). same_id d.id t) m.threads) (length m.threads) q at in
     let lt = place_within m t q at in
-    found_there (λ (d : Declaration). same_id d.id t) m.threads ∙ ap (slice_get m.threads) is ∙ slice_get-get_or m.threads q undeclared lt
+    find_at (λ (d : Declaration). same_id d.id t) m.threads ∙ ap (slice_get m.threads) is ∙ slice_get-get_or m.threads q undeclared lt
 
 -- A call to a thread of another processor
 other_processor : (m : Machine) (r q : ℕ) (t : GlobalId) → place_of m t ≡ Some q → place_of m (declared m r).id ≡ Some r → (home m q ≡ home m r → ⊥) →

@@ -154,17 +154,16 @@ all_own m cpu = own_filter m cpu (range_with_len 0 (length m.threads))
     (all-map (λ i. i < 0 + length m.threads) (λ i. i < length m.threads) (λ i lt. omega arith) (range_with_len 0 (length m.threads))
     (range_below 0 (length m.threads)))
 
+-- It stands among the own places once.
+pub own_entry : (m : Machine) (cpu i : ℕ) → IsOwn m cpu i → filter (λ j. i == j) (own_places m cpu) ≡ i ∷ []
+own_entry m cpu i here =
+    let own : is_own m cpu i ≡ true = let is = here.home in rw is (same_nat cpu) in
+    filter_kept (λ j. i == j) (is_own m cpu) (λ j same. subst (λ k. is_own m cpu k ≡ true) (eqb-true i j same) own) (range_with_len 0 (length m.threads))
+    ∙ filter_range 0 (length m.threads) i (omega arith) (let lt = here.within in omega arith)
+
 -- What is true of all own places is true of each of them.
 own_at : (m : Machine) (cpu i : ℕ) (P : ℕ → Type 0) → IsOwn m cpu i → AllByRecursion P (own_places m cpu) → P i
-own_at m cpu i P here all = (subst (AllByRecursion P) entry (all-filter P (λ j. i == j) (own_places m cpu) all)).0
-  where
-    own : is_own m cpu i ≡ true
-    own = let is = here.home in rw is (same_nat cpu)
-
-    entry : filter (λ j. i == j) (own_places m cpu) ≡ i ∷ []
-    entry = filter_kept (λ j. i == j) (is_own m cpu) (λ j same. subst (λ k. is_own m cpu k ≡ true) (eqb-true i j same) own)
-        (range_with_len 0 (length m.threads))
-        ∙ filter_range 0 (length m.threads) i (omega arith) (let lt = here.within in omega arith)
+own_at m cpu i P here all = (subst (AllByRecursion P) (own_entry m cpu i here) (all-filter P (λ j. i == j) (own_places m cpu) all)).0
 
 -- No thread of this processor has a duty.
 abbrev pub HasNoDuty : Machine → (cpu : ℕ) → Local → Type 0

@@ -164,7 +164,7 @@ pub opened_relates : (m : Machine) (cpu stamp : ℕ) (except : List ℕ) (s : Sc
 opened_relates m cpu stamp except s w rel =
     local_changes m cpu except s w (record { local = s.locals cpu; steps = []; letters = [] }) (λ l. (opened stamp l).local)
     (record {
-      sized = λ z. record { threads = z.threads; lists = z.lists; told = z.told; ready = z.ready; armed = z.armed; listed = z.listed };
+      sized = λ z. z;
       clock = refl;
       kept = λ j out. refl;
     }) refl

@@ -92,7 +92,7 @@ choice_addressed : (m : Machine) (cpu : ℕ) (l : Local) (c : Choice) → IsMach
     IsAddressed m (does_choice m cpu c (opened 0 l))
 choice_addressed m cpu l (ByDuty i duty) machine z c =
     duty_addressed m cpu i (opened 0 l) duty machine
-    (record { threads = z.threads; lists = z.lists; told = z.told; ready = z.ready; armed = z.armed; listed = z.listed }) c.0.within tt c.1
+    (z) c.0.within tt c.1
 choice_addressed m cpu l (ByDue i) machine z c =
     due_addressed m cpu i (opened 0 l ▷ does (relists plain.popped_due))
     (record { machine = machine; within = (subst (AllByRecursion (λ (e : ℕ × ℕ). e.1 < length m.threads)) c.1.1.0 z.armed).0 }) tt

@@ -2,7 +2,7 @@
 use Rattle.std.specs.Prelude.{ℕ, ◌<◌, ◌≡◌, List, [], length, slice_index_or}
 use Rattle.std.specs.List.{AllByRecursion}
 use Rattle.l4_model.specs.Machine.{Machine}
-use Rattle.l4_model.specs.World.{World}
+use Rattle.l4_model.specs.World.{World, Thread}
 use Rattle.l4_model.specs.Reached.{list_at}
 use Rattle.l4_core_model.specs.Plain as plain
 use Rattle.l4_core_model.specs.Local.{Local}
@@ -17,13 +17,16 @@ abbrev pub AreWithin : Machine → List ℕ → Type 0
 AreWithin m places = AllByRecursion (λ i. i < length m.threads) places
 
 -- A processor has an entry for each place, and none past them.
-pub record IsSized (m : Machine) (l : Local) : Type 0 where
-  pub threads : length l.threads ≡ length m.threads
-  pub lists : length l.lists.waiting ≡ length m.threads
-  pub told : length l.told ≡ length m.threads
-  pub ready : AreWithin m l.lists.ready
-  pub armed : AllByRecursion (λ (e : ℕ × ℕ). e.1 < length m.threads) l.lists.armed
-  pub listed : (r : ℕ) → AllByRecursion (λ (e : plain.Waiting). e.block < length m.threads) (plain.list_of l.lists r)
+pub record AreSized (m : Machine) (entries : List Thread) (s : plain.Plain) (told_up_to : List ℕ) : Type 0 where
+  pub threads : length entries ≡ length m.threads
+  pub lists : length s.waiting ≡ length m.threads
+  pub told : length told_up_to ≡ length m.threads
+  pub ready : AreWithin m s.ready
+  pub armed : AllByRecursion (λ (e : ℕ × ℕ). e.1 < length m.threads) s.armed
+  pub listed : (r : ℕ) → AllByRecursion (λ (e : plain.Waiting). e.block < length m.threads) (plain.list_of s r)
+
+abbrev pub IsSized : Machine → Local → Type 0
+IsSized m l = AreSized m l.threads l.lists l.told
 
 -- So has the world.
 pub record IsSizedWorld (m : Machine) (w : World) : Type 0 where

@@ -105,7 +105,7 @@ tick_goes m cpu to s w x processor e above below =
       reaches = one_more_told m w now v x.steps (Tick cpu to) e.reaches (tick_possible m now cpu to x.local.clock at above below);
       relates = record {
         sized = λ c c_lt. put_keeps (IsSized m) cpu c x.local y.local s.locals
-            (λ z. record { threads = z.threads; lists = z.lists; told = z.told; ready = z.ready; armed = z.armed; listed = z.listed }) (rel.sized c c_lt);
+            (λ z. z) (rel.sized c c_lt);
         sized_world = record {
           threads = rel.sized_world.threads;
           lists = rel.sized_world.lists;

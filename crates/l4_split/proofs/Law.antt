@@ -61,8 +61,6 @@ letter_goes m from cpu letter s w x (GoneLetter id) h content is = handles_gone 
 letter_goes m from cpu letter s w x (OrderLetter caller target what) h content is = handles_order m from cpu letter s w x caller target what h content is
 letter_goes m from cpu letter s w x (OrderDoneLetter caller) h content is = handles_order_done m from cpu letter s w x caller h content is
 
--- What is true of a run stays true event by event.
-
 -- Letters
 
 all_posted : (m : Machine) (cpu : ℕ) (ls : List (ℕ × Letter)) → AllByRecursion (λ (p : ℕ × Letter). IsAddressedTo m p.0 p.1.content) ls →

@@ -124,8 +124,8 @@ keeps_one p xs ys x h = filter-append p xs (x ∷ ys) ∙ ap (λ zs. filter p xs
     keep : p x ≡ true → filter p (x ∷ ys) ≡ x ∷ filter p ys
     keep h = rw h refl
 
-only_locator : (m : Machine) (i : ℕ) (v : View) (send : Option Send) (xs ys : List Posted) (p : Posted) → Row m i (seats m i v) (xs ++ p ∷ ys) send → (xs ≡ [])
-    × (ys ≡ [])
+only_locator : (m : Machine) (i : ℕ) (v : View) (send : Option Send) (xs ys : List Posted) (p : Posted) → Row m i (seats m i v) (xs ++ p ∷ ys) send →
+    (xs ≡ []) × (ys ≡ [])
 only_locator m i v send [] [] p h = (refl, refl)
 only_locator m i v send [] (y ∷ ys) p h = absurd h
 only_locator m i v send (x ∷ []) ys p h = absurd h
@@ -137,16 +137,16 @@ pub taken_here : (m : Machine) (from to i : ℕ) (letter : Letter) (mail : List 
     IsTaken (record { from = from; to = to; letter = letter }) (filter (is_about m i) mail) (filter (is_about m i) (without_first from to mail))
 taken_here m from to i letter mail v send is says f row =
     let p : Posted = record { from = from; to = to; letter = letter } in
-    let word : Posted → Bool = λ q. is_locator q.letter.content in
+    let locator : Posted → Bool = λ q. is_locator q.letter.content in
     let here = about_place m i i p is ∙ same_nat i in
     let before = filter (is_about m i) f.before in
     let after = filter (is_about m i) f.after in
     let old = ap (filter (is_about m i)) f.is ∙ keeps_one (is_about m i) f.before f.after p here in
     let new = ap (filter (is_about m i)) f.left ∙ filter-append (is_about m i) f.before f.after in
-    let at = ap locators old ∙ keeps_one word before after p says in
+    let at = ap locators old ∙ keeps_one locator before after p says in
     let none = only_locator m i v send (locators before) (locators after) p (subst (λ ps. Row m i (seats m i v) ps send) at row) in
     record {
       was = at ∙ (λ d. none.0 d ++ p ∷ none.1 d);
-      none_left = ap locators new ∙ filter-append word before after ∙ (λ d. none.0 d ++ none.1 d);
-      others = ap notices new ∙ sym (ap notices old ∙ filter_skips (λ q. not (word q)) before after p (rw says refl));
+      none_left = ap locators new ∙ filter-append locator before after ∙ (λ d. none.0 d ++ none.1 d);
+      others = ap notices new ∙ sym (ap notices old ∙ filter_skips (λ q. not (locator q)) before after p (rw says refl));
     }

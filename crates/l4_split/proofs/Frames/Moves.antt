@@ -108,9 +108,9 @@ plain_known m i v kept none quiet no_send no_order agrees = record {
 -- Its send is decided, or an order, or a letter says where it is.
 pub located_known : (m : Machine) (i : ℕ) (v : View) (p : Posted) → IsKept m i v → locators v.mail ≡ p ∷ [] → RowOf m i (seats m i v) p p.letter.content →
     Agrees v.world (learned (p ∷ []) (at_home m i v).clock (at_home m i v).thread) → Known m i v
-located_known m i v p kept word row agrees = record {
-  agrees = subst (λ ps. Agrees v.world (learned ps (at_home m i v).clock (at_home m i v).thread)) (sym word) agrees;
-  row = subst (λ ps. Row m i (seats m i v) ps (at_home m i v).thread.send) (sym word) row;
+located_known m i v p kept locator row agrees = record {
+  agrees = subst (λ ps. Agrees v.world (learned ps (at_home m i v).clock (at_home m i v).thread)) (sym locator) agrees;
+  row = subst (λ ps. Row m i (seats m i v) ps (at_home m i v).thread.send) (sym locator) row;
   kept = kept;
 }
 

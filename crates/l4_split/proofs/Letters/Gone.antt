@@ -49,7 +49,7 @@ marked_matches m i v after marked same world mail gone h =
       listed = λ c. sym (marked c).listed d;
     } in
     let with_home : (P : Kept → Type 0) → P k → P (at_home m i after) = λ P p. subst P (sym same) p in
-    let stands : Matches m i now = record {
+    let matches : Matches m i now = record {
       known = record {
         agrees = with_home (λ k. Agrees v.world (learned (locators v.mail) k.clock k.thread)) h.known.agrees;
         row = subst (λ (s : Seats). Row m i s (locators v.mail) (s.sent (home m i))) seats_same h.known.row;
@@ -65,7 +65,7 @@ marked_matches m i v after marked same world mail gone h =
       };
       ready = with_home (λ k. k.ready ≡ readied k.thread.phase i []) h.ready;
     } in
-    subst (Matches m i) (λ d. record { world = sym world d; kept = after.kept; mail = sym mail d }) stands
+    subst (Matches m i) (λ d. record { world = sym world d; kept = after.kept; mail = sym mail d }) matches
 
 -- A processor hears that a thread of another one is gone.
 pub handles_gone : (m : Machine) (from cpu : ℕ) (letter : Letter) (s : Scene) (w : World) (x : Work) (id : GlobalId) → IsLetter m from cpu letter s w →

@@ -45,34 +45,34 @@ noticed m from cpu i letter s w h lt about late =
     let p : Posted = record { from = from; to = cpu; letter = letter } in
     let f = h.first in
     let mine : Posted → Bool = is_about m i in
-    let word : Posted → Bool = λ q. is_locator q.letter.content in
+    let locator : Posted → Bool = λ q. is_locator q.letter.content in
     let before : View = view m s w i in
     let after : View = view m (amid cpu (without from cpu s) (at_work cpu letter s)) w i in
-    let stands = h.relates.places i lt tt in
+    let matches = h.relates.places i lt tt in
     let here = about_place m i i p about ∙ same_nat i in
     let old : before.mail ≡ filter mine f.before ++ p ∷ filter mine f.after = ap (filter mine) f.is ∙ keeps_one mine f.before f.after p here in
     let new : after.mail ≡ filter mine f.before ++ filter mine f.after =
     ap (filter mine) (append-nil (without_first from cpu s.mail) ∙ f.left) ∙ filter-append mine f.before f.after in
     let same_words : locators after.mail ≡ locators before.mail =
-    ap locators new ∙ sym (filter_skips word (filter mine f.before) (filter mine f.after) p late) ∙ sym (ap locators old) in
+    ap locators new ∙ sym (filter_skips locator (filter mine f.before) (filter mine f.after) p late) ∙ sym (ap locators old) in
     let old_notices : notices before.mail ≡ notices (filter mine f.before) ++ p ∷ notices (filter mine f.after) =
-    ap notices old ∙ keeps_one (λ q. not (word q)) (filter mine f.before) (filter mine f.after) p (rw late refl) in
+    ap notices old ∙ keeps_one (λ q. not (locator q)) (filter mine f.before) (filter mine f.after) p (rw late refl) in
     let new_notices : notices after.mail ≡ notices (filter mine f.before) ++ notices (filter mine f.after) =
-    ap notices new ∙ filter-append (λ q. not (word q)) (filter mine f.before) (filter mine f.after) in
+    ap notices new ∙ filter-append (λ q. not (locator q)) (filter mine f.before) (filter mine f.after) in
     let k : Kept = at_home m i before in
-    let was = subst (AllByRecursion (IsNotice m i k)) old_notices stands.known.kept.notices in
+    let was = subst (AllByRecursion (IsNotice m i k)) old_notices matches.known.kept.notices in
     let left : Matches m i (record before { mail = after.mail }) = record {
       known = record {
-        agrees = subst (λ ps. Agrees before.world (learned ps k.clock k.thread)) (sym same_words) stands.known.agrees;
-        row = subst (λ ps. Row m i (seats m i before) ps k.thread.send) (sym same_words) stands.known.row;
+        agrees = subst (λ ps. Agrees before.world (learned ps k.clock k.thread)) (sym same_words) matches.known.agrees;
+        row = subst (λ ps. Row m i (seats m i before) ps k.thread.send) (sym same_words) matches.known.row;
         kept = record {
-          at_home = stands.known.kept.at_home;
-          elsewhere = stands.known.kept.elsewhere;
+          at_home = matches.known.kept.at_home;
+          elsewhere = matches.known.kept.elsewhere;
           notices = subst (AllByRecursion (IsNotice m i k)) (sym new_notices)
               (all_without (IsNotice m i k) (notices (filter mine f.before)) (notices (filter mine f.after)) p was);
         };
       };
-      ready = stands.ready;
+      ready = matches.ready;
     } in
     let kept_same = λ (c : ℕ). kept_opened cpu letter.stamp i s c in
     record {

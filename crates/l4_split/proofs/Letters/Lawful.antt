@@ -40,8 +40,8 @@ foreign_is m cpu id i at away = let other = other_is (home m i) cpu away in rw (
 -- Each letter that says where a send or an order is
 
 -- what the world knows of a send
-send_facts : (m : Machine) (i : ℕ) (send : Send) (w : World) → WorldFacts m w → i < length m.threads → (world_thread w i).send ≡ Some send → (now : ℕ)
-    × IsSendOf m (declared m i).id now send
+send_facts : (m : Machine) (i : ℕ) (send : Send) (w : World) → WorldFacts m w → i < length m.threads → (world_thread w i).send ≡ Some send →
+    (now : ℕ) × IsSendOf m (declared m i).id now send
 send_facts m i send w facts lt has =
     let size : i < length w.threads = omega (arith, facts.threads_counted) in
     let all = facts.each_thread i (declared m i) (world_thread w i) (slice_get-get_or m.threads i undeclared lt)
@@ -109,11 +109,11 @@ calls t order has none suits = by t.phase suits
 obeyed_lawful : (m : Machine) (i : ℕ) (s : Scene) (w : World) (p : Posted) (x : Work) (caller : GlobalId) → p.letter.content ≡ OrderDoneLetter caller →
     place_of m caller ≡ Some i → x.local.threads ≡ (s.locals p.to).threads →
     Matches m i (view m s w i) → IsObeyed m i (seats m i (view m s w i)) p → is_some (handled m p.to p.letter.content x) ≡ true
-obeyed_lawful m i s w p x caller content about at stands row =
+obeyed_lawful m i s w p x caller content about at matches row =
     let t : Thread = (at_home m i (view m s w i)).thread in
     let same : thread x.local i ≡ t = ap (λ ts. slice_index_or ts i opening_thread) at ∙ ap (λ c. thread (s.locals c) i) row.to in
     let own = own_is m p.to caller i about row.to in
-    let test = calls t row.orders.order row.orders.has row.orders.no_send stands.known.kept.at_home.good.suits in
+    let test = calls t row.orders.order row.orders.has row.orders.no_send matches.known.kept.at_home.good.suits in
     let here : (is_deleted (thread x.local i).phase || is_ordering (thread x.local i).phase) ≡ true =
     ap (λ (u : Thread). is_deleted u.phase || is_ordering u.phase) same ∙ test in
     rw (content, own, here) refl
@@ -141,33 +141,33 @@ locator_row : (m : Machine) (i : ℕ) (s : Scene) (w : World) (p : Posted) → I
     Matches m i (view m s w i) →
     RowOf m i (seats m i (view m s w i)) p p.letter.content
     × Agrees (world_thread w i) (learns p.letter.content (at_home m i (view m s w i)).clock (at_home m i (view m s w i)).thread)
-locator_row m i s w p u says stands =
+locator_row m i s w p u says matches =
     let v : View = view m s w i in
     let k : Kept = at_home m i v in
-    let word : Posted → Bool = λ q. is_locator q.letter.content in
+    let locator : Posted → Bool = λ q. is_locator q.letter.content in
     let here = about_place m i i p u.about ∙ same_nat i in
     let at = ap locators (ap (filter (is_about m i)) u.is ∙ keeps_one (is_about m i) u.before u.after p here)
-    ∙ keeps_one word (filter (is_about m i) u.before) (filter (is_about m i) u.after) p says in
+    ∙ keeps_one locator (filter (is_about m i) u.before) (filter (is_about m i) u.after) p says in
     only_row m i k v k.thread.send (locators (filter (is_about m i) u.before)) (locators (filter (is_about m i) u.after)) p
-    (subst (λ ps. Row m i (seats m i v) ps k.thread.send) at stands.known.row)
-    (subst (λ ps. Agrees v.world (learned ps k.clock k.thread)) at stands.known.agrees)
+    (subst (λ ps. Row m i (seats m i v) ps k.thread.send) at matches.known.row)
+    (subst (λ ps. Agrees v.world (learned ps k.clock k.thread)) at matches.known.agrees)
 
 late_notice : (m : Machine) (i : ℕ) (s : Scene) (w : World) (p : Posted) → IsUnderWay m i p s.mail → is_locator p.letter.content ≡ false →
     Matches m i (view m s w i) → IsNotice m i (at_home m i (view m s w i)) p
-late_notice m i s w p u late stands =
+late_notice m i s w p u late matches =
     let v : View = view m s w i in
     let other : Posted → Bool = λ q. not (is_locator q.letter.content) in
     let here = about_place m i i p u.about ∙ same_nat i in
     let at = ap notices (ap (filter (is_about m i)) u.is ∙ keeps_one (is_about m i) u.before u.after p here)
     ∙ keeps_one other (filter (is_about m i) u.before) (filter (is_about m i) u.after) p (rw late refl) in
     one_of (IsNotice m i (at_home m i v)) (notices (filter (is_about m i) u.before)) (notices (filter (is_about m i) u.after)) p
-    (subst (AllByRecursion (IsNotice m i (at_home m i v))) at stands.known.kept.notices)
+    (subst (AllByRecursion (IsNotice m i (at_home m i v))) at matches.known.kept.notices)
 
 -- Any letter under way
 
 letter_lawful : (m : Machine) (i : ℕ) (s : Scene) (w : World) (p : Posted) (x : Work) (c : Content) → p.letter.content ≡ c → IsMachine m → WorldFacts m w →
     IsUnderWay m i p s.mail → Matches m i (view m s w i) → x.local.threads ≡ (s.locals p.to).threads → is_some (handled m p.to p.letter.content x) ≡ true
-letter_lawful m i s w p x c content machine facts u stands at = by c content
+letter_lawful m i s w p x c content machine facts u matches at = by c content
   where
     lt : i < length m.threads
     lt = place_within m (subject p.letter.content) i u.about
@@ -183,10 +183,10 @@ letter_lawful m i s w p x c content machine facts u stands at = by c content
 
     row : (c : Content) → p.letter.content ≡ c → is_locator c ≡ true → RowOf m i (seats m i v) p c × Agrees v.world (learns c k.clock k.thread)
     row c content says = subst (λ c. RowOf m i (seats m i v) p c × Agrees v.world (learns c k.clock k.thread)) content
-        (locator_row m i s w p u (ap is_locator content ∙ says) stands)
+        (locator_row m i s w p u (ap is_locator content ∙ says) matches)
 
     notice : (c : Content) → p.letter.content ≡ c → is_locator c ≡ false → IsNoticeOf m i k p c
-    notice c content late = subst (IsNoticeOf m i k p) content (late_notice m i s w p u (ap is_locator content ∙ late) stands)
+    notice c content late = subst (IsNoticeOf m i k p) content (late_notice m i s w p u (ap is_locator content ∙ late) matches)
 
     by : (c : Content) → p.letter.content ≡ c → is_some (handled m p.to p.letter.content x) ≡ true
     by (SendLetter name receiver message zero_timeout) content =
@@ -204,7 +204,7 @@ letter_lawful m i s w p x c content machine facts u stands at = by c content
         rw (content, foreign) refl
     by (OrderLetter caller target what) content = ordered_lawful m i s w p x machine lt (row (OrderLetter caller target what) content refl).0
     by (OrderDoneLetter caller) content =
-        obeyed_lawful m i s w p x caller content (about (OrderDoneLetter caller) content) at stands (row (OrderDoneLetter caller) content refl).0
+        obeyed_lawful m i s w p x caller content (about (OrderDoneLetter caller) content) at matches (row (OrderDoneLetter caller) content refl).0
 
 placed : (m : Machine) (id : GlobalId) → is_declared m id ≡ true → (i : ℕ) × (place_of m id ≡ Some i)
 placed m id h = by (place_of m id) h

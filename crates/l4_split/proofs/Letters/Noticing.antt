@@ -32,15 +32,15 @@ notice_relates m cpu to i content except s w x rel out lt about late notice =
     let v : View = view m (amid cpu s x) w i in
     let after : View = view m (amid cpu s (posts to content x)) w i in
     let mail : after.mail ≡ v.mail ++ p ∷ [] = mail_here m cpu to i content s w x about in
-    let word : locators after.mail ≡ locators v.mail = ap locators mail ∙ filter_last_other (λ (q : Posted). is_locator q.letter.content) v.mail p late in
+    let locator : locators after.mail ≡ locators v.mail = ap locators mail ∙ filter_last_other (λ (q : Posted). is_locator q.letter.content) v.mail p late in
     let others : notices after.mail ≡ notices v.mail ++ p ∷ [] =
     ap notices mail ∙ filter_last (λ (q : Posted). not (is_locator q.letter.content)) v.mail p (rw late refl) in
     let h = rel.places i lt out in
     takes_in m i except (amid cpu s (posts to content x)) w
     (letter_posted m cpu to i content (i ∷ except) s w x about (first_about i except) (leaves_out m i except (amid cpu s x) w rel)) (record {
       known = record {
-        agrees = subst (λ ps. Agrees v.world (learned ps (at_home m i v).clock (at_home m i v).thread)) (sym word) h.known.agrees;
-        row = subst (λ ps. Row m i (seats m i v) ps (at_home m i v).thread.send) (sym word) h.known.row;
+        agrees = subst (λ ps. Agrees v.world (learned ps (at_home m i v).clock (at_home m i v).thread)) (sym locator) h.known.agrees;
+        row = subst (λ ps. Row m i (seats m i v) ps (at_home m i v).thread.send) (sym locator) h.known.row;
         kept = record {
           at_home = h.known.kept.at_home;
           elsewhere = h.known.kept.elsewhere;

@@ -68,11 +68,11 @@ pub taken_out : (m : Machine) (from cpu i : ℕ) (letter : Letter) (s : Scene) (
     place_of m (subject letter.content) ≡ Some i → is_locator letter.content ≡ true →
     IsTakenOut m i (view m s w i) (view m (amid cpu (without from cpu s) (at_work cpu letter s)) w i) (record { from = from; to = cpu; letter = letter })
 taken_out m from cpu i letter s w h lt about says =
-    let stands = h.relates.places i lt tt in
-    let t = taken_here m from cpu i letter s.mail (view m s w i) _ about says h.first stands.known.row in
+    let matches = h.relates.places i lt tt in
+    let t = taken_here m from cpu i letter s.mail (view m s w i) _ about says h.first matches.known.row in
     let nil = append-nil (without_first from cpu s.mail) in
     record {
-      stands = stands;
+      matches = matches;
       was = t.was;
       quiet = ap (λ mail. locators (filter (is_about m i) mail)) nil ∙ t.none_left;
       notices = ap (λ mail. notices (filter (is_about m i) mail)) nil ∙ t.others;

@@ -251,7 +251,7 @@ kept_lists a b j e = ap (λ ess. λ r. filter (is_of j) (slice_index_or ess r []
 pub asks_relates : (m : Machine) (cpu j : ℕ) (what : What) (except : List ℕ) (s : Scene) (w : World) (x : Work) → IsHere m cpu j →
     Matches m j (view m (amid cpu s x) w j) → RelatesExcept m (Matches m) (j ∷ except) (amid cpu s x) w →
     RelatesExcept m (Matches m) except (amid cpu s (x ▷ does (asks what j))) (change w j (asked what))
-asks_relates m cpu j what except s w x here stands rel =
+asks_relates m cpu j what except s w x here matches rel =
     let y : Work = x ▷ does (asks what j) in
     let u : World = change w j (asked what) in
     let v : View = view m (amid cpu s x) w j in
@@ -273,4 +273,4 @@ asks_relates m cpu j what except s w x here stands rel =
     (is ∙ asks_here what x.local j size ∙ sym (ap (asked_kept what j) was))
     (ap (λ (k : Kept). k.listed) is ∙ kept_lists (asks what j x.local) x.local j (asks_lists what x.local j) ∙ sym (ap (λ (k : Kept). k.listed) was))
     (ap (λ (k : Kept). k.clock) is ∙ asks_clock what x.local j ∙ sym (ap (λ (k : Kept). k.clock) was))
-    (λ c ne. put_other cpu c j x.local y.local s.locals (λ h. ne (sym h ∙ sym here.home))) stands)
+    (λ c ne. put_other cpu c j x.local y.local s.locals (λ h. ne (sym h ∙ sym here.home))) matches)

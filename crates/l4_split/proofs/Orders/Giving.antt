@@ -112,7 +112,7 @@ foreign_goes m cpu i j order s w y h at away =
     let p : Posted = posted cpu (home m j, record { stamp = y.local.stamp; content = OrderLetter (declared m i).id order.target order.what }) in
     let placed = h.here.machine.placed i h.here.within in
     let mail : after.mail ≡ v.mail ++ p ∷ [] = mail_here m cpu (home m j) i (OrderLetter (declared m i).id order.target order.what) s e.now y placed in
-    let word : locators after.mail ≡ p ∷ [] =
+    let locator : locators after.mail ≡ p ∷ [] =
     ap locators mail ∙ filter_last (λ (q : Posted). is_locator q.letter.content) v.mail p refl ∙ ap (λ ps. ps ++ p ∷ []) c.quiet in
     let others : notices after.mail ≡ notices v.mail = ap notices mail ∙ filter_last_other (λ (q : Posted). not (is_locator q.letter.content)) v.mail p refl in
     let moves : Moves m i v after = record {
@@ -143,7 +143,7 @@ foreign_goes m cpu i j order s w y h at away =
       relates = takes_in m i [] (amid cpu s a) e.now
           (letter_posted m cpu (home m j) i (OrderLetter (declared m i).id order.target order.what) (i ∷ []) s e.now y placed (first_about i []) e.relates)
           (record {
-            known = located_known m i after p keeps word row c.agrees;
+            known = located_known m i after p keeps locator row c.agrees;
             ready = c.out ∙ sym (caller_unready i (at_home m i v).thread.phase (at_home m i v).thread.send order suits);
           });
     }

@@ -67,7 +67,7 @@ obeyed_relates m cpu i s w x before p caller here content t rel =
     let was : at_home m i before ≡ kept x.local i = sym (ap (λ (f : ℕ → Kept). f (home m i)) t.kept) ∙ home_is m cpu i s x w here.home in
     let has : (thread x.local i).order ≡ Some row.orders.order = sym (ap (λ (k : Kept). k.thread.order) was) ∙ row.orders.has in
     let none : (thread x.local i).send ≡ None = sym (ap (λ (k : Kept). k.thread.send) was) ∙ row.orders.no_send in
-    let good : IsGood x.local.clock (thread x.local i) = subst (λ (k : Kept). IsGood k.clock k.thread) was t.stands.known.kept.at_home.good in
+    let good : IsGood x.local.clock (thread x.local i) = subst (λ (k : Kept). IsGood k.clock k.thread) was t.matches.known.kept.at_home.good in
     let suits : Suits (thread x.local i).phase (thread x.local i).send (Some row.orders.order) =
     subst (Suits (thread x.local i).phase (thread x.local i).send) has good.suits in
     let agrees : Agrees before.world (obeyed (thread x.local i)) = subst (λ (k : Kept). Agrees before.world (obeyed k.thread)) was
@@ -80,7 +80,7 @@ obeyed_relates m cpu i s w x before p caller here content t rel =
         listed = λ c q. ap (λ (f : ℕ → Kept). (f c).listed q) t.kept ∙ row.orders.unplaced.listed c q;
         stand_in = λ c ne. ap (λ (f : ℕ → Kept). (f c).thread.send) t.kept ∙ row.orders.unplaced.stand_in c ne;
       };
-      out = sym (ap (λ (k : Kept). k.ready) was) ∙ t.stands.ready ∙ ap (λ (k : Kept). readied k.thread.phase i []) was
+      out = sym (ap (λ (k : Kept). k.ready) was) ∙ t.matches.ready ∙ ap (λ (k : Kept). readied k.thread.phase i []) was
           ∙ caller_unready i (thread x.local i).phase (thread x.local i).send row.orders.order suits;
       send = obeyed_send (thread x.local i) ∙ none;
       order = obeyed_order (thread x.local i);

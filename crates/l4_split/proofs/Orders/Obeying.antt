@@ -53,14 +53,14 @@ obeys_relates m cpu j caller what except s w x here out rel =
     let z : Work = x ▷ tells (Obey caller) in
     let y : Work = z ▷ does (asks what j) in
     let u : World = change w j (asked what) in
-    let stands = rel.places j here.within out in
+    let matches = rel.places j here.within out in
     let v : View = view m (amid cpu s x) w j in
     let asked_now : RelatesExcept m (Matches m) except (amid cpu s y) u =
-    asks_relates m cpu j what except s w z here stands (leaves_out m j except (amid cpu s x) w rel) in
+    asks_relates m cpu j what except s w z here matches (leaves_out m j except (amid cpu s x) w rel) in
     let sized = sized_here m cpu j except s w x here rel in
     let size : j < length x.local.threads = omega (arith, sized.threads, here.within) in
     let was : at_home m j v ≡ kept x.local j = home_is m cpu j s x w here.home in
-    let good = subst (λ (k : Kept). IsGood k.clock k.thread) was stands.known.kept.at_home.good in
+    let good = subst (λ (k : Kept). IsGood k.clock k.thread) was matches.known.kept.at_home.good in
     let now : (thread y.local j) ≡ asked what (thread x.local j) =
     ap (λ (k : Kept). k.thread) (asks_here what x.local j size) ∙ asked_thread what j (kept x.local j) in
     cond_keeps (λ a. RelatesExcept m (Matches m) except (amid cpu s a) u) (is_deleted (thread x.local j).phase) y (withdraws_for m cpu j (cause_of what) y)

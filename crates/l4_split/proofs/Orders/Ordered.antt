@@ -129,7 +129,7 @@ order_goes m cpu i j s w x before p caller target what here lt away at_i at_j to
     let mail : after.mail ≡ v.mail ++ q ∷ [] =
     mail_here m cpu (home m i) i (OrderDoneLetter caller) s u2 y at_i
     ∙ ap (λ ps. ps ++ q ∷ []) (obeys_mail m cpu j i caller what s x (here.machine.placed j here.within) ne) in
-    let word : locators after.mail ≡ q ∷ [] =
+    let locator : locators after.mail ≡ q ∷ [] =
     ap locators mail ∙ filter_last (λ (a : Posted). is_locator a.letter.content) v.mail q refl ∙ ap (λ ps. ps ++ q ∷ []) t.quiet in
     let others : notices after.mail ≡ notices before.mail =
     ap notices mail ∙ filter_last_other (λ (a : Posted). not (is_locator a.letter.content)) v.mail q refl ∙ t.notices in
@@ -138,7 +138,7 @@ order_goes m cpu i j s w x before p caller target what here lt away at_i at_j to
     let world : after.world ≡ obeyed before.world =
     get-changed obeyed u1.threads i opening_thread in_world ∙ ap obeyed (get_other (asked what) w.threads j i ne ∙ t.world) in
     let suits : Suits (at_home m i before).thread.phase (at_home m i before).thread.send (Some o.order) =
-    subst (Suits (at_home m i before).thread.phase (at_home m i before).thread.send) o.has t.stands.known.kept.at_home.good.suits in
+    subst (Suits (at_home m i before).thread.phase (at_home m i before).thread.send) o.has t.matches.known.kept.at_home.good.suits in
     let moves : Moves m i before after = record {
       elsewhere = λ c away. same_alike (before.kept c) (after.kept c) (ap (λ (f : ℕ → Kept). f c) same_kept);
       notices = others;
@@ -171,11 +171,11 @@ order_goes m cpu i j s w x before p caller target what here lt away at_i at_j to
           ∙ one_more_told m w w u2 [] (Obey caller) refl (possible ∙ ap (λ k. Some (change (change w j (asked k)) i obeyed)) (sym says.1));
       relates = takes_in m i [] (amid cpu s z) u2 rel3 (record {
         known = located_known m i after q
-            (moves_kept m i before after t.stands.known.kept moves (subst (IsKeptAtHome i) (sym home_same) t.stands.known.kept.at_home)) word obeys_row
+            (moves_kept m i before after t.matches.known.kept moves (subst (IsKeptAtHome i) (sym home_same) t.matches.known.kept.at_home)) locator obeys_row
             (subst (λ (k : Kept). Agrees after.world (obeyed k.thread)) (sym home_same)
             (subst (λ u. Agrees u (obeyed (at_home m i before).thread)) (sym world)
             (obeyed_agrees before.world (at_home m i before).thread o.order o.has suits agrees)));
-        ready = subst (λ (k : Kept). k.ready ≡ readied k.thread.phase i []) (sym home_same) t.stands.ready;
+        ready = subst (λ (k : Kept). k.ready ≡ readied k.thread.phase i []) (sym home_same) t.matches.ready;
       });
     }
 

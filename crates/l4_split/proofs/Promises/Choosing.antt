@@ -37,7 +37,7 @@ use Rattle.l4_split.proofs.Promises.Giving.{gives_keeps}
 -- A send that is not split stands in a list of its own processor.
 
 listed_here : (m : Machine) (i : ℕ) (s : Scene) (w : World) → Matches m i (view m s w i) → IsListedHere m i (s.locals (home m i))
-listed_here m i s w stands send has whole = where_then m i v stands.known
+listed_here m i s w matches send has whole = where_then m i v matches.known
     (λ quiet none row a. not_both _ send has none)
     (λ other quiet is row a. waits other (some_is other send (sym is ∙ has)) row)
     (λ p is row a. split row.goes)
@@ -77,10 +77,10 @@ all_of_filtered P Q p out kept (x ∷ xs) h = by (p x) refl h (all_of_filtered P
 none_of_next : (m : Machine) (i : ℕ) (s : Scene) (w : World) (name : Name) → place_of m name.thread ≡ Some i →
     (at_home m i (view m s w i)).thread.context.begun < name.k → Matches m i (view m s w i) →
     AllByRecursion (λ (q : Posted). IsNotWithdrawalOf name q.letter.content) s.mail
-none_of_next m i s w name place above stands =
+none_of_next m i s w name place above matches =
     all_of_filtered Not Not (is_about m i) (λ q out. not_about q q.letter.content out) (λ q h. h) s.mail
     (all_of_filtered (IsNotice m i k) Not (λ (q : Posted). not (is_locator q.letter.content)) (λ q out. not_late q.letter.content out)
-    (λ q h. by q q.letter.content h) (filter (is_about m i) s.mail) stands.known.kept.notices)
+    (λ q h. by q q.letter.content h) (filter (is_about m i) s.mail) matches.known.kept.notices)
   where
     k : Kept
     k = at_home m i (view m s w i)
@@ -119,7 +119,7 @@ acts_keeps : (m : Machine) (cpu i : ℕ) (s : Scene) (w : World) (l : Local) →
     is_ready (thread l i).phase ≡ true → Matches m i (view m s w i) →
     StaysPromised m cpu s (opened 0 l ▷ does (relists plain.popped)) →
     StaysPromised m cpu s (acts m cpu i (act_of m (held m l i)) (opened 0 l ▷ does (relists plain.popped)))
-acts_keeps m cpu i s w l is processor here ready stands p = by (act_of m (held m l i))
+acts_keeps m cpu i s w l is processor here ready matches p = by (act_of m (held m l i))
   where
     x : Work
     x = opened 0 l ▷ does (relists plain.popped)
@@ -135,7 +135,7 @@ acts_keeps m cpu i s w l is processor here ready stands p = by (act_of m (held m
         ap (λ c. (thread (s.locals c) i).context.begun) here.home ∙ sym (ap (λ l. (thread l i).context.begun) is) in
         begins_keeps m cpu i send s x processor here.home ready
         (subst (AllByRecursion (λ (q : Posted). IsNotWithdrawalOf name q.letter.content)) (sym (append-nil s.mail))
-        (none_of_next m i s w name (here.machine.placed i lt) (omega arith) stands)) p
+        (none_of_next m i s w name (here.machine.placed i lt) (omega arith) matches)) p
     by (Receives receive) = waits_keeps m cpu i receive s x processor here.home ready p
     by (Orders order) = gives_keeps m cpu i order s x processor here.within here.home ready p
 

@@ -1,17 +1,15 @@
 -- What is promised is kept by each piece of an event.
-use Rattle.std.proofs.Common.{◌≡◌, ℕ, ◌<◌, List, ◌∷◌, length, sym, subst, inl, inr, ◌⊎◌}
+use Rattle.std.proofs.Common.{ℕ, ◌<◌, List, ◌∷◌, length, sym, subst, inl, inr}
 use Rattle.std.specs.List.{AllByRecursion}
 use Rattle.l4_model.specs.Machine.{Machine}
-use Rattle.l4_model.specs.World.{Deleted}
 use Rattle.l4_core_model.specs.Letters.{Content}
 use Rattle.l4_core_model.specs.Local.{declared}
 use Rattle.l4_core_model.specs.Acts.{Work, ◌▷◌, posts}
 use Rattle.l4_core_model.specs.Runs.{Posted, posted}
 use Rattle.l4_core_model.proofs.Remembers.{same_or_apart}
 use Rattle.l4_split.proofs.Relation.Views.{Scene, home, amid}
-use Rattle.l4_split.proofs.Relation.Rows.{name_of}
 use Rattle.l4_split.proofs.Frames.Mail.{mail_posted}
-use Rattle.l4_split.proofs.Promises.Promised.{AnyOf, MayFollow, InOrder, IsAnswer, IsGone, IsArmedUnlessSplit, IsAnswered, kept_at, phases, Promised}
+use Rattle.l4_split.proofs.Promises.Promised.{AnyOf, MayFollow, InOrder, IsGone, IsArmedUnlessSplit, IsAnswered, kept_at, phases, Promised, HasHeard, HasAnswer}
 use Rattle.l4_split.proofs.Promises.Letters.{any_append, order_append}
 
 -- Leaving out, and taking in again
@@ -58,11 +56,11 @@ posts_keeps m cpu to content except s x may p =
       calm = p.calm;
       armed = p.armed;
       answered = λ i lt out send r has to away ending.
-          subst (AnyOf (IsAnswer (name_of m i (kept_at (amid cpu s x) (home m i) i).thread) (home m i) (home m r))) (sym mail)
+          subst (HasAnswer m i r (kept_at (amid cpu s x) (home m i) i)) (sym mail)
           (any_append _ (amid cpu s x).mail last (p.answered i lt out send r has to away ending));
     }
   where
-    by : (i c : ℕ) → (phases (amid cpu s x) i c ≡ Deleted) ⊎ AnyOf (IsGone (declared m i).id c) (amid cpu s x).mail → (phases (amid cpu s x) i c ≡ Deleted)
-        ⊎ AnyOf (IsGone (declared m i).id c) (amid cpu s (x ▷ posts to content)).mail
+    by : (i c : ℕ) → HasHeard m i c (phases (amid cpu s x) i c) (amid cpu s x).mail →
+        HasHeard m i c (phases (amid cpu s x) i c) (amid cpu s (x ▷ posts to content)).mail
     by i c (inl h) = inl h
     by i c (inr h) = inr (subst (AnyOf (IsGone (declared m i).id c)) (sym (mail_posted cpu to content s x)) (any_append _ (amid cpu s x).mail _ h))

@@ -15,14 +15,14 @@ use Rattle.l4_split.proofs.Relation.Views.{Kept, Scene, kept, home, put, amid}
 use Rattle.l4_split.proofs.Frames.Locals.{come, comes_here, comes_other, changes_here, changes_other}
 use Rattle.l4_split.proofs.Frames.Places.{put_keeps}
 use Rattle.l4_split.proofs.Frames.Going.{put_home, put_other}
-use Rattle.l4_split.proofs.Promises.Promised.{AnyOf, IsAnswer, IsGone, IsArmedUnlessSplit, IsCalm, IsLate, IsWished, IsAnswered, kept_at, phases, Promised}
+use Rattle.l4_split.proofs.Promises.Promised.{AnyOf, IsAnswer, IsArmedUnlessSplit, IsCalm, IsLate, IsWished, IsAnswered, kept_at, phases, Promised, HasHeard}
 use Rattle.l4_split.proofs.Promises.Frames.{leaves_one, takes_one}
 
 -- What home keeps of a thread changes, and what was promised of it is still true.
 pub record IsSteady (m : Machine) (i : ℕ) (k after : Kept) : Type 0 where
   pub armed : IsArmedUnlessSplit m i k → IsArmedUnlessSplit m i after
-  pub ending : (send : Send) → after.thread.send ≡ Some send → IsLate after ⊎ IsWished after.thread → (k.thread.send ≡ Some send)
-      × ((IsLate k ⊎ IsWished k.thread) × (k.thread.context.begun ≡ after.thread.context.begun))
+  pub ending : (send : Send) → after.thread.send ≡ Some send → IsLate after ⊎ IsWished after.thread →
+      (k.thread.send ≡ Some send) × ((IsLate k ⊎ IsWished k.thread) × (k.thread.context.begun ≡ after.thread.context.begun))
 
 pub same_steady : (m : Machine) (i : ℕ) (k after : Kept) → after ≡ k → IsSteady m i k after
 same_steady m i k after e = subst (IsSteady m i k) (sym e) (record { armed = λ h. h; ending = λ send has ending. (has, (ending, refl)) })
@@ -90,8 +90,8 @@ local_keeps m cpu except s x f processor spared p = record {
         (λ e. put_keeps (λ l. (thread l i).phase ≡ Deleted) cpu c x.local (f x.local) s.locals (spared.away i (within i lt) (λ here. away (e ∙ sym here))) h)
         (λ ne. ap (λ (k : Kept). k.thread.phase) (put_other cpu c i x.local (f x.local) s.locals (λ e. ne (sym e))) ∙ h)
 
-    by : (i : ℕ) → i < length m.threads → (c : ℕ) → (c ≡ home m i → ⊥) → (phases (amid cpu s x) i c ≡ Deleted)
-        ⊎ AnyOf (IsGone (declared m i).id c) (amid cpu s x).mail → (phases after i c ≡ Deleted) ⊎ AnyOf (IsGone (declared m i).id c) (amid cpu s x).mail
+    by : (i : ℕ) → i < length m.threads → (c : ℕ) → (c ≡ home m i → ⊥) → HasHeard m i c (phases (amid cpu s x) i c) (amid cpu s x).mail →
+        HasHeard m i c (phases after i c) (amid cpu s x).mail
     by i lt c away (inl h) = inl (still i c lt away h)
     by i lt c away (inr h) = inr h
 

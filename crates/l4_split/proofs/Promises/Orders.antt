@@ -19,7 +19,7 @@ use Rattle.l4_split.proofs.Frames.Locals.{come, comes_here, changes_here}
 use Rattle.l4_split.proofs.Frames.Mail.{mail_posted}
 use Rattle.l4_split.proofs.Frames.Moves.{deleted_phase}
 use Rattle.l4_split.proofs.Frames.Going.{put_home}
-use Rattle.l4_split.proofs.Promises.Promised.{AnyOf, MayFollow, IsAnswer, IsArmedUnlessSplit, IsCalm, kept_at, Promised}
+use Rattle.l4_split.proofs.Promises.Promised.{MayFollow, IsArmedUnlessSplit, IsCalm, kept_at, Promised, HasAnswer}
 use Rattle.l4_split.proofs.Promises.Letters.{any_last}
 use Rattle.l4_split.proofs.Promises.Frames.{leaves_one, takes_one, posts_keeps}
 use Rattle.l4_split.proofs.Promises.Locals.{IsSteady, size_now, local_keeps, relists_keeps, come_armed, comes_harmless, takes_harmless, changes_harmless}
@@ -60,7 +60,7 @@ withdraws_keeps m cpu j cause s x here armed p = by (split_place m cpu x.local j
         (λ lt send r has to away ending.
         let same : q ≡ r = some_is q r
         (sym some ∙ split_is m cpu r x.local j send (sym (ap (λ (k : Kept). k.thread.send) is) ∙ has) to (λ e. away (e ∙ sym here))) in
-        subst (AnyOf (IsAnswer (name_of m j (kept_at (amid cpu s x) (home m j) j).thread) (home m j) (home m r)))
+        subst (HasAnswer m j r (kept_at (amid cpu s x) (home m j) j))
         (sym (mail_posted cpu (declared m q).cpu letter s x))
         (any_last _ (amid cpu s x).mail last (ap (λ (k : Kept). name_of m j k.thread) is, (sym here, ap (home m) same))))
 

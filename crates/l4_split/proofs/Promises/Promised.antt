@@ -70,15 +70,23 @@ IsLate k = (k.armed ≡ []) × (armed_period k.thread.phase k.thread.send ≡ No
 abbrev pub IsWished : Thread → Type 0
 IsWished t = (t.cancel_send ≡ true) ⊎ (t.phase ≡ Deleted)
 
+-- The answer to the last send of the thread at i, which goes to the one at r, is under way.
+abbrev pub HasAnswer : Machine → (i r : ℕ) → Kept → List Posted → Type 0
+HasAnswer m i r k mail = AnyOf (IsAnswer (name_of m i k.thread) (home m i) (home m r)) mail
+
 -- Where a send to another processor's thread is to end, its answer is under way.
 abbrev pub IsAnswered : Machine → ℕ → Kept → List Posted → Type 0
-IsAnswered m i k mail = (send : Send) (r : ℕ) → k.thread.send ≡ Some send → destination_place m send.to ≡ Some r → (home m r ≡ home m i → ⊥) → IsLate k
-    ⊎ IsWished k.thread →
-    AnyOf (IsAnswer (name_of m i k.thread) (home m i) (home m r)) mail
+IsAnswered m i k mail = (send : Send) (r : ℕ) → k.thread.send ≡ Some send → destination_place m send.to ≡ Some r → (home m r ≡ home m i → ⊥) →
+    IsLate k ⊎ IsWished k.thread →
+    HasAnswer m i r k mail
 
--- Each processor that was told of a deletion knows of it, or the letter is under way.
+-- A processor knows that a thread is deleted, or hears it by a letter under way.
+abbrev pub HasHeard : Machine → (i cpu : ℕ) → Phase → List Posted → Type 0
+HasHeard m i cpu phase mail = (phase ≡ Deleted) ⊎ AnyOf (IsGone (declared m i).id cpu) mail
+
+-- So does each processor that was told of a deletion.
 abbrev pub IsTold : Machine → ℕ → (told : ℕ) → (phases : ℕ → Phase) → List Posted → Type 0
-IsTold m i told phases mail = (cpu : ℕ) → cpu < m.cpus → (cpu ≡ home m i → ⊥) → cpu < told → (phases cpu ≡ Deleted) ⊎ AnyOf (IsGone (declared m i).id cpu) mail
+IsTold m i told phases mail = (cpu : ℕ) → cpu < m.cpus → (cpu ≡ home m i → ⊥) → cpu < told → HasHeard m i cpu (phases cpu) mail
 
 -- What a processor keeps of the thread at a place, and the phase that it has there.
 abbrev pub kept_at : Scene → (cpu i : ℕ) → Kept

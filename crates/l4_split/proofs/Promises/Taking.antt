@@ -13,7 +13,7 @@ use Rattle.l4_split.proofs.Relation.Views.{Scene, home, amid}
 use Rattle.l4_split.proofs.Relation.Rows.{name_of}
 use Rattle.l4_split.proofs.Frames.Mail.{IsFirstLetter}
 use Rattle.l4_split.proofs.Letters.Receiving.{without}
-use Rattle.l4_split.proofs.Promises.Promised.{AnyOf, MayFollow, InOrder, IsAnswer, IsAnswerIn, IsGone, IsGoneIn, kept_at, phases}
+use Rattle.l4_split.proofs.Promises.Promised.{AnyOf, MayFollow, InOrder, IsAnswer, IsAnswerIn, IsGone, IsGoneIn, kept_at, phases, HasAnswer, HasHeard}
 use Rattle.l4_split.proofs.Promises.Acts.{StaysPromised}
 
 -- Taking out
@@ -54,7 +54,7 @@ pub record IsSpent (m : Machine) (from cpu : ℕ) (letter : Letter) (s : Scene) 
   pub answer : (i r : ℕ) (send : Send) → i < length m.threads → (kept_at (amid cpu s x) (home m i) i).thread.send ≡ Some send →
       destination_place m send.to ≡ Some r → (home m r ≡ home m i → ⊥) →
       IsAnswer (name_of m i (kept_at (amid cpu s x) (home m i) i).thread) (home m i) (home m r) (record { from = from; to = cpu; letter = letter }) →
-      AnyOf (IsAnswer (name_of m i (kept_at (amid cpu s x) (home m i) i).thread) (home m i) (home m r)) (amid cpu (without from cpu s) x).mail
+      HasAnswer m i r (kept_at (amid cpu s x) (home m i) i) (amid cpu (without from cpu s) x).mail
 
 -- Once what rested on it is done, the letter may go.
 pub taken_keeps : (m : Machine) (from cpu : ℕ) (letter : Letter) (s : Scene) (x : Work) → IsFirstLetter from cpu letter s.mail → IsSpent m from cpu letter s x →
@@ -74,21 +74,21 @@ taken_keeps m from cpu letter s x f spent p = record {
     last : Posted
     last = record { from = from; to = cpu; letter = letter }
 
-    told : (i : ℕ) → i < length m.threads → (c : ℕ) → (phases (amid cpu s x) i c ≡ Deleted) ⊎ AnyOf (IsGone (declared m i).id c) (amid cpu s x).mail →
-        (phases (amid cpu s x) i c ≡ Deleted) ⊎ AnyOf (IsGone (declared m i).id c) (amid cpu (without from cpu s) x).mail
+    told : (i : ℕ) → i < length m.threads → (c : ℕ) → HasHeard m i c (phases (amid cpu s x) i c) (amid cpu s x).mail →
+        HasHeard m i c (phases (amid cpu s x) i c) (amid cpu (without from cpu s) x).mail
     told i lt c (inl h) = inl h
     told i lt c (inr h) = by (taken_any (IsGone (declared m i).id c) from cpu letter s x f h)
       where
-        by : IsGone (declared m i).id c last ⊎ AnyOf (IsGone (declared m i).id c) (amid cpu (without from cpu s) x).mail → (phases (amid cpu s x) i c ≡ Deleted)
-            ⊎ AnyOf (IsGone (declared m i).id c) (amid cpu (without from cpu s) x).mail
+        by : IsGone (declared m i).id c last ⊎ AnyOf (IsGone (declared m i).id c) (amid cpu (without from cpu s) x).mail →
+            HasHeard m i c (phases (amid cpu s x) i c) (amid cpu (without from cpu s) x).mail
         by (inl mine) = inl (spent.gone i c lt mine)
         by (inr other) = inr other
 
     answered : (i r : ℕ) (send : Send) → i < length m.threads → (kept_at (amid cpu s x) (home m i) i).thread.send ≡ Some send →
         destination_place m send.to ≡ Some r → (home m r ≡ home m i → ⊥) →
         IsAnswer (name_of m i (kept_at (amid cpu s x) (home m i) i).thread) (home m i) (home m r) last
-        ⊎ AnyOf (IsAnswer (name_of m i (kept_at (amid cpu s x) (home m i) i).thread) (home m i) (home m r)) (amid cpu (without from cpu s) x).mail →
-        AnyOf (IsAnswer (name_of m i (kept_at (amid cpu s x) (home m i) i).thread) (home m i) (home m r)) (amid cpu (without from cpu s) x).mail
+        ⊎ HasAnswer m i r (kept_at (amid cpu s x) (home m i) i) (amid cpu (without from cpu s) x).mail →
+        HasAnswer m i r (kept_at (amid cpu s x) (home m i) i) (amid cpu (without from cpu s) x).mail
     answered i r send lt has to away (inl mine) = spent.answer i r send lt has to away mine
     answered i r send lt has to away (inr other) = other
 

@@ -14,11 +14,10 @@ use Rattle.l4_core_model.specs.Runs.{Posted, posted}
 use Rattle.l4_core_model.proofs.Knows.{get-changed, length-changed}
 use Rattle.l4_core_model.proofs.Remembers.{same_or_apart}
 use Rattle.l4_split.proofs.Relation.Views.{Scene, kept, home, amid}
-use Rattle.l4_split.proofs.Relation.Rows.{name_of}
 use Rattle.l4_split.proofs.Frames.Places.{put_keeps, put_same}
 use Rattle.l4_split.proofs.Frames.Mail.{mail_posted}
 use Rattle.l4_split.proofs.Frames.Going.{put_home}
-use Rattle.l4_split.proofs.Promises.Promised.{AnyOf, MayFollow, InOrder, IsAnswer, IsGone, IsArmedUnlessSplit, IsCalm, IsAnswered, IsTold, kept_at, phases}
+use Rattle.l4_split.proofs.Promises.Promised.{AnyOf, MayFollow, InOrder, IsGone, IsArmedUnlessSplit, IsCalm, IsAnswered, IsTold, kept_at, phases, HasHeard, HasAnswer}
 use Rattle.l4_split.proofs.Promises.Letters.{any_append, any_last, order_append}
 use Rattle.l4_split.proofs.Promises.Locals.{here_local}
 use Rattle.l4_split.proofs.Promises.Acts.{StaysPromised}
@@ -67,7 +66,7 @@ tells_keeps m cpu to i s x processor here untold p = record {
   armed = λ j lt out. put_keeps (λ l. IsArmedUnlessSplit m j (kept l j)) cpu (home m j) x.local (has_told to i x.local) s.locals (λ h. h) (p.armed j lt out);
   answered = λ j lt out. put_keeps (λ l. IsAnswered m j (kept l j) after.mail) cpu (home m j) x.local (has_told to i x.local) s.locals (λ h. h)
       (λ send r has away_to away ending.
-      subst (AnyOf (IsAnswer (name_of m j (kept_at (amid cpu s x) (home m j) j).thread) (home m j) (home m r))) (sym mail)
+      subst (HasAnswer m j r (kept_at (amid cpu s x) (home m j) j)) (sym mail)
       (any_append _ (amid cpu s x).mail last (p.answered j lt out send r has away_to away ending)));
 }
   where
@@ -86,8 +85,7 @@ tells_keeps m cpu to i s x processor here untold p = record {
     mail : after.mail ≡ (amid cpu s x).mail ++ last ∷ []
     mail = mail_posted cpu to letter s y
 
-    later : (j c : ℕ) → (phases (amid cpu s x) j c ≡ Deleted) ⊎ AnyOf (IsGone (declared m j).id c) (amid cpu s x).mail → (phases after j c ≡ Deleted)
-        ⊎ AnyOf (IsGone (declared m j).id c) after.mail
+    later : (j c : ℕ) → HasHeard m j c (phases (amid cpu s x) j c) (amid cpu s x).mail → HasHeard m j c (phases after j c) after.mail
     later j c (inl h) = inl (put_keeps (λ l. (thread l j).phase ≡ Deleted) cpu c x.local (has_told to i x.local) s.locals (λ h. h) h)
     later j c (inr h) = inr (subst (AnyOf (IsGone (declared m j).id c)) (sym mail) (any_append _ (amid cpu s x).mail last h))
 
@@ -109,7 +107,7 @@ tells_keeps m cpu to i s x processor here untold p = record {
         before : (kept_at (amid cpu s x) (home m i) i).told ≡ slice_index_or x.local.told i 0
         before = ap (λ l. (kept l i).told) (put_home m cpu i s x.local here)
 
-        by : (c < slice_index_or x.local.told i 0) ⊎ (c ≡ to) → (phases after i c ≡ Deleted) ⊎ AnyOf (IsGone (declared m i).id c) after.mail
+        by : (c < slice_index_or x.local.told i 0) ⊎ (c ≡ to) → HasHeard m i c (phases after i c) after.mail
         by (inl old) = later i c (p.told i lt c c_lt away (subst (λ n. c < n) (sym before) old))
         by (inr next) = inr (subst (AnyOf (IsGone (declared m i).id c)) (sym mail)
             (any_last (IsGone (declared m i).id c) (amid cpu s x).mail last (refl, sym next)))

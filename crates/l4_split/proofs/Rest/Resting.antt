@@ -13,7 +13,7 @@ use Rattle.l4_core_model.specs.Runs.{System, at_rest, IsMachine}
 use Rattle.l4_core_model.proofs.Remembers.{same_or_apart}
 use Rattle.l4_split.proofs.Relation.Views.{Scene, view, world_thread, home, scene, is_about, locators}
 use Rattle.l4_split.proofs.Relation.Rows.{seats, Agrees, learned, Row, IsWaiting, Matches, name_of}
-use Rattle.l4_split.proofs.Promises.Promised.{AnyOf, IsAnswer, IsGone, IsSplitSend, IsLate, IsWished, kept_at, phases, Promised}
+use Rattle.l4_split.proofs.Promises.Promised.{AnyOf, IsAnswer, IsGone, IsSplitSend, IsLate, IsWished, kept_at, phases, Promised, HasHeard}
 use Rattle.l4_split.proofs.Relation.Relates.{RelatesExcept, Relates}
 use Rattle.l4_split.proofs.Rest.Seen.{IsShown, is_shown}
 use Rattle.l4_split.proofs.Rest.Idle.{IsIdle, is_idle, none_posted}
@@ -122,6 +122,6 @@ known_gone m s w j cpu rest lt processor gone =
     (λ same. ap (λ c. is_deleted (thread (s.locals c) j).phase) same ∙ at_home)
     (λ ne. by (rest.promised.told j lt cpu processor ne (told_all m cpu (home m j) _ ((rest.idle j lt).all_told at_home) processor ne)))
   where
-    by : (phases s j cpu ≡ Deleted) ⊎ AnyOf (IsGone (declared m j).id cpu) s.mail → is_deleted (thread (s.locals cpu) j).phase ≡ true
+    by : HasHeard m j cpu (phases s j cpu) s.mail → is_deleted (thread (s.locals cpu) j).phase ≡ true
     by (inl known) = ap is_deleted known
     by (inr letter) = absurd (subst (AnyOf (IsGone (declared m j).id cpu)) rest.quiet letter)

@@ -65,7 +65,7 @@ decided_away m cpu i except s w x result send g here at is rel =
     let sent = letter_posted m cpu (home m i) i (DoneLetter name result) (i ∷ except) s u z placed (first_about i except) dropped in
     let relates = world_changes m i (i ∷ except) (amid cpu s a) u g (first_about i except) sent in
     let mail : after.mail ≡ v.mail ++ p ∷ [] = mail_here m cpu (home m i) i (DoneLetter name result) s u z placed in
-    let word : locators after.mail ≡ p ∷ [] =
+    let locator : locators after.mail ≡ p ∷ [] =
     ap locators mail ∙ filter_last (λ (q : Posted). is_locator q.letter.content) v.mail p refl ∙ ap (λ ps. ps ++ p ∷ []) at.quiet in
     let others : notices after.mail ≡ notices v.mail = ap notices mail ∙ filter_last_other (λ (q : Posted). not (is_locator q.letter.content)) v.mail p refl in
     let old : v.kept cpu ≡ kept x.local i = ap (λ l. kept l i) (put_here cpu cpu x.local s.locals refl) in
@@ -112,7 +112,7 @@ decided_away m cpu i except s w x result send g here at is rel =
       };
     } in
     takes_in m i except (amid cpu s a) (change u i g) relates (record {
-      known = located_known m i after p keeps word row
+      known = located_known m i after p keeps locator row
           (subst (λ (k : Kept). Agrees after.world (ended result k.clock k.thread)) (sym home_same)
           (subst (λ t. Agrees t (ended result (at_home m i v).clock (at_home m i v).thread)) (sym (world ∙ is)) learns));
       ready = subst (λ (k : Kept). k.ready ≡ readied k.thread.phase i []) (sym home_same)

@@ -103,7 +103,7 @@ posted_goes m cpu i r s w x send h here to away =
     let placed = h.has.machine.placed i h.has.within in
     let mail : after.mail ≡ v.mail ++ p ∷ [] =
     mail_here m cpu (home m r) i (SendLetter name (declared m r).id send.message (is_zero send.period)) s e.now x placed in
-    let word : locators after.mail ≡ p ∷ [] =
+    let locator : locators after.mail ≡ p ∷ [] =
     ap locators mail ∙ filter_last (λ (q : Posted). is_locator q.letter.content) v.mail p refl ∙ ap (λ ps. ps ++ p ∷ []) at.quiet in
     let others : notices after.mail ≡ notices v.mail = ap notices mail ∙ filter_last_other (λ (q : Posted). not (is_locator q.letter.content)) v.mail p refl in
     let was = home_is m cpu i s x e.now here in
@@ -130,7 +130,7 @@ posted_goes m cpu i r s w x send h here to away =
           (letter_posted m cpu (home m r) i (SendLetter name (declared m r).id send.message (is_zero send.period)) (i ∷ []) s e.now x placed
           (first_about i []) e.relates)
           (record {
-            known = located_known m i after p keeps word row at.agrees;
+            known = located_known m i after p keeps locator row at.agrees;
             ready = at.out ∙ sym (sender_unready i (at_home m i v).thread.phase send (at_home m i v).thread.order suits);
           });
     }

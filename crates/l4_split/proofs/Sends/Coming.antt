@@ -26,7 +26,7 @@ use Rattle.l4_split.proofs.Sends.Delivering.{arrives_goes}
 
 -- A thread is seen as before, but for the letter that said where its send is, which was taken out.
 pub record IsTakenOut (m : Machine) (i : ℕ) (before v : View) (p : Posted) : Type 0 where
-  pub stands : Matches m i before
+  pub matches : Matches m i before
   pub was : locators before.mail ≡ p ∷ []
   pub quiet : locators v.mail ≡ []
   pub notices : notices v.mail ≡ notices before.mail
@@ -36,19 +36,19 @@ pub record IsTakenOut (m : Machine) (i : ℕ) (before v : View) (p : Posted) : T
 pub taken_kept : (m : Machine) (i : ℕ) (before v : View) (p : Posted) → IsTakenOut m i before v p → IsKept m i v
 taken_kept m i before v p t =
     let here : at_home m i v ≡ at_home m i before = ap (λ (f : ℕ → Kept). f (home m i)) t.kept in
-    moves_kept m i before v t.stands.known.kept (record {
+    moves_kept m i before v t.matches.known.kept (record {
       elsewhere = λ c ne. same_alike (before.kept c) (v.kept c) (ap (λ (f : ℕ → Kept). f c) t.kept);
       notices = t.notices;
       stays_true = subst (StaysTrue (at_home m i before)) (sym here) (same_stays_true (at_home m i before));
-    }) (subst (IsKeptAtHome i) (sym here) t.stands.known.kept.at_home)
+    }) (subst (IsKeptAtHome i) (sym here) t.matches.known.kept.at_home)
 
 pub taken_row : (m : Machine) (i : ℕ) (before v : View) (p : Posted) → IsTakenOut m i before v p → RowOf m i (seats m i before) p p.letter.content
-taken_row m i before v p t = subst (λ ps. Row m i (seats m i before) ps (at_home m i before).thread.send) t.was t.stands.known.row
+taken_row m i before v p t = subst (λ ps. Row m i (seats m i before) ps (at_home m i before).thread.send) t.was t.matches.known.row
 
 pub taken_agrees : (m : Machine) (i : ℕ) (before v : View) (p : Posted) → IsTakenOut m i before v p →
     Agrees before.world (learned (p ∷ []) (at_home m i before).clock (at_home m i before).thread)
 taken_agrees m i before v p t =
-    subst (λ ps. Agrees before.world (learned ps (at_home m i before).clock (at_home m i before).thread)) t.was t.stands.known.agrees
+    subst (λ ps. Agrees before.world (learned ps (at_home m i before).clock (at_home m i before).thread)) t.was t.matches.known.agrees
 
 -- A decision comes home
 
@@ -68,7 +68,7 @@ done_relates m cpu i s w x before p name result here content t rel =
     let was : at_home m i before ≡ kept x.local i = sym (ap (λ (f : ℕ → Kept). f (home m i)) t.kept) ∙ home_is m cpu i s x w here.home in
     let has : (thread x.local i).send ≡ Some row.goes.send = sym (ap (λ (k : Kept). k.thread.send) was) ∙ row.goes.has in
     let order : (thread x.local i).order ≡ None = sym (ap (λ (k : Kept). k.thread.order) was) ∙ row.goes.order in
-    let good : IsGood x.local.clock (thread x.local i) = subst (λ (k : Kept). IsGood k.clock k.thread) was t.stands.known.kept.at_home.good in
+    let good : IsGood x.local.clock (thread x.local i) = subst (λ (k : Kept). IsGood k.clock k.thread) was t.matches.known.kept.at_home.good in
     let suits : Suits (thread x.local i).phase (Some row.goes.send) (thread x.local i).order =
     subst (λ o. Suits (thread x.local i).phase o (thread x.local i).order) has good.suits in
     let none = ended_none result x.local.clock (thread x.local i) row.goes.send has order in
@@ -82,7 +82,7 @@ done_relates m cpu i s w x before p name result here content t rel =
         listed = λ c q. ap (λ (f : ℕ → Kept). (f c).listed q) t.kept ∙ row.unplaced.listed c q;
         stand_in = λ c ne. ap (λ (f : ℕ → Kept). (f c).thread.send) t.kept ∙ row.unplaced.stand_in c ne;
       };
-      out = sym (ap (λ (k : Kept). k.ready) was) ∙ t.stands.ready ∙ ap (λ (k : Kept). readied k.thread.phase i []) was
+      out = sym (ap (λ (k : Kept). k.ready) was) ∙ t.matches.ready ∙ ap (λ (k : Kept). readied k.thread.phase i []) was
           ∙ sender_unready i (thread x.local i).phase row.goes.send (thread x.local i).order suits;
       send = none.0;
       order = none.1;
@@ -150,7 +150,7 @@ send_goes m cpu i r s w x before p name receiver message zero_timeout here to co
       stays_true = subst (StaysTrue (at_home m i v)) (sym home_same) (same_stays_true (at_home m i v));
     } in
     let suits : Suits (at_home m i before).thread.phase (Some send) (at_home m i before).thread.order =
-    subst (λ o. Suits (at_home m i before).thread.phase o (at_home m i before).thread.order) row.goes.has t.stands.known.kept.at_home.good.suits in
+    subst (λ o. Suits (at_home m i before).thread.phase o (at_home m i before).thread.order) row.goes.has t.matches.known.kept.at_home.good.suits in
     let listed : (c q : ℕ) → (after.kept c).listed q ≡ [] = λ c q. same_or_apart ((after.kept c).listed q ≡ []) cpu c
     (λ h. subst (λ c. (after.kept c).listed q ≡ []) h
     (ap (λ (k : Kept). k.listed q) new ∙ sym (ap (λ (k : Kept). k.listed q) old) ∙ ap (λ (f : ℕ → Kept). (f cpu).listed q) t.kept ∙ row.unplaced.listed cpu q))
@@ -163,7 +163,7 @@ send_goes m cpu i r s w x before p name receiver message zero_timeout here to co
         goes = record { now = now; reaches = e.reaches; relates = rel };
         at = record {
           kept = moves_kept m i v after kept_now moves (subst (IsKeptAtHome i) (sym home_same) kept_now.at_home);
-          out = ap (λ (k : Kept). k.ready) home_old ∙ t.stands.ready
+          out = ap (λ (k : Kept). k.ready) home_old ∙ t.matches.ready
               ∙ sender_unready i (at_home m i before).thread.phase send (at_home m i before).thread.order suits;
           has = ap (λ (k : Kept). k.thread.send) home_old ∙ row.goes.has;
           order = ap (λ (k : Kept). k.thread.order) home_old ∙ row.goes.order;

@@ -54,8 +54,8 @@ pub ended_good : (result : Result) (clock : ℕ) (t : Thread) (send : Send) → 
 ended_good Delivered clock t send has g = ended_delivered_good clock t send has g
 ended_good (Refused refusal) clock t send has g = ended_refused_good clock refusal t send has g
 
-pub ended_none : (result : Result) (clock : ℕ) (t : Thread) (send : Send) → t.send ≡ Some send → t.order ≡ None → ((ended result clock t).send ≡ None)
-    × ((ended result clock t).order ≡ None)
+pub ended_none : (result : Result) (clock : ℕ) (t : Thread) (send : Send) → t.send ≡ Some send → t.order ≡ None →
+    ((ended result clock t).send ≡ None) × ((ended result clock t).order ≡ None)
 ended_none Delivered clock t send has done = ended_delivered_none clock t send has done
 ended_none (Refused refusal) clock t send has done = ended_refused_none clock refusal t done
 

@@ -34,7 +34,7 @@ use Rattle.l4_split.proofs.Sends.Queueing.{IsInHand, queue_goes}
 
 -- A thread of this processor that waits for a message, as it stands
 pub record IsReceivingAt (m : Machine) (cpu r : ℕ) (s : Scene) (w : World) (x : Work) (receive : Receive) (since : ℕ) : Type 0 where
-  pub stands : Matches m r (view m (amid cpu s x) w r)
+  pub matches : Matches m r (view m (amid cpu s x) w r)
   pub good : IsGood x.local.clock (thread x.local r)
   pub send : (thread x.local r).send ≡ None
   pub order : (thread x.local r).order ≡ None
@@ -45,19 +45,19 @@ pub record IsReceivingAt (m : Machine) (cpu r : ℕ) (s : Scene) (w : World) (x 
 
 pub receiving_at : (m : Machine) (cpu r : ℕ) (s : Scene) (w : World) (x : Work) (receive : Receive) (since : ℕ) → IsHere m cpu r →
     Matches m r (view m (amid cpu s x) w r) → (thread x.local r).phase ≡ Receiving receive since → IsReceivingAt m cpu r s w x receive since
-receiving_at m cpu r s w x receive since here stands is =
+receiving_at m cpu r s w x receive since here matches is =
     let v : View = view m (amid cpu s x) w r in
     let was = home_is m cpu r s x w here.home in
-    let good = subst (λ (k : Kept). IsGood k.clock k.thread) was stands.known.kept.at_home.good in
+    let good = subst (λ (k : Kept). IsGood k.clock k.thread) was matches.known.kept.at_home.good in
     let none = receiving_has_none (thread x.local r).phase receive since (thread x.local r).send (thread x.local r).order is good.suits in
-    let free = free_is m r v stands.known (ap (λ (k : Kept). k.thread.send) was ∙ none.0) (ap (λ (k : Kept). k.thread.order) was ∙ none.1) in
+    let free = free_is m r v matches.known (ap (λ (k : Kept). k.thread.send) was ∙ none.0) (ap (λ (k : Kept). k.thread.order) was ∙ none.1) in
     let agrees : Agrees v.world (thread x.local r) = subst (λ (k : Kept). Agrees v.world k.thread) was free.agrees in
     record {
-      stands = stands;
+      matches = matches;
       good = good;
       send = none.0;
       order = none.1;
-      out = subst (λ (k : Kept). k.ready ≡ readied k.thread.phase r []) was stands.ready ∙ ap (λ p. readied p r []) is;
+      out = subst (λ (k : Kept). k.ready ≡ readied k.thread.phase r []) was matches.ready ∙ ap (λ p. readied p r []) is;
       free = free;
       agrees = agrees;
       earlier = receiving_is receive since v.world (thread x.local r) is agrees;
@@ -70,7 +70,7 @@ pub receiving_quiet : (m : Machine) (cpu r : ℕ) (s : Scene) (w : World) (x : W
     (f (thread x.local r)).context.begun ≡ (thread x.local r).context.begun → (f (thread x.local r)).phase ≡ Ready →
     IsGood x.local.clock (f (thread x.local r)) → f (world_thread w r) ≡ f (thread x.local r) → IsQuiet m r (view m (amid cpu s x) w r) (kept x.local r) f f
 receiving_quiet m cpu r s w x receive since f at is send order begun ready good same = record {
-  kept = at.stands.known.kept;
+  kept = at.matches.known.kept;
   quiet = at.free.quiet;
   unplaced = at.free.unplaced;
   out = at.out;

@@ -84,13 +84,13 @@ entries_of m r i v known = where_then m i v known
 
 -- A waiting send is on its receiver's processor.
 pub entry_at : (m : Machine) (r i : ℕ) (v : View) (e : plain.Waiting) → Matches m i v → (w : IsEntry m r i v e) → IsSendAt m (home m r) i w.send v
-entry_at m r i v e stands w =
+entry_at m r i v e matches w =
     let row = w.waits in
     let at = ap (home m) w.receiver in
-    let good = stands.known.kept.at_home.good in
+    let good = matches.known.kept.at_home.good in
     record {
-      kept = stands.known.kept;
-      out = stands.ready ∙ sender_unready i (at_home m i v).thread.phase w.send (at_home m i v).thread.order
+      kept = matches.known.kept;
+      out = matches.ready ∙ sender_unready i (at_home m i v).thread.phase w.send (at_home m i v).thread.order
           (subst (λ o. Suits (at_home m i v).thread.phase o (at_home m i v).thread.order) w.has good.suits);
       has = w.has;
       order = row.order;

@@ -109,13 +109,13 @@ gone_in_world : (m : Machine) (cpu j : ℕ) (s : Scene) (w : World) (x : Work) �
     is_deleted (thread x.local j).phase ≡ true → (world_thread w j).phase ≡ Deleted
 gone_in_world m cpu j s w x lt rel gone =
     let v : View = view m (amid cpu s x) w j in
-    let stands = rel.places j lt tt in
+    let matches = rel.places j lt tt in
     let here : v.kept cpu ≡ kept x.local j = ap (λ l. kept l j) (put_here cpu cpu x.local s.locals refl) in
     let known_here : is_deleted (v.kept cpu).thread.phase ≡ true = ap (λ (k : Kept). is_deleted k.thread.phase) here ∙ gone in
     let at_home_gone : is_deleted (at_home m j v).thread.phase ≡ true = same_or_apart (is_deleted (at_home m j v).thread.phase ≡ true) cpu (home m j)
     (λ same. subst (λ c. is_deleted (v.kept c).thread.phase ≡ true) same known_here)
-    (λ ne. (stands.known.kept.elsewhere cpu ne).gone known_here) in
-    deleted_known m j v stands.known (deleted_phase (at_home m j v).thread.phase at_home_gone)
+    (λ ne. (matches.known.kept.elsewhere cpu ne).gone known_here) in
+    deleted_known m j v matches.known (deleted_phase (at_home m j v).thread.phase at_home_gone)
 
 nobody_in_world : (m : Machine) (cpu : ℕ) (s : Scene) (w : World) (x : Work) (from : Id) → IsMachine m → RelatesExcept m (Matches m) [] (amid cpu s x) w →
     is_nobody from (held_by m x.local from) ≡ true → is_nobody from (found_by m w from) ≡ true

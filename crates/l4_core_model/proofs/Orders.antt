@@ -13,12 +13,13 @@ use Rattle.l4_model.specs.Steps.{Step, Order, Obey, order_of, what_code}
 use Rattle.l4_model.specs.Conditions.{act_of}
 use Rattle.l4_model.specs.Effects.{asked, orders, obeyed}
 use Rattle.l4_model.proofs.Chains.{cond_both, cond_keeps}
+use Rattle.l4_model.specs.Reached.{Suits}
 use Rattle.l4_core_model.specs.Plain as plain
 use Rattle.l4_core_model.specs.Letters.{Cause, cause_of}
 use Rattle.l4_core_model.specs.Local.{Local, declared, thread, held, destination_place, comes_to, relists}
 use Rattle.l4_core_model.specs.Acts.{Work, ◌▷◌, tells, does, asks, withdraws_for, split_receiver, obeys, order_goes_to, gives_order}
 use Rattle.l4_core_model.proofs.Knows.{IsSingle, Knows, told, own, held_found, knows-comes_to, get-changed, part-changed_at, same_nat, same_ids, length-changed}
-use Rattle.l4_core_model.proofs.Fit.{IsFit, Suits, NotIn, fit-comes_to, fit-changes, fit-dropped, keeps-same, not_ready_out, all-filtered, not_same}
+use Rattle.l4_core_model.proofs.Fit.{IsFit, NotIn, fit-comes_to, fit-changes, fit-dropped, keeps-same, not_ready_out, all-filtered, not_same}
 use Rattle.l4_core_model.proofs.Good.{ready_has_none, orders_good, obeyed_good, deletes_good, asked_mild}
 use Rattle.l4_core_model.proofs.Remembers.{RemembersBut, all_comes_to, but_comes_to, but_asks}
 use Rattle.l4_core_model.proofs.Pieces.{Goes, Ends, size_of}

@@ -5,7 +5,7 @@ use Rattle.std.proofs.lemmas.Option.{slice_get-get_or}
 use Rattle.l4_model.specs.Words.{GlobalId, same_id}
 use Rattle.l4_model.specs.Machine.{Machine, place_of, is_declared}
 use Rattle.l4_model.specs.World.{Thread, World, Send, Asked, Phase, Ready, Sending, Receiving, Ordering, Ended, Deleted, opening_thread, is_deleted}
-use Rattle.l4_model.specs.Reached.{IsSendOf, WorldFacts}
+use Rattle.l4_model.specs.Reached.{Suits, IsSendOf, WorldFacts}
 use Rattle.l4_core_model.specs.Letters.{DoneLetter, OrderDoneLetter, Content, SendLetter, WithdrawLetter, GoneLetter, OrderLetter, Letter}
 use Rattle.l4_core_model.specs.Local.{declared, undeclared, thread, Local}
 use Rattle.l4_core_model.specs.Acts.{Work, split_place}
@@ -13,7 +13,6 @@ use Rattle.l4_core_model.specs.Mail.{own_place, foreign_place, is_ordering, hand
 use Rattle.l4_core_model.specs.Runs.{Posted, IsMachine, System, letters}
 use Rattle.l4_core_model.proofs.Knows.{same_nat, same_ids}
 use Rattle.l4_core_model.proofs.Beginning.{destination_within, place_within}
-use Rattle.l4_core_model.proofs.Fit.{Suits}
 use Rattle.l4_split.proofs.Lists.{other_is, one_of}
 use Rattle.l4_split.proofs.Relation.Views.{Scene, view, world_thread, home, Kept, View, nowhere, scene, subject, is_locator, notices, is_about, locators}
 use Rattle.l4_split.proofs.Relation.Rows.{seats, IsSent, IsDecided, IsOrdered, IsObeyed, Matches, Agrees, learns, learned, Row, RowOf, IsNotice, IsNoticeOf}

@@ -5,9 +5,9 @@ use Rattle.l4_model.specs.Machine.{What, CancelSend, CancelReceive, CancelBoth, 
 use Rattle.l4_model.specs.World.{Thread, Send, Receive, Asked, Phase, Ready, Sending, Receiving, Ordering, Ended, Deleted, is_alive}
 use Rattle.l4_model.specs.Effects.{asked, decided, goes_on, obeyed}
 use Rattle.l4_model.proofs.Chains.{cond_both}
+use Rattle.l4_model.specs.Reached.{Suits}
 use Rattle.l4_core_model.specs.Letters.{Result, Delivered, Refused, TimedOut, Nobody, Cancelled, Dropped}
 use Rattle.l4_core_model.specs.Local.{ended, was_delivered}
-use Rattle.l4_core_model.proofs.Fit.{Suits}
 use Rattle.l4_split.proofs.Relation.Rows.{IsLeft, AgreesIn, Agrees}
 use Rattle.l4_split.proofs.Relation.Agreement.{same_agrees, ended_deleted}
 use Rattle.l4_split.proofs.Sends.Deciding.{ended_none, ended_begun}
@@ -151,7 +151,7 @@ ended_wish (Refused Dropped) clock t send has = cond_both (λ (u : Thread). u.ca
 pub send_asked : (what : What) (t : Thread) → (asked what t).send ≡ t.send
 send_asked what t = ap (λ (s : Status). s.send) (status-asked what t)
 
--- The square for a thread whose decision is under way
+-- A thread is asked while the answer to its send is under way: they agree again once it hears.
 pub asked_while_decided : (what : What) (result : Result) (clock : ℕ) (world t : Thread) (send : Send) → t.send ≡ Some send → t.order ≡ None →
     Suits t.phase (Some send) t.order → Agrees world (ended result clock t) → Agrees (asked what world) (ended result clock (asked what t))
 asked_while_decided what result clock world t send has order suits a = by what t.phase refl suits
@@ -186,7 +186,7 @@ asked_while_decided what result clock world t send has order suits a = by what t
     by CancelReceive p is s = cancelled CancelReceive (λ e. cc) p is s
     by CancelBoth p is s = cancelled CancelBoth (λ e. cc) p is s
 
--- The square for a thread that is to hear that its order is done
+-- So with the answer to its order.
 pub asked_obeyed : (what : What) (t : Thread) → (what ≡ Delete → ⊥) → (p : Phase) → t.phase ≡ p → Suits p None t.order → (order : Asked) →
     t.order ≡ Some order → asked what (obeyed t) ≡ obeyed (asked what t)
 asked_obeyed Delete t ne p is s order has = absurd (ne refl)

@@ -7,10 +7,11 @@ use Rattle.l4_model.specs.Machine.{Machine, What, CancelSend, CancelReceive, Can
 use Rattle.l4_model.specs.World.{Thread, Send, is_alive, World, change, opening_thread}
 use Rattle.l4_model.specs.Effects.{asked, obeyed}
 use Rattle.l4_model.proofs.Chains.{cond_both}
+use Rattle.l4_model.specs.Reached.{Suits}
 use Rattle.l4_core_model.specs.Letters.{Cause, ByTimeout, ByCancel, ByDeletion}
 use Rattle.l4_core_model.specs.Local.{readied, Local, relists}
 use Rattle.l4_core_model.specs.Runs.{Posted}
-use Rattle.l4_core_model.proofs.Fit.{IsGood, Suits, all-filter}
+use Rattle.l4_core_model.proofs.Fit.{IsGood, all-filter}
 use Rattle.l4_core_model.proofs.Good.{deletes_good}
 use Rattle.l4_split.proofs.Relation.Views.{Kept, View, Scene, kept, view, home, amid, notices, is_of, locators}
 use Rattle.l4_split.proofs.Relation.Rows.{seats, Agrees, learns, learned, IsOrdering, IsCause, IsKeptAtHome, Known, Row, Matches, Seats}
@@ -55,7 +56,7 @@ asked_learned m i what v known = where_then m i v known
     (asked_while_decided what result clock v.world t row.goes.send row.goes.has row.goes.order
     (subst (λ o. Suits t.phase o t.order) row.goes.has known.kept.at_home.good.suits) a))
     (λ p is row a. seen (learned_is (p ∷ []) is ∙ ap (λ c. learns c clock (asked what t)) row.letter) (asked_agrees what v.world t a))
-    (λ p caller is content row a. seen (learned_is (p ∷ []) is ∙ ap (λ c. learns c clock (asked what t)) content) (obeyed_square what row.orders a))
+    (λ p caller is content row a. seen (learned_is (p ∷ []) is ∙ ap (λ c. learns c clock (asked what t)) content) (asked_while_obeyed what row.orders a))
   where
     t : Thread
     t = (at_home m i v).thread
@@ -77,11 +78,11 @@ asked_learned m i what v known = where_then m i v known
         (asked_obeyed what t ne t.phase refl (subst (λ o. Suits t.phase o t.order) row.no_send known.kept.at_home.good.suits) row.order row.has)
         (asked_agrees what v.world (obeyed t) a)
 
-    obeyed_square : (what : What) → IsOrdering m i (seats m i v) → Agrees v.world (obeyed t) → Agrees (asked what v.world) (obeyed (asked what t))
-    obeyed_square Delete row a = obeyed_deleted v.world t a
-    obeyed_square CancelSend row a = cancelled CancelSend (λ e. cc) row a
-    obeyed_square CancelReceive row a = cancelled CancelReceive (λ e. cc) row a
-    obeyed_square CancelBoth row a = cancelled CancelBoth (λ e. cc) row a
+    asked_while_obeyed : (what : What) → IsOrdering m i (seats m i v) → Agrees v.world (obeyed t) → Agrees (asked what v.world) (obeyed (asked what t))
+    asked_while_obeyed Delete row a = obeyed_deleted v.world t a
+    asked_while_obeyed CancelSend row a = cancelled CancelSend (λ e. cc) row a
+    asked_while_obeyed CancelReceive row a = cancelled CancelReceive (λ e. cc) row a
+    asked_while_obeyed CancelBoth row a = cancelled CancelBoth (λ e. cc) row a
 
 -- All else that is kept of it
 

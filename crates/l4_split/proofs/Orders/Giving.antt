@@ -11,13 +11,14 @@ use Rattle.l4_model.specs.Rules.{Orders}
 use Rattle.l4_model.specs.Conditions.{act_of}
 use Rattle.l4_model.specs.Steps.{Order, Obey, what_code, order_of, next}
 use Rattle.l4_model.proofs.Chains.{cond_both}
+use Rattle.l4_model.specs.Reached.{Suits}
 use Rattle.l4_core_model.specs.Letters.{Cause, OrderLetter, cause_of}
 use Rattle.l4_core_model.specs.Local.{declared, is_own, thread, held, comes_to}
 use Rattle.l4_core_model.specs.Acts.{Work, ◌▷◌, tells, does, posts, asks, withdraws, withdraws_for, split_receiver, obeys, order_goes_to, gives_order}
 use Rattle.l4_core_model.specs.Runs.{Posted, posted}
 use Rattle.l4_core_model.proofs.Knows.{same_nat, same_ids, get-changed}
 use Rattle.l4_core_model.proofs.Beginning.{place_within}
-use Rattle.l4_core_model.proofs.Fit.{Suits, get_other}
+use Rattle.l4_core_model.proofs.Fit.{get_other}
 use Rattle.l4_core_model.proofs.Good.{orders_good}
 use Rattle.l4_core_model.proofs.Remembers.{apart, same_or_apart}
 use Rattle.l4_split.proofs.Lists.{filter_last, filter_last_other}

@@ -6,13 +6,14 @@ use Rattle.l4_model.specs.Machine.{Machine, place_of}
 use Rattle.l4_model.specs.World.{Thread, World, Send, Asked, Phase, Ready, Sending, Receiving, Ordering, Ended, Deleted, change, is_alive, is_deleted}
 use Rattle.l4_model.specs.Effects.{obeyed}
 use Rattle.l4_model.proofs.Chains.{bind_then, guard_then, some_is, cond_both, cond_keeps}
+use Rattle.l4_model.specs.Reached.{Suits}
 use Rattle.l4_core_model.specs.Letters.{OrderDoneLetter, Letter}
 use Rattle.l4_core_model.specs.Local.{thread, comes_to, readied}
 use Rattle.l4_core_model.specs.Acts.{Work, ◌▷◌, does}
 use Rattle.l4_core_model.specs.Mail.{own_place, is_ordering, handled}
 use Rattle.l4_core_model.specs.Runs.{Posted}
 use Rattle.l4_core_model.proofs.Beginning.{place_within}
-use Rattle.l4_core_model.proofs.Fit.{IsGood, Suits}
+use Rattle.l4_core_model.proofs.Fit.{IsGood}
 use Rattle.l4_core_model.proofs.Good.{obeyed_good}
 use Rattle.l4_split.proofs.Relation.Views.{Scene, Kept, View, kept, view, home, amid, subject, is_locator, locators}
 use Rattle.l4_split.proofs.Relation.Rows.{seats, Agrees, learns, RowOf, IsObeyed, Matches, IsUnplaced, IsKept}

@@ -9,10 +9,11 @@ use Rattle.l4_model.specs.World.{Thread, World, Send, Phase, Ready, Sending, Rec
 use Rattle.l4_model.specs.Effects.{asked}
 use Rattle.l4_model.proofs.Chains.{cond_both, cond_keeps, some_is}
 use Rattle.l4_model.specs.Steps.{Obey}
+use Rattle.l4_model.specs.Reached.{Suits}
 use Rattle.l4_core_model.specs.Letters.{Cause, ByCancel, ByDeletion, cause_of}
 use Rattle.l4_core_model.specs.Local.{thread}
 use Rattle.l4_core_model.specs.Acts.{Work, ◌▷◌, tells, does, asks, withdraws_for, obeys}
-use Rattle.l4_core_model.proofs.Fit.{NotIn, IsGood, Suits}
+use Rattle.l4_core_model.proofs.Fit.{NotIn, IsGood}
 use Rattle.l4_split.proofs.Relation.Views.{Scene, Kept, View, kept, view, amid}
 use Rattle.l4_split.proofs.Relation.Rows.{IsCause, Matches}
 use Rattle.l4_split.proofs.Relation.Relates.{RelatesExcept}

@@ -8,6 +8,7 @@ use Rattle.l4_model.specs.Effects.{asked, obeyed}
 use Rattle.l4_model.specs.History.{run}
 use Rattle.l4_model.specs.Steps.{Obey, next}
 use Rattle.l4_model.proofs.Chains.{bind_then, some_is, cond_both}
+use Rattle.l4_model.specs.Reached.{Suits}
 use Rattle.l4_core_model.specs.Letters.{Cause, WithdrawLetter, OrderLetter, OrderDoneLetter, Letter, cause_of}
 use Rattle.l4_core_model.specs.Local.{declared, thread, last_name, readied}
 use Rattle.l4_core_model.specs.Acts.{Work, ◌▷◌, tells, does, posts, asks, withdraws, withdraws_for, split_place, obeys}
@@ -15,7 +16,7 @@ use Rattle.l4_core_model.specs.Mail.{own_place, foreign_place, handled}
 use Rattle.l4_core_model.specs.Runs.{Posted, posted}
 use Rattle.l4_core_model.proofs.Knows.{get-changed}
 use Rattle.l4_core_model.proofs.Beginning.{place_within}
-use Rattle.l4_core_model.proofs.Fit.{Suits, get_other}
+use Rattle.l4_core_model.proofs.Fit.{get_other}
 use Rattle.l4_split.proofs.Lists.{other_is, filter_last, filter_last_other}
 use Rattle.l4_split.proofs.Relation.Views.{Scene, Kept, View, kept, view, world_thread, home, amid, subject, is_locator, notices, is_about, locators}
 use Rattle.l4_split.proofs.Relation.Rows.{seats, AgreesIn, Agrees, learns, RowOf, IsOrdering, IsOrdered, IsObeyed, IsKeptAtHome, Matches, seats_of}

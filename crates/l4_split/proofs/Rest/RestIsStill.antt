@@ -1,6 +1,7 @@
 -- Where a machine is at rest, nothing but clocks can go on in the world.
 use Rattle.l4_split.proofs.Lists.{any_block, any_kept, any_list}
 use Rattle.l4_model.proofs.Rows.Writing.{send}
+use Rattle.l4_model.specs.Reached.{Suits}
 use Rattle.l4_core_model.specs.Plain.{Waiting}
 use Rattle.std.proofs.Common.{◌≡◌, ℕ, ◌<◌, true, false, Some, List, [], ◌∷◌, filter, length, refl, ap, sym, ◌∙◌, subst, inl, inr, None, Option}
 use Rattle.std.specs.Prelude.{◌==◌, slice_index}
@@ -14,7 +15,6 @@ use Rattle.l4_core_model.specs.Plain as plain
 use Rattle.l4_core_model.specs.Local.{Local, declared, thread, held, armed_period, destination_place, held_by}
 use Rattle.l4_core_model.specs.Acts.{entry, zero_refusable, first_acceptable}
 use Rattle.l4_core_model.proofs.Beginning.{any_in, destination_within, place_within}
-use Rattle.l4_core_model.proofs.Fit.{Suits}
 use Rattle.l4_core_model.proofs.Remembers.{same_or_apart}
 use Rattle.l4_split.proofs.Relation.Views.{Scene, view, world_thread, home, is_of, scene}
 use Rattle.l4_split.proofs.Relation.Rows.{seats, IsWaiting}

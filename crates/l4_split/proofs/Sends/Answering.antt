@@ -4,13 +4,13 @@ use Rattle.std.specs.Prelude.{not}
 use Rattle.l4_model.specs.Machine.{Machine}
 use Rattle.l4_model.specs.World.{Thread, World, Send, Name, change, unqueued, opening_thread}
 use Rattle.l4_model.specs.Effects.{decided}
+use Rattle.l4_model.specs.Reached.{Suits}
 use Rattle.l4_core_model.specs.Plain as plain
 use Rattle.l4_core_model.specs.Letters.{Result, DoneLetter}
 use Rattle.l4_core_model.specs.Local.{declared, thread, last_name, changes, relists, readied, ended}
 use Rattle.l4_core_model.specs.Acts.{Work, ◌▷◌, does, posts}
 use Rattle.l4_core_model.specs.Runs.{Posted, posted, IsMachine}
 use Rattle.l4_core_model.proofs.Knows.{get-changed}
-use Rattle.l4_core_model.proofs.Fit.{Suits}
 use Rattle.l4_core_model.proofs.Remembers.{same_or_apart}
 use Rattle.l4_split.proofs.Lists.{filter_last, filter_last_other}
 use Rattle.l4_split.proofs.Frames.Locals.{changes_here, unqueued_here}

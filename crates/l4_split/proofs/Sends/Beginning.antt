@@ -8,12 +8,12 @@ use Rattle.l4_model.specs.World.{Thread, World, Send, Name, change, opening_thre
 use Rattle.l4_model.specs.Conditions.{act_of, is_zero}
 use Rattle.l4_model.specs.Steps.{Begin, send_of, next}
 use Rattle.l4_model.specs.Effects.{begins}
+use Rattle.l4_model.specs.Reached.{Suits}
 use Rattle.l4_core_model.specs.Letters.{SendLetter}
 use Rattle.l4_core_model.specs.Local.{declared, thread, held, is_own, destination_place, last_name, comes_to}
 use Rattle.l4_core_model.specs.Acts.{Work, ◌▷◌, tells, does, posts_send, arrives, goes_to, begins_send}
 use Rattle.l4_core_model.specs.Runs.{Posted, posted}
 use Rattle.l4_core_model.proofs.Knows.{same_nat, get-changed}
-use Rattle.l4_core_model.proofs.Fit.{Suits}
 use Rattle.l4_core_model.proofs.Good.{begins_good}
 use Rattle.l4_core_model.proofs.Beginning.{destination_within}
 use Rattle.l4_core_model.proofs.Remembers.{apart}

@@ -4,11 +4,12 @@ use Rattle.l4_model.specs.Machine.{Machine}
 use Rattle.l4_model.specs.World.{Thread, World, Send, Asked, Receive, Phase, Ready, Sending, Receiving, Ordering, Ended, Deleted, change, unqueued, is_alive}
 use Rattle.l4_model.specs.Effects.{decided, goes_on}
 use Rattle.l4_model.proofs.Chains.{cond_both, cond_keeps}
+use Rattle.l4_model.specs.Reached.{Suits}
 use Rattle.l4_core_model.specs.Plain as plain
 use Rattle.l4_core_model.specs.Letters.{Result, Delivered, Refused, TimedOut, Nobody, Cancelled, Dropped}
 use Rattle.l4_core_model.specs.Local.{thread, destination_place, relists, comes_to, readied, ended, was_delivered}
 use Rattle.l4_core_model.specs.Acts.{Work, ◌▷◌, does}
-use Rattle.l4_core_model.proofs.Fit.{IsGood, Suits}
+use Rattle.l4_core_model.proofs.Fit.{IsGood}
 use Rattle.l4_core_model.proofs.Good.{ended_refused_good, ended_delivered_good, ended_refused_none, ended_delivered_none}
 use Rattle.l4_split.proofs.Frames.Locals.{come}
 use Rattle.l4_split.proofs.Relation.Views.{Scene, Kept, View, kept, view, world_thread, home, amid, locators}

@@ -8,12 +8,12 @@ use Rattle.l4_model.specs.World.{Thread, World, Send, Receive, Phase, Ready, Sen
 use Rattle.l4_model.specs.Steps.{Queue}
 use Rattle.l4_model.specs.Effects.{decided, goes_on}
 use Rattle.l4_model.proofs.Chains.{cond_both, some_is}
+use Rattle.l4_model.specs.Reached.{Suits}
 use Rattle.l4_core_model.specs.Plain as plain
 use Rattle.l4_core_model.specs.Letters.{Result, Delivered, Refused, TimedOut, Nobody, Cancelled, Dropped, Content, SendLetter, DoneLetter, WithdrawLetter, GoneLetter, OrderLetter, OrderDoneLetter}
 use Rattle.l4_core_model.specs.Local.{Local, thread, destination_place, last_name, relists, readied, ended, was_delivered}
 use Rattle.l4_core_model.specs.Acts.{Work, ◌▷◌, tells, does, entry}
 use Rattle.l4_core_model.specs.Runs.{Posted}
-use Rattle.l4_core_model.proofs.Fit.{Suits}
 use Rattle.l4_core_model.proofs.Remembers.{same_or_apart}
 use Rattle.l4_split.proofs.Frames.Locals.{queued_listed, queued_other_list}
 use Rattle.l4_split.proofs.Relation.Views.{Scene, Kept, View, kept, view, home, put, amid, is_of, locators}

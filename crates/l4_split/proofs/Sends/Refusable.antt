@@ -10,9 +10,9 @@ use Rattle.l4_model.specs.Machine.{Machine, Declaration, place_of, declaration_o
 use Rattle.l4_model.specs.World.{Thread, Send, Receive, Phase, Ready, Sending, Receiving, Ordering, Ended, Deleted, is_ready, is_alive}
 use Rattle.l4_model.specs.Conditions.{Found, is_refusable, may_still_accept, call_accepts, receive_accepts}
 use Rattle.l4_model.specs.Effects.{refused, obeyed, goes_on}
+use Rattle.l4_model.specs.Reached.{Suits}
 use Rattle.l4_core_model.specs.Letters.{Result, Delivered, Refused, TimedOut, Nobody, Cancelled, Dropped}
 use Rattle.l4_core_model.specs.Local.{declared, undeclared, destination_place, ended, was_dropped}
-use Rattle.l4_core_model.proofs.Fit.{Suits}
 use Rattle.l4_core_model.proofs.Beginning.{place_within}
 use Rattle.l4_core_model.proofs.Pieces.{both}
 use Rattle.l4_split.proofs.Lists.{other_is}

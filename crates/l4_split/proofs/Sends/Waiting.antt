@@ -11,12 +11,13 @@ use Rattle.l4_model.specs.Machine.{Machine}
 use Rattle.l4_model.specs.World.{Thread, World, Send, Phase, Ready, Sending, Receiving, Ordering, Ended, Deleted, opening_thread}
 use Rattle.l4_model.specs.Conditions.{Found, shows_accepted, first_accepted}
 use Rattle.l4_model.specs.Rules.{takes}
+use Rattle.l4_model.specs.Reached.{Suits}
 use Rattle.l4_core_model.specs.Plain as plain
 use Rattle.l4_core_model.specs.Local.{declared}
 use Rattle.l4_core_model.specs.Acts.{entry}
 use Rattle.l4_core_model.specs.Runs.{IsMachine}
 use Rattle.l4_core_model.proofs.Knows.{blocks}
-use Rattle.l4_core_model.proofs.Fit.{Suits, all-map}
+use Rattle.l4_core_model.proofs.Fit.{all-map}
 use Rattle.l4_core_model.proofs.Remembers.{same_or_apart}
 use Rattle.l4_split.proofs.Lists.{other_is, all_by_place}
 use Rattle.l4_split.proofs.Relation.Views.{Scene, View, view, world_thread, home, is_of, locators}

@@ -101,7 +101,7 @@ ask_sends_none m id (GlobalThread t) what send h = by (is_admitted m id t what) 
     by true h = cc
     by false h = cc
 
-act_sends : (m : Machine) (id : GlobalId) (now : ℕ) (c : Context) (i : Instr) (send : Send) → act m id now c i ≡ Sends send → BeginsNow now send
+pub act_sends : (m : Machine) (id : GlobalId) (now : ℕ) (c : Context) (i : Instr) (send : Send) → act m id now c i ≡ Sends send → BeginsNow now send
 act_sends m id now c (Ipc to from send_period receive_period) send h = ipc_sends m id now c (destination c to) send_period (receive_phase from receive_period) send h
 act_sends m id now c (Ask target what) send h = absurd (ask_sends_none m id target what send h)
 act_sends m id now c (Set a word) send h = cc

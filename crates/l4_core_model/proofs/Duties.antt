@@ -197,7 +197,7 @@ pub accepts_none : (o : Option ℕ) → (o >>= λ s. Some (DeliversFirst s)) ≡
 accepts_none None h = refl
 accepts_none (Some s) h = cc
 
-receives_some : (o : Option Receive) → is_some o ≡ true → (receive : Receive) × (o ≡ Some receive)
+pub receives_some : (o : Option Receive) → is_some o ≡ true → (receive : Receive) × (o ≡ Some receive)
 receives_some None h = cc
 receives_some (Some receive) h = (receive, refl)
 

@@ -1,27 +1,20 @@
 -- What is true of a local state between any two pieces of an event.
 use Rattle.std.proofs.Common.{◌≡◌, ℕ, zero, suc, ◌+◌, ◌<◌, ◌≤◌, Bool, true, false, cond, Option, Some, None, List, [], ◌∷◌, ◌++◌, map, filter, drop, length, refl, ap, sym, ◌∙◌, subst, arith}
-use Rattle.std.specs.Prelude.{slice_index_or, ◌==◌, not, is_some, nat_le}
+use Rattle.std.specs.Prelude.{slice_index_or, ◌==◌, not, nat_le}
 use Rattle.std.specs.List.{AllByRecursion}
 use Rattle.std.proofs.lemmas.Bool.Decides.{nat_tests}
 use Rattle.std.proofs.Math.ListN.{get_or-map}
 use Rattle.std.proofs.lemmas.List.{length-map}
 use Rattle.l4_model.specs.Machine.{Machine}
 use Rattle.l4_model.specs.Words.{Period}
-use Rattle.l4_model.specs.World.{Thread, Send, Asked, Phase, Ready, Sending, Receiving, Ordering, Ended, Deleted, changed, is_ready, opening_thread}
+use Rattle.l4_model.specs.World.{Thread, Send, Phase, Ready, Sending, Receiving, Ordering, Ended, Deleted, changed, is_ready, opening_thread}
+use Rattle.l4_model.specs.Reached.{Suits}
 use Rattle.l4_model.specs.Conditions.{is_zero, has_passed}
 use Rattle.l4_core_model.specs.Plain as plain
 use Rattle.l4_core_model.specs.Local.{Local, thread, comes_to, changes, relists, readied, armed_for, armed_period}
 use Rattle.l4_core_model.proofs.Knows.{IsSeat, AreSeats, length-changed, part-changed_at, same_nat}
 
 -- A thread's send and order go with its phase, and nothing of it began later than now.
-abbrev pub Suits : Phase → Option Send → Option Asked → Type 0
-Suits Ready send order = (send ≡ None) × (order ≡ None)
-Suits Sending send order = (is_some send ≡ true) × (order ≡ None)
-Suits (Receiving receive since) send order = (send ≡ None) × (order ≡ None)
-Suits Ordering send order = (send ≡ None) × (is_some order ≡ true)
-Suits Ended send order = (send ≡ None) × (order ≡ None)
-Suits Deleted send order = Unit {0}
-
 abbrev pub SendIsSince : ℕ → Option Send → Type 0
 SendIsSince clock None = Unit {0}
 SendIsSince clock (Some send) = send.since ≤ clock

@@ -4,9 +4,10 @@ use Rattle.l4_model.specs.Machine.{Instr, End, What, CancelSend, CancelReceive, 
 use Rattle.l4_model.specs.World.{Thread, Send, Receive, Asked, Message, Phase, Ready, Sending, Receiving, Ordering, Ended, Deleted, is_ready, is_alive}
 use Rattle.l4_model.specs.Effects.{phase_after, runs, waits, begins, fails, decided, refused, receives, goes_on, delivered, asked, orders, obeyed}
 use Rattle.l4_model.proofs.Chains.{cond_both, cond_keeps}
+use Rattle.l4_model.specs.Reached.{Suits}
 use Rattle.l4_core_model.specs.Letters.{Refusal, TimedOut, Nobody, Cancelled, Dropped, Refused, Delivered}
 use Rattle.l4_core_model.specs.Local.{ended, was_delivered, was_dropped}
-use Rattle.l4_core_model.proofs.Fit.{IsGood, Suits, SendIsSince, PhaseIsSince, IsMild}
+use Rattle.l4_core_model.proofs.Fit.{IsGood, SendIsSince, PhaseIsSince, IsMild}
 
 -- which phases have neither a send nor an order
 pub ready_has_none : (p : Phase) (send : Option Send) (order : Option Asked) → is_ready p ≡ true → Suits p send order → (send ≡ None) × (order ≡ None)

@@ -126,7 +126,7 @@ pending_is m w l i send single k lt has =
     let same = same_nat (thread l i).context.begun in
     rw (is, same, has)
 
-filter-blocks : (p : ℕ → Bool) (es : List plain.Waiting) → filter p (blocks es) ≡ blocks (filter (λ e. p e.block) es)
+pub filter-blocks : (p : ℕ → Bool) (es : List plain.Waiting) → filter p (blocks es) ≡ blocks (filter (λ e. p e.block) es)
 filter-blocks p [] = refl
 filter-blocks p (e ∷ es) = by (p e.block) (filter-blocks p es)
   where

@@ -28,11 +28,11 @@ use Rattle.l4_core_model.proofs.Still.{resting_still}
 
 -- A tick
 
-send_later : (now to : ℕ) (o : Option Send) → now ≤ to → SendIsSince now o → SendIsSince to o
+pub send_later : (now to : ℕ) (o : Option Send) → now ≤ to → SendIsSince now o → SendIsSince to o
 send_later now to None le h = tt
 send_later now to (Some send) le h = omega arith
 
-phase_later : (now to : ℕ) (p : Phase) → now ≤ to → PhaseIsSince now p → PhaseIsSince to p
+pub phase_later : (now to : ℕ) (p : Phase) → now ≤ to → PhaseIsSince now p → PhaseIsSince to p
 phase_later now to Ready le h = tt
 phase_later now to Sending le h = tt
 phase_later now to (Receiving receive since) le h = omega arith
@@ -79,7 +79,7 @@ advance_ends m w l to x single k fit all h =
 
 -- A core run so far
 
-run-append : (m : Machine) (xs ys : List Step) (w : World) → run m w (xs ++ ys) ≡ (run m w xs >>= λ v. run m v ys)
+pub run-append : (m : Machine) (xs ys : List Step) (w : World) → run m w (xs ++ ys) ≡ (run m w xs >>= λ v. run m v ys)
 run-append m [] ys w = refl
 run-append m (x ∷ xs) ys w = by (next m w x) (λ v. run-append m xs ys v)
   where
@@ -91,7 +91,7 @@ append_nil : {A : Type 0} (xs : List A) → xs ++ [] ≡ xs
 append_nil [] = refl
 append_nil (x ∷ xs) = ap (λ ys. x ∷ ys) (append_nil xs)
 
-told-last : (es : List Event) (e : Event) → told (es ++ e ∷ []) ≡ told es ++ e.steps
+pub told-last : (es : List Event) (e : Event) → told (es ++ e ∷ []) ≡ told es ++ e.steps
 told-last [] e = append_nil e.steps
 told-last (x ∷ es) e = ap (λ ys. x.steps ++ ys) (told-last es e) ∙ sym (append_assoc x.steps (told es) e.steps)
 
@@ -162,7 +162,7 @@ run_leads m (e ∷ es) r last single s h =
 
 -- The opening
 
-get-same : {A B : Type 0} (b : B) (xs : List A) (i : ℕ) → slice_index_or (map (λ x. b) xs) i b ≡ b
+pub get-same : {A B : Type 0} (b : B) (xs : List A) (i : ℕ) → slice_index_or (map (λ x. b) xs) i b ≡ b
 get-same b [] i = refl
 get-same b (x ∷ xs) zero = refl
 get-same b (x ∷ xs) (suc i) = get-same b xs i

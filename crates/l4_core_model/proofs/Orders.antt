@@ -13,12 +13,13 @@ use Rattle.l4_model.specs.Steps.{Step, Order, Obey, order_of, what_code}
 use Rattle.l4_model.specs.Conditions.{act_of}
 use Rattle.l4_model.specs.Effects.{asked, orders, obeyed}
 use Rattle.l4_model.proofs.Chains.{cond_both, cond_keeps}
+use Rattle.l4_model.specs.Reached.{Suits}
 use Rattle.l4_core_model.specs.Plain as plain
 use Rattle.l4_core_model.specs.Letters.{Cause, cause_of}
 use Rattle.l4_core_model.specs.Local.{Local, declared, thread, held, destination_place, comes_to, relists}
 use Rattle.l4_core_model.specs.Acts.{Work, ◌▷◌, tells, does, asks, withdraws_for, split_receiver, obeys, order_goes_to, gives_order}
 use Rattle.l4_core_model.proofs.Knows.{IsSingle, Knows, told, own, held_found, knows-comes_to, get-changed, part-changed_at, same_nat, same_ids, length-changed}
-use Rattle.l4_core_model.proofs.Fit.{IsFit, Suits, NotIn, fit-comes_to, fit-changes, fit-dropped, keeps-same, not_ready_out, all-filtered, not_same}
+use Rattle.l4_core_model.proofs.Fit.{IsFit, NotIn, fit-comes_to, fit-changes, fit-dropped, keeps-same, not_ready_out, all-filtered, not_same}
 use Rattle.l4_core_model.proofs.Good.{ready_has_none, orders_good, obeyed_good, deletes_good, asked_mild}
 use Rattle.l4_core_model.proofs.Remembers.{RemembersBut, all_comes_to, but_comes_to, but_asks}
 use Rattle.l4_core_model.proofs.Pieces.{Goes, Ends, size_of}
@@ -120,7 +121,7 @@ ask_declared m caller AnyThread what order h none = cc
 ask_declared m caller AnyLocalThread what order h none = cc
 ask_declared m caller (LocalThread word) what order h none = cc
 
-ipc_orders_none : (m : Machine) (id : GlobalId) (now : ℕ) (c : Context) (to : Id) (period : Period) (receive : Option Receive) (order : Asked) → ipc_act m id now c to period receive ≡ Orders order → ⊥
+pub ipc_orders_none : (m : Machine) (id : GlobalId) (now : ℕ) (c : Context) (to : Id) (period : Period) (receive : Option Receive) (order : Asked) → ipc_act m id now c to period receive ≡ Orders order → ⊥
 ipc_orders_none m id now c NilThread period None order h = cc
 ipc_orders_none m id now c NilThread period (Some receive) order h = cc
 ipc_orders_none m id now c AnyThread period receive order h = cc
@@ -128,7 +129,7 @@ ipc_orders_none m id now c AnyLocalThread period receive order h = cc
 ipc_orders_none m id now c (LocalThread word) period receive order h = cc
 ipc_orders_none m id now c (GlobalThread t) period receive order h = cc
 
-target_declared : (m : Machine) (id : GlobalId) (now : ℕ) (c : Context) (i : Instr) (order : Asked) → act m id now c i ≡ Orders order → place_of m order.target ≡ None → ⊥
+pub target_declared : (m : Machine) (id : GlobalId) (now : ℕ) (c : Context) (i : Instr) (order : Asked) → act m id now c i ≡ Orders order → place_of m order.target ≡ None → ⊥
 target_declared m id now c (Ask target what) order h none = ask_declared m id target what order h none
 target_declared m id now c (Ipc to from send_period receive_period) order h none = ipc_orders_none m id now c (destination c to) send_period (receive_phase from receive_period) order h
 target_declared m id now c (Set a word) order h none = cc

@@ -30,7 +30,7 @@ pub record IsResting (m : Machine) (l : Local) : Type 0 where
 
 -- It is so where the core is idle and nothing is armed.
 
-none_of : {A : Type 0} (os : List (Option A)) → first_some os ≡ None → AllByRecursion (λ o. o ≡ None) os
+pub none_of : {A : Type 0} (os : List (Option A)) → first_some os ≡ None → AllByRecursion (λ o. o ≡ None) os
 none_of [] h = tt
 none_of (None ∷ os) h = (refl, none_of os h)
 none_of (Some x ∷ os) h = cc
@@ -84,7 +84,7 @@ no_duties_of m l i rest lt =
     none_of (duty_drops_own l (held m l i) ∷ duty_refuses_waiting l (held m l i) ∷ duty_tells_gone m 0 l (held m l i) ∷ duty_cancels_own l (held m l i) ∷ duty_cancels_receive (held m l i) ∷ duty_delivers_first l (held m l i) ∷ duty_closes_receive m l (held m l i) ∷ duty_refuses_zero m l (held m l i) ∷ [])
     (rest.no_duty i lt)
 
-guarded : {A : Type 0} (a b : Bool) (x : A) → (a >> (b >> Some x)) ≡ None → a ≡ true → b ≡ true → ⊥
+pub guarded : {A : Type 0} (a b : Bool) (x : A) → (a >> (b >> Some x)) ≡ None → a ≡ true → b ≡ true → ⊥
 guarded true true x h p q = cc
 guarded true false x h p q = cc
 guarded false b x h p q = cc
@@ -117,7 +117,7 @@ none_to_close m l i receive rest lt receiving nobody = by (receive_now (thread l
     by None h receiving = cc
     by (Some other) h receiving = let same : other ≡ receive = cc in let is = ap (λ (r : Receive). is_nobody r.from (held_by m l r.from)) same ∙ nobody in let done = rw is at h in cc
 
-found_none : {A B : Type 0} (p : A → Bool) (f : A → Option B) → ((x : A) → f x ≡ None → ⊥) → (xs : List A) → (find p xs >>= f) ≡ None → AllByRecursion (λ x. p x ≡ false) xs
+pub found_none : {A B : Type 0} (p : A → Bool) (f : A → Option B) → ((x : A) → f x ≡ None → ⊥) → (xs : List A) → (find p xs >>= f) ≡ None → AllByRecursion (λ x. p x ≡ false) xs
 found_none p f gives [] h = tt
 found_none p f gives (x ∷ xs) h = by (p x) refl h (found_none p f gives xs)
   where

@@ -102,7 +102,7 @@ queue_follows m w x r i send single f r_lt i_lt has to alive free =
 
 -- snobody
 
-nowhere_is : (m : Machine) (w : World) (to : Id) → destination_place m to ≡ None → (to ≡ NilThread → ⊥) → is_no_destination to (found_by m w to) ≡ true
+pub nowhere_is : (m : Machine) (w : World) (to : Id) → destination_place m to ≡ None → (to ≡ NilThread → ⊥) → is_no_destination to (found_by m w to) ≡ true
 nowhere_is m w NilThread h not_nil = absurd (not_nil refl)
 nowhere_is m w AnyThread h not_nil = refl
 nowhere_is m w AnyLocalThread h not_nil = refl
@@ -133,7 +133,7 @@ deleted_follows m w x r i send single f r_lt lt has to gone =
 
 -- stimeout of a send of timeout zero
 
-zero_passed : (period : Period) (since now : ℕ) → is_zero period ≡ true → since ≤ now → has_passed period since now ≡ true
+pub zero_passed : (period : Period) (since now : ℕ) → is_zero period ≡ true → since ≤ now → has_passed period since now ≡ true
 zero_passed None since now z le = cc
 zero_passed (Some n) since now z le = grind (arith, nat_tests)
 

@@ -27,7 +27,7 @@ use Rattle.l4_core_model.proofs.Orders.{orders_ends}
 
 -- The own places are those of the machine.
 
-range_below : (a n : ℕ) → AllByRecursion (λ i. i < a + n) (range_with_len a n)
+pub range_below : (a n : ℕ) → AllByRecursion (λ i. i < a + n) (range_with_len a n)
 range_below a zero = tt
 range_below a (suc n) = (omega arith, all-map (λ i. i < a + 1 + n) (λ i. i < a + suc n) (λ i lt. omega arith) (range_with_len (a + 1) n) (range_below (a + 1) n))
 

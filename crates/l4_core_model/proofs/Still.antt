@@ -12,13 +12,13 @@ use Rattle.l4_model.specs.History.{run}
 use Rattle.l4_model.specs.Still.{is_tick, IsStill}
 use Rattle.l4_model.proofs.Chains.{bind_then, guard_then, some_is}
 use Rattle.l4_model.proofs.Inversions.{local_taken, begin_taken, queue_taken, deliver_taken, wait_taken, send_timeout_taken, send_nobody_taken, send_cancel_taken, drop_taken, receive_timeout_taken, receive_nobody_taken, receive_cancel_taken, order_taken, obey_taken, tick_taken}
+use Rattle.l4_model.specs.Reached.{Suits}
 use Rattle.l4_core_model.specs.Plain as plain
 use Rattle.l4_core_model.specs.Local.{Local, thread, held, held_by, destination_place, armed_period}
 use Rattle.l4_core_model.specs.Acts.{first_acceptable, zero_refusable}
 use Rattle.l4_core_model.specs.Turns.{clock_is}
 use Rattle.l4_core_model.specs.Known.{known_world}
 use Rattle.l4_core_model.proofs.Knows.{IsSingle, Knows, held_at, first_is}
-use Rattle.l4_core_model.proofs.Fit.{Suits}
 use Rattle.l4_core_model.proofs.Pieces.{both}
 use Rattle.l4_core_model.proofs.Beginning.{place_within, destination_within}
 use Rattle.l4_core_model.proofs.Duties.{receiving_is, queued_is, look_up}
@@ -165,7 +165,7 @@ timed_send m l i n send rest lt has period not_zero = by (thread l i).phase refl
     by Ended is suits = cc
     by Deleted is suits = none_to_drop m l i rest lt (ap is_deleted is) (is_waiting_here m l i send rest lt has)
 
-passed_is_finite : (P : Type 0) (period : Period) (since now : ℕ) → has_passed period since now ≡ true → ((n : ℕ) → period ≡ Some n → P) → P
+pub passed_is_finite : (P : Type 0) (period : Period) (since now : ℕ) → has_passed period since now ≡ true → ((n : ℕ) → period ≡ Some n → P) → P
 passed_is_finite P None since now h then = cc
 passed_is_finite P (Some n) since now h then = then n refl
 

@@ -165,7 +165,7 @@ orders_later now (Receives receive) = refl
 orders_later now (Orders order) = refl
 
 -- a period that has passed
-passed_later : (period : Period) (since now later : ℕ) → now ≤ later → has_passed period since now ≡ true → has_passed period since later ≡ true
+pub passed_later : (period : Period) (since now later : ℕ) → now ≤ later → has_passed period since now ≡ true → has_passed period since later ≡ true
 passed_later None since now later le h = cc
 passed_later (Some n) since now later le h = le-leb (since + n) later (omega (arith, leb-true (since + n) now h))
 

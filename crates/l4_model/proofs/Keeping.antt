@@ -38,7 +38,7 @@ pub record Maintained (m : Machine) (P : Fact) : Type 0 where
   pub at_obedience : (d : Declaration) (now : ℕ) (t : Thread) (order : Asked) → t.order ≡ Some order → P d now t → P d now (obeyed t)
   pub at_tick : (d : Declaration) (now later : ℕ) (t : Thread) → now ≤ later → P d now t → P d later t
 
-order-asked : (what : What) (t : Thread) → (asked what t).order ≡ t.order
+pub order-asked : (what : What) (t : Thread) → (asked what t).order ≡ t.order
 order-asked CancelSend t = refl
 order-asked CancelReceive t = refl
 order-asked CancelBoth t = refl

@@ -1,0 +1,7 @@
+-- What a piece of an event leaves as it is: in the world, on each processor, in the lists and in the letters under way.
+pub mod Locals
+pub mod Places
+pub mod Lists
+pub mod Mail
+pub mod Moves
+pub mod Going

@@ -1,0 +1,11 @@
+pub mod Lists
+pub mod Relation
+pub mod Frames
+pub mod Sends
+pub mod Orders
+pub mod Turns
+pub mod Letters
+pub mod Promises
+pub mod Rest
+pub mod Events
+pub mod Law

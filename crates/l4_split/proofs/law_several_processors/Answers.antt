@@ -1,0 +1,5 @@
+use Rattle.l4_split.proofs.Law.{run_facts}
+use Rattle.l4_split.proofs.law_several_processors.Goals as goal
+
+pub returns : goal.returns
+returns c = λ m is happenings r h. let f = run_facts m r is (happenings, h) in (f.world, f.reaches)

@@ -1,0 +1,19 @@
+-- A core run that goes on by a merge is a core run, and has so many events more.
+use Rattle.std.proofs.Common.{◌≡◌, ◌+◌, Some, List, [], ◌∷◌, ◌++◌, length, ap, sym, ◌∙◌, subst, length-append}
+use Rattle.l4_model.specs.Machine.{Machine}
+use Rattle.l4_model.proofs.Chains.{bind_then, some_is}
+use Rattle.l4_core_model.specs.Runs.{Happening, happens, Run, then_event, core_run, opening_run, merged}
+use Rattle.l4_core_model.specs.Laws.{IsCoreRun}
+use Rattle.l4_merge.specs.Logs.{Log, all_events}
+use Rattle.l4_merge.specs.Laws.{IsMergedRun}
+use Rattle.l4_merge.proofs.Sorted.{length-merged}
+
+pub core_run-append : (m : Machine) (es more : List Happening) (first middle last : Run) → core_run m first es ≡ Some middle → core_run m middle more ≡ Some last → core_run m first (es ++ more) ≡ Some last
+core_run-append m [] more first middle last is then = subst (λ r. core_run m r more ≡ Some last) (sym (some_is first middle is)) then
+core_run-append m (e ∷ es) more first middle last is then = bind_then (happens m first.system e) _ middle is (λ h may is. rw may (core_run-append m es more (then_event first h) middle last is then))
+
+pub stays_core_run : (m : Machine) (before after : Run) (logs : List Log) → IsCoreRun m before → IsMergedRun m before logs after → IsCoreRun m after
+stays_core_run m before after logs was is = (was.0 ++ is.happenings, core_run-append m was.0 is.happenings (opening_run m) before after was.1 is.is)
+
+pub count_of : (m : Machine) (before after : Run) (logs : List Log) → IsMergedRun m before logs after → length after.events ≡ length before.events + length (all_events logs)
+count_of m before after logs is = ap length is.events ∙ length-append before.events (merged (all_events logs)) ∙ ap (λ n. length before.events + n) (length-merged (all_events logs))

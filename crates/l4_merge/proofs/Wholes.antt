@@ -1,94 +1,80 @@
--- Processors that have gone on from the opening make a core run.
-use Rattle.std.proofs.Common.{◌≡◌, ℕ, Bool, Option, Some, None, List, [], ◌∷◌, ◌++◌, map, length, refl, ap, sym, ◌∙◌, subst, arith}
+-- Processors that have worked from the opening on make a core run.
+use Rattle.std.proofs.Common.{◌≡◌, ℕ, ◌+◌, List, [], ◌∷◌, ◌++◌, Option, Some, None, map, length, drop, refl, ap, sym, ◌∙◌, subst, arith}
 use Rattle.std.specs.Prelude.{slice_get}
 use Rattle.std.specs.Option.{option_map}
 use Rattle.std.specs.List.{flat_map}
-use Rattle.std.specs.List.Sorted.{IsSortedBy, IsPermutation}
 use Rattle.std.proofs.lemmas.Option.{slice_get-map, slice_get_within, get_or_from_slice_get}
-use Rattle.std.proofs.lemmas.List.FromFn.{length-map-range_with_len, get_or-map-range_with_len}
-use Rattle.std.proofs.lemmas.List.Sorted.{IsPermutation-map}
+use Rattle.std.proofs.lemmas.List.FromFn.{length-map-range_with_len, length-range_with_len, get_or-map-range_with_len}
 use Rattle.l4_model.specs.Machine.{Machine}
-use Rattle.l4_model.proofs.Chains.{some_is}
+use Rattle.l4_core_model.specs.Letters.{Letter}
 use Rattle.l4_core_model.specs.Local.{opening_local}
-use Rattle.l4_core_model.specs.Runs.{Event, is_earlier, opening_system, opening_run, merged, processors}
-use Rattle.l4_merge.specs.Logs.{Log, all_events}
-use Rattle.l4_merge.specs.Pasts.{Past, fresh, IsWork, HasWorked, posted_of, handled_of, past_posted, past_handled, HaveWorked, HasLedTo, openings, AreWholePasts, MakeWholeRun}
-use Rattle.l4_merge.proofs.Pairings.{present, same_flat}
-use Rattle.l4_merge.proofs.Views.{OrdersBy, sorted_events}
-use Rattle.l4_merge.proofs.SortedMerge.{sorted_merged}
-use Rattle.l4_merge.proofs.Pasts.{all_added, are_logs, go_on}
+use Rattle.l4_core_model.specs.Runs.{Run, opening_run, processors, merged}
+use Rattle.l4_merge.specs.Pasts.{Past, empty_past, HasWorked, posted_in, handled_in, HaveWorked, AreWholePasts, opening_pasts, all_events, added_events}
+use Rattle.l4_merge.specs.Merges.{EndsAt, MakeWholeRun, SortAsMerged}
+use Rattle.l4_merge.proofs.GoneOn.{pasts_ahead, gathered, merge}
+use Rattle.l4_merge.proofs.Sorted.{sort_as_merged}
 
-opening_locals : (m : Machine) (cpus : List ℕ) → map (opening_local m) cpus ≡ map (λ (past : Past). past.local) (map (λ cpu. fresh (opening_local m cpu)) cpus)
+-- The opening
+
+opening_locals : (m : Machine) (cpus : List ℕ) →
+    map (opening_local m) cpus ≡ map (λ (past : Past). past.local) (map (λ cpu. empty_past (opening_local m cpu)) cpus)
 opening_locals m [] = refl
 opening_locals m (cpu ∷ cpus) = ap (λ ls. opening_local m cpu ∷ ls) (opening_locals m cpus)
 
--- Nothing was told, posted or handled.
-record IsFresh (m : Machine) (past : Past) : Type 0 where
-  cpu : ℕ
-  is : fresh (opening_local m cpu) ≡ past
+none_posted : (m : Machine) (to : ℕ) (o : Option ℕ) → posted_in to (option_map (λ cpu. empty_past (opening_local m cpu)) o) ≡ []
+none_posted m to None = refl
+none_posted m to (Some cpu) = refl
 
-fresh_at : (m : Machine) (i : ℕ) (past : Past) → slice_get (openings m) i ≡ Some past → IsFresh m past
-fresh_at m i past at = by (slice_get (processors m) i) (sym (slice_get-map (λ cpu. fresh (opening_local m cpu)) (processors m) i) ∙ at)
-  where
-    by : (o : Option ℕ) → option_map (λ cpu. fresh (opening_local m cpu)) o ≡ Some past → IsFresh m past
-    by None h = absurd cc
-    by (Some cpu) h = record { cpu = cpu; is = some_is (fresh (opening_local m cpu)) past h }
+none_handled : (m : Machine) (from : ℕ) (o : Option ℕ) → handled_in from (option_map (λ cpu. empty_past (opening_local m cpu)) o) ≡ []
+none_handled m from None = refl
+none_handled m from (Some cpu) = refl
 
-opening_mail : (m : Machine) (from to : ℕ) → past_posted (openings m) from to ≡ past_handled (openings m) from to ++ []
-opening_mail m from to = posted (slice_get (openings m) from) refl ∙ ap (λ ls. ls ++ []) (sym (handled (slice_get (openings m) to) refl))
-  where
-    posted : (o : Option Past) → slice_get (openings m) from ≡ o → posted_of to o ≡ []
-    posted None at = refl
-    posted (Some past) at = let f = fresh_at m from past at in ap (λ (p : Past). p.posted to) (sym f.is)
+pub opening_ends : (m : Machine) → EndsAt (opening_run m) (opening_pasts m)
+opening_ends m = record {
+  locals = opening_locals m (processors m);
+  mail = λ from to.
+      let at = slice_get-map (λ cpu. empty_past (opening_local m cpu)) (processors m) in
+      ap (posted_in to) (at from) ∙ none_posted m to (slice_get (processors m) from)
+      ∙ ap (λ ls. ls ++ []) (sym (ap (handled_in from) (at to) ∙ none_handled m from (slice_get (processors m) to)));
+}
 
-    handled : (o : Option Past) → slice_get (openings m) to ≡ o → handled_of from o ≡ []
-    handled None at = refl
-    handled (Some past) at = let f = fresh_at m to past at in ap (λ (p : Past). p.handled from) (sym f.is)
-
-opening_led : (m : Machine) → HasLedTo m (openings m) (opening_run m)
-opening_led m = record { happenings = []; is = refl; locals = opening_locals m (processors m); mail = opening_mail m }
-
-opening_at : (m : Machine) (cpu : ℕ) (old : Past) → slice_get (openings m) cpu ≡ Some old → fresh (opening_local m cpu) ≡ old
+opening_at : (m : Machine) (cpu : ℕ) (old : Past) → slice_get (opening_pasts m) cpu ≡ Some old → empty_past (opening_local m cpu) ≡ old
 opening_at m cpu old at =
-    let size : length (openings m) ≡ m.cpus = length-map-range_with_len (λ cpu. fresh (opening_local m cpu)) 0 m.cpus in
-    let within = slice_get_within (openings m) cpu old at in
-    sym (get_or-map-range_with_len (λ cpu. fresh (opening_local m cpu)) 0 m.cpus cpu cpu (fresh (opening_local m cpu)) (omega arith) (omega arith)) ∙ get_or_from_slice_get (openings m) cpu old (fresh (opening_local m cpu)) at
+    let none : Past = empty_past (opening_local m cpu) in
+    let size : length (opening_pasts m) ≡ m.cpus = length-map-range_with_len (λ cpu. empty_past (opening_local m cpu)) 0 m.cpus in
+    let within = slice_get_within (opening_pasts m) cpu old at in
+    sym (get_or-map-range_with_len (λ cpu. empty_past (opening_local m cpu)) 0 m.cpus cpu cpu none (omega arith) (omega arith))
+    ∙ get_or_from_slice_get (opening_pasts m) cpu old none at
 
-all_work : (m : Machine) (pasts : List Past) → AreWholePasts m pasts → HaveWorked m (openings m) pasts
-all_work m pasts w = record {
-  for_each = w.for_each ∙ sym (length-map-range_with_len (λ cpu. fresh (opening_local m cpu)) 0 m.cpus);
+pub all_worked : (m : Machine) (pasts : List Past) → AreWholePasts m pasts → HaveWorked m (opening_pasts m) pasts
+all_worked m pasts w = record {
+  for_each = w.for_each ∙ sym (length-map-range_with_len (λ cpu. empty_past (opening_local m cpu)) 0 m.cpus);
   each = λ cpu old new at now. subst (λ old. HasWorked m cpu old new) (opening_at m cpu old at) (w.each cpu new now);
   in_order = w.in_order;
 }
 
--- The events of their logs are theirs.
-same_events : (m : Machine) (pasts : List Past) (logs : List Log) → HaveWorked m (openings m) pasts → length logs ≡ length pasts →
-    ((cpu : ℕ) (old new : Past) (log : Log) → slice_get (openings m) cpu ≡ Some old → slice_get pasts cpu ≡ Some new → slice_get logs cpu ≡ Some log → IsWork m cpu old new log) → all_events logs ≡ flat_map (λ past. past.events) pasts
-same_events m pasts logs work many each =
-    same_flat (λ (log : Log). log.events) (λ (past : Past). past.events) logs pasts (sym many) (λ cpu log new here now.
-    let was = present pasts (openings m) (sym work.for_each) cpu new now in
-    let f = opening_at m cpu was.0 was.1 in
-    sym ((each cpu was.0 new log was.1 now here).events ∙ ap (λ (p : Past). p.events ++ log.events) (sym f)))
+-- To nothing all events are added.
+
+added_to_none : (m : Machine) (cpus : List ℕ) (pasts : List Past) → length pasts ≡ length cpus →
+    added_events (map (λ cpu. empty_past (opening_local m cpu)) cpus) pasts ≡ all_events pasts
+added_to_none m [] [] size = refl
+added_to_none m [] (past ∷ pasts) size = absurd (omega arith)
+added_to_none m (cpu ∷ cpus) [] size = absurd (omega arith)
+added_to_none m (cpu ∷ cpus) (past ∷ pasts) size = ap (λ es. past.events ++ es) (added_to_none m cpus pasts (omega arith))
+
+pub added_to_opening : (m : Machine) (pasts : List Past) → AreWholePasts m pasts → added_events (opening_pasts m) pasts ≡ all_events pasts
+added_to_opening m pasts w = added_to_none m (processors m) pasts (w.for_each ∙ sym (length-range_with_len 0 m.cpus))
 
 pub make_whole : (m : Machine) (pasts : List Past) → AreWholePasts m pasts → MakeWholeRun m pasts
 make_whole m pasts w =
-    let work = all_work m pasts w in
-    let g = go_on m (openings m) pasts (opening_run m) (opening_led m) work in
-    let is = g.1 in
-    (g.0, record { led = is.led; events = is.events ∙ ap merged (same_events m pasts is.logs work is.many is.each) })
+    let run = merge m (opening_run m) (opening_pasts m) pasts (opening_ends m) (all_worked m pasts w) in
+    let is = run.1 in
+    (run.0, record { core_run = (is.happenings, is.is); ends = is.ends; events = is.events ∙ ap merged (added_to_opening m pasts w) })
 
--- The events of all, sorted by stamp and processor, are those of the whole.
-pub sorted_whole : (m : Machine) (pasts : List Past) (es : List Event) → AreWholePasts m pasts → IsPermutation (flat_map (λ past. past.events) pasts) es → IsSortedBy is_earlier es → es ≡ merged (flat_map (λ past. past.events) pasts)
-sorted_whole m pasts es w moved sorted =
-    let work = all_work m pasts w in
-    let all = all_added m (openings m) pasts work in
-    let logs = all.logs in
-    let are = all.are in
-    let same = same_events m pasts logs work are.many (λ cpu old new log at now here. are.each cpu cpu old new log (omega arith) at now here) in
-    sorted_merged m (opening_system m) logs es (are_logs m (openings m) pasts (opening_run m) logs (opening_led m) work are) (subst (λ xs. IsPermutation xs es) (sym same) moved) sorted ∙ ap merged same
-
--- The same of values that are viewed as events.
-pub sorted_values : {X : Type 0} (view : X → Event) (less : X → X → Bool) → OrdersBy view less → (m : Machine) (pasts : List Past) (xs ys : List X) → AreWholePasts m pasts → map view xs ≡ flat_map (λ (past : Past). past.events) pasts →
-    IsPermutation xs ys → IsSortedBy less ys → map view ys ≡ merged (flat_map (λ (past : Past). past.events) pasts)
-sorted_values view less orders m pasts xs ys w is moved sorted =
-    sorted_whole m pasts (map view ys) w (subst (λ es. IsPermutation es (map view ys)) is (IsPermutation-map view xs ys moved)) (sorted_events view less orders ys sorted)
+pub whole_sorts_as_merged : (m : Machine) (pasts : List Past) → AreWholePasts m pasts → SortAsMerged (all_events pasts)
+whole_sorts_as_merged m pasts w =
+    let work = all_worked m pasts w in
+    let all = gathered m (opening_pasts m) pasts work in
+    let ahead = pasts_ahead m (opening_run m) (opening_pasts m) pasts (opening_ends m) work all in
+    subst SortAsMerged (all.are.told ∙ added_to_opening m pasts w)
+    (sort_as_merged m (opening_run m).system all.deeds (map (λ past. past.local) pasts) (λ from to. (work.in_order from to).rest) ahead)

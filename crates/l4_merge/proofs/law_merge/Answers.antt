@@ -1,20 +1,24 @@
-use Rattle.l4_core_model.specs.Runs.{opening_run}
-use Rattle.l4_merge.proofs.Merge.{merge, whole_logs}
-use Rattle.l4_merge.proofs.Continued.{stays_core_run, count_of}
-use Rattle.l4_merge.proofs.Rest.{rests_merged, merged_rests}
+use Rattle.l4_merge.proofs.GoneOn.{merge}
+use Rattle.l4_merge.proofs.Wholes.{make_whole, whole_sorts_as_merged}
+use Rattle.l4_merge.proofs.CoreRuns.{stays_core_run}
+use Rattle.l4_merge.proofs.Sorted.{length-merged}
+use Rattle.l4_merge.proofs.Rest.{rests, rested}
 use Rattle.l4_merge.proofs.law_merge.Goals as goal
 
-pub returns-clause-merges : goal.returns-clause-merges
-returns-clause-merges c = λ m logs a. merge m (opening_run m) logs (whole_logs m logs a)
+pub returns-clause-whole : goal.returns-clause-whole
+returns-clause-whole c = make_whole
 
 pub returns-clause-goes_on : goal.returns-clause-goes_on
 returns-clause-goes_on c = merge
 
-pub returns-clause-rests : goal.returns-clause-rests
-returns-clause-rests c = λ m before after logs is. (merged_rests m before after logs is, rests_merged m before after logs is)
-
 pub returns-clause-core_run : goal.returns-clause-core_run
 returns-clause-core_run c = stays_core_run
 
+pub returns-clause-sorted : goal.returns-clause-sorted
+returns-clause-sorted c = whole_sorts_as_merged
+
 pub returns-clause-count : goal.returns-clause-count
-returns-clause-count c = count_of
+returns-clause-count c = length-merged
+
+pub returns-clause-rest : goal.returns-clause-rest
+returns-clause-rest c = λ m pasts r ends. (rested m pasts r ends, rests m pasts r ends)

@@ -3,8 +3,8 @@ use Rattle.std.proofs.Common.{◌≡◌, ℕ, ◌<◌, ◌≤◌, cond, Some, Li
 use Rattle.std.specs.Prelude.{slice_get, ◌==◌, filter}
 use Rattle.std.specs.List.{AllByRecursion}
 use Rattle.std.proofs.lemmas.Bool.{eq-eqb}
-use Rattle.std.proofs.lemmas.List.{append-nil}
-use Rattle.std.proofs.lemmas.Option.{slice_get-get_or}
+use Rattle.std.proofs.lemmas.List.{append-nil, same_lists}
+use Rattle.std.proofs.lemmas.Option.{slice_get-get_or, get_or_from_slice_get}
 use Rattle.l4_model.specs.Machine.{Machine}
 use Rattle.l4_core_model.specs.Letters.{Letter}
 use Rattle.l4_core_model.specs.Local.{Local, opening_local}
@@ -12,11 +12,12 @@ use Rattle.l4_core_model.specs.Runs.{System, letters, Happening, Run, then_event
 use Rattle.l4_core_model.proofs.Fit.{all-map, all-map_with, all-filter}
 use Rattle.l4_merge.specs.Deeds.{LocalEvent, Handled, Turned, Ticked, letter_of, Deed, told_by, posted_by, handled_by, letters_with, Lead}
 use Rattle.l4_merge.specs.Pasts.{Begins}
-use Rattle.l4_merge.proofs.Lists.{all-of_map, all-flat_map, same_lists}
+use Rattle.l4_merge.proofs.Lists.{all-of_map, all-flat_map}
 use Rattle.l4_merge.proofs.Deeds.{stamp_of, HasStamps}
 use Rattle.l4_merge.proofs.Own.{own, own_first, handled_own}
 use Rattle.l4_merge.proofs.Arranged.{AreArranged, rising}
-use Rattle.l4_merge.proofs.Ahead.{happening_of, IsGiven, happened, happens_so, AreAhead, ahead_next}
+use Rattle.l4_merge.proofs.OneDeed.{happening_of, IsGiven, done_by, happens_so}
+use Rattle.l4_merge.proofs.Ahead.{AreAhead, ahead_next}
 
 -- The letters that are still to be posted have at least the stamp of the first deed. A letter that it handles is older, so it is under way.
 
@@ -93,7 +94,10 @@ all_done m [] r ends left ahead order = record {
   run = r;
   is = refl;
   events = sym (append-nil r.events);
-  locals = same_lists r.system.locals ends ahead.size (λ cpu l at. let o = ahead.lead cpu l at in o.at ∙ ap Some (sym o.lead));
+  locals = same_lists r.system.locals ends ahead.size (λ cpu l lt.
+      let now : Local = get_or r.system.locals cpu l in
+      let o = ahead.lead cpu now (slice_get-get_or r.system.locals cpu l lt) in
+      sym (get_or_from_slice_get ends cpu now l (o.at ∙ ap Some (sym o.lead))));
   mail = λ from to. sym (append-nil (letters r.system.mail from to)) ∙ ahead.mail from to;
 }
 all_done m (d ∷ ds) r ends left ahead order =
@@ -105,7 +109,7 @@ all_done m (d ∷ ds) r ends left ahead order =
     let o = ahead.lead d.cpu l at in
     let lead : Lead m d.cpu l (d ∷ own d.cpu ds) o.end = subst (λ ds. Lead m d.cpu l ds o.end) (own_first d.cpu d ds refl) o.lead in
     let first = is_given m g d ds ends left ahead order in
-    let rest = all_done m ds (then_event r (happened d g)) ends left (ahead_next m g d ds ends left l at first ahead) order.1 in
+    let rest = all_done m ds (then_event r (done_by d g)) ends left (ahead_next m g d ds ends left l at first ahead) order.1 in
     record {
       happenings = happening_of d.cpu d.event ∷ rest.happenings;
       run = rest.run;

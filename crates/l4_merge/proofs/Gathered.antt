@@ -9,7 +9,7 @@ use Rattle.l4_model.specs.Machine.{Machine}
 use Rattle.l4_model.proofs.Chains.{some_is}
 use Rattle.l4_core_model.proofs.Fit.{all-map}
 use Rattle.l4_merge.specs.Deeds.{Deed, told_by}
-use Rattle.l4_merge.specs.Pasts.{Past, AreBetween, HasWorked, added_events}
+use Rattle.l4_merge.specs.Pasts.{Past, AreDeedsBetween, HasWorked, added_events}
 use Rattle.l4_merge.proofs.Lists.{all-append}
 use Rattle.l4_merge.proofs.Deeds.{HasStamps, lead_stamps, lead_own}
 use Rattle.l4_merge.proofs.Own.{own, own_all, own_none}
@@ -21,7 +21,7 @@ pub record AreGathered (m : Machine) (from : ℕ) (olds news : List Past) (ds : 
   pub above : AllByRecursion (λ d. from ≤ d.cpu) ds
   pub below : AllByRecursion (λ d. d.cpu < from + length news) ds
   pub each : (i cpu : ℕ) (old new : Past) → from + i ≡ cpu → slice_get olds i ≡ Some old → slice_get news i ≡ Some new →
-      AreBetween m cpu old new (own cpu ds)
+      AreDeedsBetween m cpu old new (own cpu ds)
 
 pub record Gathered (m : Machine) (from : ℕ) (olds news : List Past) : Type 0 where
   pub deeds : List Deed
@@ -75,13 +75,13 @@ gather m from (old ∷ olds) (new ∷ news) size work =
     }
   where
     each : (first : HasWorked m from old new) (rest : List Deed) → AreGathered m (suc from) olds news rest → (i cpu : ℕ) (was now : Past) → from + i ≡ cpu →
-        slice_get (old ∷ olds) i ≡ Some was → slice_get (new ∷ news) i ≡ Some now → AreBetween m cpu was now (own cpu (first.deeds ++ rest))
+        slice_get (old ∷ olds) i ≡ Some was → slice_get (new ∷ news) i ≡ Some now → AreDeedsBetween m cpu was now (own cpu (first.deeds ++ rest))
     each first rest are zero cpu was now e at there =
         let same : from ≡ cpu = omega arith in
         let mine = own_of_first from first.deeds rest (lead_own m from old.local new.local first.deeds first.are.lead) are.above in
-        subst (λ cpu. AreBetween m cpu was now (own cpu (first.deeds ++ rest))) same
-        (subst (λ was. AreBetween m from was now (own from (first.deeds ++ rest))) (some_is old was at)
-        (subst (λ now. AreBetween m from old now (own from (first.deeds ++ rest))) (some_is new now there) (subst (AreBetween m from old new) (sym mine) first.are)))
+        subst (λ cpu. AreDeedsBetween m cpu was now (own cpu (first.deeds ++ rest))) same
+        (subst (λ was. AreDeedsBetween m from was now (own from (first.deeds ++ rest))) (some_is old was at)
+        (subst (λ now. AreDeedsBetween m from old now (own from (first.deeds ++ rest))) (some_is new now there) (subst (AreDeedsBetween m from old new) (sym mine) first.are)))
     each first rest are (suc i) cpu was now e at there =
         let others = own_of_other from cpu first.deeds rest (omega arith) (lead_own m from old.local new.local first.deeds first.are.lead) in
-        subst (AreBetween m cpu was now) (sym others) (are.each i cpu was now (omega arith) at there)
+        subst (AreDeedsBetween m cpu was now) (sym others) (are.each i cpu was now (omega arith) at there)

@@ -3,14 +3,14 @@ use Rattle.std.proofs.Common.{◌≡◌, ap, ◌∙◌, sym, subst, map}
 use Rattle.l4_model.specs.Machine.{Machine}
 use Rattle.l4_core_model.specs.Runs.{Run, letters, opening_run, merged}
 use Rattle.l4_core_model.specs.Laws.{IsCoreRun}
-use Rattle.l4_merge.specs.Merges.{SortAsMerged, Reorder}
+use Rattle.l4_merge.specs.Merges.{SortAsMerged, HasReorderedRun}
 use Rattle.l4_merge.proofs.Arranged.{told-arranged}
-use Rattle.l4_merge.proofs.Merge.{merged_run}
+use Rattle.l4_merge.proofs.Merged.{merged_run}
 use Rattle.l4_merge.proofs.Sorted.{sort_as_merged}
 use Rattle.l4_merge.proofs.Rest.{same_rest}
 use Rattle.l4_merge.proofs.RunDeeds.{has_deeds}
 
-pub reorder : (m : Machine) (r : Run) → IsCoreRun m r → Reorder m r
+pub reorder : (m : Machine) (r : Run) → IsCoreRun m r → HasReorderedRun m r
 reorder m r is =
     let h = has_deeds m is.0 (opening_run m) r is.1 in
     let d = merged_run m (opening_run m) h.deeds r.system.locals (letters r.system.mail) h.ahead in (

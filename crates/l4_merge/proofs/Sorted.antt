@@ -18,7 +18,7 @@ use Rattle.l4_merge.proofs.EventOrder.{earlier_is_order, ties_when, ties_means, 
 use Rattle.l4_merge.proofs.Own.{own}
 use Rattle.l4_merge.proofs.Arranged.{AreArranged, arranged, told-arranged, are_arranged}
 use Rattle.l4_merge.proofs.Ahead.{AreAhead}
-use Rattle.l4_merge.proofs.Merge.{own_lead, own_same}
+use Rattle.l4_merge.proofs.Merged.{own_lead, own_same}
 use Rattle.l4_merge.proofs.Ties.{same_passed, tying_own, one_ties}
 
 -- How many events there are
@@ -107,7 +107,7 @@ sort_as_merged m g ds ends left ahead sorted moved is_sorted =
     few : (e : Event) → length (tying e (map told_by ds)) ≤ 1
     few e =
         let o = own_lead m g ds ends left ahead e.cpu in
-        subst (λ es. length es ≤ 1) (sym (tying_own e ds)) (one_ties m e.cpu e o.l o.now (own e.cpu ds) o.lead)
+        subst (λ es. length es ≤ 1) (sym (tying_own e ds)) (one_ties m e.cpu e o.was o.now (own e.cpu ds) o.lead)
 
     same : (e : Event) → tying e sorted ≡ tying e (map told_by (arranged ds))
     same e =

@@ -10,8 +10,8 @@ use Rattle.l4_core_model.specs.Letters.{Letter}
 use Rattle.l4_core_model.specs.Local.{opening_local}
 use Rattle.l4_core_model.specs.Runs.{Run, opening_run, processors, merged}
 use Rattle.l4_merge.specs.Pasts.{Past, empty_past, HasWorked, posted_in, handled_in, HaveWorked, AreWholePasts, opening_pasts, all_events, added_events}
-use Rattle.l4_merge.specs.Merges.{EndsAt, MakeWholeRun, SortAsMerged}
-use Rattle.l4_merge.proofs.GoneOn.{pasts_ahead, gathered, merge}
+use Rattle.l4_merge.specs.Merges.{EndsAt, HaveWholeRun, SortAsMerged}
+use Rattle.l4_merge.proofs.Merging.{pasts_ahead, gathered, merge}
 use Rattle.l4_merge.proofs.Sorted.{sort_as_merged}
 
 -- The opening
@@ -65,7 +65,7 @@ added_to_none m (cpu ∷ cpus) (past ∷ pasts) size = ap (λ es. past.events ++
 pub added_to_opening : (m : Machine) (pasts : List Past) → AreWholePasts m pasts → added_events (opening_pasts m) pasts ≡ all_events pasts
 added_to_opening m pasts w = added_to_none m (processors m) pasts (w.for_each ∙ sym (length-range_with_len 0 m.cpus))
 
-pub make_whole : (m : Machine) (pasts : List Past) → AreWholePasts m pasts → MakeWholeRun m pasts
+pub make_whole : (m : Machine) (pasts : List Past) → AreWholePasts m pasts → HaveWholeRun m pasts
 make_whole m pasts w =
     let run = merge m (opening_run m) (opening_pasts m) pasts (opening_ends m) (all_worked m pasts w) in
     let is = run.1 in

@@ -1,4 +1,4 @@
--- What a processor does by itself, one local event after the other.
+-- What a processor does by itself, one deed after the other.
 use Rattle.std.specs.Prelude.{ℕ, ◌==◌, ◌≡◌, Option, Some, List, [], ◌∷◌, map, filter}
 use Rattle.std.specs.List.{flat_map}
 use Rattle.l4_model.specs.Machine.{Machine}
@@ -15,13 +15,13 @@ pub data LocalEvent : Type 0 where
   Turned : LocalEvent
   Ticked : (clock : ℕ) → LocalEvent
 
--- What it does. None where it is not possible.
+-- What a local event does. None where it is not possible.
 abbrev pub work_of : Machine → (cpu : ℕ) → Local → LocalEvent → Option Work
 work_of m cpu l (Handled from letter) = handle m cpu l letter
 work_of m cpu l Turned = turn m cpu l
 work_of m cpu l (Ticked clock) = advance m cpu clock l
 
--- The letter that it handles, if any, with the processor that the letter came from.
+-- The letter that a local event handles, if any, with the processor that the letter came from.
 abbrev pub letter_of : LocalEvent → List (ℕ × Letter)
 letter_of (Handled from letter) = (from, letter) ∷ []
 letter_of Turned = []
@@ -33,7 +33,7 @@ pub record Deed : Type 0 where
   pub event : LocalEvent
   pub work : Work
 
--- What is told of it.
+-- What is told of a deed.
 abbrev pub told_by : Deed → Event
 told_by d = record { cpu = d.cpu; stamp = d.work.local.stamp; steps = d.work.steps }
 

@@ -1,5 +1,5 @@
-use Rattle.l4_merge.proofs.GoneOn.{merge}
-use Rattle.l4_merge.proofs.Wholes.{make_whole, whole_sorts_as_merged}
+use Rattle.l4_merge.proofs.Merging.{merge}
+use Rattle.l4_merge.proofs.Wholes.{opening_ends, make_whole, whole_sorts_as_merged}
 use Rattle.l4_merge.proofs.CoreRuns.{stays_core_run}
 use Rattle.l4_merge.proofs.Sorted.{length-merged}
 use Rattle.l4_merge.proofs.Rest.{rests, rested}
@@ -22,3 +22,6 @@ returns-clause-count c = length-merged
 
 pub returns-clause-rest : goal.returns-clause-rest
 returns-clause-rest c = λ m pasts r ends. (rested m pasts r ends, rests m pasts r ends)
+
+pub returns-clause-opening : goal.returns-clause-opening
+returns-clause-opening c = opening_ends

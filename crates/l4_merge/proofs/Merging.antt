@@ -1,8 +1,8 @@
 -- Where all processors have gone on by themselves, a run goes on by their events in order of stamp.
-use Rattle.std.proofs.Common.{◌≡◌, ℕ, ◌+◌, ◌<◌, List, [], ◌++◌, Option, Some, None, map, length, refl, ap, sym, ◌∙◌, subst, append_assoc, arith}
+use Rattle.std.proofs.Common.{◌≡◌, ℕ, ◌+◌, ◌<◌, List, [], ◌++◌, Option, Some, None, map, length, get_or, refl, ap, sym, ◌∙◌, subst, append_assoc, arith}
 use Rattle.std.specs.Prelude.{slice_get}
 use Rattle.std.specs.Option.{option_map}
-use Rattle.std.proofs.lemmas.Option.{slice_get-map}
+use Rattle.std.proofs.lemmas.Option.{slice_get-map, slice_get-get_or, slice_get_within, slice_get_past}
 use Rattle.std.proofs.lemmas.List.{length-map, append_cancel_left, append-nil}
 use Rattle.l4_model.specs.Machine.{Machine}
 use Rattle.l4_model.proofs.Chains.{some_is, get-map}
@@ -12,15 +12,28 @@ use Rattle.l4_core_model.specs.Runs.{letters, Run, merged}
 use Rattle.l4_core_model.proofs.Fit.{all-map}
 use Rattle.l4_merge.specs.Deeds.{Deed, posted_by, handled_by, letters_with, Lead}
 use Rattle.l4_merge.specs.Pasts.{Past, posted_in, handled_in, letters_posted, letters_handled, HaveWorked, added_events}
-use Rattle.l4_merge.specs.Merges.{EndsAt, Merge}
-use Rattle.l4_merge.proofs.Lists.{present, absent, slice_get_none}
+use Rattle.l4_merge.specs.Merges.{EndsAt, HasMergedRun}
+use Rattle.l4_merge.proofs.Lists.{slice_get_none}
 use Rattle.l4_merge.proofs.Own.{own, own_none}
 use Rattle.l4_merge.proofs.Arranged.{told-arranged}
 use Rattle.l4_merge.proofs.Ahead.{LeadsOn, AreAhead}
 use Rattle.l4_merge.proofs.Gathered.{AreGathered, Gathered, gather}
-use Rattle.l4_merge.proofs.Merge.{merged_run}
+use Rattle.l4_merge.proofs.Merged.{merged_run}
 
--- A number that is no processor's.
+-- A processor has a past in both lists, or in neither.
+
+present : (olds news : List Past) → length news ≡ length olds → (cpu : ℕ) (old : Past) → slice_get olds cpu ≡ Some old →
+    (new : Past) × (slice_get news cpu ≡ Some new)
+present olds news size cpu old at =
+    let within = slice_get_within olds cpu old at in
+    (get_or news cpu old, slice_get-get_or news cpu old (omega arith))
+
+absent : (olds news : List Past) → length news ≡ length olds → (cpu : ℕ) → slice_get olds cpu ≡ None → slice_get news cpu ≡ None
+absent olds news size cpu at =
+    let past = slice_get_none olds cpu at in
+    slice_get_past news cpu (omega arith)
+
+-- A number that is no processor's has no deeds.
 none_own : (m : Machine) (olds news : List Past) (ds : List Deed) (cpu : ℕ) → AreGathered m 0 olds news ds → slice_get news cpu ≡ None → own cpu ds ≡ []
 none_own m olds news ds cpu all at =
     let past = slice_get_none news cpu at in
@@ -104,7 +117,7 @@ gathered m olds news w =
     gather m 0 olds news w.for_each (λ i cpu old new e was now.
     w.each cpu old new (subst (λ i. slice_get olds i ≡ Some old) (omega arith) was) (subst (λ i. slice_get news i ≡ Some new) (omega arith) now))
 
-pub merge : (m : Machine) (before : Run) (olds news : List Past) → EndsAt before olds → HaveWorked m olds news → Merge m before olds news
+pub merge : (m : Machine) (before : Run) (olds news : List Past) → EndsAt before olds → HaveWorked m olds news → HasMergedRun m before olds news
 merge m before olds news ends w =
     let all = gathered m olds news w in
     let d = merged_run m before all.deeds (map (λ past. past.local) news) (λ from to. (w.in_order from to).rest) (pasts_ahead m before olds news ends w all) in (

@@ -19,7 +19,7 @@ use Rattle.l4_merge.proofs.Arranged.{AreArranged, rising}
 use Rattle.l4_merge.proofs.OneDeed.{happening_of, IsGiven, done_by, happens_so}
 use Rattle.l4_merge.proofs.Ahead.{AreAhead, ahead_next}
 
--- The letters that are still to be posted have at least the stamp of the first deed. A letter that it handles is older, so it is under way.
+-- The letters that are still to be posted have at least the first deed's stamp. The letter that it handles has a lower one: it is under way
 
 late_letters : (n : ℕ) (ds : List Deed) → AllByRecursion (λ d. n ≤ stamp_of d) ds → AllByRecursion HasStamps ds →
     AllByRecursion (λ p. n ≤ p.1.stamp) (posted_by ds)
@@ -46,6 +46,7 @@ first_under_way n [] (x ∷ xs) letter rest is late lt =
     absurd (omega arith)
 first_under_way n (u ∷ us) more letter rest is late lt = let same : u ≡ letter = cc in record { rest = us; is = ap (λ l. l ∷ us) same }
 
+-- The first of all deeds in order is given the letter that it handles.
 is_given : (m : Machine) (g : System) (d : Deed) (ds : List Deed) (ends : List Local) (left : (from to : ℕ) → List Letter) →
     AreAhead m g (d ∷ ds) ends left → AreArranged (d ∷ ds) → IsGiven d.cpu d.event g
 is_given m g d ds ends left ahead order = by d.event ahead.stamps.0.above_letter all
@@ -79,6 +80,7 @@ is_given m g d ds ends left ahead order = by d.event ahead.stamps.0.above_letter
 
 -- One after another
 
+-- A run goes on by these deeds to where each processor ends, and some letters are left under way.
 pub record AreDone (m : Machine) (before : Run) (ds : List Deed) (ends : List Local) (left : (from to : ℕ) → List Letter) : Type 0 where
   pub happenings : List Happening
   pub run : Run

@@ -1,6 +1,6 @@
 -- The deeds of all processors in the order of their events. Those of each processor are in that order already.
 use Rattle.std.proofs.Common.{◌≡◌, ℕ, ◌<◌, ◌≤◌, Bool, true, false, cond, List, [], ◌∷◌, map, refl, ap, sym, ◌∙◌}
-use Rattle.std.specs.Prelude.{filter, if◌then◌else◌, ◌==◌}
+use Rattle.std.specs.Prelude.{if◌then◌else◌, ◌==◌}
 use Rattle.std.specs.List.{AllByRecursion}
 use Rattle.l4_model.specs.Machine.{Machine}
 use Rattle.l4_model.proofs.Chains.{cond_keeps}
@@ -20,6 +20,7 @@ abbrev pub put_deed : Deed → List Deed → List Deed
 put_deed d [] = d ∷ []
 put_deed d (x ∷ xs) = if comes_before d x then d ∷ x ∷ xs else x ∷ put_deed d xs
 
+-- All of them in order.
 abbrev pub arranged : List Deed → List Deed
 arranged [] = []
 arranged (d ∷ ds) = put_deed d (arranged ds)
@@ -77,7 +78,7 @@ are_arranged [] = tt
 are_arranged (d ∷ ds) = put_arranged d (arranged ds) (are_arranged ds)
 
 pub rising : (d : Deed) (ds : List Deed) → AllByRecursion (λ e. comes_before e d ≡ false) ds → AllByRecursion (λ e. stamp_of d ≤ stamp_of e) ds
-rising d ds a = all-map (λ e. comes_before e d ≡ false) (λ (e : Deed). stamp_of d ≤ stamp_of e) (λ e h. stamps_rise (told_by d) (told_by e) h) ds a
+rising d ds a = all-map (λ e. comes_before e d ≡ false) (λ (e : Deed). stamp_of d ≤ stamp_of e) (λ e. stamps_rise (told_by d) (told_by e)) ds a
 
 -- The deeds of one processor keep their order
 
@@ -124,8 +125,8 @@ arranged_lead : (m : Machine) (cpu : ℕ) (l now : Local) (ds : List Deed) → L
 arranged_lead m cpu l now [] lead = refl
 arranged_lead m cpu l now (d ∷ ds) lead =
     let above = lead_above m cpu d.work.local now ds lead.1 in
-    let before = all-map (λ (e : Deed). stamp_of d < stamp_of e) (λ e. comes_before d e ≡ true) (λ e lt. earlier_by_stamp (told_by d) (told_by e) lt) ds above in
-    ap (put_deed d) (arranged_lead m cpu d.work.local now ds lead.1) ∙ put_first d ds before
+    let first = all-map (λ (e : Deed). stamp_of d < stamp_of e) (λ e. comes_before d e ≡ true) (λ e. earlier_by_stamp (told_by d) (told_by e)) ds above in
+    ap (put_deed d) (arranged_lead m cpu d.work.local now ds lead.1) ∙ put_first d ds first
 
 pub own_arranged : (m : Machine) (cpu : ℕ) (l now : Local) (ds : List Deed) → Lead m cpu l (own cpu ds) now → own cpu (arranged ds) ≡ own cpu ds
 own_arranged m cpu l now ds lead = own-arranged cpu ds ∙ arranged_lead m cpu l now (own cpu ds) lead

@@ -40,10 +40,12 @@ own_lead m g ds ends left ahead cpu = ⊎_elim of_processor of_none (cases_lt cp
         let others = all-map (λ (d : Deed). d.cpu < length ends) (λ (d : Deed). d.cpu ≡ cpu → ⊥) (λ d lt e. omega arith) ds ahead.within in
         record { was = some; now = some; lead = subst (λ ds. Lead m cpu some ds some) (sym (own_none cpu ds others)) refl }
 
+-- Arranged, the deeds of each processor stand as they stood.
 pub own_same : (m : Machine) (g : System) (ds : List Deed) (ends : List Local) (left : (from to : ℕ) → List Letter) → AreAhead m g ds ends left →
     (cpu : ℕ) → own cpu (arranged ds) ≡ own cpu ds
 own_same m g ds ends left ahead cpu = let o = own_lead m g ds ends left ahead cpu in own_arranged m cpu o.was o.now ds o.lead
 
+-- So they are still to be done.
 ahead_arranged : (m : Machine) (g : System) (ds : List Deed) (ends : List Local) (left : (from to : ℕ) → List Letter) → AreAhead m g ds ends left →
     AreAhead m g (arranged ds) ends left
 ahead_arranged m g ds ends left ahead =

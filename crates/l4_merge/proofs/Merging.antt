@@ -3,7 +3,7 @@ use Rattle.std.proofs.Common.{◌≡◌, ℕ, ◌+◌, ◌<◌, List, [], ◌++�
 use Rattle.std.specs.Prelude.{slice_get}
 use Rattle.std.specs.Option.{option_map}
 use Rattle.std.proofs.lemmas.Option.{slice_get-map, slice_get-get_or, slice_get_within, slice_get_past}
-use Rattle.std.proofs.lemmas.List.{length-map, append_cancel_left, append-nil}
+use Rattle.std.proofs.lemmas.List.{length-map, append_cancel_left}
 use Rattle.l4_model.specs.Machine.{Machine}
 use Rattle.l4_model.proofs.Chains.{some_is, get-map}
 use Rattle.l4_core_model.specs.Letters.{Letter}
@@ -11,7 +11,7 @@ use Rattle.l4_core_model.specs.Local.{Local}
 use Rattle.l4_core_model.specs.Runs.{letters, Run, merged}
 use Rattle.l4_core_model.proofs.Fit.{all-map}
 use Rattle.l4_merge.specs.Deeds.{Deed, posted_by, handled_by, letters_with, Lead}
-use Rattle.l4_merge.specs.Pasts.{Past, posted_in, handled_in, letters_posted, letters_handled, HaveWorked, added_events}
+use Rattle.l4_merge.specs.Pasts.{Past, posted_in, handled_in, letters_posted, letters_handled, HaveWorked}
 use Rattle.l4_merge.specs.Merges.{EndsAt, HasMergedRun}
 use Rattle.l4_merge.proofs.Lists.{slice_get_none}
 use Rattle.l4_merge.proofs.Own.{own, own_none}
@@ -20,7 +20,7 @@ use Rattle.l4_merge.proofs.Ahead.{LeadsOn, AreAhead}
 use Rattle.l4_merge.proofs.Gathered.{AreGathered, Gathered, gather}
 use Rattle.l4_merge.proofs.Merged.{merged_run}
 
--- A processor has a past in both lists, or in neither.
+-- A processor has both an earlier and a later past, or neither
 
 present : (olds news : List Past) → length news ≡ length olds → (cpu : ℕ) (old : Past) → slice_get olds cpu ≡ Some old →
     (new : Past) × (slice_get news cpu ≡ Some new)
@@ -39,7 +39,7 @@ none_own m olds news ds cpu all at =
     let past = slice_get_none news cpu at in
     own_none cpu ds (all-map (λ (d : Deed). d.cpu < 0 + length news) (λ (d : Deed). d.cpu ≡ cpu → ⊥) (λ d lt e. omega arith) ds all.below)
 
--- The letters of a pair: to those of the earlier pasts come those of the deeds.
+-- The letters of a pair: to those of the earlier pasts come those of the deeds
 
 posted_now : (m : Machine) (olds news : List Past) (ds : List Deed) → length news ≡ length olds → AreGathered m 0 olds news ds → (from to : ℕ) →
     letters_posted news from to ≡ letters_posted olds from to ++ letters_with to (posted_by (own from ds))
@@ -65,12 +65,14 @@ handled_now m olds news ds size all from to = by (slice_get olds to) refl
         let now = present olds news size to old at in
         ap (handled_in from) now.1 ∙ (all.each to to old now.0 (omega arith) at now.1).handled from
 
+-- What was under way and what is posted is what is handled and the rest.
 mail_ahead : (posted handled under_way more next rest : List Letter) → posted ≡ handled ++ under_way → posted ++ more ≡ (handled ++ next) ++ rest →
     under_way ++ more ≡ next ++ rest
 mail_ahead posted handled under_way more next rest first then =
     append_cancel_left handled (under_way ++ more) (next ++ rest)
     (sym (append_assoc handled under_way more) ∙ ap (λ ls. ls ++ more) (sym first) ∙ then ∙ append_assoc handled next rest)
 
+-- Each processor's deeds lead from where the run has ended to its later local state.
 lead_ahead : (m : Machine) (before : Run) (olds news : List Past) (ds : List Deed) → EndsAt before olds → length news ≡ length olds →
     AreGathered m 0 olds news ds → (cpu : ℕ) (l : Local) → slice_get before.system.locals cpu ≡ Some l →
     LeadsOn m cpu l (own cpu ds) (map (λ past. past.local) news)
@@ -90,6 +92,7 @@ lead_ahead m before olds news ds ends size all cpu l at = by (slice_get olds cpu
           lead = subst (λ l. Lead m cpu l (own cpu ds) now.0.local) same (all.each cpu cpu old now.0 (omega arith) was now.1).lead;
         }
 
+-- What all processors did is still to be done where the run has ended before it.
 pub pasts_ahead : (m : Machine) (before : Run) (olds news : List Past) → EndsAt before olds → (w : HaveWorked m olds news) → (all : Gathered m 0 olds news) →
     AreAhead m before.system all.deeds (map (λ past. past.local) news) (λ from to. (w.in_order from to).rest)
 pasts_ahead m before olds news ends w all =
@@ -117,10 +120,12 @@ gathered m olds news w =
     gather m 0 olds news w.for_each (λ i cpu old new e was now.
     w.each cpu old new (subst (λ i. slice_get olds i ≡ Some old) (omega arith) was) (subst (λ i. slice_get news i ≡ Some new) (omega arith) now))
 
+-- So the run goes on by them, in the order of their events.
 pub merge : (m : Machine) (before : Run) (olds news : List Past) → EndsAt before olds → HaveWorked m olds news → HasMergedRun m before olds news
 merge m before olds news ends w =
     let all = gathered m olds news w in
-    let d = merged_run m before all.deeds (map (λ past. past.local) news) (λ from to. (w.in_order from to).rest) (pasts_ahead m before olds news ends w all) in (
+    let ahead = pasts_ahead m before olds news ends w all in
+    let d = merged_run m before all.deeds (map (λ past. past.local) news) (λ from to. (w.in_order from to).rest) ahead in (
       d.run,
       record {
         happenings = d.happenings;

@@ -9,6 +9,7 @@ use Rattle.l4_merge.specs.Deeds.{letter_of, Deed, posted_by, handled_by, letters
 use Rattle.l4_merge.proofs.Lists.{filter-none}
 use Rattle.l4_merge.proofs.Mail.{letters_with-append}
 
+-- In the order in which they stand among all.
 abbrev pub own : (cpu : ℕ) → List Deed → List Deed
 own cpu = filter (λ d. d.cpu == cpu)
 

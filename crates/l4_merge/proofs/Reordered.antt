@@ -1,5 +1,5 @@
 -- Any core run is one in order of stamp.
-use Rattle.std.proofs.Common.{◌≡◌, ap, ◌∙◌, sym, subst, map}
+use Rattle.std.proofs.Common.{ap, ◌∙◌, sym, subst}
 use Rattle.l4_model.specs.Machine.{Machine}
 use Rattle.l4_core_model.specs.Runs.{Run, letters, opening_run, merged}
 use Rattle.l4_core_model.specs.Laws.{IsCoreRun}

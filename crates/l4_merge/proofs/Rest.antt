@@ -1,18 +1,17 @@
 -- A run that ends where the processors are is at rest exactly where each of them is and all letters are handled.
-use Rattle.std.proofs.Common.{◌≡◌, ℕ, ◌+◌, ◌<◌, Bool, true, false, cond, ◌&&◌, Option, Some, None, List, [], ◌∷◌, ◌++◌, map, get_or, length}
+use Rattle.std.proofs.Common.{◌≡◌, ℕ, ◌+◌, ◌<◌, Bool, true, false, cond, ◌&&◌, Option, Some, None, List, [], ◌∷◌, ◌++◌, map, get_or}
 use Rattle.std.proofs.Common.{refl, ap, sym, ◌∙◌, arith}
 use Rattle.std.specs.Prelude.{slice_get, ◌==◌, filter}
 use Rattle.std.specs.Option.{option_map}
-use Rattle.std.specs.List.{list_all, range_with_len}
+use Rattle.std.specs.List.{list_all}
 use Rattle.std.proofs.lemmas.Bool.{eq-eqb, and_from, and_parts}
 use Rattle.std.proofs.lemmas.Option.{slice_get-map}
 use Rattle.std.proofs.lemmas.List.{append-nil, append_cancel_left}
 use Rattle.std.proofs.lemmas.List.Sums.{AllPass-from_list_all, list_all-from_AllPass}
 use Rattle.std.proofs.lemmas.List.FromFn.{length-range_with_len, get_or-range_with_len}
 use Rattle.l4_model.specs.Machine.{Machine}
-use Rattle.l4_core_model.specs.Letters.{Letter}
 use Rattle.l4_core_model.specs.Runs.{Posted, System, Run, processors, letters, is_between, is_empty, local_at_rest, at_rest}
-use Rattle.l4_merge.specs.Pasts.{Past, letters_posted, letters_handled}
+use Rattle.l4_merge.specs.Pasts.{Past, letters_handled}
 use Rattle.l4_merge.specs.Merges.{EndsAt, is_at_rest, AreAtRest}
 
 -- Where no pair has letters, none is under way
@@ -63,7 +62,7 @@ each_processor m test all cpu lt =
     let same : get_or (processors m) cpu 0 ≡ cpu = get_or-range_with_len 0 m.cpus cpu 0 lt ∙ omega arith in
     ap test (sym same) ∙ AllPass-from_list_all test (processors m) all cpu 0 (omega arith)
 
--- All
+-- The whole run
 
 pub rests : (m : Machine) (pasts : List Past) (r : Run) → EndsAt r pasts → AreAtRest m pasts → at_rest m r.system ≡ true
 rests m pasts r ends rest =
@@ -87,7 +86,7 @@ rested m pasts r ends rest =
           ∙ append-nil (letters_handled pasts from to);
     }
 
--- Systems with the same local states and the same letters under way of each pair.
+-- With the same local states, and the same letters under way of each pair, both are at rest or neither is.
 pub same_rest : (m : Machine) (g h : System) → g.locals ≡ h.locals → ((from to : ℕ) → letters g.mail from to ≡ letters h.mail from to) →
     at_rest m g ≡ at_rest m h
 same_rest m g h locals mail =

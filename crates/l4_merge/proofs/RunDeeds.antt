@@ -8,9 +8,7 @@ use Rattle.l4_model.proofs.Chains.{bind_then, some_is}
 use Rattle.l4_core_model.specs.Letters.{Letter}
 use Rattle.l4_core_model.specs.Local.{Local}
 use Rattle.l4_core_model.specs.Acts.{Work}
-use Rattle.l4_core_model.specs.Turns.{turn, advance}
-use Rattle.l4_core_model.specs.Mail.{handle}
-use Rattle.l4_core_model.specs.Runs.{System, letters, taken, Happening, Handles, Turns, Ticks, Happened, done, happens, Run, then_event, core_run}
+use Rattle.l4_core_model.specs.Runs.{System, letters, Happening, Handles, Turns, Ticks, Happened, done, happens, Run, then_event, core_run}
 use Rattle.l4_merge.specs.Deeds.{LocalEvent, Handled, Turned, Ticked, work_of, Deed, told_by, Does}
 use Rattle.l4_merge.specs.Pasts.{Begins}
 use Rattle.l4_merge.proofs.OneDeed.{given, IsGiven, done_by}
@@ -40,6 +38,7 @@ is_deed m g h cpu event l at first is = by (work_of m cpu l event) refl is
       is = some_is (done cpu (given cpu event g) x) h is;
     }
 
+-- A letter that stands first begins the list.
 first_of : (ls : List Letter) (letter : Letter) → slice_get ls 0 ≡ Some letter → Begins (letter ∷ []) ls
 first_of [] letter h = absurd cc
 first_of (l ∷ ls) letter h = record { rest = ls; is = ap (λ l. l ∷ ls) (some_is l letter h) }

@@ -1,11 +1,9 @@
 -- However the events of all processors are sorted by stamp and processor, they come out as merged.
 use Rattle.std.proofs.Common.{◌≡◌, ℕ, suc, ◌+◌, ◌<◌, ◌≤◌, Bool, true, false, cond, List, [], ◌∷◌, map, length, get_or, refl, ap, sym, ◌∙◌, subst, arith}
-use Rattle.std.specs.Prelude.{filter}
 use Rattle.std.specs.List.{AllByRecursion}
-use Rattle.std.specs.List.Sorted.{IsSortedBy, ties}
+use Rattle.std.specs.List.Sorted.{IsPermutation, IsSortedBy, ties}
 use Rattle.std.proofs.lemmas.List.Elements.{recursion_from_All}
 use Rattle.std.proofs.lemmas.List.Sorted.{sorted_far, IsPermutation-map}
-use Rattle.std.specs.List.Sorted.{IsPermutation}
 use Rattle.std.proofs.lemmas.List.{length-map, get_or-map}
 use Rattle.l4_model.specs.Machine.{Machine}
 use Rattle.l4_core_model.specs.Letters.{Letter}
@@ -19,7 +17,7 @@ use Rattle.l4_merge.proofs.Own.{own}
 use Rattle.l4_merge.proofs.Arranged.{AreArranged, arranged, told-arranged, are_arranged}
 use Rattle.l4_merge.proofs.Ahead.{AreAhead}
 use Rattle.l4_merge.proofs.Merged.{own_lead, own_same}
-use Rattle.l4_merge.proofs.Ties.{same_passed, tying_own, one_ties}
+use Rattle.l4_merge.proofs.Ties.{tying, same_passed, tying_own, one_ties}
 
 -- How many events there are
 
@@ -35,7 +33,7 @@ pub length-merged : (es : List Event) → length (merged es) ≡ length es
 length-merged [] = refl
 length-merged (e ∷ es) = length-put e (merged es) ∙ ap suc (length-merged es)
 
--- None is earlier than one before it
+-- Lists of which no event is earlier than one before it
 
 abbrev InOrder : List Event → Type 0
 InOrder [] = Unit {0}
@@ -52,12 +50,9 @@ told_in_order : (ds : List Deed) → AreArranged ds → InOrder (map told_by ds)
 told_in_order [] a = tt
 told_in_order (d ∷ ds) a = (all-of_map (λ x. is_earlier x (told_by d) ≡ false) told_by ds a.0, told_in_order ds a.1)
 
--- Two lists in order are one where the same events tie with each event
+-- Two such lists are one where the same events tie with each event
 
-abbrev tying : Event → List Event → List Event
-tying e = filter (ties is_earlier e)
-
--- An event that ties has what all have.
+-- Of events that all have a property, one that ties has it.
 find_tie : (P : Event → Type 0) (e first : Event) (ws rest : List Event) → AllByRecursion P ws → tying e ws ≡ first ∷ rest →
     (w : Event) × P w × (ties is_earlier e w ≡ true)
 find_tie P e first [] rest a is = absurd cc
@@ -68,7 +63,7 @@ find_tie P e first (w ∷ ws) rest a is = by (ties is_earlier e w) refl is (λ i
     by true h is more = (w, a.0, h)
     by false h is more = more is
 
--- What ties with some of a list in order is not earlier than its first.
+-- An event that ties with some of a list in order is not earlier than its first.
 not_before_first : (e x first : Event) (xs rest : List Event) → InOrder (x ∷ xs) → tying e (x ∷ xs) ≡ first ∷ rest → is_earlier e x ≡ false
 not_before_first e x first xs rest order is =
     let itself = (ties_means x x (ties_itself x)).0 in
@@ -96,8 +91,7 @@ same_order (x ∷ xs) (y ∷ ys) a b same =
     λ e. cancel (ties is_earlier e x) x (tying e xs) (tying e ys) (same e ∙ ap (λ z. cond (ties is_earlier e z) (z ∷ tying e ys) (tying e ys)) first) in
     ap (λ z. z ∷ xs) (sym first) ∙ ap (λ zs. y ∷ zs) (same_order xs ys a.1 b.1 rest)
 
--- The events of deeds of all processors
-
+-- The events of deeds that are still to be done, in any order: those of one processor rise, so no two tie.
 pub sort_as_merged : (m : Machine) (g : System) (ds : List Deed) (ends : List Local) (left : (from to : ℕ) → List Letter) → AreAhead m g ds ends left →
     SortAsMerged (map told_by ds)
 sort_as_merged m g ds ends left ahead sorted moved is_sorted =

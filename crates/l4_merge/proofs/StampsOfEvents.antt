@@ -108,8 +108,9 @@ handled_stamped m cpu (OrderDoneLetter caller) s x y h is =
     guard_then (is_deleted (thread x.local i).phase || is_ordering (thread x.local i).phase) _ y is λ _ is.
     is_of s (x ▷ does (comes_to i obeyed)) y (record { local = h.local; letters = h.letters }) is
 
--- an event
+-- any event
 
+-- The stamp of an event is above its processor's last one and above its letter's, and is that of the letters that it posts.
 pub record IsLater (l : Local) (event : LocalEvent) (x : Work) : Type 0 where
   pub than_before : l.stamp < x.local.stamp
   pub than_letter : AllByRecursion (λ p. p.1.stamp < x.local.stamp) (letter_of event)

@@ -54,29 +54,33 @@ same_passed {A} p xs ys moved few = by (filter p xs) refl
         one a (filter p ys) (same_count p xs ys moved ∙ ap length is) (all_passed p (λ x. x ≡ a) xs ys moved all) ∙ sym is
     by (a ∷ b ∷ more) is = let size = ap length is in absurd (omega arith)
 
--- Events that tie are of one processor, and its stamps rise
+-- The events that tie with an event are of its processor, where stamps rise
 
-pub tying_own : (e : Event) (ds : List Deed) → filter (ties is_earlier e) (map told_by ds) ≡ filter (ties is_earlier e) (map told_by (own e.cpu ds))
+abbrev pub tying : Event → List Event → List Event
+tying e = filter (ties is_earlier e)
+
+pub tying_own : (e : Event) (ds : List Deed) → tying e (map told_by ds) ≡ tying e (map told_by (own e.cpu ds))
 tying_own e [] = refl
 tying_own e (d ∷ ds) = by (d.cpu == e.cpu) (ties is_earlier e (told_by d)) refl refl (tying_own e ds)
   where
-    tying : List Deed → List Event
-    tying ds = filter (ties is_earlier e) (map told_by ds)
+    told : List Deed → List Event
+    told ds = tying e (map told_by ds)
 
-    by : (b c : Bool) → (d.cpu == e.cpu) ≡ b → ties is_earlier e (told_by d) ≡ c → tying ds ≡ tying (own e.cpu ds) →
-        cond c (told_by d ∷ tying ds) (tying ds) ≡ tying (cond b (d ∷ own e.cpu ds) (own e.cpu ds))
+    by : (b c : Bool) → (d.cpu == e.cpu) ≡ b → ties is_earlier e (told_by d) ≡ c → told ds ≡ told (own e.cpu ds) →
+        cond c (told_by d ∷ told ds) (told ds) ≡ told (cond b (d ∷ own e.cpu ds) (own e.cpu ds))
     by true c s t rest =
-        ap (λ es. cond c (told_by d ∷ es) es) rest ∙ ap (λ c. cond c (told_by d ∷ tying (own e.cpu ds)) (tying (own e.cpu ds))) (sym t)
+        ap (λ es. cond c (told_by d ∷ es) es) rest ∙ ap (λ c. cond c (told_by d ∷ told (own e.cpu ds)) (told (own e.cpu ds))) (sym t)
     by false true s t rest = absurd (eqb-false d.cpu e.cpu s (ties_cpu e (told_by d) t))
     by false false s t rest = rest
 
+-- So in one log at most one event ties with it.
 pub one_ties : (m : Machine) (cpu : ℕ) (e : Event) (l now : Local) (ds : List Deed) → Lead m cpu l ds now →
-    length (filter (ties is_earlier e) (map told_by ds)) ≤ 1
+    length (tying e (map told_by ds)) ≤ 1
 one_ties m cpu e l now [] lead = omega arith
 one_ties m cpu e l now (d ∷ ds) lead = by (ties is_earlier e (told_by d)) refl (one_ties m cpu e d.work.local now ds lead.1)
   where
-    tying : List Event
-    tying = filter (ties is_earlier e) (map told_by ds)
+    rest : List Event
+    rest = tying e (map told_by ds)
 
     apart : (xs : List Deed) → ties is_earlier e (told_by d) ≡ true → AllByRecursion (λ x. stamp_of d < stamp_of x) xs →
         AllByRecursion (λ x. ties is_earlier e x ≡ false) (map told_by xs)
@@ -91,7 +95,7 @@ one_ties m cpu e l now (d ∷ ds) lead = by (ties is_earlier e (told_by d)) refl
             let lt : stamp_of d < stamp_of x = above.0 in
             absurd (omega arith)
 
-    by : (b : Bool) → ties is_earlier e (told_by d) ≡ b → length tying ≤ 1 → length (cond b (told_by d ∷ tying) tying) ≤ 1
+    by : (b : Bool) → ties is_earlier e (told_by d) ≡ b → length rest ≤ 1 → length (cond b (told_by d ∷ rest) rest) ≤ 1
     by true tie few =
         let none = filter-none (ties is_earlier e) (map told_by ds) (apart ds tie (lead_above m cpu d.work.local now ds lead.1)) in
         let size = ap length none in

@@ -1,14 +1,12 @@
 -- Processors that have worked from the opening on make a core run.
-use Rattle.std.proofs.Common.{◌≡◌, ℕ, ◌+◌, List, [], ◌∷◌, ◌++◌, Option, Some, None, map, length, drop, refl, ap, sym, ◌∙◌, subst, arith}
+use Rattle.std.proofs.Common.{◌≡◌, ℕ, List, [], ◌∷◌, ◌++◌, Option, Some, None, map, length, refl, ap, sym, ◌∙◌, subst, arith}
 use Rattle.std.specs.Prelude.{slice_get}
 use Rattle.std.specs.Option.{option_map}
-use Rattle.std.specs.List.{flat_map}
 use Rattle.std.proofs.lemmas.Option.{slice_get-map, slice_get_within, get_or_from_slice_get}
 use Rattle.std.proofs.lemmas.List.FromFn.{length-map-range_with_len, length-range_with_len, get_or-map-range_with_len}
 use Rattle.l4_model.specs.Machine.{Machine}
-use Rattle.l4_core_model.specs.Letters.{Letter}
 use Rattle.l4_core_model.specs.Local.{opening_local}
-use Rattle.l4_core_model.specs.Runs.{Run, opening_run, processors, merged}
+use Rattle.l4_core_model.specs.Runs.{opening_run, processors, merged}
 use Rattle.l4_merge.specs.Pasts.{Past, empty_past, HasWorked, posted_in, handled_in, HaveWorked, AreWholePasts, opening_pasts, all_events, added_events}
 use Rattle.l4_merge.specs.Merges.{EndsAt, HaveWholeRun, SortAsMerged}
 use Rattle.l4_merge.proofs.Merging.{pasts_ahead, gathered, merge}
@@ -53,7 +51,7 @@ all_worked m pasts w = record {
   in_order = w.in_order;
 }
 
--- To nothing all events are added.
+-- To empty pasts all events are added
 
 added_to_none : (m : Machine) (cpus : List ℕ) (pasts : List Past) → length pasts ≡ length cpus →
     added_events (map (λ cpu. empty_past (opening_local m cpu)) cpus) pasts ≡ all_events pasts
@@ -64,6 +62,8 @@ added_to_none m (cpu ∷ cpus) (past ∷ pasts) size = ap (λ es. past.events ++
 
 pub added_to_opening : (m : Machine) (pasts : List Past) → AreWholePasts m pasts → added_events (opening_pasts m) pasts ≡ all_events pasts
 added_to_opening m pasts w = added_to_none m (processors m) pasts (w.for_each ∙ sym (length-range_with_len 0 m.cpus))
+
+-- The whole
 
 pub make_whole : (m : Machine) (pasts : List Past) → AreWholePasts m pasts → HaveWholeRun m pasts
 make_whole m pasts w =

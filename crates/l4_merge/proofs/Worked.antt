@@ -9,7 +9,7 @@ use Rattle.l4_merge.specs.Pasts.{Past, HasWorked, Begins}
 use Rattle.l4_merge.proofs.Deeds.{lead-append}
 use Rattle.l4_merge.proofs.Mail.{letters_with-append}
 
--- It does nothing.
+-- Where it does nothing, its past is the same.
 pub worked_none : (m : Machine) (cpu : ℕ) (past : Past) → HasWorked m cpu past past
 worked_none m cpu past = record {
   deeds = [];
@@ -29,6 +29,7 @@ pub record IsNext (m : Machine) (cpu : ℕ) (old new : Past) (d : Deed) : Type 0
   pub handled : (from : ℕ) → new.handled from ≡ old.handled from ++ letters_with from (letter_of d.event)
   pub local : d.work.local ≡ new.local
 
+-- Where it does one deed, that is added.
 pub worked_one : (m : Machine) (cpu : ℕ) (old new : Past) (d : Deed) → IsNext m cpu old new d → HasWorked m cpu old new
 worked_one m cpu old new d next = record {
   deeds = d ∷ [];
@@ -40,12 +41,12 @@ worked_one m cpu old new d next = record {
   };
 }
 
--- One list that goes on twice.
+-- A list that goes on twice.
 goes_on : {A : Type 0} (old middle new first then all : List A) → middle ≡ old ++ first → new ≡ middle ++ then → all ≡ first ++ then → new ≡ old ++ all
 goes_on old middle new first then all is now both =
     now ∙ ap (λ xs. xs ++ then) is ∙ append_assoc old first then ∙ ap (λ xs. old ++ xs) (sym both)
 
--- It goes on, and on.
+-- It goes on twice.
 pub worked_trans : (m : Machine) (cpu : ℕ) (old middle new : Past) → HasWorked m cpu old middle → HasWorked m cpu middle new → HasWorked m cpu old new
 worked_trans m cpu old middle new first then =
     let a = first.are in
@@ -67,7 +68,7 @@ worked_trans m cpu old middle new first then =
       };
     }
 
--- Of the letters of a pair, those that were posted are those taken and those under way, and those taken are those handled and those in hand.
+-- Of the letters of a pair, those posted are those taken and those under way, and those taken are those handled and those in hand.
 pub handled_begin : (posted taken handled in_hand under_way : List Letter) → posted ≡ taken ++ under_way → taken ≡ handled ++ in_hand →
     Begins handled posted
 handled_begin posted taken handled in_hand under_way all some =

@@ -5,7 +5,7 @@ use Rattle.l4_core_model.specs.Runs.{Run, letters, opening_run, merged}
 use Rattle.l4_core_model.specs.Laws.{IsCoreRun}
 use Rattle.l4_merge.specs.Merges.{SortAsMerged, HasReorderedRun}
 use Rattle.l4_merge.proofs.Arranged.{told-arranged}
-use Rattle.l4_merge.proofs.Merged.{merged_run}
+use Rattle.l4_merge.proofs.AnyOrder.{merged_run}
 use Rattle.l4_merge.proofs.Sorted.{sort_as_merged}
 use Rattle.l4_merge.proofs.Rest.{same_rest}
 use Rattle.l4_merge.proofs.RunDeeds.{has_deeds}

@@ -16,7 +16,7 @@ use Rattle.l4_merge.proofs.EventOrder.{earlier_is_order, ties_when, ties_means, 
 use Rattle.l4_merge.proofs.Own.{own}
 use Rattle.l4_merge.proofs.Arranged.{AreArranged, arranged, told-arranged, are_arranged}
 use Rattle.l4_merge.proofs.Ahead.{AreAhead}
-use Rattle.l4_merge.proofs.Merged.{own_lead, own_same}
+use Rattle.l4_merge.proofs.AnyOrder.{own_lead, own_same}
 use Rattle.l4_merge.proofs.Ties.{tying, same_passed, tying_own, one_ties}
 
 -- How many events there are

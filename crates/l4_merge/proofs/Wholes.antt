@@ -9,7 +9,7 @@ use Rattle.l4_core_model.specs.Local.{opening_local}
 use Rattle.l4_core_model.specs.Runs.{opening_run, processors, merged}
 use Rattle.l4_merge.specs.Pasts.{Past, empty_past, HasWorked, posted_in, handled_in, HaveWorked, AreWholePasts, opening_pasts, all_events, added_events}
 use Rattle.l4_merge.specs.Merges.{EndsAt, HaveWholeRun, SortAsMerged}
-use Rattle.l4_merge.proofs.Merging.{pasts_ahead, gathered, merge}
+use Rattle.l4_merge.proofs.GoingOn.{pasts_ahead, gathered, merge}
 use Rattle.l4_merge.proofs.Sorted.{sort_as_merged}
 
 -- The opening

@@ -1,4 +1,4 @@
-use Rattle.l4_merge.proofs.Merging.{merge}
+use Rattle.l4_merge.proofs.GoingOn.{merge}
 use Rattle.l4_merge.proofs.Wholes.{opening_ends, make_whole, whole_sorts_as_merged}
 use Rattle.l4_merge.proofs.CoreRuns.{stays_core_run}
 use Rattle.l4_merge.proofs.Sorted.{length-merged}

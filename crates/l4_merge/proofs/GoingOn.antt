@@ -18,7 +18,7 @@ use Rattle.l4_merge.proofs.Own.{own, own_none}
 use Rattle.l4_merge.proofs.Arranged.{told-arranged}
 use Rattle.l4_merge.proofs.Ahead.{LeadsOn, AreAhead}
 use Rattle.l4_merge.proofs.Gathered.{AreGathered, Gathered, gather}
-use Rattle.l4_merge.proofs.Merged.{merged_run}
+use Rattle.l4_merge.proofs.AnyOrder.{merged_run}
 
 -- A processor has both an earlier and a later past, or neither
 

@@ -1,18 +1,16 @@
 -- A run that ends where the processors are is at rest exactly where each of them is and all letters are handled.
-use Rattle.std.proofs.Common.{◌≡◌, ℕ, ◌+◌, ◌<◌, Bool, true, false, cond, ◌&&◌, Option, Some, None, List, [], ◌∷◌, ◌++◌, map, get_or}
-use Rattle.std.proofs.Common.{refl, ap, sym, ◌∙◌, arith}
+use Rattle.std.proofs.Common.{◌≡◌, ℕ, ◌<◌, Bool, true, false, cond, ◌&&◌, Option, Some, None, List, [], ◌∷◌, ◌++◌, map, refl, ap, sym, ◌∙◌}
 use Rattle.std.specs.Prelude.{slice_get, ◌==◌, filter}
 use Rattle.std.specs.Option.{option_map}
 use Rattle.std.specs.List.{list_all}
 use Rattle.std.proofs.lemmas.Bool.{eq-eqb, and_from, and_parts}
 use Rattle.std.proofs.lemmas.Option.{slice_get-map}
 use Rattle.std.proofs.lemmas.List.{append-nil, append_cancel_left}
-use Rattle.std.proofs.lemmas.List.Sums.{AllPass-from_list_all, list_all-from_AllPass}
-use Rattle.std.proofs.lemmas.List.FromFn.{length-range_with_len, get_or-range_with_len}
 use Rattle.l4_model.specs.Machine.{Machine}
 use Rattle.l4_core_model.specs.Runs.{Posted, System, Run, processors, letters, is_between, is_empty, local_at_rest, at_rest}
 use Rattle.l4_merge.specs.Pasts.{Past, letters_handled}
 use Rattle.l4_merge.specs.Merges.{EndsAt, is_at_rest, AreAtRest}
+use Rattle.l4_merge.proofs.Processors.{all_processors, each_processor}
 
 -- Where no pair has letters, none is under way
 
@@ -46,21 +44,6 @@ no_local_rest m r pasts cpu ends at =
     let here : slice_get r.system.locals cpu ≡ None =
     ap (λ ls. slice_get ls cpu) ends.locals ∙ slice_get-map (λ (past : Past). past.local) pasts cpu ∙ ap (option_map (λ (past : Past). past.local)) at in
     rw here
-
--- A test of all processors
-
-all_processors : (m : Machine) (test : ℕ → Bool) → ((cpu : ℕ) → cpu < m.cpus → test cpu ≡ true) → list_all test (processors m) ≡ true
-all_processors m test each =
-    let size = length-range_with_len 0 m.cpus in
-    list_all-from_AllPass test (processors m) (λ k d lt.
-    let lt : k < m.cpus = omega arith in
-    ap test (get_or-range_with_len 0 m.cpus k d lt) ∙ each (0 + k) (omega arith))
-
-each_processor : (m : Machine) (test : ℕ → Bool) → list_all test (processors m) ≡ true → (cpu : ℕ) → cpu < m.cpus → test cpu ≡ true
-each_processor m test all cpu lt =
-    let size = length-range_with_len 0 m.cpus in
-    let same : get_or (processors m) cpu 0 ≡ cpu = get_or-range_with_len 0 m.cpus cpu 0 lt ∙ omega arith in
-    ap test (sym same) ∙ AllPass-from_list_all test (processors m) all cpu 0 (omega arith)
 
 -- The whole run
 

@@ -2,22 +2,18 @@
 use Rattle.std.proofs.Common.{◌≡◌, ℕ, List, [], ◌∷◌, ◌++◌, Option, Some, None, map, length, refl, ap, sym, ◌∙◌, subst, arith}
 use Rattle.std.specs.Prelude.{slice_get}
 use Rattle.std.specs.Option.{option_map}
-use Rattle.std.proofs.lemmas.Option.{slice_get-map, slice_get_within, get_or_from_slice_get}
-use Rattle.std.proofs.lemmas.List.FromFn.{length-map-range_with_len, length-range_with_len, get_or-map-range_with_len}
+use Rattle.std.proofs.lemmas.Option.{slice_get-map}
+use Rattle.std.proofs.lemmas.List.FromFn.{length-map-range_with_len, length-range_with_len}
 use Rattle.l4_model.specs.Machine.{Machine}
 use Rattle.l4_core_model.specs.Local.{opening_local}
 use Rattle.l4_core_model.specs.Runs.{opening_run, processors, merged}
 use Rattle.l4_merge.specs.Pasts.{Past, empty_past, HasWorked, posted_in, handled_in, HaveWorked, AreWholePasts, opening_pasts, all_events, added_events}
 use Rattle.l4_merge.specs.Merges.{EndsAt, HaveWholeRun, SortAsMerged}
+use Rattle.l4_merge.proofs.Processors.{locals-map, of_processor}
 use Rattle.l4_merge.proofs.GoingOn.{pasts_ahead, gathered, merge}
 use Rattle.l4_merge.proofs.Sorted.{sort_as_merged}
 
 -- The opening
-
-opening_locals : (m : Machine) (cpus : List ℕ) →
-    map (opening_local m) cpus ≡ map (λ (past : Past). past.local) (map (λ cpu. empty_past (opening_local m cpu)) cpus)
-opening_locals m [] = refl
-opening_locals m (cpu ∷ cpus) = ap (λ ls. opening_local m cpu ∷ ls) (opening_locals m cpus)
 
 none_posted : (m : Machine) (to : ℕ) (o : Option ℕ) → posted_in to (option_map (λ cpu. empty_past (opening_local m cpu)) o) ≡ []
 none_posted m to None = refl
@@ -29,25 +25,19 @@ none_handled m from (Some cpu) = refl
 
 pub opening_ends : (m : Machine) → EndsAt (opening_run m) (opening_pasts m)
 opening_ends m = record {
-  locals = opening_locals m (processors m);
+  locals = locals-map (λ cpu. empty_past (opening_local m cpu)) (processors m);
   mail = λ from to.
       let at = slice_get-map (λ cpu. empty_past (opening_local m cpu)) (processors m) in
       ap (posted_in to) (at from) ∙ none_posted m to (slice_get (processors m) from)
       ∙ ap (λ ls. ls ++ []) (sym (ap (handled_in from) (at to) ∙ none_handled m from (slice_get (processors m) to)));
 }
 
-opening_at : (m : Machine) (cpu : ℕ) (old : Past) → slice_get (opening_pasts m) cpu ≡ Some old → empty_past (opening_local m cpu) ≡ old
-opening_at m cpu old at =
-    let none : Past = empty_past (opening_local m cpu) in
-    let size : length (opening_pasts m) ≡ m.cpus = length-map-range_with_len (λ cpu. empty_past (opening_local m cpu)) 0 m.cpus in
-    let within = slice_get_within (opening_pasts m) cpu old at in
-    sym (get_or-map-range_with_len (λ cpu. empty_past (opening_local m cpu)) 0 m.cpus cpu cpu none (omega arith) (omega arith))
-    ∙ get_or_from_slice_get (opening_pasts m) cpu old none at
-
 pub all_worked : (m : Machine) (pasts : List Past) → AreWholePasts m pasts → HaveWorked m (opening_pasts m) pasts
 all_worked m pasts w = record {
   for_each = w.for_each ∙ sym (length-map-range_with_len (λ cpu. empty_past (opening_local m cpu)) 0 m.cpus);
-  each = λ cpu old new at now. subst (λ old. HasWorked m cpu old new) (opening_at m cpu old at) (w.each cpu new now);
+  each = λ cpu old new at now.
+      let opening = (of_processor m (λ cpu. empty_past (opening_local m cpu)) cpu old at).1 in
+      subst (λ old. HasWorked m cpu old new) opening (w.each cpu new now);
   in_order = w.in_order;
 }
 

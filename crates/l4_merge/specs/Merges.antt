@@ -1,12 +1,12 @@
 -- What is true of the events of all processors in order of stamp.
-use Rattle.std.specs.Prelude.{ℕ, ◌<◌, ◌≡◌, Bool, true, not, ◌&&◌, Some, List, ◌++◌, map, slice_get}
+use Rattle.std.specs.Prelude.{ℕ, ◌<◌, ◌==◌, ◌≡◌, Bool, true, not, ◌&&◌, Some, List, ◌++◌, map, filter, slice_get}
 use Rattle.std.specs.List.Sorted.{IsPermutation, IsSortedBy}
 use Rattle.l4_model.specs.Machine.{Machine}
 use Rattle.l4_core_model.specs.Local.{Local}
 use Rattle.l4_core_model.specs.Turns.{is_busy}
 use Rattle.l4_core_model.specs.Runs.{Event, Happening, Run, core_run, letters, is_earlier, merged, is_empty, at_rest}
 use Rattle.l4_core_model.specs.Laws.{IsCoreRun}
-use Rattle.l4_merge.specs.Pasts.{Past, letters_posted, letters_handled, all_events, added_events}
+use Rattle.l4_merge.specs.Pasts.{Past, letters_posted, letters_handled, AreWholePasts, all_events, added_events}
 
 -- A run ends where the processors are: it has their local states, and the letters posted of each pair are those handled and those
 -- under way.
@@ -32,6 +32,15 @@ pub record IsWholeRun (m : Machine) (pasts : List Past) (r : Run) : Type 0 where
 
 abbrev pub HaveWholeRun : Machine → List Past → Type 0
 HaveWholeRun m pasts = (r : Run) × IsWholeRun m pasts r
+
+-- The pasts of all processors in a core run: their logs are its events, and it ends where they are.
+pub record ArePastsOf (m : Machine) (r : Run) (pasts : List Past) : Type 0 where
+  pub whole : AreWholePasts m pasts
+  pub ends : EndsAt r pasts
+  pub logs : (cpu : ℕ) (past : Past) → slice_get pasts cpu ≡ Some past → past.events ≡ filter (λ e. e.cpu == cpu) r.events
+
+abbrev pub HasPasts : Machine → Run → Type 0
+HasPasts m r = (pasts : List Past) × ArePastsOf m r pasts
 
 -- However these events are sorted by stamp and processor, they come out as they are merged: no two have one stamp and one processor.
 abbrev pub SortAsMerged : List Event → Type 0

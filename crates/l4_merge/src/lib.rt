@@ -6,7 +6,7 @@ ghost use Rattle.l4_model.specs.Machine.{Machine};
 ghost use Rattle.l4_core_model.specs.Runs.{Event, Run, opening_run, at_rest, merged};
 ghost use Rattle.l4_core_model.specs.Laws.{IsCoreRun};
 ghost use Rattle.l4_merge.specs.Pasts.{Past, AreWholePasts, HaveWorked, opening_pasts, all_events};
-ghost use Rattle.l4_merge.specs.Merges.{EndsAt, IsMergedRun, HasMergedRun, HaveWholeRun, SortAsMerged, AreAtRest, HasReorderedRun};
+ghost use Rattle.l4_merge.specs.Merges.{EndsAt, IsMergedRun, HasMergedRun, HaveWholeRun, HasPasts, SortAsMerged, AreAtRest, HasReorderedRun};
 
 /// Processors that each keep a log, and handle the letters of each pair in the order in which they are posted, make a core run, whose
 /// events are those of all logs in order of stamp, however they are sorted. So it is of what they add to where a run has ended. The
@@ -15,6 +15,9 @@ pub fn law_merge()
     ensures whole { (m : Machine) (pasts : List Past) → AreWholePasts m pasts → HaveWholeRun m pasts }
     ensures sorted { (m : Machine) (pasts : List Past) → AreWholePasts m pasts → SortAsMerged (all_events pasts) }
     ensures count { (es : List Event) → length (merged es) ≡ length es }
+
+    // No more is asked of them than is true of each core run.
+    ensures pasts { (m : Machine) (r : Run) → IsCoreRun m r → HasPasts m r }
 
     ensures opening { (m : Machine) → EndsAt (opening_run m) (opening_pasts m) }
     ensures goes_on { (m : Machine) (before : Run) (olds news : List Past) →

@@ -1,0 +1,70 @@
+-- Processors that have worked from the opening on make a core run.
+use Rattle.std.proofs.Common.{◌≡◌, ℕ, List, [], ◌∷◌, ◌++◌, Option, Some, None, map, length, refl, ap, sym, ◌∙◌, subst, arith}
+use Rattle.std.specs.Prelude.{slice_get}
+use Rattle.std.specs.Option.{option_map}
+use Rattle.std.proofs.lemmas.Option.{slice_get-map}
+use Rattle.std.proofs.lemmas.List.FromFn.{length-map-range_with_len, length-range_with_len}
+use Rattle.l4_model.specs.Machine.{Machine}
+use Rattle.l4_core_model.specs.Local.{opening_local}
+use Rattle.l4_core_model.specs.Runs.{opening_run, processors, merged}
+use Rattle.l4_merge.specs.Pasts.{Past, empty_past, HasWorked, posted_in, handled_in, HaveWorked, AreWholePasts, opening_pasts, all_events, added_events}
+use Rattle.l4_merge.specs.Merges.{EndsAt, HaveWholeRun, SortAsMerged}
+use Rattle.l4_merge.proofs.Processors.{locals-map, of_processor}
+use Rattle.l4_merge.proofs.GoingOn.{pasts_ahead, gathered, merge}
+use Rattle.l4_merge.proofs.Sorted.{sort_as_merged}
+
+-- The opening
+
+none_posted : (m : Machine) (to : ℕ) (o : Option ℕ) → posted_in to (option_map (λ cpu. empty_past (opening_local m cpu)) o) ≡ []
+none_posted m to None = refl
+none_posted m to (Some cpu) = refl
+
+none_handled : (m : Machine) (from : ℕ) (o : Option ℕ) → handled_in from (option_map (λ cpu. empty_past (opening_local m cpu)) o) ≡ []
+none_handled m from None = refl
+none_handled m from (Some cpu) = refl
+
+pub opening_ends : (m : Machine) → EndsAt (opening_run m) (opening_pasts m)
+opening_ends m = record {
+  locals = locals-map (λ cpu. empty_past (opening_local m cpu)) (processors m);
+  mail = λ from to.
+      let at = slice_get-map (λ cpu. empty_past (opening_local m cpu)) (processors m) in
+      ap (posted_in to) (at from) ∙ none_posted m to (slice_get (processors m) from)
+      ∙ ap (λ ls. ls ++ []) (sym (ap (handled_in from) (at to) ∙ none_handled m from (slice_get (processors m) to)));
+}
+
+pub all_worked : (m : Machine) (pasts : List Past) → AreWholePasts m pasts → HaveWorked m (opening_pasts m) pasts
+all_worked m pasts w = record {
+  for_each = w.for_each ∙ sym (length-map-range_with_len (λ cpu. empty_past (opening_local m cpu)) 0 m.cpus);
+  each = λ cpu old new at now.
+      let opening = (of_processor m (λ cpu. empty_past (opening_local m cpu)) cpu old at).1 in
+      subst (λ old. HasWorked m cpu old new) opening (w.each cpu new now);
+  in_order = w.in_order;
+}
+
+-- To empty pasts all events are added
+
+added_to_none : (m : Machine) (cpus : List ℕ) (pasts : List Past) → length pasts ≡ length cpus →
+    added_events (map (λ cpu. empty_past (opening_local m cpu)) cpus) pasts ≡ all_events pasts
+added_to_none m [] [] size = refl
+added_to_none m [] (past ∷ pasts) size = absurd (omega arith)
+added_to_none m (cpu ∷ cpus) [] size = absurd (omega arith)
+added_to_none m (cpu ∷ cpus) (past ∷ pasts) size = ap (λ es. past.events ++ es) (added_to_none m cpus pasts (omega arith))
+
+pub added_to_opening : (m : Machine) (pasts : List Past) → AreWholePasts m pasts → added_events (opening_pasts m) pasts ≡ all_events pasts
+added_to_opening m pasts w = added_to_none m (processors m) pasts (w.for_each ∙ sym (length-range_with_len 0 m.cpus))
+
+-- The whole
+
+pub make_whole : (m : Machine) (pasts : List Past) → AreWholePasts m pasts → HaveWholeRun m pasts
+make_whole m pasts w =
+    let run = merge m (opening_run m) (opening_pasts m) pasts (opening_ends m) (all_worked m pasts w) in
+    let is = run.1 in
+    (run.0, record { core_run = (is.happenings, is.is); ends = is.ends; events = is.events ∙ ap merged (added_to_opening m pasts w) })
+
+pub whole_sorts_as_merged : (m : Machine) (pasts : List Past) → AreWholePasts m pasts → SortAsMerged (all_events pasts)
+whole_sorts_as_merged m pasts w =
+    let work = all_worked m pasts w in
+    let all = gathered m (opening_pasts m) pasts work in
+    let ahead = pasts_ahead m (opening_run m) (opening_pasts m) pasts (opening_ends m) work all in
+    subst SortAsMerged (all.are.told ∙ added_to_opening m pasts w)
+    (sort_as_merged m (opening_run m).system all.deeds (map (λ past. past.local) pasts) (λ from to. (work.in_order from to).rest) ahead)

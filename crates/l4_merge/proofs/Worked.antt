@@ -1,0 +1,75 @@
+-- A processor that goes on, deed by deed.
+use Rattle.std.proofs.Common.{◌≡◌, ℕ, List, [], ◌∷◌, ◌++◌, map, refl, ap, sym, ◌∙◌, append_assoc}
+use Rattle.std.proofs.lemmas.List.{append-nil, map-append}
+use Rattle.std.proofs.lemmas.List.Concat.{flat_map-append}
+use Rattle.l4_model.specs.Machine.{Machine}
+use Rattle.l4_core_model.specs.Letters.{Letter}
+use Rattle.l4_merge.specs.Deeds.{letter_of, Deed, told_by, posted_by, handled_by, letters_with, Does}
+use Rattle.l4_merge.specs.Pasts.{Past, HasWorked, Begins}
+use Rattle.l4_merge.proofs.Deeds.{lead-append}
+use Rattle.l4_merge.proofs.Mail.{letters_with-append}
+
+-- Where it does nothing, its past is the same.
+pub worked_none : (m : Machine) (cpu : ℕ) (past : Past) → HasWorked m cpu past past
+worked_none m cpu past = record {
+  deeds = [];
+  are = record {
+    lead = refl;
+    events = sym (append-nil past.events);
+    posted = λ to. sym (append-nil (past.posted to));
+    handled = λ from. sym (append-nil (past.handled from));
+  };
+}
+
+-- What one deed adds.
+pub record IsNext (m : Machine) (cpu : ℕ) (old new : Past) (d : Deed) : Type 0 where
+  pub does : Does m cpu old.local d
+  pub events : new.events ≡ old.events ++ told_by d ∷ []
+  pub posted : (to : ℕ) → new.posted to ≡ old.posted to ++ letters_with to d.work.letters
+  pub handled : (from : ℕ) → new.handled from ≡ old.handled from ++ letters_with from (letter_of d.event)
+  pub local : d.work.local ≡ new.local
+
+-- Where it does one deed, that is added.
+pub worked_one : (m : Machine) (cpu : ℕ) (old new : Past) (d : Deed) → IsNext m cpu old new d → HasWorked m cpu old new
+worked_one m cpu old new d next = record {
+  deeds = d ∷ [];
+  are = record {
+    lead = (next.does, next.local);
+    events = next.events;
+    posted = λ to. next.posted to ∙ ap (λ ls. old.posted to ++ letters_with to ls) (sym (append-nil d.work.letters));
+    handled = λ from. next.handled from ∙ ap (λ ls. old.handled from ++ letters_with from ls) (sym (append-nil (letter_of d.event)));
+  };
+}
+
+-- A list that goes on twice.
+goes_on : {A : Type 0} (old middle new first then all : List A) → middle ≡ old ++ first → new ≡ middle ++ then → all ≡ first ++ then → new ≡ old ++ all
+goes_on old middle new first then all is now both =
+    now ∙ ap (λ xs. xs ++ then) is ∙ append_assoc old first then ∙ ap (λ xs. old ++ xs) (sym both)
+
+-- It goes on twice.
+pub worked_trans : (m : Machine) (cpu : ℕ) (old middle new : Past) → HasWorked m cpu old middle → HasWorked m cpu middle new → HasWorked m cpu old new
+worked_trans m cpu old middle new first then =
+    let a = first.are in
+    let b = then.are in
+    let xs = first.deeds in
+    let ys = then.deeds in
+    record {
+      deeds = xs ++ ys;
+      are = record {
+        lead = lead-append m cpu old.local middle.local new.local xs ys a.lead b.lead;
+        events = goes_on old.events middle.events new.events (map told_by xs) (map told_by ys) _ a.events b.events (map-append told_by xs ys);
+        posted = λ to.
+            goes_on (old.posted to) (middle.posted to) (new.posted to) (letters_with to (posted_by xs)) (letters_with to (posted_by ys)) _ (a.posted to)
+            (b.posted to) (ap (letters_with to) (flat_map-append (λ (d : Deed). d.work.letters) xs ys) ∙ letters_with-append to (posted_by xs) (posted_by ys));
+        handled = λ from.
+            goes_on (old.handled from) (middle.handled from) (new.handled from) (letters_with from (handled_by xs)) (letters_with from (handled_by ys)) _
+            (a.handled from) (b.handled from)
+            (ap (letters_with from) (flat_map-append (λ (d : Deed). letter_of d.event) xs ys) ∙ letters_with-append from (handled_by xs) (handled_by ys));
+      };
+    }
+
+-- Of the letters of a pair, those posted are those taken and those under way, and those taken are those handled and those in hand.
+pub handled_begin : (posted taken handled in_hand under_way : List Letter) → posted ≡ taken ++ under_way → taken ≡ handled ++ in_hand →
+    Begins handled posted
+handled_begin posted taken handled in_hand under_way all some =
+    record { rest = in_hand ++ under_way; is = all ∙ ap (λ ls. ls ++ under_way) some ∙ append_assoc handled in_hand under_way }

@@ -1,0 +1,31 @@
+use Rattle.l4_merge.proofs.Wholes.{opening_ends, make_whole, whole_sorts_as_merged}
+use Rattle.l4_merge.proofs.Sorted.{length-merged}
+use Rattle.l4_merge.proofs.PastsOfRuns.{has_pasts}
+use Rattle.l4_merge.proofs.GoingOn.{merge}
+use Rattle.l4_merge.proofs.CoreRuns.{stays_core_run}
+use Rattle.l4_merge.proofs.Rest.{rests, rested}
+use Rattle.l4_merge.proofs.law_merge.Goals as goal
+
+pub returns-clause-whole : goal.returns-clause-whole
+returns-clause-whole c = make_whole
+
+pub returns-clause-sorted : goal.returns-clause-sorted
+returns-clause-sorted c = whole_sorts_as_merged
+
+pub returns-clause-count : goal.returns-clause-count
+returns-clause-count c = length-merged
+
+pub returns-clause-pasts : goal.returns-clause-pasts
+returns-clause-pasts c = has_pasts
+
+pub returns-clause-opening : goal.returns-clause-opening
+returns-clause-opening c = opening_ends
+
+pub returns-clause-goes_on : goal.returns-clause-goes_on
+returns-clause-goes_on c = merge
+
+pub returns-clause-core_run : goal.returns-clause-core_run
+returns-clause-core_run c = stays_core_run
+
+pub returns-clause-rest : goal.returns-clause-rest
+returns-clause-rest c = λ m pasts r ends. (rested m pasts r ends, rests m pasts r ends)

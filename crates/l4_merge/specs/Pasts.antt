@@ -1,0 +1,78 @@
+-- What the processors of a machine have done, as each of them knows it.
+use Rattle.std.specs.Prelude.{ℕ, ◌≡◌, length, drop, Option, Some, None, List, [], ◌∷◌, ◌++◌, map, slice_get}
+use Rattle.std.specs.List.{flat_map}
+use Rattle.l4_model.specs.Machine.{Machine}
+use Rattle.l4_core_model.specs.Letters.{Letter}
+use Rattle.l4_core_model.specs.Local.{Local, opening_local}
+use Rattle.l4_core_model.specs.Runs.{Event, processors}
+use Rattle.l4_merge.specs.Deeds.{Deed, told_by, posted_by, handled_by, letters_with, Lead}
+
+-- What a processor has done so far: its log of events, the letters that it has posted to each processor and handled of each, and the
+-- local state that it has come to.
+pub record Past : Type 0 where
+  pub events : List Event
+  pub posted : (to : ℕ) → List Letter
+  pub handled : (from : ℕ) → List Letter
+  pub local : Local
+
+-- The past of a processor that has done nothing.
+abbrev pub empty_past : Local → Past
+empty_past l = record { events = []; posted = λ to. []; handled = λ from. []; local = l }
+
+-- Deeds are what a processor did between an earlier past and a later one.
+pub record AreDeedsBetween (m : Machine) (cpu : ℕ) (old new : Past) (deeds : List Deed) : Type 0 where
+  pub lead : Lead m cpu old.local deeds new.local
+  pub events : new.events ≡ old.events ++ map told_by deeds
+  pub posted : (to : ℕ) → new.posted to ≡ old.posted to ++ letters_with to (posted_by deeds)
+  pub handled : (from : ℕ) → new.handled from ≡ old.handled from ++ letters_with from (handled_by deeds)
+
+-- A processor has gone on, by some deeds, from an earlier past to a later one.
+pub record HasWorked (m : Machine) (cpu : ℕ) (old new : Past) : Type 0 where
+  pub deeds : List Deed
+  pub are : AreDeedsBetween m cpu old new deeds
+
+abbrev pub posted_in : (to : ℕ) → Option Past → List Letter
+posted_in to None = []
+posted_in to (Some past) = past.posted to
+
+abbrev pub handled_in : (from : ℕ) → Option Past → List Letter
+handled_in from None = []
+handled_in from (Some past) = past.handled from
+
+-- The letters of an ordered pair of processors: those that the first one has posted, and those that the second one has handled.
+abbrev pub letters_posted : List Past → (from to : ℕ) → List Letter
+letters_posted pasts from to = posted_in to (slice_get pasts from)
+
+abbrev pub letters_handled : List Past → (from to : ℕ) → List Letter
+letters_handled pasts from to = handled_in from (slice_get pasts to)
+
+-- One list begins another.
+pub record Begins {A : Type 0} (first whole : List A) : Type 0 where
+  pub rest : List A
+  pub is : whole ≡ first ++ rest
+
+-- All processors have gone on, each by itself. The letters of each pair are handled in the order in which they are posted.
+pub record HaveWorked (m : Machine) (olds news : List Past) : Type 0 where
+  pub for_each : length news ≡ length olds
+  pub each : (cpu : ℕ) (old new : Past) → slice_get olds cpu ≡ Some old → slice_get news cpu ≡ Some new → HasWorked m cpu old new
+  pub in_order : (from to : ℕ) → Begins (letters_handled news from to) (letters_posted news from to)
+
+-- The same from the opening on: nothing that the processors of the machine did is missing.
+pub record AreWholePasts (m : Machine) (pasts : List Past) : Type 0 where
+  pub for_each : length pasts ≡ m.cpus
+  pub each : (cpu : ℕ) (past : Past) → slice_get pasts cpu ≡ Some past → HasWorked m cpu (empty_past (opening_local m cpu)) past
+  pub in_order : (from to : ℕ) → Begins (letters_handled pasts from to) (letters_posted pasts from to)
+
+-- The pasts of all processors at the opening.
+abbrev pub opening_pasts : Machine → List Past
+opening_pasts m = map (λ cpu. empty_past (opening_local m cpu)) (processors m)
+
+-- The events of all logs, processor by processor.
+abbrev pub all_events : List Past → List Event
+all_events pasts = flat_map (λ past. past.events) pasts
+
+-- The events that later pasts have and earlier ones do not, processor by processor.
+abbrev pub added_events : (olds news : List Past) → List Event
+added_events [] news = []
+added_events (old ∷ olds) [] = []
+added_events (old ∷ olds) (new ∷ news) = drop (length old.events) new.events ++ added_events olds news

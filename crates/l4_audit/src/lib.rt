@@ -5,6 +5,4 @@ pub mod audit;
 mod found;
 mod periods;
 mod queue;
-#[cfg(test)]
-mod tests;
 mod world;

@@ -123,32 +123,3 @@ pub(crate) fn spelled_ending(ending: Ending) -> &'static str
         Ending::Spent => "spent",
     }
 }
-
-#[cfg(test)]
-mod tests {
-    use super::*;
-    use l4_types::ids::GlobalId;
-    use l4_types::registers::Regs;
-    use std::test::Fail;
-
-    #[test]
-    fn mutual_sends_are_reported(rt: HostRuntime) -> Result<(), Fail> {
-        let one = GlobalId::new(1, 1).ok_or("1.1 is a global id")?;
-        let two = GlobalId::new(2, 1).ok_or("2.1 is a global id")?;
-        let sending = |id| ThreadView {
-            id,
-            state: State::Sending,
-            regs: Regs::new(),
-        };
-        let threads = [sending(one), sending(two)];
-        let first = Name::new(one, 1).ok_or("sends are counted from 1")?;
-        let second = Name::new(two, 1).ok_or("sends are counted from 1")?;
-        let waiting = [(first, two.id()), (second, one.id())];
-        let mut out = Vec::new(rt.alloc());
-        write_report(&threads, &waiting, Ending::Quiet, &mut out)?;
-        let text =
-            b"thread 1.1 sending 0 nil nil 0\nthread 2.1 sending 0 nil nil 0\nwaiting 1.1#1 2.1\nwaiting 2.1#1 1.1\nending quiet\n";
-        assert_eq!(rt; out.as_slice(), text.as_slice());
-        Ok(())
-    }
-}

@@ -100,35 +100,3 @@ fn passed(alloc: Global, machine: &Machine, history: &[Step]) -> Result<Audit, N
         Err(AuditFault::Refused { .. }) => unreachable!(),
     }
 }
-
-#[cfg(test)]
-mod tests {
-    use super::*;
-    use l4_types::reports::Ending;
-    use std::test::Fail;
-
-    const TEXT: &[u8] =
-        b"l4 1 64\ncpus 1\nthread 1.1 cpu 0 space 1\nset 1 10\ntag 0x70001\nipc 2.1 nil never never\nthread 2.1 cpu 0 space 2\nipc nil any never never\n";
-
-    const TRACE: &[u8] =
-        b"local 1.1\nwait 2.1\nlocal 1.1\nbegin 1.1#1\nqueue 1.1#1\ndeliver 1.1#1 2.1 1.1 1.1 70001 a\nlocal 2.1\nlocal 1.1\n";
-
-    #[test]
-    fn what_is_written_is_read_and_passes(rt: HostRuntime) -> Result<(), Fail> {
-        let machine = Machine::parse(rt.alloc(), TEXT).ok().ok_or("a machine")?;
-        let ran = audited_run(rt.alloc(), &machine, 100).ok().ok_or("a run")?;
-        assert_eq!(rt; ran.trace.as_slice(), TRACE);
-        assert_eq!(rt; ran.audit.ending, Ending::Quiet);
-        let replayed = audited_replay(rt.alloc(), &machine, &[0; 8])
-            .ok()
-            .ok_or("a replay")?;
-        assert_eq!(rt; replayed.trace.as_slice(), TRACE);
-        assert_eq!(rt; replayed.audit.ending, Ending::Quiet);
-        let begun = audited_replay(rt.alloc(), &machine, &[0; 2])
-            .ok()
-            .ok_or("a replay")?;
-        assert_eq!(rt; begun.trace.as_slice(), b"local 1.1\nwait 2.1\n".as_slice());
-        assert_eq!(rt; begun.audit.ending, Ending::Spent);
-        Ok(())
-    }
-}

@@ -1,6 +1,9 @@
-//! Tests that go the program's whole way: from the words of a command line and a machine text to the exit status and to what is written.
+//! Tests that go the program's whole way: from the words of a command line and a machine text to the exit status and to what is written. And tests
+//! of the calls of single crates, which stand here since a crate with tests of its own is proved twice.
 #![tactic(auto)]
 
+#[cfg(test)]
+mod arena;
 #[cfg(test)]
 mod audits;
 #[cfg(test)]
@@ -16,6 +19,8 @@ mod program;
 #[cfg(test)]
 mod receives;
 #[cfg(test)]
+mod round_trips;
+#[cfg(test)]
 mod runs;
 #[cfg(test)]
 mod schedules;
@@ -25,5 +30,9 @@ mod texts;
 mod ticks;
 #[cfg(test)]
 mod times;
+#[cfg(test)]
+mod traces;
+#[cfg(test)]
+mod values;
 #[cfg(test)]
 mod words;

@@ -160,6 +160,7 @@ fn each_kind_of_fault_is_named_with_its_line(rt: HostRuntime) -> Result<(), Fail
         ("jump 9\nset 0 1\n", "5: BadNumber"),
         ("set  1 1\n", "4: BadLine"),
         ("set 1 01\n", "4: BadNumber"),
+        ("set 1 18446744073709551616\n", "4: BadNumber"),
         ("set 1 0xA\n", "4: BadNumber"),
     ] {
         is_faulty(&rt, ONE_THREAD, script, line)?;
@@ -178,9 +179,11 @@ fn each_operand_of_an_ipc_and_an_order_has_its_fault(rt: HostRuntime) -> Result<
         ("ipc 2.1 any never\n", "4: BadLine"),
         ("vs last\n", "4: BadId"),
         ("vs\n", "4: BadLine"),
+        ("vs 1.0\n", "4: BadId"),
         ("exregs 1.64 S\n", "4: BadId"),
         ("exregs last S\n", "4: BadId"),
         ("exregs 1.64 RS\n", "4: BadLine"),
+        ("exregs 1.64 delete\n", "4: BadLine"),
         ("exregs 1.1\n", "4: BadLine"),
         ("delete last\n", "4: BadId"),
         ("delete 1.1 S\n", "4: BadLine"),

@@ -61,6 +61,3 @@ pub fn law_canonical_text()
     ensures read_back { IsReadBack }
     ensures each { EachHasText }
 {}
-
-#[cfg(test)]
-mod tests;

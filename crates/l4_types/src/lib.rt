@@ -11,6 +11,4 @@ pub mod registers;
 pub mod reports;
 pub mod steps;
 pub mod tags;
-#[cfg(test)]
-mod tests;
 pub mod times;

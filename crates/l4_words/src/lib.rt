@@ -5,7 +5,5 @@
 
 pub mod lines;
 pub mod numbers;
-#[cfg(test)]
-mod tests;
 pub mod threads;
 pub mod words;

@@ -16,8 +16,6 @@ use std::alloc::Global;
 use std::marker::Model;
 
 mod links;
-#[cfg(test)]
-mod tests;
 mod wheel;
 
 use links::Rings;

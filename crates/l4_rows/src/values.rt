@@ -1,12 +1,13 @@
-use crate::errors::{IpcError, NoMemory};
-use crate::ids::{GlobalId, Kind, ThreadId};
-use crate::letters::{Content, Letter};
-use crate::messages::Message;
-use crate::registers::Regs;
-use crate::steps::{Delivery, Name, Step, Tick};
-use crate::tags::{MsgTag, TagFault};
-use crate::times::{Period, time_of, timeouts};
+// The values of ids, tags, times, names, messages and codes.
 use arrayvec::ArrayVec;
+use l4_types::errors::{IpcError, NoMemory};
+use l4_types::ids::{GlobalId, Kind, ThreadId};
+use l4_types::letters::{Content, Letter};
+use l4_types::messages::Message;
+use l4_types::registers::Regs;
+use l4_types::steps::{Delivery, Name, Step, Tick};
+use l4_types::tags::{MsgTag, TagFault};
+use l4_types::times::{Period, time_of, timeouts};
 use std::alloc::AllocError;
 use std::test::Fail;
 

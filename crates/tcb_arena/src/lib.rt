@@ -9,6 +9,7 @@
 ghost use Rattle.std.specs.Prelude.{◌≡◌, ◌<◌, false, length, slice_get, IfOk, IfSome};
 ghost use Rattle.l4_core_model.specs.Plain.{list_of, is_queued, queued, unqueued, first_taken, made_ready, dropped, popped, armed, disarmed, due_block};
 ghost use Rattle.tcb_arena.specs.Blocks.{is_ready, is_armed, least_deadline, without_due, empty_lists};
+ghost use Rattle.tcb_arena.specs.Due.{IsFirstOfRing};
 
 use l4_types::errors::NoMemory;
 use l4_types::ids::{GlobalId, ThreadId};
@@ -16,6 +17,7 @@ use std::alloc::Global;
 use std::marker::Model;
 
 mod links;
+mod ring_set;
 #[cfg(test)]
 mod tests;
 mod wheel;
@@ -58,8 +60,6 @@ pub struct Arena {
     // One ring.
     ready: Rings,
     wheel: Wheel,
-    // No armed deadline is before it.
-    floor: u64,
 }
 
 impl Model for Arena {
@@ -71,7 +71,7 @@ impl Model for Arena {
 
     ghost view = { λ a. shown_lists a.waiting a.senders.items a.ready a.wheel };
 
-    ghost invariant = { λ a. AreBlocks a.waiting a.senders.items a.ready a.wheel a.floor };
+    ghost invariant = { λ a. AreBlocks a.waiting a.senders.items a.ready a.wheel };
 }
 
 impl Arena {
@@ -88,7 +88,6 @@ impl Arena {
             senders,
             ready,
             wheel,
-            floor: u64::MAX,
         })
     }
 
@@ -195,7 +194,6 @@ impl Arena {
         requires free { is_armed self.old block ≡ false }
         ensures { self.new ≡ armed deadline block self.old }
     {
-        self.floor = self.floor.min(deadline);
         self.wheel.arm(block, deadline);
     }
 
@@ -211,8 +209,7 @@ impl Arena {
     pub fn least_deadline(&self) -> Option<u64>
         ensures { result ≡ least_deadline self.now }
     {
-        let (deadline, _) = self.wheel.first()?;
-        Some(deadline)
+        self.wheel.least_deadline()
     }
 
     /// The first armed block, of equal deadlines that which was armed first, where its deadline is not after `now`.
@@ -220,12 +217,7 @@ impl Arena {
         ensures due { result ≡ due_block now self.old.armed }
         ensures same { self.new ≡ self.old }
     {
-        if now < self.floor {
-            return None;
-        }
-        let (deadline, block) = self.wheel.first()?;
-        self.floor = deadline;
-        if deadline <= now { Some(block) } else { None }
+        self.wheel.first_due(now)
     }
 
     /// Disarms the first armed block, of equal deadlines that which was armed first, where its deadline is not after
@@ -235,12 +227,17 @@ impl Arena {
         ensures rest { self.new ≡ without_due now self.old }
         ensures gone { IfSome result (λ block. is_armed self.new block ≡ false) }
     {
-        let (deadline, first) = self.wheel.first()?;
-        if deadline > now {
-            return None;
-        }
+        let first = self.wheel.first_due(now)?;
         self.wheel.disarm(first);
         Some(first)
+    }
+
+    /// The first block of a ring, below 64: of the blocks that are armed for deadlines of this remainder by 64, that which was armed first.
+    pub fn ring_first(&self, ring: usize) -> Option<usize>
+        requires { ring < 64 }
+        ensures { IsFirstOfRing self.now ring result }
+    {
+        self.wheel.ring_first(ring)
     }
 }
 

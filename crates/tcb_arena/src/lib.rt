@@ -1,9 +1,11 @@
 //! The blocks of one processor in linked rings: for each block the sends that wait at it, the ready blocks, and those
 //! that are armed for a deadline.
 //!
-//! No call but `Arena::new` takes memory. `Arena::first_accepted` looks at the sends before the one that it finds, and
-//! `Arena::least_deadline`, `Arena::pop_due`, and, once a deadline that was the least is past,
-//! `Arena::first_due` look at every armed block; every other call takes the same few steps whatever stands in the lists.
+//! No call but `Arena::new` takes memory. `Arena::first_accepted` looks at the sends before the one that it finds. `Arena::first_due`,
+//! `Arena::pop_due` and `Arena::least_deadline` look for the first armed block, but only where an earlier call has not left it, and the first two
+//! only once a deadline may be past. Armed blocks stand in 64 rings by the remainders of their deadlines; the look goes over the rings that have a
+//! block, and over the blocks of those where one may be earlier than the best so far. These are few where the deadlines have many remainders, and all
+//! armed blocks where they have one. Every other call takes the same few steps whatever stands in the lists.
 #![tactic(auto)]
 
 ghost use Rattle.std.specs.Prelude.{◌≡◌, ◌<◌, false, length, slice_get, IfOk, IfSome};
@@ -21,6 +23,8 @@ mod ring_set;
 #[cfg(test)]
 mod tests;
 mod wheel;
+#[cfg(test)]
+mod wheel_tests;
 
 use links::Rings;
 use wheel::Wheel;
@@ -232,7 +236,7 @@ impl Arena {
         Some(first)
     }
 
-    /// The first block of a ring, below 64: of the blocks that are armed for deadlines of this remainder by 64, that which was armed first.
+    /// The first block of a ring, which is below 64: of the blocks whose deadlines have this remainder by 64, that which was armed first.
     pub fn ring_first(&self, ring: usize) -> Option<usize>
         requires { ring < 64 }
         ensures { IsFirstOfRing self.now ring result }

@@ -35,12 +35,12 @@ impl RingSet {
         self.bits &= !(1 << ring);
     }
 
-    /// Puts a ring in where it has a block, and else takes it out.
-    pub fn set(&mut self, ring: usize, has_block: bool)
+    /// Puts a ring in where `is_in` says so, and else takes it out.
+    pub fn set(&mut self, ring: usize, is_in: bool)
         requires { ring < 64 }
-        ensures { (other : ℕ) → other < 64 → has self.new.bits other ≡ (if other == ring then has_block else has self.old.bits other) }
+        ensures { (other : ℕ) → other < 64 → has self.new.bits other ≡ (if other == ring then is_in else has self.old.bits other) }
     {
-        if has_block {
+        if is_in {
             self.insert(ring);
         } else {
             self.remove(ring);

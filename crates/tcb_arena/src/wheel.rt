@@ -113,7 +113,13 @@ impl Wheel {
             return Some(self.floor);
         }
         let mut floors = self.floors;
-        let (deadline, _) = search(&self.rings, &self.deadlines, self.filled, &mut floors, self.floor)?;
+        let (deadline, _) = search(
+            &self.rings,
+            &self.deadlines,
+            self.filled,
+            &mut floors,
+            self.floor,
+        )?;
         Some(deadline)
     }
 
@@ -147,7 +153,13 @@ impl Wheel {
         if let Some(block) = self.first {
             return Some((self.floor, block));
         }
-        let found = search(&self.rings, &self.deadlines, self.filled, &mut self.floors, self.floor);
+        let found = search(
+            &self.rings,
+            &self.deadlines,
+            self.filled,
+            &mut self.floors,
+            self.floor,
+        );
         match found {
             Some((deadline, block)) => {
                 self.floor = deadline;
@@ -240,7 +252,12 @@ fn best_with_ring(
 
 // The earliest block of a ring with its deadline, of equal ones the first. No deadline in the ring is before the floor, so one that is the floor ends the
 // look.
-fn earliest_of_ring(rings: &Rings, deadlines: &Vec<u64>, ring: usize, floor: u64) -> Option<(u64, usize)>
+fn earliest_of_ring(
+    rings: &Rings,
+    deadlines: &Vec<u64>,
+    ring: usize,
+    floor: u64,
+) -> Option<(u64, usize)>
     requires ring { ring < head_count rings.now }
     requires deadlines { length deadlines.now.items ≡ rings.now.names }
     requires floor { (k block : ℕ) → slice_get (list_at rings.now ring) k ≡ Some block → floor ≤ slice_index deadlines.now.items block }

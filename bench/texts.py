@@ -108,6 +108,26 @@ def crowd(count):
     return senders + [thread(count + 1, ["ipc nil any never never", "jump 0"])]
 
 
-def sleepers(count):
-    """Threads that wait again and again, each for a time of its own of at most 1,023 ticks."""
-    return [thread(number, [f"ipc nil any never {number}", "jump 0"]) for number in range(1, count + 1)]
+def sleepers(times):
+    """Threads that wait again and again, each for a time of its own. A time is the word of a receive timeout: 1,024 e + m is 2^e m ticks."""
+    return [thread(number, [f"ipc nil any never {time}", "jump 0"]) for number, time in enumerate(times, 1)]
+
+
+def own_times(count):
+    """Different times, of at most 1,023 ticks."""
+    return range(1, count + 1)
+
+
+def shared_times(count):
+    """Ten times, from 100 to 1,000 ticks."""
+    return [100 * (number % 10 + 1) for number in range(count)]
+
+
+def times_of_one_remainder(count):
+    """Different times of 64 ticks and their multiples, so that all deadlines have one remainder by 64."""
+    return [6 * 1_024 + number for number in range(1, count + 1)]
+
+
+def armed(count):
+    """Threads that wait, each for a time of its own that does not come while others are busy."""
+    return [thread(10_000 + number, [f"ipc nil any never {31 * 1_024 + 1 + number}"]) for number in range(count)]

@@ -29,13 +29,17 @@ def placed(busy):
 
 def machines():
     """The machines of the second table."""
+    most = texts.MOST_THREADS - 1
     pairs = [thread for first in range(1, texts.MOST_THREADS, 2) for thread in texts.calling(first, first + 1)]
     return {
         "two that call each other": texts.machine(texts.calling(1, 2)),
-        "the same behind 1,022 that wait": texts.machine(texts.waiting(texts.MOST_THREADS - 2) + texts.calling(1, 2)),
+        "the same behind 1,022 that wait": texts.machine(texts.waiting(most - 1) + texts.calling(1, 2)),
+        "the same behind 1,022 that are armed": texts.machine(texts.armed(most - 1) + texts.calling(1, 2)),
         "512 such pairs": texts.machine(pairs),
-        "1,023 senders to one receiver": texts.machine(texts.crowd(texts.MOST_THREADS - 1)),
-        "1,023 that wait for a time": texts.machine(texts.sleepers(texts.MOST_THREADS - 1)),
+        "1,023 senders to one receiver": texts.machine(texts.crowd(most)),
+        "1,023 that wait, each for a time of its own": texts.machine(texts.sleepers(texts.own_times(most))),
+        "1,023 that wait, by the hundred for one time": texts.machine(texts.sleepers(texts.shared_times(most))),
+        "1,023 whose deadlines have one remainder": texts.machine(texts.sleepers(texts.times_of_one_remainder(most))),
     }
 
 

@@ -11,6 +11,8 @@ mod calls;
 #[cfg(test)]
 mod codes;
 #[cfg(test)]
+mod deadlines;
+#[cfg(test)]
 mod faults;
 #[cfg(test)]
 mod orders;

@@ -187,7 +187,7 @@ entries-without ds b (y ∷ ys) =
     elim (eqb b y) as (λ (t : Bool). map (entry ds) (cond (not t) (y ∷ without b ys) (without b ys)) ≡ cond (not t) (entry ds y ∷ without_block b (map (entry ds) ys)) (without_block b (map (entry ds) ys)))
     [ true ↦ entries-without ds b ys | false ↦ ap (λ (r : List E). entry ds y ∷ r) (entries-without ds b ys) ]
 
-all_entries-without : (ds : List ℕ) (b : ℕ) (ls : List (List ℕ)) → map (map (entry ds)) (map (without b) ls) ≡ map (without_block b) (map (map (entry ds)) ls)
+pub all_entries-without : (ds : List ℕ) (b : ℕ) (ls : List (List ℕ)) → map (map (entry ds)) (map (without b) ls) ≡ map (without_block b) (map (map (entry ds)) ls)
 all_entries-without ds b [] = refl
 all_entries-without ds b (l ∷ ls) =
     ap (λ (r : List (List E)). map (entry ds) (without b l) ∷ r) (all_entries-without ds b ls) ∙ ap (λ (r : List E). r ∷ map (without_block b) (map (map (entry ds)) ls)) (entries-without ds b l)
@@ -208,35 +208,40 @@ all_entries-absent ds b d (l ∷ ls) h =
     let parts : (is_in b l ≡ false) × (is_in_any b ls ≡ false) = or_parts (is_in b l) (is_in_any b ls) h in
     ap (λ (r : List E). r ∷ map (map (entry (set ds b d))) ls) (entries-absent ds b d l parts.0) ∙ ap (λ (r : List (List E)). map (entry ds) l ∷ r) (all_entries-absent ds b d ls parts.1)
 
-entries-at : (ds : List ℕ) (ls : List (List ℕ)) (h : ℕ) → get_or (map (map (entry ds)) ls) h [] ≡ map (entry ds) (get_or ls h [])
+pub entries-at : (ds : List ℕ) (ls : List (List ℕ)) (h : ℕ) → get_or (map (map (entry ds)) ls) h [] ≡ map (entry ds) (get_or ls h [])
 entries-at ds [] h = refl
 entries-at ds (l ∷ ls) zero = refl
 entries-at ds (l ∷ ls) (suc h) = entries-at ds ls h
 
-entry-from : (ds ys : List ℕ) (k : ℕ) (e : E) → slice_get (map (entry ds) ys) k ≡ Some e → (slice_get ys k ≡ Some e.1) × (get_or ds e.1 0 ≡ e.0)
+pub entry-from : (ds ys : List ℕ) (k : ℕ) (e : E) → slice_get (map (entry ds) ys) k ≡ Some e → (slice_get ys k ≡ Some e.1) × (get_or ds e.1 0 ≡ e.0)
 entry-from ds [] k e h = absurd (cc)
 entry-from ds (y ∷ ys) zero e h = let p : entry ds y ≡ e = cc in (ap (λ (z : E). Some z.1) p, ap (λ (z : E). get_or ds z.1 0) (sym p) ∙ ap (λ (z : E). z.0) p)
 entry-from ds (y ∷ ys) (suc k) e h = entry-from ds ys k e h
 
--- A block armed at the end of the ring of its deadline.
-pub armed-put : (n : ℕ) (ds : List ℕ) (b d r : ℕ) (ls : List (List ℕ)) → b < length ds → r < length ls → d % n ≡ r → is_in_any b ls ≡ false
-    → ((h k x : ℕ) → slice_get (get_or ls h []) k ≡ Some x → get_or ds x 0 % n ≡ h)
-    → put_rings [] (map (map (entry (set ds b d))) (set ls r (get_or ls r [] ++ b ∷ []))) ≡ put_entry (d, b) (put_rings [] (map (map (entry ds)) ls))
-armed-put n ds b d r ls lb lr er free placed =
+-- A block armed at the end of a ring.
+pub entries-put : (ds : List ℕ) (b d r : ℕ) (ls : List (List ℕ)) → b < length ds → is_in_any b ls ≡ false
+    → map (map (entry (set ds b d))) (set ls r (get_or ls r [] ++ b ∷ [])) ≡ set (map (map (entry ds)) ls) r (get_or (map (map (entry ds)) ls) r [] ++ (d, b) ∷ [])
+entries-put ds b d r ls lb free =
     let g : ℕ → E = entry (set ds b d) in
     let es : List (List E) = map (map (entry ds)) ls in
     let own : g b ≡ (let e : E = (d, b) in e) = ap (λ (m : ℕ). let e : E = (m, b) in e) (get_or-set_same ds b d 0 lb) in
-    let apart : (h k : ℕ) (x : E) → r < h → slice_get (get_or es h []) k ≡ Some x → d ≢ x.0 = λ h k x l t.
-    let from : (slice_get (get_or ls h []) k ≡ Some x.1) × (get_or ds x.1 0 ≡ x.0) = entry-from ds (get_or ls h []) k x (ap (λ (ys : List E). slice_get ys k) (sym (entries-at ds ls h)) ∙ t) in
-    λ (e : d ≡ x.0). let other : d % n ≡ h = ap (λ m. m % n) (e ∙ sym from.1) ∙ placed h k x.1 from.0 in absurd (omega arith) in
-    ap (put_rings [])
-    (map-set (map g) ls r (get_or ls r [] ++ b ∷ [])
+    map-set (map g) ls r (get_or ls r [] ++ b ∷ [])
     ∙ ap (λ (w : List (List E)). set w r (map g (get_or ls r [] ++ b ∷ []))) (all_entries-absent ds b d ls free)
     ∙ ap (λ (w : List E). set es r w)
     (map_push g (get_or ls r []) b
     ∙ ap (λ (w : List E). w ++ g b ∷ []) (entries-absent ds b d (get_or ls r []) (is_in-at b r ls free) ∙ sym (entries-at ds ls r))
-    ∙ ap (λ (e : E). get_or es r [] ++ e ∷ []) own))
-    ∙ put_rings_push (d, b) r es [] (omega (arith, length-map ls (map (entry ds)))) apart
+    ∙ ap (λ (e : E). get_or es r [] ++ e ∷ []) own)
+
+-- Where it is the ring of its deadline, it is armed in the plain list.
+pub armed-put : (n : ℕ) (ds : List ℕ) (b d r : ℕ) (ls : List (List ℕ)) → r < length ls → d % n ≡ r
+    → ((h k x : ℕ) → slice_get (get_or ls h []) k ≡ Some x → get_or ds x 0 % n ≡ h)
+    → put_rings [] (set (map (map (entry ds)) ls) r (get_or (map (map (entry ds)) ls) r [] ++ (d, b) ∷ [])) ≡ put_entry (d, b) (put_rings [] (map (map (entry ds)) ls))
+armed-put n ds b d r ls lr er placed =
+    let es : List (List E) = map (map (entry ds)) ls in
+    let apart : (h k : ℕ) (x : E) → r < h → slice_get (get_or es h []) k ≡ Some x → d ≢ x.0 = λ h k x l t.
+    let from : (slice_get (get_or ls h []) k ≡ Some x.1) × (get_or ds x.1 0 ≡ x.0) = entry-from ds (get_or ls h []) k x (ap (λ (ys : List E). slice_get ys k) (sym (entries-at ds ls h)) ∙ t) in
+    λ (e : d ≡ x.0). let other : d % n ≡ h = ap (λ m. m % n) (e ∙ sym from.1) ∙ placed h k x.1 from.0 in absurd (omega arith) in
+    put_rings_push (d, b) r es [] (omega (arith, length-map ls (map (entry ds)))) apart
 
 -- Where the blocks of the rings come from
 
@@ -329,15 +334,3 @@ best-more ds ys k x acc h =
     ∙ ap (λ (r : List E). slice_get (put_all acc r) 0) (map_push (entry ds) (take k ys) x)
     ∙ ap (λ (r : List E). slice_get r 0) (put_all_push (entry ds x) (map (entry ds) (take k ys)) acc)
     ∙ first-put (entry ds x) (put_all acc (map (entry ds) (take k ys)))
-
--- What the first r rings make, and one more.
-abbrev pub rings_upto : List ℕ → List (List ℕ) → ℕ → List E
-rings_upto ds ls r = put_rings [] (map (map (entry ds)) (take r ls))
-
-rings-more' : (ds : List ℕ) (ls : List (List ℕ)) (r : ℕ) (acc : List E) → r < length ls → put_rings acc (map (map (entry ds)) (take (suc r) ls)) ≡ put_all (put_rings acc (map (map (entry ds)) (take r ls))) (map (entry ds) (get_or ls r []))
-rings-more' ds [] r acc h = absurd (omega arith)
-rings-more' ds (l ∷ ls) zero acc h = refl
-rings-more' ds (l ∷ ls) (suc r) acc h = rings-more' ds ls r (put_all acc (map (entry ds) l)) (omega arith)
-
-pub rings-more : (ds : List ℕ) (ls : List (List ℕ)) (r : ℕ) → r < length ls → rings_upto ds ls (r + 1) ≡ put_all (rings_upto ds ls r) (map (entry ds) (get_or ls r []))
-rings-more ds ls r h = ap (rings_upto ds ls) (add-one r) ∙ rings-more' ds ls r [] h

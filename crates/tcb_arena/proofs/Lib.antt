@@ -1,9 +1,11 @@
 pub mod Changes
 pub mod Entries
 pub mod Finding
+pub mod Floors
 pub mod Lists
 pub mod Once
-pub mod Rising
+pub mod RingBits
+pub mod Seeking
 pub mod Showing
 pub mod Splices
 pub mod Walks

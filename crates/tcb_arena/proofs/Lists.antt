@@ -137,12 +137,12 @@ is_in_any-range f y a (suc n) h =
 -- A name that stands in one place alone
 
 -- A list without a name that it has not.
-without_absent : (x : ℕ) (ys : List ℕ) → ((j : ℕ) → slice_get ys j ≡ Some x → ⊥) → without x ys ≡ ys
+pub without_absent : (x : ℕ) (ys : List ℕ) → ((j : ℕ) → slice_get ys j ≡ Some x → ⊥) → without x ys ≡ ys
 without_absent x [] h = refl
 without_absent x (y ∷ ys) h =
     without_there x y ys (λ e. h 0 (ap Some (sym e))) ∙ ap (λ (r : List ℕ). y ∷ r) (without_absent x ys (λ j e. h (suc j) e))
 
-without_all_absent : (x : ℕ) (ls : List (List ℕ)) → ((h j : ℕ) → slice_get (get_or ls h []) j ≡ Some x → ⊥) → map (without x) ls ≡ ls
+pub without_all_absent : (x : ℕ) (ls : List (List ℕ)) → ((h j : ℕ) → slice_get (get_or ls h []) j ≡ Some x → ⊥) → map (without x) ls ≡ ls
 without_all_absent x [] h = refl
 without_all_absent x (l ∷ ls) h =
     ap (λ (r : List (List ℕ)). without x l ∷ r) (without_all_absent x ls (λ i j t. h (suc i) j t)) ∙ ap (λ (r : List ℕ). r ∷ ls) (without_absent x l (λ j t. h 0 j t))

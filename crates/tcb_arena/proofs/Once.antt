@@ -6,7 +6,7 @@ use Rattle.std.specs.List.{list_any}
 use Rattle.l4_core_model.specs.Plain.{put_entry, without_block}
 use Rattle.tcb_arena.specs.Blocks.{has_entry}
 use Rattle.tcb_arena.specs.Rings.{Lists, AreSound, is_in, is_in_any}
-use Rattle.tcb_arena.specs.Due.{Due, AreOnce, IsWheel, times_armed, shown_due, put_all, put_rings, entry}
+use Rattle.tcb_arena.specs.Due.{Due, armed_of, AreOnce, ArePlaced, times_armed, shown_due, put_all, put_rings, entry}
 use Rattle.tcb_arena.proofs.Entries.{E, put_le, put_lt, is_in-get, any-put_rings, without_here, without_there}
 
 times-put : (b : ℕ) (e : E) (xs : List E) → times_armed b (put_entry e xs) ≡ times_armed b (e ∷ xs)
@@ -109,20 +109,19 @@ any-get [] k e h = absurd (cc)
 any-get (x ∷ xs) zero e h = let p : x ≡ e = cc in or_left (eqb e.1 x.1) (list_any (λ (y : E). eqb e.1 y.1) xs) (eq-eqb e.1 x.1 (ap (λ (z : E). z.1) (sym p)))
 any-get (x ∷ xs) (suc k) e h = or_right (eqb e.1 x.1) (list_any (λ (y : E). eqb e.1 y.1) xs) (any-get xs k e h)
 
-pub once-shown : (n : ℕ) (ds : List ℕ) (s : Lists) (v : Due) → IsWheel n ds s → AreSound s → shown_due ds s ≡ v → AreOnce v
-once-shown n ds s v w sound e =
-    let armed : put_rings [] (map (map (entry ds)) s.lists) ≡ v.armed = ap (λ (x : Due). x.armed) e in
-    let blocks : length ds ≡ v.blocks = ap (λ (x : Due). x.blocks) e in
-    record {
-      once = λ b.
-          let all : times_armed b v.armed ≡ 0 + times_in_all b s.lists = ap (times_armed b) (sym armed) ∙ times-put_rings ds b s.lists [] in
-          let one : times_in_all b s.lists ≤ 1 = once_in_all b s.lists (λ h i k j p q. sound.apart h i k j b p q) in
-          omega (arith, all, one);
-      below = λ k x h.
-          let any : is_in_any x.1 s.lists ≡ true = sym (any-put_rings ds x.1 s.lists []) ∙ ap (list_any (λ (y : E). eqb x.1 y.1)) armed ∙ any-get v.armed k x h in
-          let p : (h : ℕ) × (k : ℕ) × (slice_get (get_or s.lists h []) k ≡ Some x.1) = get-in-any x.1 s.lists any in
-          omega (arith, sound.below p.0 p.1 x.1 p.2, w.names, blocks);
-    }
+pub once-shown : (n : ℕ) (ds : List ℕ) (s : Lists) (v : Due) → ArePlaced n ds s → AreSound s → shown_due ds s ≡ v → AreOnce v
+once-shown n ds s v w sound e = record {
+  once = λ b.
+      let all : times_armed b (armed_of v) ≡ 0 + times_in_all b s.lists = ap (λ (x : Due). times_armed b (armed_of x)) (sym e) ∙ times-put_rings ds b s.lists [] in
+      let one : times_in_all b s.lists ≤ 1 = once_in_all b s.lists (λ h i k j p q. sound.apart h i k j b p q) in
+      omega (arith, all, one);
+}
+
+pub within-shown : (n : ℕ) (ds : List ℕ) (s : Lists) (v : Due) → ArePlaced n ds s → shown_due ds s ≡ v → (k : ℕ) (x : E) → slice_get (armed_of v) k ≡ Some x → x.1 < v.blocks
+within-shown n ds s v w e k x h =
+    let any : is_in_any x.1 s.lists ≡ true = sym (any-put_rings ds x.1 s.lists []) ∙ ap (λ (y : Due). list_any (λ (z : E). eqb x.1 z.1) (armed_of y)) e ∙ any-get (armed_of v) k x h in
+    let p : (h : ℕ) × (k : ℕ) × (slice_get (get_or s.lists h []) k ≡ Some x.1) = get-in-any x.1 s.lists any in
+    omega (arith, w.within p.0 p.1 x.1 p.2, ap (λ (y : Due). y.blocks) e)
 
 -- An entry taken out
 

@@ -1,14 +1,14 @@
 -- The plain lists of an `Arena` beside the names in its rings.
-use Rattle.std.specs.Prelude.{replicate, slice_get, Some, None, Option, is_some}
-use Rattle.std.proofs.Common.{◌≡◌, ℕ, ◌<◌, ◌≤◌, Bool, true, false, not, cond, eqb, leb, ◌||◌, List, [], ◌∷◌, ◌++◌, length, map, filter, get_or, set, refl, sym, ◌∙◌, ap, get_or-set_same, get_or-set_other, zero, suc}
+use Rattle.std.specs.Prelude.{replicate, drop, slice_get, Some, None, Option, is_some}
+use Rattle.std.proofs.Common.{◌≡◌, ℕ, ◌<◌, ◌≤◌, Bool, true, false, not, cond, eqb, leb, ◌||◌, List, [], ◌∷◌, ◌++◌, length, map, filter, get_or, set, refl, sym, ◌∙◌, ap, subst, get_or-set_same, get_or-set_other, zero, suc}
 use Rattle.std.proofs.lemmas.Bool.{eqb-false, or_parts, cond-true, le-leb}
 use Rattle.std.proofs.lemmas.List.{map-set, map_push}
 use Rattle.std.specs.List.{list_any}
 use Rattle.l4_model.specs.World.{changed}
-use Rattle.l4_core_model.specs.Plain.{Waiting, Plain, unqueued, queued, is_queued, due_block, popped_due}
+use Rattle.l4_core_model.specs.Plain.{Waiting, Plain, unqueued, queued, is_queued, due_block, popped_due, put_entry, without_block, armed, disarmed}
 use Rattle.tcb_arena.specs.declared.Sender.{Sender}
 use Rattle.tcb_arena.specs.Blocks.{empty_lists, without_due}
-use Rattle.tcb_arena.specs.Due.{Due, AreOnce, none_armed, without_entry}
+use Rattle.tcb_arena.specs.Due.{Due, AreOnce, none_armed, armed_of, times_armed}
 use Rattle.tcb_arena.specs.Rings.{Lists, list_at, no_names, taken_out, put_last, is_linked, without, is_in, is_in_any}
 use Rattle.tcb_arena.specs.Shown.{waiting_of, waiting_at, sender_at, no_sender, shown_lists}
 use Rattle.tcb_arena.proofs.Lists.{is_in-at}
@@ -88,7 +88,7 @@ all_shown-put f h w ls lx free =
 -- The plain lists after each change of the rings
 
 abbrev with_waiting : Lists → Due → List (List Waiting) → Plain
-with_waiting ready due ws = record { waiting = ws; ready = list_at ready 0; armed = due.armed }
+with_waiting ready due ws = record { waiting = ws; ready = list_at ready 0; armed = armed_of due }
 
 pub shown-unqueued : (waiting waiting' : Lists) (f : List Sender) (ready : Lists) (due : Due) (s : Plain) (x : ℕ) → shown_lists waiting f ready due ≡ s → waiting' ≡ taken_out waiting x → shown_lists waiting' f ready due ≡ unqueued x s
 shown-unqueued waiting waiting' f ready due s x v e =
@@ -104,21 +104,35 @@ shown-queued waiting waiting' f ready due s h w v lx free e =
     ∙ ap (with_waiting ready due) (all_shown-put f h w waiting.lists lx (free-shown waiting f ready due s w.block v ∙ free))
     ∙ ap (queued h w) v
 
--- The first armed block taken out where it is due
+-- The armed blocks changed
 
-due-first : (now : ℕ) (xs : List E) (e : E) → slice_get xs 0 ≡ Some e → e.0 ≤ now → due_block now xs ≡ Some e.1
-due-first now [] e h l = absurd (cc)
-due-first now (x ∷ xs) e h l =
-    let p : x ≡ e = cc in
-    ap (λ (z : E). due_block now (z ∷ xs)) p ∙ cond-true (leb e.0 now) (Some e.1) None (le-leb e.0 now l)
+abbrev with_armed : Plain → List E → Plain
+with_armed s es = record s { armed = es }
 
-pub shown-undue : (now : ℕ) (waiting : Lists) (f : List Sender) (ready : Lists) (due due' : Due) (s : Plain) (e : E) → shown_lists waiting f ready due ≡ s → AreOnce due → slice_get due.armed 0 ≡ Some e → e.0 ≤ now → due' ≡ without_entry e.1 due
-    → shown_lists waiting f ready due' ≡ without_due now s
-shown-undue now waiting f ready due due' s e v once h l out =
+pub shown-armed : (waiting : Lists) (f : List Sender) (ready : Lists) (due after : Due) (s : Plain) (d b : ℕ) → shown_lists waiting f ready due ≡ s → armed_of after ≡ put_entry (d, b) (armed_of due) → shown_lists waiting f ready after ≡ armed d b s
+shown-armed waiting f ready due after s d b v e = ap (with_armed (shown_lists waiting f ready due)) e ∙ ap (armed d b) v
+
+pub shown-disarmed : (waiting : Lists) (f : List Sender) (ready : Lists) (due after : Due) (s : Plain) (b : ℕ) → shown_lists waiting f ready due ≡ s → armed_of after ≡ without_block b (armed_of due) → shown_lists waiting f ready after ≡ disarmed b s
+shown-disarmed waiting f ready due after s b v e = ap (with_armed (shown_lists waiting f ready due)) e ∙ ap (disarmed b) v
+
+-- The first armed block taken out where it is due.
+first-undue : (now b : ℕ) (xs : List E) → due_block now xs ≡ Some b → times_armed b xs ≤ 1 → without_block b xs ≡ drop 1 xs
+first-undue now b [] h once = absurd (cc)
+first-undue now b (x ∷ xs) h once =
+    let P : ℕ → Type 0 = λ (n : ℕ). times_armed n (x ∷ xs) ≤ 1 in
+    let same : x.1 ≡ b = by (leb x.0 now) refl h in
+    ap (λ n. without_block n (x ∷ xs)) (sym same) ∙ first-out (x ∷ xs) x refl (subst P (sym same) once)
+  where
+    by : (t : Bool) → leb x.0 now ≡ t → cond t (Some x.1) None ≡ Some b → x.1 ≡ b
+    by true e k = cc
+    by false e k = absurd (cc)
+
+pub shown-undue : (now : ℕ) (waiting : Lists) (f : List Sender) (ready : Lists) (due after : Due) (s : Plain) (b : ℕ) → shown_lists waiting f ready due ≡ s → AreOnce due → due_block now (armed_of due) ≡ Some b → armed_of after ≡ without_block b (armed_of due)
+    → shown_lists waiting f ready after ≡ without_due now s
+shown-undue now waiting f ready due after s b v once h out =
     let old : Plain = shown_lists waiting f ready due in
-    ap (shown_lists waiting f ready) out
-    ∙ ap (λ (r : List E). let p : Plain = record { waiting = old.waiting; ready = old.ready; armed = r } in p) (first-out due.armed e h (once.once e.1))
-    ∙ sym (ap (λ (o : Option ℕ). cond (is_some o) (popped_due old) old) (due-first now due.armed e h l))
+    ap (with_armed old) (out ∙ first-undue now b (armed_of due) h (once.once b))
+    ∙ sym (ap (λ (o : Option ℕ). cond (is_some o) (popped_due old) old) h)
     ∙ ap (without_due now) v
 
 -- No block in any list

@@ -1,9 +1,9 @@
 -- The plain lists that the rings, the senders and the armed blocks of an `Arena` show.
-use Rattle.std.specs.Prelude.{◌≡◌, ℕ, true, false, List, length, slice_index_or, map}
+use Rattle.std.specs.Prelude.{◌≡◌, ℕ, false, List, length, slice_index_or, map}
 use Rattle.l4_model.specs.Words.{global_id}
 use Rattle.l4_core_model.specs.Plain.{Plain, Waiting}
 use Rattle.tcb_arena.specs.declared.Sender.{Sender}
-use Rattle.tcb_arena.specs.Due.{Due, are_from}
+use Rattle.tcb_arena.specs.Due.{Due, armed_of}
 use Rattle.tcb_arena.specs.Rings.{Lists, list_at}
 
 -- Past the end.
@@ -21,13 +21,12 @@ waiting_at senders block = waiting_of block (sender_at senders block)
 
 abbrev pub shown_lists : Lists → List Sender → Lists → Due → Plain
 shown_lists waiting senders ready due =
-    record { waiting = map (map (waiting_at senders)) waiting.lists; ready = list_at ready 0; armed = due.armed }
+    record { waiting = map (map (waiting_at senders)) waiting.lists; ready = list_at ready 0; armed = armed_of due }
 
--- Each has room for each block, and each block has a ring of its own. No armed deadline is before the floor.
-pub record AreBlocks (waiting : Lists) (senders : List Sender) (ready : Lists) (due : Due) (floor : ℕ) : Type 0 where
+-- Each has room for each block, and each block has a ring of its own.
+pub record AreBlocks (waiting : Lists) (senders : List Sender) (ready : Lists) (due : Due) : Type 0 where
   pub names : waiting.names ≡ length senders
   pub heads : length waiting.lists ≡ length senders
   pub ready_names : ready.names ≡ length senders
   pub ready_heads : length ready.lists ≡ 1
   pub due_blocks : due.blocks ≡ length senders
-  pub from_floor : are_from floor due.armed ≡ true

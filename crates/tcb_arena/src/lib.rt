@@ -1,14 +1,17 @@
 //! The blocks of one processor in linked rings: for each block the sends that wait at it, the ready blocks, and those
 //! that are armed for a deadline.
 //!
-//! No call but `Arena::new` takes memory. `Arena::first_accepted` looks at the sends before the one that it finds, and
-//! `Arena::least_deadline`, `Arena::pop_due`, and, once a deadline that was the least is past,
-//! `Arena::first_due` look at every armed block; every other call takes the same few steps whatever stands in the lists.
+//! No call but `Arena::new` takes memory. `Arena::first_accepted` looks at the sends before the one that it finds. `Arena::first_due`,
+//! `Arena::pop_due` and `Arena::least_deadline` look for the first armed block, but only where an earlier call has not left it, and the first two
+//! only once a deadline may be past. Armed blocks stand in 64 rings by the remainders of their deadlines; the look goes over the rings that have a
+//! block, and over the blocks of those where one may be earlier than the best so far. These are few where the deadlines have many remainders, and all
+//! armed blocks where they have one. Every other call takes the same few steps whatever stands in the lists.
 #![tactic(auto)]
 
 ghost use Rattle.std.specs.Prelude.{◌≡◌, ◌<◌, false, length, slice_get, IfOk, IfSome};
 ghost use Rattle.l4_core_model.specs.Plain.{list_of, is_queued, queued, unqueued, first_taken, made_ready, dropped, popped, armed, disarmed, due_block};
 ghost use Rattle.tcb_arena.specs.Blocks.{is_ready, is_armed, least_deadline, without_due, empty_lists};
+ghost use Rattle.tcb_arena.specs.Due.{IsFirstOfRing};
 
 use l4_types::errors::NoMemory;
 use l4_types::ids::{GlobalId, ThreadId};
@@ -16,6 +19,7 @@ use std::alloc::Global;
 use std::marker::Model;
 
 mod links;
+mod ring_set;
 mod wheel;
 
 use links::Rings;
@@ -56,8 +60,6 @@ pub struct Arena {
     // One ring.
     ready: Rings,
     wheel: Wheel,
-    // No armed deadline is before it.
-    floor: u64,
 }
 
 impl Model for Arena {
@@ -69,7 +71,7 @@ impl Model for Arena {
 
     ghost view = { λ a. shown_lists a.waiting a.senders.items a.ready a.wheel };
 
-    ghost invariant = { λ a. AreBlocks a.waiting a.senders.items a.ready a.wheel a.floor };
+    ghost invariant = { λ a. AreBlocks a.waiting a.senders.items a.ready a.wheel };
 }
 
 impl Arena {
@@ -86,7 +88,6 @@ impl Arena {
             senders,
             ready,
             wheel,
-            floor: u64::MAX,
         })
     }
 
@@ -193,7 +194,6 @@ impl Arena {
         requires free { is_armed self.old block ≡ false }
         ensures { self.new ≡ armed deadline block self.old }
     {
-        self.floor = self.floor.min(deadline);
         self.wheel.arm(block, deadline);
     }
 
@@ -209,8 +209,7 @@ impl Arena {
     pub fn least_deadline(&self) -> Option<u64>
         ensures { result ≡ least_deadline self.now }
     {
-        let (deadline, _) = self.wheel.first()?;
-        Some(deadline)
+        self.wheel.least_deadline()
     }
 
     /// The first armed block, of equal deadlines that which was armed first, where its deadline is not after `now`.
@@ -218,12 +217,7 @@ impl Arena {
         ensures due { result ≡ due_block now self.old.armed }
         ensures same { self.new ≡ self.old }
     {
-        if now < self.floor {
-            return None;
-        }
-        let (deadline, block) = self.wheel.first()?;
-        self.floor = deadline;
-        if deadline <= now { Some(block) } else { None }
+        self.wheel.first_due(now)
     }
 
     /// Disarms the first armed block, of equal deadlines that which was armed first, where its deadline is not after
@@ -233,12 +227,17 @@ impl Arena {
         ensures rest { self.new ≡ without_due now self.old }
         ensures gone { IfSome result (λ block. is_armed self.new block ≡ false) }
     {
-        let (deadline, first) = self.wheel.first()?;
-        if deadline > now {
-            return None;
-        }
+        let first = self.wheel.first_due(now)?;
         self.wheel.disarm(first);
         Some(first)
+    }
+
+    /// The first block of a ring, which is below 64: of the blocks whose deadlines have this remainder by 64, that which was armed first.
+    pub fn ring_first(&self, ring: usize) -> Option<usize>
+        requires { ring < 64 }
+        ensures { IsFirstOfRing self.now ring result }
+    {
+        self.wheel.ring_first(ring)
     }
 }
 

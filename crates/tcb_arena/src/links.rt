@@ -64,7 +64,8 @@ impl Rings {
     /// Whether a name stands in a list.
     pub fn is_linked(&self, name: usize) -> bool
         requires { name < self.now.names }
-        ensures { result ≡ is_linked self.now name }
+        ensures linked { result ≡ is_linked self.now name }
+        ensures sound { AreSound self.now }
     {
         self.next[name] != name
     }

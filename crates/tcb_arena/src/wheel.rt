@@ -1,17 +1,20 @@
-//! Armed blocks in linked rings, each with its deadline.
+//! Armed blocks in 64 linked rings, each with its deadline.
 
-ghost use Rattle.std.specs.Prelude.{◌≡◌, ℕ, ◌<◌, true, false, List, IfOk, length, slice_get, map};
+ghost use Rattle.std.specs.Prelude.{◌≡◌, ℕ, ◌<◌, ◌≤◌, ◌%◌, [], true, false, IfOk, IfSome, Some, length, slice_get, slice_index, map};
+ghost use Rattle.std.specs.Option.{option_map};
+ghost use Rattle.l4_core_model.specs.Plain.{put_entry, without_block, due_block};
 ghost use Rattle.tcb_arena.specs.Blocks.{has_entry};
 ghost use Rattle.tcb_arena.specs.Rings.{list_at, head_count};
-ghost use Rattle.tcb_arena.specs.Due.{none_armed, with_entry, without_entry, earlier_of, put_all, entry, are_rising, AreOnce};
+ghost use Rattle.tcb_arena.specs.Due.{armed_of, armed_in, ring_count, none_armed, with_entry, without_entry, first_of_ring, other_than, at_most, earlier_of, put_all, entry, IsBest, IsLeast, ArePlaced, AreRings, AreFilled, AreFloors, IsFloor, AreOnce};
 
 use crate::links::Rings;
+use crate::ring_set::RingSet;
 use l4_types::errors::NoMemory;
 use std::alloc::Global;
 use std::marker::Model;
 
 // A block stands in the ring of its deadline's remainder by this number, so blocks of equal deadlines are in one.
-const RINGS: u64 = 1;
+const RINGS: usize = 64;
 
 /// A fixed number of blocks, numbered from 0, some of them armed for a deadline. In its ring a block stands behind those
 /// that were armed before it.
@@ -20,10 +23,18 @@ pub struct Wheel {
     // By block; it says something of an armed one alone.
     deadlines: Vec<u64>,
     rings: Rings,
+    // The rings that have a block.
+    filled: RingSet,
+    // By ring, a deadline before which no block in it is armed.
+    floors: [u64; RINGS],
+    // No block is armed for a deadline before this one.
+    floor: u64,
+    // Where the last look has found it, the first block, which is armed for that deadline.
+    first: Option<usize>,
 }
 
 impl Model for Wheel {
-    ghost use Rattle.tcb_arena.specs.Due.{Due, due_code, shown_due, ring_count, IsWheel};
+    ghost use Rattle.tcb_arena.specs.Due.{Due, due_code, shown_due, IsWheel};
 
     ghost Value = { Due };
 
@@ -31,7 +42,7 @@ impl Model for Wheel {
 
     ghost view = { λ w. shown_due w.deadlines.items w.rings };
 
-    ghost invariant = { λ w. IsWheel ring_count w.deadlines.items w.rings };
+    ghost invariant = { λ w. IsWheel w.deadlines.items w.rings w.filled.bits w.floors w.floor w.first };
 }
 
 impl Wheel {
@@ -40,14 +51,22 @@ impl Wheel {
         ensures { IfOk result (λ wheel. wheel ≡ none_armed blocks) }
     {
         let deadlines = vec![in alloc; 0; blocks]?;
-        let rings = Rings::new(alloc, blocks, RINGS as usize)?;
-        Ok(Wheel { deadlines, rings })
+        let rings = Rings::new(alloc, blocks, RINGS)?;
+        let filled = RingSet::new();
+        Ok(Wheel {
+            deadlines,
+            rings,
+            filled,
+            floors: [u64::MAX; RINGS],
+            floor: u64::MAX,
+            first: None,
+        })
     }
 
     /// Whether a block is armed.
     pub fn is_armed(&self, block: usize) -> bool
         requires { block < self.now.blocks }
-        ensures { result ≡ has_entry block self.now.armed }
+        ensures { result ≡ has_entry block (armed_of self.now) }
     {
         self.rings.is_linked(block)
     }
@@ -55,59 +74,219 @@ impl Wheel {
     /// Arms a block that is not armed.
     pub fn arm(&mut self, block: usize, deadline: u64)
         requires block { block < self.old.blocks }
-        requires free { has_entry block self.old.armed ≡ false }
-        ensures { self.new ≡ with_entry deadline block self.old }
+        requires free { has_entry block (armed_of self.old) ≡ false }
+        ensures rings { self.new ≡ with_entry deadline block self.old }
+        ensures armed { armed_of self.new ≡ put_entry (deadline, block) (armed_of self.old) }
     {
+        let ring = ring_of(deadline);
         self.deadlines[block] = deadline;
-        self.rings.push_last((deadline % RINGS) as usize, block);
+        self.rings.push_last(ring, block);
+        self.filled.insert(ring);
+        self.floors[ring] = self.floors[ring].min(deadline);
+        if deadline < self.floor {
+            self.floor = deadline;
+            self.first = Some(block);
+        }
     }
 
     /// Disarms a block, if it is armed.
     pub fn disarm(&mut self, block: usize)
         requires { block < self.old.blocks }
-        ensures { self.new ≡ without_entry block self.old }
+        ensures rings { self.new ≡ without_entry block self.old }
+        ensures armed { armed_of self.new ≡ without_block block (armed_of self.old) }
+        ensures once { AreOnce self.old }
     {
+        if !self.rings.is_linked(block) {
+            return;
+        }
+        let ring = ring_of(self.deadlines[block]);
         self.rings.take_out(block);
+        self.filled.set(ring, self.rings.first(ring).is_some());
+        self.first = other_than(block, self.first);
     }
 
-    /// The least deadline with its block, of equal ones that which was armed first.
-    pub fn first(&self) -> Option<(u64, usize)>
-        ensures first { result ≡ slice_get self.now.armed 0 }
-        ensures once { AreOnce self.now }
-        ensures rising { are_rising self.now.armed ≡ true }
+    /// The least deadline.
+    pub fn least_deadline(&self) -> Option<u64>
+        ensures { result ≡ option_map (λ e. e.0) (slice_get (armed_of self.now) 0) }
     {
-        let blocks = self.rings.names();
-        let mut best = None;
-        for ring in 0..RINGS as usize {
-            best = best_of_ring(&self.rings, &self.deadlines, blocks, ring, best);
+        if self.first.is_some() {
+            return Some(self.floor);
         }
-        best
+        let mut floors = self.floors;
+        let (deadline, _) = search(
+            &self.rings,
+            &self.deadlines,
+            self.filled,
+            &mut floors,
+            self.floor,
+        )?;
+        Some(deadline)
+    }
+
+    /// The first block by deadline, of equal ones that which was armed first, where its deadline is not after `now`.
+    pub fn first_due(&mut self, now: u64) -> Option<usize>
+        ensures due { result ≡ due_block now (armed_of self.old) }
+        ensures same { self.new ≡ self.old }
+        ensures within { IfSome result (λ block. block < self.old.blocks) }
+    {
+        if now < self.floor {
+            return None;
+        }
+        let (deadline, block) = self.look()?;
+        if deadline <= now { Some(block) } else { None }
+    }
+
+    /// The first block of a ring.
+    pub fn ring_first(&self, ring: usize) -> Option<usize>
+        requires { ring < ring_count }
+        ensures first { result ≡ first_of_ring self.now.rings ring }
+        ensures rings { AreRings self.now.rings (armed_of self.now) }
+    {
+        self.rings.first(ring)
+    }
+
+    // The first block with its deadline, which is looked for only where the last look has not left it.
+    fn look(&mut self) -> Option<(u64, usize)>
+        ensures first { result ≡ slice_get (armed_of self.old) 0 }
+        ensures same { self.new ≡ self.old }
+    {
+        if let Some(block) = self.first {
+            return Some((self.floor, block));
+        }
+        let found = search(
+            &self.rings,
+            &self.deadlines,
+            self.filled,
+            &mut self.floors,
+            self.floor,
+        );
+        match found {
+            Some((deadline, block)) => {
+                self.floor = deadline;
+                self.first = Some(block);
+            }
+            None => {
+                self.floor = u64::MAX;
+            }
+        }
+        found
     }
 }
 
-// The best so far, or an entry of this ring that is earlier.
-fn best_of_ring(
+// The ring of a deadline.
+fn ring_of(deadline: u64) -> usize
+    ensures value { result ≡ deadline % ring_count }
+    ensures within { result < ring_count }
+{
+    (deadline % RINGS as u64) as usize
+}
+
+// The first block, where it is known and another one.
+fn other_than(block: usize, first: Option<usize>) -> Option<usize>
+    ensures { result ≡ other_than block first }
+{
+    if first == Some(block) { None } else { first }
+}
+
+// The first armed block with its deadline, in the rings from that of the floor on, since a block that is due soon stands in one of the next ones.
+// It raises the floors of the rings that it looks at.
+fn search(
     rings: &Rings,
     deadlines: &Vec<u64>,
-    blocks: usize,
+    filled: RingSet,
+    floors: &mut [u64; RINGS],
+    floor: u64,
+) -> Option<(u64, usize)>
+    requires placed { ArePlaced ring_count deadlines.now.items rings.now }
+    requires filled { AreFilled filled.bits rings.now.lists }
+    requires floors { AreFloors floors.old deadlines.now.items rings.now.lists }
+    requires floor { IsFloor floor deadlines.now.items rings.now.lists }
+    ensures first { result ≡ slice_get (armed_in deadlines.now.items rings.now.lists) 0 }
+    ensures least { IsLeast deadlines.now.items rings.now.lists result }
+    ensures floors { AreFloors floors.new deadlines.now.items rings.now.lists }
+{
+    let start = ring_of(floor);
+    let mut left = filled;
+    let mut best = None;
+    while let Some(ahead) = left.next(start) {
+        if let Some((deadline, _)) = best {
+            // What is left is not armed for less than the floor and as many ticks more as its ring is ahead.
+            if deadline - floor <= ahead as u64 {
+                return best;
+            }
+        }
+        let ring = (start + ahead) % RINGS;
+        left.remove(ring);
+        best = best_with_ring(rings, deadlines, ring, floors, best);
+    }
+    best
+}
+
+// The best so far, or the earliest of this ring where that is earlier. Where it has to look at the ring, it raises its floor.
+fn best_with_ring(
+    rings: &Rings,
+    deadlines: &Vec<u64>,
     ring: usize,
-    so_far: Option<(u64, usize)>,
+    floors: &mut [u64; RINGS],
+    best: Option<(u64, usize)>,
+) -> Option<(u64, usize)>
+    requires ring { ring < ring_count }
+    requires placed { ArePlaced ring_count deadlines.now.items rings.now }
+    requires floors { AreFloors floors.old deadlines.now.items rings.now.lists }
+    requires best { IsBest deadlines.now.items rings.now.lists best }
+    ensures best { IsBest deadlines.now.items rings.now.lists result }
+    ensures ring { (k block : ℕ) → slice_get (list_at rings.now ring) k ≡ Some block → at_most result (slice_index deadlines.now.items block) ≡ true }
+    ensures others { (deadline : ℕ) → at_most best deadline ≡ true → at_most result deadline ≡ true }
+    ensures floors { AreFloors floors.new deadlines.now.items rings.now.lists }
+{
+    let floor = floors[ring];
+    if is_at_most(best, floor) {
+        return best;
+    }
+    let Some(found) = earliest_of_ring(rings, deadlines, ring, floor) else {
+        return best;
+    };
+    floors[ring] = found.0;
+    Some(earlier(best, found))
+}
+
+// The earliest block of a ring with its deadline, of equal ones the first. No deadline in the ring is before the floor, so one that is the floor ends the
+// look.
+fn earliest_of_ring(
+    rings: &Rings,
+    deadlines: &Vec<u64>,
+    ring: usize,
+    floor: u64,
 ) -> Option<(u64, usize)>
     requires ring { ring < head_count rings.now }
-    requires names { rings.now.names ≡ blocks }
-    requires deadlines { length deadlines.now.items ≡ blocks }
-    ensures { (before : List (ℕ × ℕ)) → slice_get before 0 ≡ so_far → result ≡ slice_get (put_all before (map (entry deadlines.now.items) (list_at rings.now ring))) 0 }
+    requires deadlines { length deadlines.now.items ≡ rings.now.names }
+    requires floor { (k block : ℕ) → slice_get (list_at rings.now ring) k ≡ Some block → floor ≤ slice_index deadlines.now.items block }
+    ensures { result ≡ slice_get (put_all [] (map (entry deadlines.now.items) (list_at rings.now ring))) 0 }
 {
-    let mut best = so_far;
+    let mut best = None;
     let mut at = rings.first(ring);
-    for _place in 0..blocks {
+    for _place in 0..rings.names() {
         let Some(block) = at else {
             return best;
         };
-        best = Some(earlier(best, (deadlines[block], block)));
+        let deadline = deadlines[block];
+        if deadline == floor {
+            return Some((deadline, block));
+        }
+        best = Some(earlier(best, (deadline, block)));
         at = rings.after(block);
     }
     best
+}
+
+// Whether there is an entry and its deadline is not after this one.
+fn is_at_most(best: Option<(u64, usize)>, deadline: u64) -> bool
+    ensures { result ≡ at_most best deadline }
+{
+    match best {
+        None => false,
+        Some(entry) => entry.0 <= deadline,
+    }
 }
 
 // The earlier of two entries; of equal ones the first.

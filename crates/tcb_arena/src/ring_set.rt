@@ -1,0 +1,60 @@
+//! Sets of rings, as bits of one word.
+
+ghost use Rattle.std.specs.Prelude.{◌≡◌, ℕ, ◌<◌, ◌==◌, ◌&&◌, ◌||◌, true, false, not, if◌then◌else◌, MatchOption};
+ghost use Rattle.tcb_arena.specs.RingSets.{has, IsNext};
+
+/// A set of rings, each below 64.
+#[derive(Clone, Copy)]
+pub struct RingSet {
+    // Bit r is set where ring r is in the set.
+    bits: u64,
+}
+
+impl RingSet {
+    /// The empty set.
+    pub fn new() -> RingSet
+        ensures { (ring : ℕ) → has result.bits ring ≡ false }
+    {
+        RingSet { bits: 0 }
+    }
+
+    /// Puts a ring in, where it is not in yet.
+    pub fn insert(&mut self, ring: usize)
+        requires { ring < 64 }
+        ensures { (other : ℕ) → other < 64 → has self.new.bits other ≡ (has self.old.bits other || other == ring) }
+    {
+        self.bits |= 1 << ring;
+    }
+
+    /// Takes a ring out, where it is in.
+    pub fn remove(&mut self, ring: usize)
+        requires { ring < 64 }
+        ensures others { (other : ℕ) → other < 64 → has self.new.bits other ≡ (has self.old.bits other && not (other == ring)) }
+        ensures fewer { has self.old.bits ring ≡ true → self.new.bits < self.old.bits }
+    {
+        self.bits &= !(1 << ring);
+    }
+
+    /// Puts a ring in where `is_in` says so, and else takes it out.
+    pub fn set(&mut self, ring: usize, is_in: bool)
+        requires { ring < 64 }
+        ensures { (other : ℕ) → other < 64 → has self.new.bits other ≡ (if other == ring then is_in else has self.old.bits other) }
+    {
+        if is_in {
+            self.insert(ring);
+        } else {
+            self.remove(ring);
+        }
+    }
+
+    /// How many rings ahead of `start` the next one of the set is, where behind ring 63 comes ring 0. It is 0 where `start` is in the set.
+    pub fn next(&self, start: usize) -> Option<usize>
+        requires { start < 64 }
+        ensures { MatchOption result ((ring : ℕ) → has self.now.bits ring ≡ false) (IsNext self.now.bits start) }
+    {
+        if self.bits == 0 {
+            return None;
+        }
+        Some(self.bits.rotate_right(start as u32).trailing_zeros() as usize)
+    }
+}

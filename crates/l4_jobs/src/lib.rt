@@ -10,5 +10,6 @@ pub mod perform;
 pub mod refusal;
 pub mod report_lines;
 pub mod round_trips;
+pub mod streams;
 mod traces;
 pub mod words;

@@ -1,11 +1,10 @@
 -- What is done over files that were opened.
-use Rattle.std.proofs.Common.{◌≡◌, ℕ, Bool, Option, Some, None, Result, Ok, Err, List, refl, ap, sym, subst, inl, inr}
-use Rattle.std.specs.Prelude.{◌⊎◌, IfSome, IsSomeAnd}
+use Rattle.std.proofs.Common.{◌≡◌, ℕ, Bool, Option, Some, None, Result, Ok, Err, List, sym, subst, inl, inr}
+use Rattle.std.specs.Prelude.{IfSome, IsSomeAnd}
 use Rattle.std.specs.declared.io.ErrorKind.{ErrorKind}
 use Rattle.l4_model.specs.Machine.{Machine}
 use Rattle.l4_script.specs.Texts.{machine_of_text}
 use Rattle.l4_script.specs.declared.text.fault.TextFault.{TextFault}
-use Rattle.l4_jobs.specs.FaultLines.{IsReported}
 use Rattle.l4_jobs.specs.Jobs.{IsTold, IsTraceFault, IsFaultOf, IsJobFault, IsOpenedFault, IsDone, IsNotDone, IsUnread, TraceGives, file_of, trace_file_of}
 use Rattle.l4_jobs.specs.Streams.{FileGives}
 use Rattle.l4_jobs.specs.declared.fault.Fault.{Fault}

@@ -1,7 +1,6 @@
 -- What is read of a text, and what is written of a run.
-use Rattle.std.proofs.Common.{◌≡◌, ℕ, ◌≤◌, Bool, true, false, Option, Some, None, Result, Ok, Err, List, [], ◌++◌, length, take, refl, ap, sym, subst, inl, inr, ◌∙◌, arith}
-use Rattle.std.specs.Prelude.{◌⊎◌, IfSome, IfErr, IsErrAnd, nat_lt}
-use Rattle.std.specs.Borrow.{Bor}
+use Rattle.std.proofs.Common.{◌≡◌, ℕ, ◌≤◌, Bool, true, false, Some, None, Result, Ok, Err, List, length, take, refl, ap, sym, subst, inl, inr, ◌∙◌, arith}
+use Rattle.std.specs.Prelude.{◌⊎◌, IfErr, nat_lt}
 use Rattle.std.specs.declared.io.ErrorKind.{ErrorKind}
 use Rattle.std.specs.Option.{option_map}
 use Rattle.std.proofs.lemmas.Bool.{lt-ltb, ltb-true}
@@ -10,14 +9,12 @@ use Rattle.std.proofs.lemmas.List.{length-take, take_all}
 use Rattle.l4_model.specs.Machine.{Machine}
 use Rattle.l4_model.proofs.Faults.{tells_first_fault}
 use Rattle.l4_script.specs.Texts.{machine_of_text}
-use Rattle.l4_script.specs.Faults.{no_memory}
-use Rattle.l4_script.specs.declared.text.fault.TextFault.{TextFault}
 use Rattle.l4_machine.specs.Entries.{schedule_fault}
 use Rattle.l4_machine.specs.declared.outcome.Outcome.{Outcome}
 use Rattle.l4_machine.specs.declared.outcome.RunFault.{RunFault}
 use Rattle.l4_machine.specs.declared.outcome.RunFault.TheVariants.{NoMemory}
 use Rattle.l4_jobs.specs.Items.{schedule_of}
-use Rattle.l4_jobs.specs.Jobs.{IsTold, IsTraceFault, IsFaultOn, IsFaultOf, IsJobFault, IsPassed, IsRunShown, IsShown, IsShownOn, run_in_rounds, run_by_list, status_at_rest, text_fault, fault_of, fault_of_job, fault_of_trace, fault_of_steps, fault_on as fault_of_judged, fault_of_result}
+use Rattle.l4_jobs.specs.Jobs.{IsTold, IsFaultOf, IsJobFault, IsPassed, IsShown, IsShownOn, status_at_rest, fault_of, fault_of_job, fault_of_trace, fault_of_steps, fault_on as fault_of_judged, fault_of_result}
 use Rattle.l4_jobs.specs.declared.fault.Fault.{Fault}
 use Rattle.l4_jobs.specs.declared.fault.Fault.TheVariants as fault
 use Rattle.l4_jobs.specs.declared.job.Job.{Job}

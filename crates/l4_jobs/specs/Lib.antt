@@ -4,5 +4,4 @@ pub mod FaultLines
 pub mod Items
 pub mod Jobs
 pub mod ReportLines
-pub mod RoundTrips
 pub mod Streams

@@ -9,7 +9,5 @@ pub mod job;
 pub mod perform;
 pub mod refusal;
 pub mod report_lines;
-pub mod round_trips;
 pub mod streams;
-mod traces;
 pub mod words;

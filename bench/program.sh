@@ -6,5 +6,5 @@ what=${1:?text, turns or audits}
 here=$(cd "$(dirname "$0")" && pwd)
 work=$(mktemp -d)
 trap 'rm -rf "$work"' EXIT
-(cd "$here/../crates/l4run" && rt run -- run ../../examples/first.l4) >"$work/log" 2>&1 || { cat "$work/log"; exit 1; }
+"$here/../l4run" --help >"$work/log"
 python3 -B "$here/$what.py" "$here/../crates/l4run/out/l4run" "$work"

@@ -5,14 +5,14 @@
 use l4_jobs::fault::{Fault, report};
 use l4_jobs::files::perform_on_files;
 use l4_jobs::job::Job;
-use l4_jobs::perform::{perform, write_out};
-use std::io::Write;
+use l4_jobs::perform::perform;
+use l4_jobs::streams::Sink;
 use std::process::ExitCode;
 use std::rt::{Env, Files};
 use std::{env, fs, io};
 
 // Audits the trace of an example, and answers the status.
-fn audit_example<R: Files + AllocGlobal, E: Write>(
+fn audit_example<R: Files + AllocGlobal, E: Sink>(
     rt: &R,
     name: &str,
     trace: &[u8],
@@ -33,12 +33,12 @@ fn audit_example<R: Files + AllocGlobal, E: Write>(
             &mut passed,
             faults,
         ),
-        Err(_) => report(faults, &Fault::Read(name)),
+        Err(_) => report(rt.alloc(), faults, &Fault::Read(name)),
     }
 }
 
 // Runs an example, audits its trace and prints it. Answers the first status that is not 0, or 0.
-fn run_example<R: Files + AllocGlobal, W: Write, E: Write>(
+fn run_example<R: Files + AllocGlobal, W: Sink, E: Sink>(
     rt: &R,
     name: &str,
     out: &mut W,
@@ -50,7 +50,7 @@ fn run_example<R: Files + AllocGlobal, W: Write, E: Write>(
         report: false,
     };
     let mut trace = Vec::new(rt.alloc());
-    let status = perform_on_files(rt, &run, &mut trace, faults);
+    let status = perform_on_files(rt.alloc(), rt, &run, &mut trace, faults);
     if status != 0 {
         return status;
     }
@@ -58,14 +58,14 @@ fn run_example<R: Files + AllocGlobal, W: Write, E: Write>(
     if status != 0 {
         return status;
     }
-    match write_out(out, trace.as_slice()) {
+    match out.put(trace.as_slice()) {
         Ok(()) => 0,
-        Err(_) => report(faults, &Fault::Write),
+        Err(_) => report(rt.alloc(), faults, &Fault::Write),
     }
 }
 
 // Runs the examples up to the first one that does not come to rest or whose trace does not pass, and answers its status, or 0.
-fn run_examples<R: Files + AllocGlobal, W: Write, E: Write>(
+fn run_examples<R: Files + AllocGlobal, W: Sink, E: Sink>(
     rt: &R,
     names: &[String],
     out: &mut W,

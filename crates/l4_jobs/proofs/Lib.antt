@@ -1,3 +1,4 @@
+pub mod Appending
 pub mod Joined
 pub mod Registers
 pub mod ReportRows
@@ -5,5 +6,6 @@ pub mod CommandSimple
 pub mod ItemSpelling
 pub mod Lawful
 pub mod Matched
+pub mod Opened
 pub mod Shown
 pub mod Splits

@@ -1,6 +1,5 @@
 -- What the words of the command line ask for.
 use Rattle.std.specs.Prelude.{◌≡◌, ◌≢◌, ◌⊎◌, ℕ, Bool, true, false, ⊤, if◌then◌else◌, Option, Some, None, List, codes, option_map, option_and_then}
-use Rattle.std.specs.Io.KnownBytes.{Appends}
 use Rattle.std.specs.Str.{bytes_eq}
 use Rattle.std.specs.Str.Parse.{digits_value, without_leading_plus}
 use Rattle.std.specs.String.{string_bytes}
@@ -10,6 +9,8 @@ use Rattle.clap.specs.Kinds.{Kinds, IsAmong}
 use Rattle.clap.specs.declared.error.kind.ErrorKind.{ErrorKind}
 use Rattle.clap.specs.declared.error.kind.ErrorKind.TheVariants.{DisplayHelp, DisplayVersion}
 use Rattle.l4_jobs.specs.Commands.{l4run_app}
+use Rattle.l4_jobs.specs.FaultLines.{IsReported}
+use Rattle.l4_jobs.specs.declared.fault.Fault.TheVariants as fault
 use Rattle.l4_jobs.specs.declared.job.Job.{Job}
 use Rattle.l4_jobs.specs.declared.job.Job.TheVariants.{Run, Replay, Audit}
 use Rattle.l4_jobs.specs.declared.words.WordsFault.{WordsFault}
@@ -79,9 +80,11 @@ IsRefusal kinds (Help text) = (kind : ErrorKind) × IsAmong kind kinds × ((kind
 IsRefusal kinds (Usage text) = (kind : ErrorKind) × IsAmong kind kinds × (kind ≢ DisplayHelp) × (kind ≢ DisplayVersion)
 IsRefusal kinds NoMemory = ⊤
 
--- What such words come to: the help is written to the output with status 0, unless that fails with status 1; the usage has status 2, and it and
--- want of memory leave the output as it was.
-abbrev pub Refuses : WordsFault → (old new : Option (List ℕ)) → (status : ℕ) → Type 0
-Refuses (Help text) old new status = ((status ≡ 0) × Appends old new (string_bytes text)) ⊎ (status ≡ 1)
-Refuses (Usage text) old new status = (status ≡ 2) × (new ≡ old)
-Refuses NoMemory old new status = (status ≡ 1) × (new ≡ old)
+-- What such words come to, once and on one stream: the help is written to the output with status 0, or where that fails, that is reported with
+-- status 1; the usage is written to the faults with status 2; want of memory is reported with status 1.
+abbrev pub Refuses : WordsFault → (out : List ℕ → Bool → Type 0) (keeps_out : Type 0) (faults : List ℕ → Bool → Type 0) (keeps_faults : Type 0) →
+    (status : ℕ) → Type 0
+Refuses (Help text) out keeps_out faults keeps_faults status =
+    ((status ≡ 0) × out (string_bytes text) true × keeps_faults) ⊎ ((status ≡ 1) × out (string_bytes text) false × IsReported faults fault.Write)
+Refuses (Usage text) out keeps_out faults keeps_faults status = (status ≡ 2) × keeps_out × ((all : Bool) × faults (string_bytes text) all)
+Refuses NoMemory out keeps_out faults keeps_faults status = (status ≡ 1) × keeps_out × IsReported faults fault.NoMemory

@@ -1,6 +1,8 @@
 -- What a job asks for, and what is shown for it.
-use Rattle.std.specs.Prelude.{◌≡◌, ◌↔◌, ℕ, Bool, true, false, Option, Some, None, IsSomeAnd, Result, Ok, Err, List, length, map}
+use Rattle.std.specs.Prelude.{◌≡◌, ◌↔◌, ◌⊎◌, ℕ, Bool, true, false, Option, Some, None, IsSomeAnd, Result, Ok, Err, List, length, map}
 use Rattle.std.specs.Option.{option_map}
+use Rattle.std.specs.declared.io.ErrorKind.{ErrorKind}
+use Rattle.std.specs.declared.io.ErrorKind.TheVariants.{OutOfMemory}
 use Rattle.l4_model.specs.Machine.{Machine}
 use Rattle.l4_model.specs.Steps.{Step}
 use Rattle.l4_model.specs.World.{World}
@@ -27,8 +29,10 @@ use Rattle.l4_trace.specs.Lines.{trace_of}
 use Rattle.l4_trace.specs.Reading.{steps_of}
 use Rattle.l4_trace.specs.declared.fault.TraceFault.{TraceFault}
 use Rattle.l4_trace.specs.declared.fault.TraceFault.TheVariants as trace_fault
+use Rattle.l4_jobs.specs.FaultLines.{IsReported}
 use Rattle.l4_jobs.specs.Items.{schedule_of}
 use Rattle.l4_jobs.specs.ReportLines.{report_text, passed_line}
+use Rattle.l4_jobs.specs.Streams.{FileGives}
 use Rattle.l4_jobs.specs.declared.fault.Fault.{Fault}
 use Rattle.l4_jobs.specs.declared.fault.Fault.TheVariants as fault
 use Rattle.l4_jobs.specs.declared.job.Job.{Job}
@@ -45,18 +49,20 @@ trace_file_of (Run file turns report) = None
 trace_file_of (Replay file schedule report) = None
 trace_file_of (Audit file trace) = Some trace.now
 
--- The text that a reader gives: its bytes, where they are known.
-abbrev pub IsGiven : (known : Option (List ℕ)) → (text : List ℕ) → Type 0
-IsGiven None text = Unit {0}
-IsGiven (Some bytes) text = text ≡ bytes
+-- The trace that a job goes by: an audit's is what its reader gives, and the others read none.
+abbrev pub IsTold : Job → (gives : Result (List ℕ) ErrorKind → Type 0) → (trace : List ℕ) → Type 0
+IsTold (Run file turns report) gives trace = Unit {0}
+IsTold (Replay file schedule report) gives trace = Unit {0}
+IsTold (Audit file name) gives trace = gives (Ok trace)
 
--- The fault that this file could not be read.
-abbrev pub IsUnread : (file : List ℕ) → Fault → Type 0
-IsUnread file (fault.Read name) = name.now ≡ file
-IsUnread file _ = ⊥
+-- The fault of this file that can't be read, by the kind of the error.
+abbrev pub Names : (file : List ℕ) → Fault → Type 0
+Names file (fault.Read name) = name.now ≡ file
+Names file _ = ⊥
 
-abbrev pub IsTraceUnread : Job → Fault → Type 0
-IsTraceUnread job fault = IsSomeAnd (trace_file_of job) (λ file. IsUnread file fault)
+abbrev pub IsUnread : (file : List ℕ) → ErrorKind → Fault → Type 0
+IsUnread file OutOfMemory f = f ≡ fault.NoMemory
+IsUnread file _ f = Names file f
 
 -- The core run in rounds of a machine, and that by a list of items, or why there is none.
 abbrev pub unless : {X : Type 0} → Option RunFault → X → Result X RunFault
@@ -115,6 +121,39 @@ fault_on job (Ok m) trace = fault_of_job job m trace
 abbrev pub fault_of : Job → (text trace : List ℕ) → Option Fault
 fault_of job text trace = fault_on job (machine_of_text text) trace
 
+-- Why a job prints nothing, by what its readers gave: memory ran out, the file of its machine text can't be read, or this fault is that of
+-- the text or of the job on its machine. A trace is read where there is a machine to audit it on.
+abbrev pub IsTraceFault : Machine → (name : List ℕ) → (gives : Result (List ℕ) ErrorKind → Type 0) → Fault → Type 0
+IsTraceFault m name gives f =
+    ((kind : ErrorKind) × gives (Err kind) × IsUnread name kind f) ⊎ ((trace : List ℕ) × gives (Ok trace) × (fault_of_trace m trace ≡ Some f))
+
+abbrev pub IsFaultOn : Job → Machine → (trace : Result (List ℕ) ErrorKind → Type 0) → Fault → Type 0
+IsFaultOn (Run file turns report) m trace f = fault_of_result (run_in_rounds m turns) ≡ Some f
+IsFaultOn (Replay file schedule report) m trace f = fault_of_result (run_by_list m schedule.now) ≡ Some f
+IsFaultOn (Audit file name) m trace f = IsTraceFault m name.now trace f
+
+abbrev pub IsFaultOf : Job → Result Machine TextFault → (trace : Result (List ℕ) ErrorKind → Type 0) → Fault → Type 0
+IsFaultOf job (Err e) trace f = f ≡ text_fault e.line e.kind
+IsFaultOf job (Ok m) trace f = IsFaultOn job m trace f
+
+abbrev pub IsJobFault : Job → (machine trace : Result (List ℕ) ErrorKind → Type 0) → Fault → Type 0
+IsJobFault job machine trace f =
+    (f ≡ fault.NoMemory)
+    ⊎ ((kind : ErrorKind) × machine (Err kind) × IsUnread (file_of job) kind f)
+    ⊎ ((text : List ℕ) × machine (Ok text) × IsFaultOf job (machine_of_text text) trace f)
+
+-- What reading the trace of a job that reads one may come to, and why a job on files prints nothing: the trace is opened before the machine text is
+-- read.
+abbrev pub TraceGives : {File : Type 0} → (opens : List ℕ → Result File ErrorKind → Type 0) → (gives : File → Result (List ℕ) ErrorKind → Type 0) →
+    Job → Result (List ℕ) ErrorKind → Type 0
+TraceGives opens gives job trace = IsSomeAnd (trace_file_of job) (λ name. FileGives opens gives name trace)
+
+abbrev pub IsOpenedFault : {File : Type 0} → (opens : List ℕ → Result File ErrorKind → Type 0) → (gives : File → Result (List ℕ) ErrorKind → Type 0) →
+    Job → (machine : Result (List ℕ) ErrorKind → Type 0) → Fault → Type 0
+IsOpenedFault opens gives job machine f =
+    IsJobFault job machine (TraceGives opens gives job) f
+    ⊎ IsSomeAnd (trace_file_of job) (λ name. (kind : ErrorKind) × opens name (Err kind) × IsUnread name kind f)
+
 -- The exit status of a run that ends at rest, and of one that does not.
 abbrev pub status_at_rest : Bool → ℕ
 status_at_rest true = 0
@@ -163,6 +202,23 @@ pub record IsShown (job : Job) (text trace lines : List ℕ) (status : ℕ) : Ty
   pub machine : Machine
   pub declares : machine_of_text text ≡ Ok machine
   pub shown : IsShownOn job machine trace lines status
+
+-- What a job did that printed all of its lines: the reader of its machine text gave a text that declares a machine, these are the lines of what the job
+-- shows there, they were written once, and nothing was reported. The status is that of what is shown.
+abbrev pub IsDone : Job → (machine trace : Result (List ℕ) ErrorKind → Type 0) → (out : List ℕ → Bool → Type 0) → (keeps_faults : Type 0) →
+    (status : ℕ) → Type 0
+IsDone job machine trace out keeps_faults status =
+    (text : List ℕ) × (told : List ℕ) × (lines : List ℕ) × machine (Ok text) × IsTold job trace told × IsShown job text told lines status
+    × out lines true × keeps_faults
+
+-- What a job did that has status 1: either nothing was written and its fault was reported, or its lines were written once, which failed, and that was
+-- reported.
+abbrev pub IsNotDone : Job → (machine trace : Result (List ℕ) ErrorKind → Type 0) → (is_fault : Fault → Type 0) → (out : List ℕ → Bool → Type 0) →
+    (keeps_out : Type 0) → (faults : List ℕ → Bool → Type 0) → Type 0
+IsNotDone job machine trace is_fault out keeps_out faults =
+    ((f : Fault) × is_fault f × keeps_out × IsReported faults f)
+    ⊎ ((text : List ℕ) × (told : List ℕ) × (lines : List ℕ) × (status : ℕ) × machine (Ok text) × IsTold job trace told
+    × IsShown job text told lines status × out lines false × IsReported faults fault.Write)
 
 -- What is written of an outcome.
 abbrev pub lines_of_outcome : (report : Bool) → Outcome → List ℕ

@@ -1,6 +1,7 @@
 pub mod Asked
 pub mod Commands
+pub mod FaultLines
 pub mod Items
 pub mod Jobs
 pub mod ReportLines
-pub mod RoundTrips
+pub mod Streams

@@ -1,43 +1,39 @@
 //! What the program reports on standard error, one line each.
-ghost use Rattle.std.specs.Prelude.{◌≡◌, ◌⊎◌};
+ghost use Rattle.std.specs.Prelude.{◌≡◌, ◌⊎◌, IfOk, Some};
+ghost use Rattle.std.specs.String.{string_bytes};
+ghost use Rattle.l4_jobs.specs.FaultLines.{kind_word, fault_words, fault_line, IsReported};
 ghost use Rattle.l4_jobs.specs.Jobs.{IsUnread, text_fault, fault_of_run, fault_of_reading, fault_of_audit};
 ghost use Rattle.l4_jobs.specs.declared.fault.Fault.TheVariants.{NoMemory as OutOfMemory};
 
+use crate::streams::Sink;
 use l4_audit::audit::AuditFault;
 use l4_machine::RunFault;
 use l4_script::text::{TextFault, TextFaultKind};
 use l4_trace::fault::TraceFault;
 use l4_types::errors::NoMemory;
-use std::io;
-use std::io::{ErrorKind, Write};
-use thiserror::Error;
+use std::alloc::{AllocError, Global};
+use std::fmt;
+use std::fmt::Display;
+use std::io::ErrorKind;
 
 /// Why a job was not done.
-#[derive(Debug, Drop, Error)]
+#[derive(Debug, Drop)]
 pub enum Fault<'a> {
     /// The machine text is faulty: the line, counted from 1, or 0 where the text as a whole is.
-    #[error("l4run: line {line}: {kind:?}")]
     Text { line: usize, kind: TextFaultKind },
     /// The number of turns is 0 or above 1,000,000.
-    #[error("l4run: turns out of range")]
     Turns,
     /// This item of the schedule, counted from 1, is none, or of no processor of the machine.
-    #[error("l4run: schedule item {0}")]
     Schedule(usize),
     /// This line of the trace, counted from 1, is the first that is the line of no step, or that has no line end.
-    #[error("l4run: trace line {0}")]
     Trace(usize),
     /// This step of the trace, counted from 1, is the first that is not possible.
-    #[error("l4run: refused at step {0}")]
     Refused(usize),
     /// Memory ran out.
-    #[error("l4run: no memory")]
     NoMemory,
     /// This file can't be read.
-    #[error("l4run: cannot read {0}")]
     Read(&'a str),
     /// The output is closed or full.
-    #[error("l4run: cannot write")]
     Write,
 }
 
@@ -97,20 +93,67 @@ impl From<NoMemory> for Fault<'_> {
     }
 }
 
-/// Writes the fault's line, and answers the exit status of a fault, 1.
-pub fn report<E: Write>(faults: &mut E, fault: &Fault<'_>) -> u8
-    ensures { result ≡ 1 }
+// The kind of a text's fault as its line names it.
+fn spelled_kind(kind: TextFaultKind) -> &'static str
+    ensures { result.now ≡ kind_word kind }
+{
+    match kind {
+        TextFaultKind::TooLong => "TooLong",
+        TextFaultKind::NoMemory => "NoMemory",
+        TextFaultKind::BadLine => "BadLine",
+        TextFaultKind::BadNumber => "BadNumber",
+        TextFaultKind::BadId => "BadId",
+        TextFaultKind::BadCpu => "BadCpu",
+        TextFaultKind::TypedItems => "TypedItems",
+        TextFaultKind::DoubleId => "DoubleId",
+        TextFaultKind::TooManyThreads => "TooManyThreads",
+        TextFaultKind::TooManyInstructions => "TooManyInstructions",
+        TextFaultKind::BadTarget => "BadTarget",
+    }
+}
+
+impl Display for Fault<'_> {
+    ghost output = { λ fault. Some (fault_words fault) };
+
+    fn fmt<W: fmt::Write>(&self, f: &mut fmt::Formatter<W>) -> fmt::Result {
+        match self {
+            Fault::Text { line, kind } => write!(f, "line {line}: {}", spelled_kind(*kind)),
+            Fault::Turns => f.write_str("turns out of range"),
+            Fault::Schedule(number) => write!(f, "schedule item {number}"),
+            Fault::Trace(line) => write!(f, "trace line {line}"),
+            Fault::Refused(step) => write!(f, "refused at step {step}"),
+            Fault::NoMemory => f.write_str("no memory"),
+            Fault::Read(name) => write!(f, "cannot read {name}"),
+            Fault::Write => f.write_str("cannot write"),
+        }
+    }
+}
+
+// The line of a fault.
+fn line_of(alloc: Global, fault: &Fault<'_>) -> Result<String, AllocError>
+    ensures { IfOk result (λ line. string_bytes line ≡ fault_line fault.now) }
+{
+    format!(in alloc; "l4run: {fault}\n")
+}
+
+/// Writes the fault's line, or the line of want of memory where there is none for it, and answers the exit status of a fault, 1.
+pub fn report<E: Sink>(alloc: Global, faults: &mut E, fault: &Fault<'_>) -> u8
+    ensures told { IsReported (E.takes faults.old faults.new) fault.now }
+    ensures status { result ≡ 1 }
 {
     // Where this can't be written either, the status alone tells.
-    let _ = writeln!(faults, "{fault}");
+    let _ = match line_of(alloc, fault) {
+        Ok(line) => faults.put(line.as_bytes()),
+        Err(_) => faults.put(b"l4run: no memory\n"),
+    };
     1
 }
 
 // The fault of the file of this name that can't be opened or read.
-pub(crate) fn unread<'a>(name: &'a str, error: &io::Error) -> Fault<'a>
-    ensures { (result ≡ OutOfMemory) ⊎ IsUnread name.now result }
+pub(crate) fn unread(name: &str, kind: ErrorKind) -> Fault<'_>
+    ensures { IsUnread name.now kind result }
 {
-    match error.kind() {
+    match kind {
         ErrorKind::OutOfMemory => Fault::NoMemory,
         _ => Fault::Read(name),
     }

@@ -1,54 +1,58 @@
 //! Doing a job over the files that it names.
-ghost use Rattle.std.specs.Prelude.{◌≡◌, ◌≢◌, ◌⊎◌, ℕ, List};
-ghost use Rattle.std.specs.Io.KnownBytes.{Appends};
-ghost use Rattle.l4_jobs.specs.Jobs.{IsShown};
+ghost use Rattle.std.specs.Prelude.{◌≡◌, ◌≢◌, ◌⊎◌};
+ghost use Rattle.l4_jobs.specs.Streams.{FileGives};
+ghost use Rattle.l4_jobs.specs.Jobs.{IsDone, IsNotDone, IsOpenedFault, TraceGives, file_of};
 
 use crate::fault::{report, unread};
 use crate::job::Job;
 use crate::perform::perform;
-use std::fs;
-use std::io::{Read, Write};
-use std::rt::Files;
+use crate::streams::{Folder, Sink, Source};
+use std::alloc::Global;
 
 // Opens the trace of a job that reads one, and does the job.
-fn on_trace<R: Files + AllocGlobal, M: Read, W: Write, E: Write>(
-    rt: &R,
+fn on_trace<F: Folder, M: Source, W: Sink, E: Sink>(
+    alloc: Global,
+    folder: &F,
     job: &Job<'_>,
     machine: &mut M,
     out: &mut W,
     faults: &mut E,
 ) -> u8
-    ensures shown { result ≢ 1 → (text : List ℕ) × (told : List ℕ) × (lines : List ℕ) × IsShown job.now text told lines result ×
-        Appends (W.contents out.old) (W.contents out.new) lines }
-    ensures whole { result ≡ 1 → (out.new ≡ out.old) ⊎ ((text : List ℕ) × (told : List ℕ) × (lines : List ℕ) × (status : ℕ) ×
-        IsShown job.now text told lines status) }
+    ensures shown { result ≢ 1 → IsDone job.now (M.gives machine.old) (TraceGives (F.opens folder.now) F.File.gives job.now)
+        (W.takes out.old out.new) (faults.new ≡ faults.old) result }
+    ensures whole { result ≡ 1 → IsNotDone job.now (M.gives machine.old) (TraceGives (F.opens folder.now) F.File.gives job.now)
+        (IsOpenedFault (F.opens folder.now) F.File.gives job.now (M.gives machine.old))
+        (W.takes out.old out.new) (out.new ≡ out.old) (E.takes faults.old faults.new) }
     ensures statuses { (result ≡ 0) ⊎ (result ≡ 1) ⊎ (result ≡ 3) }
 {
     let Some(name) = job.trace_file() else {
-        return perform(rt.alloc(), job, machine, &mut b"".as_slice(), out, faults);
+        return perform(alloc, job, machine, &mut b"".as_slice(), out, faults);
     };
-    match fs::open(rt, name) {
-        Ok(mut trace) => perform(rt.alloc(), job, machine, &mut trace, out, faults),
-        Err(error) => report(faults, &unread(name, &error)),
+    match folder.open(name) {
+        Ok(mut trace) => perform(alloc, job, machine, &mut trace, out, faults),
+        Err(kind) => report(alloc, faults, &unread(name, kind)),
     }
 }
 
 /// Opens the files of a job, the machine text's before the trace's and both before anything is read of them, and does the job. The exit
 /// status is that of `perform`, and 1 where a file can't be opened.
-pub fn perform_on_files<R: Files + AllocGlobal, W: Write, E: Write>(
-    rt: &R,
+pub fn perform_on_files<F: Folder, W: Sink, E: Sink>(
+    alloc: Global,
+    folder: &F,
     job: &Job<'_>,
     out: &mut W,
     faults: &mut E,
 ) -> u8
-    ensures shown { result ≢ 1 → (text : List ℕ) × (told : List ℕ) × (lines : List ℕ) × IsShown job.now text told lines result ×
-        Appends (W.contents out.old) (W.contents out.new) lines }
-    ensures whole { result ≡ 1 → (out.new ≡ out.old) ⊎ ((text : List ℕ) × (told : List ℕ) × (lines : List ℕ) × (status : ℕ) ×
-        IsShown job.now text told lines status) }
+    ensures shown { result ≢ 1 → IsDone job.now (FileGives (F.opens folder.now) F.File.gives (file_of job.now)) (TraceGives (F.opens folder.now) F.File.gives job.now)
+        (W.takes out.old out.new) (faults.new ≡ faults.old) result }
+    ensures whole { result ≡ 1 → IsNotDone job.now (FileGives (F.opens folder.now) F.File.gives (file_of job.now)) (TraceGives (F.opens folder.now) F.File.gives job.now)
+        (IsOpenedFault (F.opens folder.now) F.File.gives job.now (FileGives (F.opens folder.now) F.File.gives (file_of job.now)))
+        (W.takes out.old out.new) (out.new ≡ out.old) (E.takes faults.old faults.new) }
     ensures statuses { (result ≡ 0) ⊎ (result ≡ 1) ⊎ (result ≡ 3) }
 {
-    match fs::open(rt, job.file()) {
-        Ok(mut machine) => on_trace(rt, job, &mut machine, out, faults),
-        Err(error) => report(faults, &unread(job.file(), &error)),
+    let file = job.file();
+    match folder.open(file) {
+        Ok(mut machine) => on_trace(alloc, folder, job, &mut machine, out, faults),
+        Err(kind) => report(alloc, faults, &unread(file, kind)),
     }
 }

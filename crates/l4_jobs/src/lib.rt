@@ -9,6 +9,5 @@ pub mod job;
 pub mod perform;
 pub mod refusal;
 pub mod report_lines;
-pub mod round_trips;
-mod traces;
+pub mod streams;
 pub mod words;

@@ -1,10 +1,11 @@
 //! Doing a job over two readers and two writers.
-ghost use Rattle.std.specs.Prelude.{◌≡◌, ◌≢◌, ◌⊎◌, ℕ, List, IfOk, IfErr, OnOk, IfSome, Ok, Err, None, Some, map, take};
-ghost use Rattle.std.specs.Io.KnownBytes.{Appends};
+ghost use Rattle.std.specs.Prelude.{◌≡◌, ◌≢◌, ◌⊎◌, ℕ, List, IfOk, IfErr, Ok, Err, None, Some};
+ghost use Rattle.std.specs.declared.io.ErrorKind.{ErrorKind as Kind};
 ghost use Rattle.l4_machine.specs.Outcomes.{IsReplayed};
 ghost use Rattle.l4_machine.specs.declared.outcome.RunFault.TheVariants.{NoMemory as RunOutOfMemory};
+ghost use Rattle.l4_script.specs.Texts.{machine_of_text};
 ghost use Rattle.l4_jobs.specs.Items.{schedule_of};
-ghost use Rattle.l4_jobs.specs.Jobs.{IsGiven, IsUnread, IsTraceUnread, file_of, trace_file_of, IsShown, IsShownOn, IsRunShown, IsPassed, run_in_rounds, run_by_list, fault_of, fault_of_job, fault_of_trace, fault_of_result, lines_of_outcome, status_of_ending};
+ghost use Rattle.l4_jobs.specs.Jobs.{IsUnread, IsTold, file_of, trace_file_of, IsShown, IsShownOn, IsRunShown, IsPassed, IsTraceFault, IsFaultOn, IsFaultOf, IsJobFault, IsDone, IsNotDone, run_in_rounds, run_by_list, fault_of, fault_of_result, lines_of_outcome, status_of_ending};
 ghost use Rattle.l4_jobs.specs.declared.fault.Fault.TheVariants.{NoMemory as OutOfMemory};
 
 use crate::audits::audited;
@@ -12,15 +13,14 @@ use crate::fault::{Fault, report, unread};
 use crate::items::schedule_of;
 use crate::job::Job;
 use crate::report_lines::write_report;
-use crate::traces::trace;
+use crate::streams::{Sink, Source};
 use l4_machine::{Outcome, RunFault, replay, run};
 use l4_script::machine::Machine;
 use l4_script::text::MOST_BYTES;
+use l4_trace::traces::trace;
 use l4_types::errors::NoMemory;
 use l4_types::reports::Ending;
 use std::alloc::Global;
-use std::io;
-use std::io::{Read, Write};
 
 /// What a job prints, and its exit status.
 #[derive(Drop)]
@@ -29,31 +29,18 @@ struct Output {
     status: u8,
 }
 
-// All that the file of this name gives.
-fn read_bytes<'a, F: Read>(alloc: Global, name: &'a str, file: &mut F) -> Result<Vec<u8>, Fault<'a>>
-    ensures ok { IfOk result (λ bytes. IfSome (F.remaining file.old) (λ all. bytes.items ≡ all)) }
-    ensures err { IfErr result (λ fault. (fault ≡ OutOfMemory) ⊎ IsUnread name.now fault) }
-{
-    let mut bytes = Vec::new(alloc);
-    match file.read_to_end(&mut bytes) {
-        Ok(_) => Ok(bytes),
-        Err(error) => Err(unread(name, &error)),
-    }
-}
-
 // The machine text of this name. One that is too long is read so far that this shows.
-fn read_text<'a, M: Read>(
+fn read_text<'a, M: Source>(
     alloc: Global,
     name: &'a str,
     machine: &mut M,
 ) -> Result<Vec<u8>, Fault<'a>>
-    ensures ok { IfOk result (λ text. IfSome (M.remaining machine.old) (λ bytes. text.items ≡ take 0x100001 bytes)) }
-    ensures err { IfErr result (λ fault. (fault ≡ OutOfMemory) ⊎ IsUnread name.now fault) }
+    ensures ok { IfOk result (λ text. (all : List ℕ) × M.gives machine.old (Ok all) × (machine_of_text text.items ≡ machine_of_text all)) }
+    ensures err { IfErr result (λ fault. (kind : Kind) × M.gives machine.old (Err kind) × IsUnread name.now kind fault) }
 {
-    let mut text = Vec::new(alloc);
-    match machine.take(MOST_BYTES as u64 + 1).read_to_end(&mut text) {
-        Ok(_) => Ok(text),
-        Err(error) => Err(unread(name, &error)),
+    match machine.read_beginning(alloc, MOST_BYTES as u64 + 1) {
+        Ok(text) => Ok(text),
+        Err(kind) => Err(unread(name, kind)),
     }
 }
 
@@ -132,33 +119,34 @@ fn replay_output<'a>(
 }
 
 // What the audit of the trace in the file of this name prints.
-fn audit_output<'a, T: Read>(
+fn audit_output<'a, T: Source>(
     alloc: Global,
     machine: &Machine,
     name: &'a str,
     trace: &mut T,
 ) -> Result<Output, Fault<'a>>
-    ensures ok { IfOk result (λ output. (told : List ℕ) × IsGiven (T.remaining trace.old) told ×
+    ensures ok { IfOk result (λ output. (told : List ℕ) × T.gives trace.old (Ok told) ×
         IsPassed machine.now told output.lines.items × (output.status ≡ 0)) }
-    ensures err { IfErr result (λ fault. (fault ≡ OutOfMemory) ⊎ IsUnread name.now fault
-        ⊎ ((told : List ℕ) × IsGiven (T.remaining trace.old) told × (fault_of_trace machine.now told ≡ Some fault))) }
+    ensures err { IfErr result (λ fault. (fault ≡ OutOfMemory) ⊎ IsTraceFault machine.now name.now (T.gives trace.old) fault) }
 {
-    let told = read_bytes(alloc, name, trace)?;
+    let told = match trace.read_whole(alloc) {
+        Ok(told) => told,
+        Err(kind) => return Err(unread(name, kind)),
+    };
     let lines = audited(alloc, machine, told.as_slice())?;
     Ok(Output { lines, status: 0 })
 }
 
 // What a job prints for a machine. Only an audit reads the trace.
-fn output_on<'a, T: Read>(
+fn output_on<'a, T: Source>(
     alloc: Global,
     job: &Job<'a>,
     machine: &Machine,
     trace: &mut T,
 ) -> Result<Output, Fault<'a>>
-    ensures ok { IfOk result (λ output. (told : List ℕ) × IsGiven (T.remaining trace.old) told ×
+    ensures ok { IfOk result (λ output. (told : List ℕ) × IsTold job.now (T.gives trace.old) told ×
         IsShownOn job.now machine.now told output.lines.items output.status) }
-    ensures err { IfErr result (λ fault. (fault ≡ OutOfMemory) ⊎ IsTraceUnread job.now fault
-        ⊎ ((told : List ℕ) × IsGiven (T.remaining trace.old) told × (fault_of_job job.now machine.now told ≡ Some fault))) }
+    ensures err { IfErr result (λ fault. (fault ≡ OutOfMemory) ⊎ IsFaultOn job.now machine.now (T.gives trace.old) fault) }
     ensures unread { trace_file_of job.now ≡ None → trace.new ≡ trace.old }
 {
     match *job {
@@ -173,42 +161,31 @@ fn output_on<'a, T: Read>(
 }
 
 // What a job prints for a text. The text is judged before the trace is read.
-fn output_of<'a, T: Read>(
+fn output_of<'a, T: Source>(
     alloc: Global,
     job: &Job<'a>,
     text: &[u8],
     trace: &mut T,
 ) -> Result<Output, Fault<'a>>
-    ensures ok { IfOk result (λ output. (told : List ℕ) × IsGiven (T.remaining trace.old) told ×
+    ensures ok { IfOk result (λ output. (told : List ℕ) × IsTold job.now (T.gives trace.old) told ×
         IsShown job.now text.now told output.lines.items output.status) }
-    ensures err { IfErr result (λ fault. (fault ≡ OutOfMemory) ⊎ IsTraceUnread job.now fault
-        ⊎ ((told : List ℕ) × IsGiven (T.remaining trace.old) told × (fault_of job.now text.now told ≡ Some fault))) }
+    ensures err { IfErr result (λ fault. (fault ≡ OutOfMemory) ⊎ IsFaultOf job.now (machine_of_text text.now) (T.gives trace.old) fault) }
     ensures unread { trace_file_of job.now ≡ None → trace.new ≡ trace.old }
 {
     let machine = Machine::parse(alloc, text)?;
     output_on(alloc, job, &machine, trace)
 }
 
-/// Writes the bytes through to what is behind a writer. Where this fails, a beginning of them may be there.
-pub fn write_out<W: Write>(out: &mut W, bytes: &[u8]) -> io::Result<()>
-    ensures { OnOk result (Appends (W.contents out.old) (W.contents out.new) bytes.now) }
-{
-    out.write_all(bytes)?;
-    out.flush()
-}
-
 // What a job prints for what its readers give.
-fn job_output<'a, M: Read, T: Read>(
+fn job_output<'a, M: Source, T: Source>(
     alloc: Global,
     job: &Job<'a>,
     machine: &mut M,
     trace: &mut T,
 ) -> Result<Output, Fault<'a>>
-    ensures shown { IfOk result (λ output. (text : List ℕ) × (told : List ℕ) × IsGiven (M.remaining machine.old) text ×
-        IsGiven (T.remaining trace.old) told × IsShown job.now text told output.lines.items output.status) }
-    ensures err { IfErr result (λ fault. (fault ≡ OutOfMemory) ⊎ (IsUnread (file_of job.now) fault ⊎ IsTraceUnread job.now fault)
-        ⊎ ((text : List ℕ) × (told : List ℕ) × IsGiven (M.remaining machine.old) text × IsGiven (T.remaining trace.old) told ×
-        (fault_of job.now text told ≡ Some fault))) }
+    ensures shown { IfOk result (λ output. (text : List ℕ) × (told : List ℕ) × M.gives machine.old (Ok text) ×
+        IsTold job.now (T.gives trace.old) told × IsShown job.now text told output.lines.items output.status) }
+    ensures err { IfErr result (IsJobFault job.now (M.gives machine.old) (T.gives trace.old)) }
     ensures unread { trace_file_of job.now ≡ None → trace.new ≡ trace.old }
 {
     let text = read_text(alloc, job.file(), machine)?;
@@ -217,8 +194,8 @@ fn job_output<'a, M: Read, T: Read>(
 
 /// Does a job, and answers the exit status: 0 where a run came to rest or a trace passed, 3 where a run did not come to rest, 1 where a fault
 /// was reported instead. The machine text is judged before anything is read of the trace, and only an audit reads that. The output is made
-/// whole before any of it is written.
-pub fn perform<M: Read, T: Read, W: Write, E: Write>(
+/// whole before any of it is written, and it is written once. A fault is reported by its one line.
+pub fn perform<M: Source, T: Source, W: Sink, E: Sink>(
     alloc: Global,
     job: &Job<'_>,
     machine: &mut M,
@@ -226,21 +203,20 @@ pub fn perform<M: Read, T: Read, W: Write, E: Write>(
     out: &mut W,
     faults: &mut E,
 ) -> u8
-    ensures shown { result ≢ 1 → (text : List ℕ) × (told : List ℕ) × (lines : List ℕ) × IsGiven (M.remaining machine.old) text ×
-        IsGiven (T.remaining trace.old) told × IsShown job.now text told lines result × Appends (W.contents out.old) (W.contents out.new) lines }
-    ensures whole { result ≡ 1 → (out.new ≡ out.old) ⊎ ((text : List ℕ) × (told : List ℕ) × (lines : List ℕ) × (status : ℕ) ×
-        IsGiven (M.remaining machine.old) text × IsGiven (T.remaining trace.old) told × IsShown job.now text told lines status) }
-    ensures faulty { ((text told : List ℕ) → IsGiven (M.remaining machine.old) text → IsGiven (T.remaining trace.old) told →
+    ensures shown { result ≢ 1 → IsDone job.now (M.gives machine.old) (T.gives trace.old) (W.takes out.old out.new) (faults.new ≡ faults.old) result }
+    ensures whole { result ≡ 1 → IsNotDone job.now (M.gives machine.old) (T.gives trace.old) (IsJobFault job.now (M.gives machine.old) (T.gives trace.old))
+        (W.takes out.old out.new) (out.new ≡ out.old) (E.takes faults.old faults.new) }
+    ensures faulty { ((text told : List ℕ) → M.gives machine.old (Ok text) → IsTold job.now (T.gives trace.old) told →
         fault_of job.now text told ≢ None) → (result ≡ 1) × (out.new ≡ out.old) }
     ensures statuses { (result ≡ 0) ⊎ (result ≡ 1) ⊎ (result ≡ 3) }
     ensures unread { trace_file_of job.now ≡ None → trace.new ≡ trace.old }
 {
     let output = match job_output(alloc, job, machine, trace) {
         Ok(output) => output,
-        Err(fault) => return report(faults, &fault),
+        Err(fault) => return report(alloc, faults, &fault),
     };
-    match write_out(out, output.lines.as_slice()) {
+    match out.put(output.lines.as_slice()) {
         Ok(()) => output.status,
-        Err(_) => report(faults, &Fault::Write),
+        Err(_) => report(alloc, faults, &Fault::Write),
     }
 }

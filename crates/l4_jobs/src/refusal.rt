@@ -1,26 +1,32 @@
 //! Answering words that ask for no job.
+ghost use Rattle.std.specs.Prelude.{◌≡◌};
 ghost use Rattle.l4_jobs.specs.Asked.{Refuses};
 
 use crate::fault::{Fault, report};
-use crate::perform::write_out;
+use crate::streams::Sink;
 use crate::words::WordsFault;
-use std::io::Write;
+use std::alloc::Global;
 
 /// Answers words that ask for no job, with the exit status: 0 where the help was written, 2 for wrong words, 1 where memory or a write was
 /// refused.
-pub fn refuse<W: Write, E: Write>(fault: &WordsFault, out: &mut W, faults: &mut E) -> u8
-    ensures { Refuses fault.now (W.contents out.old) (W.contents out.new) result }
+pub fn refuse<W: Sink, E: Sink>(
+    alloc: Global,
+    fault: &WordsFault,
+    out: &mut W,
+    faults: &mut E,
+) -> u8
+    ensures { Refuses fault.now (W.takes out.old out.new) (out.new ≡ out.old) (E.takes faults.old faults.new) (faults.new ≡ faults.old) result }
 {
     match fault {
-        WordsFault::Help(text) => match write_out(out, text.as_bytes()) {
+        WordsFault::Help(text) => match out.put(text.as_bytes()) {
             Ok(()) => 0,
-            Err(_) => report(faults, &Fault::Write),
+            Err(_) => report(alloc, faults, &Fault::Write),
         },
         WordsFault::Usage(text) => {
             // Where this can't be written, the status alone tells.
-            let _ = write!(faults, "{text}");
+            let _ = faults.put(text.as_bytes());
             2
         }
-        WordsFault::NoMemory => report(faults, &Fault::NoMemory),
+        WordsFault::NoMemory => report(alloc, faults, &Fault::NoMemory),
     }
 }

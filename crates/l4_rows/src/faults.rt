@@ -105,7 +105,7 @@ fn each_fault_has_one_line(rt: HostRuntime) {
         (Fault::Write, "l4run: cannot write\n"),
     ] {
         let mut faults = Vec::new(rt.alloc());
-        assert_eq!(rt; report(&mut faults, &fault), 1, "{line}");
+        assert_eq!(rt; report(rt.alloc(), &mut faults, &fault), 1, "{line}");
         assert_eq!(rt; faults.as_slice(), line.as_bytes());
     }
 }

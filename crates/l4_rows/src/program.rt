@@ -79,7 +79,7 @@ pub(crate) fn does_into<R: AllocGlobal + Abort, M: Read, T: Read, W: Write>(
     line.extend_from_slice(words).expect(rt, "memory");
     let status = match job_of(rt.alloc(), line.as_slice()) {
         Ok(job) => perform(rt.alloc(), &job, machine, trace, out, &mut faults),
-        Err(fault) => refuse(&fault, out, &mut faults),
+        Err(fault) => refuse(rt.alloc(), &fault, out, &mut faults),
     };
     (status, faults)
 }

@@ -8,3 +8,4 @@ mod names;
 pub mod reading;
 pub mod spelling;
 mod steps;
+pub mod traces;

@@ -4,23 +4,23 @@
 use l4_jobs::fault::{Fault, report};
 use l4_jobs::files::perform_on_files;
 use l4_jobs::refusal::refuse;
+use l4_jobs::streams::Sink;
 use l4_jobs::words::job_of;
 use std::alloc::{AllocError, Global};
-use std::io::Write;
 use std::process::ExitCode;
 use std::rt::{Env, Files};
 use std::{env, io};
 
 // Does what the words ask for.
-fn on_words<R: Files + AllocGlobal, W: Write, E: Write>(
+fn on_words<R: Files + AllocGlobal, W: Sink, E: Sink>(
     rt: &R,
     words: &[&str],
     out: &mut W,
     faults: &mut E,
 ) -> u8 {
     match job_of(rt.alloc(), words) {
-        Ok(job) => perform_on_files(rt, &job, out, faults),
-        Err(fault) => refuse(&fault, out, faults),
+        Ok(job) => perform_on_files(rt.alloc(), rt, &job, out, faults),
+        Err(fault) => refuse(rt.alloc(), &fault, out, faults),
     }
 }
 
@@ -28,7 +28,7 @@ fn texts<'a>(alloc: Global, words: &'a [String]) -> Result<Vec<&'a str>, AllocEr
     words.iter().map(|word| word.as_str()).collect(alloc)
 }
 
-fn run_program<R: Files + Env + AllocGlobal, W: Write, E: Write>(
+fn run_program<R: Files + Env + AllocGlobal, W: Sink, E: Sink>(
     rt: &R,
     out: &mut W,
     faults: &mut E,
@@ -36,19 +36,20 @@ fn run_program<R: Files + Env + AllocGlobal, W: Write, E: Write>(
     let args = match env::args(rt) {
         Ok(args) => args,
         Err(error) if matches!(error.kind(), io::ErrorKind::OutOfMemory) => {
-            return report(faults, &Fault::NoMemory);
+            return report(rt.alloc(), faults, &Fault::NoMemory);
         }
         Err(_) => {
-            let _ = writeln!(faults, "l4run: an argument is not UTF-8");
+            // Where this can't be written, the status alone tells.
+            let _ = faults.put(b"l4run: an argument is not UTF-8\n");
             return 2;
         }
     };
     let Ok(owned) = args.collect::<Vec<String>>(rt.alloc()) else {
-        return report(faults, &Fault::NoMemory);
+        return report(rt.alloc(), faults, &Fault::NoMemory);
     };
     match texts(rt.alloc(), owned.as_slice()) {
         Ok(words) => on_words(rt, words.as_slice(), out, faults),
-        Err(_) => report(faults, &Fault::NoMemory),
+        Err(_) => report(rt.alloc(), faults, &Fault::NoMemory),
     }
 }
 

@@ -1,4 +1,6 @@
-//! Runs and replays whose traces are read back and audited.
+//! A theorem of runs and replays, as calls that do what it says: the trace of each is read back as its history, and this passes the audit.
+#![tactic(auto)]
+
 ghost use Rattle.std.specs.Prelude.{◌≡◌, ◌<◌, ◌↔◌, ◌⊎◌, List, IfOk, IfErr, IsErrOf, Some, Ok, map, length};
 ghost use Rattle.l4_model.specs.History.{IsHistory};
 ghost use Rattle.l4_model.specs.Steps.{Step as ModelStep};
@@ -8,15 +10,15 @@ ghost use Rattle.l4_machine.specs.Outcomes.{IsOutcome, IsReplayed};
 ghost use Rattle.l4_machine.specs.declared.outcome.RunFault.TheVariants.{NoMemory as RunOutOfMemory};
 ghost use Rattle.l4_trace.specs.Reading.{steps_of};
 ghost use Rattle.l4_audit.specs.Audits.{Passes};
-ghost use Rattle.l4_jobs.specs.RoundTrips.{IsAudited};
+ghost use Rattle.l4_round_trips.specs.RoundTrips.{IsAudited};
 
-use crate::traces::trace;
 use l4_audit::audit::{Audit, AuditFault, check};
 use l4_machine::{Outcome, RunFault, replay, run};
 use l4_model::law_first_fault;
 use l4_script::machine::Machine;
 use l4_trace::fault::TraceFault;
 use l4_trace::reading::{law_read_back, read_events};
+use l4_trace::traces::trace;
 use l4_types::errors::NoMemory;
 use l4_types::steps::Step;
 use std::alloc::Global;
@@ -24,8 +26,11 @@ use std::alloc::Global;
 /// What a run came to, its trace, and the audit of the steps that were read of this trace.
 #[derive(Drop)]
 pub struct AuditedOutcome {
+    /// What the run or the replay came to.
     pub outcome: Outcome,
+    /// The lines of its history.
     pub trace: Vec<u8>,
+    /// The audit of the steps that were read of these lines.
     pub audit: Audit,
 }
 

@@ -7,7 +7,7 @@ use Rattle.l4_audit.specs.Audits.{Passes}
 use Rattle.l4_machine.specs.declared.outcome.Outcome.{Outcome}
 use Rattle.l4_trace.specs.Lines.{trace_of}
 use Rattle.l4_trace.specs.Reading.{steps_of}
-use Rattle.l4_jobs.specs.declared.round_trips.AuditedOutcome.{AuditedOutcome}
+use Rattle.l4_round_trips.specs.declared.AuditedOutcome.{AuditedOutcome}
 
 abbrev pub history_of : Outcome → List Step
 history_of o = map step_of o.history.items

@@ -4,13 +4,13 @@ ghost use Rattle.std.specs.List.{list_all};
 ghost use Rattle.l4_types.specs.StepView.{step_of};
 ghost use Rattle.l4_trace.specs.Lines.{has_line, trace_of};
 
-use l4_trace::lines::write_event;
+use crate::lines::write_event;
 use l4_types::errors::NoMemory;
 use l4_types::steps::Step;
 use std::alloc::Global;
 
-// The lines of a history.
-pub(crate) fn trace(alloc: Global, history: &[Step]) -> Result<Vec<u8>, NoMemory>
+/// The trace of a history: the line of each of its steps.
+pub fn trace(alloc: Global, history: &[Step]) -> Result<Vec<u8>, NoMemory>
     ensures lines { IfOk result (λ lines. lines.items ≡ trace_of (map step_of history.now)) }
     ensures spelled { IfOk result (λ lines. list_all has_line (map step_of history.now) ≡ true) }
 {

@@ -1,0 +1,106 @@
+-- What is done over files that were opened.
+use Rattle.std.proofs.Common.{◌≡◌, ℕ, Bool, Option, Some, None, Result, Ok, Err, List, sym, subst, inl, inr}
+use Rattle.std.specs.Prelude.{IfSome, IsSomeAnd}
+use Rattle.std.specs.declared.io.ErrorKind.{ErrorKind}
+use Rattle.l4_model.specs.Machine.{Machine}
+use Rattle.l4_script.specs.Texts.{machine_of_text}
+use Rattle.l4_script.specs.declared.text.fault.TextFault.{TextFault}
+use Rattle.l4_jobs.specs.Jobs.{IsTold, IsTraceFault, IsFaultOf, IsJobFault, IsOpenedFault, IsDone, IsNotDone, IsUnread, TraceGives, file_of, trace_file_of}
+use Rattle.l4_jobs.specs.Streams.{FileGives}
+use Rattle.l4_jobs.specs.declared.fault.Fault.{Fault}
+use Rattle.l4_jobs.specs.declared.job.Job.{Job}
+use Rattle.l4_jobs.specs.declared.job.Job.TheVariants.{Run, Replay, Audit}
+
+-- What reading a source may come to, and what a writer takes.
+abbrev Gives : Type 1
+Gives = Result (List ℕ) ErrorKind → Type 0
+
+abbrev Takes : Type 1
+Takes = List ℕ → Bool → Type 0
+
+-- What a job that reads a trace makes of what its reader gives, it makes of all that one may give who gives this too.
+abbrev IsMore : Job → (less more : Gives) → Type 0
+IsMore job less more = IfSome (trace_file_of job) (λ _. (given : Result (List ℕ) ErrorKind) → less given → more given)
+
+told_more : (job : Job) (less more : Gives) (told : List ℕ) → IsMore job less more → IsTold job less told → IsTold job more told
+told_more (Run file turns report) less more told h t = tt
+told_more (Replay file schedule report) less more told h t = tt
+told_more (Audit file name) less more told h t = h (Ok told) t
+
+trace_fault_more : (m : Machine) (name : List ℕ) (less more : Gives) (f : Fault) → ((given : Result (List ℕ) ErrorKind) → less given → more given) →
+    IsTraceFault m name less f → IsTraceFault m name more f
+trace_fault_more m name less more f h (inl (kind, given, unread)) = inl (kind, h (Err kind) given, unread)
+trace_fault_more m name less more f h (inr (trace, given, faulty)) = inr (trace, h (Ok trace) given, faulty)
+
+fault_more : (job : Job) (m : Result Machine TextFault) (less more : Gives) (f : Fault) → IsMore job less more → IsFaultOf job m less f → IsFaultOf job m more f
+fault_more job (Err e) less more f h is = is
+fault_more (Run file turns report) (Ok m) less more f h is = is
+fault_more (Replay file schedule report) (Ok m) less more f h is = is
+fault_more (Audit file name) (Ok m) less more f h is = trace_fault_more m name.now less more f h is
+
+job_fault_more : (job : Job) (machine less more : Gives) (f : Fault) → IsMore job less more → IsJobFault job machine less f → IsJobFault job machine more f
+job_fault_more job machine less more f h (inl none) = inl none
+job_fault_more job machine less more f h (inr (inl unread)) = inr (inl unread)
+job_fault_more job machine less more f h (inr (inr (text, given, is))) = inr (inr (text, given, fault_more job (machine_of_text text) less more f h is))
+
+-- A job that reads no trace, and one whose trace was opened.
+pub no_trace : (job : Job) (less more : Gives) → trace_file_of job ≡ None → IsMore job less more
+no_trace job less more none = subst (λ o. IfSome o (λ _. (given : Result (List ℕ) ErrorKind) → less given → more given)) (sym none) tt
+
+pub opened : {File : Type 0} (opens : List ℕ → Result File ErrorKind → Type 0) (gives : File → Gives) (job : Job) (name : List ℕ) (file : File) →
+    trace_file_of job ≡ Some name → opens name (Ok file) → IsMore job (gives file) (TraceGives opens gives job)
+opened {File} opens gives job name file is o = by (trace_file_of job) is
+  where
+    each : (given : Result (List ℕ) ErrorKind) → gives file given → FileGives opens gives name given
+    each (Ok text) g = (file, o, g)
+    each (Err kind) g = inr (file, o, g)
+
+    by : (named : Option (List ℕ)) → named ≡ Some name →
+        IfSome named (λ _. (given : Result (List ℕ) ErrorKind) → gives file given → IsSomeAnd named (λ n. FileGives opens gives n given))
+    by named is = subst (λ o. IfSome o (λ _. (given : Result (List ℕ) ErrorKind) → gives file given → IsSomeAnd o (λ n. FileGives opens gives n given))) (sym is) each
+
+-- What was done on a machine text and a trace was done on the files.
+pub done_more : (job : Job) (machine less more : Gives) (out : Takes) (keeps : Type 0) (status : ℕ) → IsMore job less more →
+    IsDone job machine less out keeps status → IsDone job machine more out keeps status
+done_more job machine less more out keeps status h (text, told, lines, given, t, s, wrote, kept) =
+    (text, told, lines, given, told_more job less more told h t, s, wrote, kept)
+
+pub not_done_more : {File : Type 0} (opens : List ℕ → Result File ErrorKind → Type 0) (gives : File → Gives) (job : Job) (machine less : Gives)
+    (out : Takes) (keeps : Type 0) (faults : Takes) → IsMore job less (TraceGives opens gives job) →
+    IsNotDone job machine less (IsJobFault job machine less) out keeps faults →
+    IsNotDone job machine (TraceGives opens gives job) (IsOpenedFault opens gives job machine) out keeps faults
+not_done_more opens gives job machine less out keeps faults h (inl (f, is, kept, reported)) =
+    inl (f, inl (job_fault_more job machine less _ f h is), kept, reported)
+not_done_more opens gives job machine less out keeps faults h (inr (text, told, lines, status, given, t, s, wrote, reported)) =
+    inr (text, told, lines, status, given, told_more job less _ told h t, s, wrote, reported)
+
+-- The trace can't be opened, and the machine text can't.
+pub trace_refused : {File : Type 0} (opens : List ℕ → Result File ErrorKind → Type 0) (gives : File → Gives) (job : Job) (machine : Gives) (name : List ℕ)
+    (kind : ErrorKind) (f : Fault) → trace_file_of job ≡ Some name → opens name (Err kind) → IsUnread name kind f → IsOpenedFault opens gives job machine f
+trace_refused opens gives job machine name kind f is refused unread =
+    inr (subst (λ o. IsSomeAnd o (λ n. (kind : ErrorKind) × opens n (Err kind) × IsUnread n kind f)) (sym is) (kind, refused, unread))
+
+pub text_refused : {File : Type 0} (opens : List ℕ → Result File ErrorKind → Type 0) (gives : File → Gives) (job : Job) (kind : ErrorKind) (f : Fault) →
+    opens (file_of job) (Err kind) → IsUnread (file_of job) kind f → IsOpenedFault opens gives job (FileGives opens gives (file_of job)) f
+text_refused opens gives job kind f refused unread = inl (inr (inl (kind, inl refused, unread)))
+
+-- The machine text was opened.
+pub done_on_file : {File : Type 0} (opens : List ℕ → Result File ErrorKind → Type 0) (gives : File → Gives) (job : Job) (trace : Gives) (file : File)
+    (out : Takes) (keeps : Type 0) (status : ℕ) → opens (file_of job) (Ok file) →
+    IsDone job (gives file) trace out keeps status → IsDone job (FileGives opens gives (file_of job)) trace out keeps status
+done_on_file opens gives job trace file out keeps status o (text, told, lines, given, t, s, wrote, kept) =
+    (text, told, lines, (file, o, given), t, s, wrote, kept)
+
+pub not_done_on_file : {File : Type 0} (opens : List ℕ → Result File ErrorKind → Type 0) (gives : File → Gives) (job : Job) (trace : Gives) (file : File)
+    (out : Takes) (keeps : Type 0) (faults : Takes) → opens (file_of job) (Ok file) →
+    IsNotDone job (gives file) trace (IsOpenedFault opens gives job (gives file)) out keeps faults →
+    IsNotDone job (FileGives opens gives (file_of job)) trace (IsOpenedFault opens gives job (FileGives opens gives (file_of job))) out keeps faults
+not_done_on_file opens gives job trace file out keeps faults o (inl (f, is, kept, reported)) = inl (f, by is, kept, reported)
+  where
+    by : IsOpenedFault opens gives job (gives file) f → IsOpenedFault opens gives job (FileGives opens gives (file_of job)) f
+    by (inl (inl none)) = inl (inl none)
+    by (inl (inr (inl (kind, failed, unread)))) = inl (inr (inl (kind, inr (file, o, failed), unread)))
+    by (inl (inr (inr (text, given, is)))) = inl (inr (inr (text, (file, o, given), is)))
+    by (inr refused) = inr refused
+not_done_on_file opens gives job trace file out keeps faults o (inr (text, told, lines, status, given, t, s, wrote, reported)) =
+    inr (text, told, lines, status, (file, o, given), t, s, wrote, reported)

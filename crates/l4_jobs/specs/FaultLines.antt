@@ -1,0 +1,38 @@
+-- The lines of faults.
+use Rattle.std.specs.Prelude.{◌≡◌, ◌⊎◌, ℕ, Bool, List, ◌++◌, codes, decimal}
+use Rattle.l4_script.specs.declared.text.fault.TextFaultKind.{TextFaultKind}
+use Rattle.l4_script.specs.declared.text.fault.TextFaultKind.TheVariants as kind
+use Rattle.l4_jobs.specs.declared.fault.Fault.{Fault}
+use Rattle.l4_jobs.specs.declared.fault.Fault.TheVariants as fault
+
+abbrev pub kind_word : TextFaultKind → List ℕ
+kind_word kind.TooLong = codes "TooLong"
+kind_word kind.NoMemory = codes "NoMemory"
+kind_word kind.BadLine = codes "BadLine"
+kind_word kind.BadNumber = codes "BadNumber"
+kind_word kind.BadId = codes "BadId"
+kind_word kind.BadCpu = codes "BadCpu"
+kind_word kind.TypedItems = codes "TypedItems"
+kind_word kind.DoubleId = codes "DoubleId"
+kind_word kind.TooManyThreads = codes "TooManyThreads"
+kind_word kind.TooManyInstructions = codes "TooManyInstructions"
+kind_word kind.BadTarget = codes "BadTarget"
+
+-- What is said of a fault, and its line.
+abbrev pub fault_words : Fault → List ℕ
+fault_words (fault.Text line kind) = codes "line " ++ decimal line ++ codes ": " ++ kind_word kind
+fault_words fault.Turns = codes "turns out of range"
+fault_words (fault.Schedule number) = codes "schedule item " ++ decimal number
+fault_words (fault.Trace line) = codes "trace line " ++ decimal line
+fault_words (fault.Refused step) = codes "refused at step " ++ decimal step
+fault_words fault.NoMemory = codes "no memory"
+fault_words (fault.Read name) = codes "cannot read " ++ name.now
+fault_words fault.Write = codes "cannot write"
+
+abbrev pub fault_line : Fault → List ℕ
+fault_line f = codes "l4run: " ++ fault_words f ++ codes "\n"
+
+-- The fault's one line was handed to the writer, or where memory for it ran out, the line that says so. The status tells the rest where the writer
+-- did not take all of it.
+abbrev pub IsReported : (takes : (bytes : List ℕ) → (all : Bool) → Type 0) → Fault → Type 0
+IsReported takes f = (line : List ℕ) × ((line ≡ fault_line f) ⊎ (line ≡ fault_line fault.NoMemory)) × ((all : Bool) × takes line all)

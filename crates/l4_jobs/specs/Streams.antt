@@ -1,0 +1,29 @@
+-- What is read and written, as far as a reader and a writer of bytes tell.
+use Rattle.std.specs.Prelude.{◌≡◌, ◌⊎◌, ℕ, Bool, true, false, Option, Some, None, Result, Ok, Err, List, ◌++◌}
+use Rattle.std.specs.Io.KnownBytes.{Appends}
+use Rattle.std.specs.declared.io.ErrorKind.{ErrorKind}
+
+-- The text that a reader gives: its bytes, where they are known.
+abbrev pub IsGiven : (known : Option (List ℕ)) → (text : List ℕ) → Type 0
+IsGiven None text = Unit {0}
+IsGiven (Some bytes) text = text ≡ bytes
+
+-- What reading it to its end may come to. A reader of bytes does not tell whether a read fails.
+abbrev pub MayGive : (known : Option (List ℕ)) → Result (List ℕ) ErrorKind → Type 0
+MayGive known (Ok text) = IsGiven known text
+MayGive known (Err kind) = Unit {0}
+
+-- A beginning of the bytes was appended, and this is left of them.
+abbrev pub HasAppended : (old new : Option (List ℕ)) → (bytes left : List ℕ) → Type 0
+HasAppended old new bytes left = (front : List ℕ) × (bytes ≡ front ++ left) × Appends old new front
+
+-- All of the bytes were appended, or a beginning of them.
+abbrev pub MayTake : (old new : Option (List ℕ)) → (bytes : List ℕ) → (all : Bool) → Type 0
+MayTake old new bytes true = Appends old new bytes
+MayTake old new bytes false = (left : List ℕ) × HasAppended old new bytes left
+
+-- What reading the file of a name may come to: it is opened and then read.
+abbrev pub FileGives : {File : Type 0} → (opens : List ℕ → Result File ErrorKind → Type 0) → (gives : File → Result (List ℕ) ErrorKind → Type 0) →
+    (name : List ℕ) → Result (List ℕ) ErrorKind → Type 0
+FileGives {File} opens gives name (Ok text) = (file : File) × opens name (Ok file) × gives file (Ok text)
+FileGives {File} opens gives name (Err kind) = opens name (Err kind) ⊎ ((file : File) × opens name (Ok file) × gives file (Err kind))

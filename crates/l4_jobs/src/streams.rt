@@ -1,0 +1,114 @@
+//! What a job reads and what it writes to: sources, sinks and where files are opened. Contracts name what each call came to, which the readers and
+//! writers of bytes do not tell: that it failed.
+ghost use Rattle.std.specs.Prelude.{◌≡◌, ◌⊎◌, ℕ, Bool, List, take, true, false, Result, Ok, Err, IfOk, OnErr, MatchResult};
+ghost use Rattle.std.specs.declared.io.ErrorKind.{ErrorKind as Kind};
+ghost use Rattle.l4_jobs.specs.Streams.{MayGive, MayTake, HasAppended};
+
+use std::alloc::Global;
+use std::fs;
+use std::io::{ErrorKind, Read, Write};
+use std::rt::Files;
+
+/// What a text is read from.
+pub trait Source {
+    // What reading it to its end may come to.
+    ghost gives: { Self → Result (List ℕ) Kind → Type 0 };
+
+    /// Reads all that is left.
+    fn read_whole(&mut self, alloc: Global) -> Result<Vec<u8>, ErrorKind>
+        ensures { MatchResult result (λ bytes. gives self.old (Ok bytes.items)) (λ kind. gives self.old (Err kind)) };
+
+    /// Reads at most so many bytes of what is left.
+    fn read_beginning(&mut self, alloc: Global, most: u64) -> Result<Vec<u8>, ErrorKind>
+        ensures { MatchResult result (λ bytes. (all : List ℕ) × gives self.old (Ok all) × ((bytes.items ≡ all) ⊎ (bytes.items ≡ take most all)))
+            (λ kind. gives self.old (Err kind)) };
+}
+
+impl<R: Read> Source for R {
+    ghost gives = { λ s read. MayGive (R.remaining s) read };
+
+    fn read_whole(&mut self, alloc: Global) -> Result<Vec<u8>, ErrorKind> {
+        let mut bytes = Vec::new(alloc);
+        match self.read_to_end(&mut bytes) {
+            Ok(_) => Ok(bytes),
+            Err(error) => Err(error.kind()),
+        }
+    }
+
+    fn read_beginning(&mut self, alloc: Global, most: u64) -> Result<Vec<u8>, ErrorKind> {
+        let mut bytes = Vec::new(alloc);
+        match self.take(most).read_to_end(&mut bytes) {
+            Ok(_) => Ok(bytes),
+            Err(error) => Err(error.kind()),
+        }
+    }
+}
+
+/// Not all of the bytes were written, or what is behind the writer did not take them.
+#[derive(Clone, Copy, Debug, PartialEq, Eq)]
+pub struct NotWritten;
+
+/// What lines are written to.
+pub trait Sink {
+    // What writing these bytes may do to it, where all of them are written, and where they are not.
+    ghost takes: { (old new : Self) → (bytes : List ℕ) → (all : Bool) → Type 0 };
+
+    /// Writes the bytes through to what is behind it.
+    fn put(&mut self, bytes: &[u8]) -> Result<(), NotWritten>
+        ensures { MatchResult result (λ _. takes self.old self.new bytes.now true) (λ _. takes self.old self.new bytes.now false) };
+}
+
+// Writes a beginning of the bytes, and answers what is left of them.
+#[tactic(auto, using(crate::proofs::Appending::kept))]
+fn write_some<'a, W: Write>(out: &mut W, bytes: &'a [u8]) -> Result<&'a [u8], NotWritten>
+    ensures some { IfOk result (λ left. HasAppended (W.contents out.old) (W.contents out.new) bytes.now left.now) }
+    ensures none { OnErr result (HasAppended (W.contents out.old) (W.contents out.new) bytes.now bytes.now) }
+{
+    match out.write(bytes) {
+        Ok(0) => Err(NotWritten),
+        Ok(count) => Ok(&bytes[count..]),
+        Err(error) if matches!(error.kind(), ErrorKind::Interrupted) => Ok(bytes),
+        Err(_) => Err(NotWritten),
+    }
+}
+
+impl<W: Write> Sink for W {
+    ghost takes = { λ old new bytes all. MayTake (W.contents old) (W.contents new) bytes all };
+
+    #[tactic(auto, using(crate::proofs::Appending::onto, crate::proofs::Appending::begun, crate::proofs::Appending::whole))]
+    fn put(&mut self, bytes: &[u8]) -> Result<(), NotWritten> {
+        let mut left = bytes;
+        for _ in 0..u64::MAX {
+            if left.is_empty() {
+                return self.flush().map_err(|_| NotWritten);
+            }
+            left = write_some(self, left)?;
+        }
+        Err(NotWritten)
+    }
+}
+
+/// Where files are opened by their names.
+pub trait Folder {
+    type File: Source + Drop;
+
+    // What opening the file of this name may come to.
+    ghost opens: { Self → (name : List ℕ) → Result Self.File Kind → Type 0 };
+
+    /// Opens the file of this name.
+    fn open(&self, name: &str) -> Result<Self::File, ErrorKind>
+        ensures { opens self.now name.now result };
+}
+
+impl<R: Files> Folder for R {
+    type File = R::File;
+
+    ghost opens = { λ s name opened. Unit {0} };
+
+    fn open(&self, name: &str) -> Result<R::File, ErrorKind> {
+        match fs::open(self, name) {
+            Ok(file) => Ok(file),
+            Err(error) => Err(error.kind()),
+        }
+    }
+}

@@ -1,3 +1,4 @@
+pub mod CoreRuns
 pub mod Entries
 pub mod Outcomes
 pub mod Turns

@@ -1,11 +1,13 @@
-//! Machines at work: runs in rounds, and replays of a schedule.
+//! Machines at work: runs in rounds, replays of a schedule, and the law of core runs.
 #![tactic(auto)]
 
+mod laws;
 mod outcome;
 mod rounds;
 mod schedules;
 mod turns;
 
+pub use laws::law_core_run;
 pub use outcome::{Outcome, RunFault};
 pub use rounds::{MOST_TURNS, run};
 pub use schedules::{MOST_ENTRIES, replay};

@@ -1,0 +1,31 @@
+//! The law of core runs: what every run on processors is, whatever they do in which order.
+ghost use Rattle.l4_model.specs.Machine.{Machine};
+ghost use Rattle.l4_core_model.specs.Laws.{IsCoreRun};
+ghost use Rattle.l4_core_model.specs.Runs.{IsMachine, Run};
+ghost use Rattle.l4_machine.specs.CoreRuns.{HasLawfulMergedRun};
+ghost use Rattle.l4_merge.specs.Merges.{SortAsMerged};
+ghost use Rattle.l4_split.specs.Laws.{IsLawfulRun};
+
+use l4_merge::law_reorder;
+use l4_split::law_of_core_runs;
+
+/// What is true of every core run from the opening of every machine that a text can declare, of any number of processors, whichever
+/// processor goes on next and whichever letter under way is handled first. It is a law over the definitions alone: no call's answer
+/// stands in it.
+///
+/// `lawful`: what the events tell is a history of the model, each step possible at the world that the earlier ones reach, with the laws
+/// of histories; no letter under way is refused where it goes; and where the run is at rest, nothing but clocks can go on in the world
+/// that the history reaches.
+///
+/// `merged`: the events in order of stamp and processor are those of a core run too, which ends in the same local states, with the same
+/// letters under way of each pair of processors, and is at rest exactly where the first one is. So all of `lawful` is true of it.
+///
+/// `sorted`: however the events are sorted by stamp and processor, that is the order they come to.
+pub fn law_core_run()
+    ensures lawful { (m : Machine) (r : Run) → IsMachine m → IsCoreRun m r → IsLawfulRun m r }
+    ensures merged { (m : Machine) (r : Run) → IsMachine m → IsCoreRun m r → HasLawfulMergedRun m r }
+    ensures sorted { (m : Machine) (r : Run) → IsCoreRun m r → SortAsMerged r.events }
+{
+    law_of_core_runs();
+    law_reorder();
+}

@@ -5,6 +5,7 @@
 #![tactic(auto)]
 
 pub mod history;
+pub mod log;
 pub mod message_ref;
 mod records;
 pub mod sink;

@@ -2,3 +2,4 @@ pub mod Kinds
 pub mod Lines
 pub mod Names
 pub mod Reading
+pub mod Room

@@ -1,5 +1,5 @@
 //! The history of a machine.
-ghost use Rattle.std.specs.Prelude.{◌≡◌, ◌<◌, ◌≤◌, ◌-◌, [], ◌∷◌, ◌++◌, ◌↔◌, All, OnOk, OnErr, IfOk, Some, IsTrue, length, map, take, drop, slice_get, false};
+ghost use Rattle.std.specs.Prelude.{◌≡◌, ◌<◌, ◌≤◌, ◌-◌, ◌^◌, [], ◌∷◌, ◌++◌, ◌↔◌, All, OnOk, OnErr, IfOk, Some, IsTrue, length, map, take, drop, slice_get, false};
 ghost use Rattle.l4_types.specs.StepView.{step_of};
 ghost use Rattle.l4_history.specs.Rows.{IsHead, IsHeadOf, delivery_at, is_delivery, step_at};
 ghost use Rattle.l4_history.specs.Seen.{delivered, seen};
@@ -78,11 +78,12 @@ impl History {
         Ok(steps)
     }
 
-    /// How many steps it has.
+    /// How many steps it has, below 2^63.
     pub fn len(&self) -> usize
-        ensures { result ≡ length self.now.steps }
+        ensures value { result ≡ length self.now.steps }
+        ensures fits { result < 2 ^ 63 }
     {
-        self.records.len()
+        self.records.as_slice().len()
     }
 
     /// Whether it has no step.

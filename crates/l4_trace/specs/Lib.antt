@@ -3,3 +3,4 @@ pub mod Lines
 pub mod Names
 pub mod Reading
 pub mod Room
+pub mod Telling

@@ -9,14 +9,8 @@ join_words first [] = sym (append-nil first)
 join_words first (word ∷ words) = ap (λ rest. first ++ (32 ∷ rest)) (join_words (hexadecimal word) words)
 
 -- The line of a delivery, put together piece by piece.
-pub delivery_line : (s name receiver shown actual tag : List ℕ) (words : List ℕ) →
-    s ++ codes "deliver" ++ codes " " ++ name ++ codes " " ++ receiver ++ codes " " ++ shown ++ codes " " ++ actual
-    ++ codes " " ++ tag ++ flat_map (λ word. codes " " ++ hexadecimal word) words ++ codes "\n"
-    ≡ s ++ line_of_words (codes "deliver" ∷ name ∷ receiver ∷ shown ∷ actual ∷ tag ∷ map hexadecimal words)
-delivery_line s name receiver shown actual tag words = simp (join_words, append_assoc)
-
--- The line of an order.
-pub order_line : (s caller target what : List ℕ) →
-    s ++ codes "order" ++ codes " " ++ caller ++ codes " " ++ target ++ (codes " " ++ (what ++ codes "\n"))
-    ≡ s ++ line_of_words (codes "order" ∷ caller ∷ target ∷ what ∷ [])
-order_line s caller target what = simp append_assoc
+pub delivery_line : (name receiver shown actual tag : List ℕ) (words : List ℕ) →
+    codes "deliver" ++ (codes " " ++ name ++ (codes " " ++ receiver ++ (codes " " ++ shown ++ (codes " " ++ actual
+    ++ (codes " " ++ tag ++ (flat_map (λ word. codes " " ++ hexadecimal word) words ++ codes "\n"))))))
+    ≡ line_of_words (codes "deliver" ∷ name ∷ receiver ∷ shown ∷ actual ∷ tag ∷ map hexadecimal words)
+delivery_line name receiver shown actual tag words = simp (join_words, append_assoc)

@@ -1,5 +1,7 @@
 pub mod Hashes
+pub mod Hexadecimal
 pub mod Joined
+pub mod Lengths
 pub mod LineRows
 pub mod Plain
 pub mod ReadNames

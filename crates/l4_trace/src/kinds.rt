@@ -1,11 +1,12 @@
 //! The kinds of steps, by the first word of a line.
 ghost use Rattle.std.specs.Prelude.{◌≡◌, List, ℕ};
-ghost use Rattle.l4_types.specs.StepView.{step_of};
+ghost use Rattle.l4_history.specs.Seen.{seen};
 ghost use Rattle.l4_trace.specs.Kinds.{step_of_thread, step_of_name, step_of_kind};
 ghost use Rattle.l4_trace.specs.Reading.{step_behind};
 
+use l4_history::step_ref::StepRef;
 use l4_types::ids::GlobalId;
-use l4_types::steps::{Name, Step};
+use l4_types::steps::Name;
 
 const LOCAL: &[u8] = b"local";
 
@@ -50,16 +51,16 @@ pub(crate) enum OfThread {
 
 impl OfThread {
     /// The step of this thread.
-    pub(crate) fn step(self, thread: GlobalId) -> Step
-        ensures { step_of result ≡ step_of_thread self thread }
+    pub(crate) fn step(self, thread: GlobalId) -> StepRef<'static>
+        ensures { seen result ≡ step_of_thread self thread }
     {
         match self {
-            OfThread::Local => Step::Local(thread),
-            OfThread::Wait => Step::Wait(thread),
-            OfThread::ReceiveTimeout => Step::ReceiveTimeout(thread),
-            OfThread::ReceiveNobody => Step::ReceiveNobody(thread),
-            OfThread::ReceiveCancel => Step::ReceiveCancel(thread),
-            OfThread::Obey => Step::Obey(thread),
+            OfThread::Local => StepRef::Local(thread),
+            OfThread::Wait => StepRef::Wait(thread),
+            OfThread::ReceiveTimeout => StepRef::ReceiveTimeout(thread),
+            OfThread::ReceiveNobody => StepRef::ReceiveNobody(thread),
+            OfThread::ReceiveCancel => StepRef::ReceiveCancel(thread),
+            OfThread::Obey => StepRef::Obey(thread),
         }
     }
 }
@@ -77,16 +78,16 @@ pub(crate) enum OfName {
 
 impl OfName {
     /// The step of the send of this name.
-    pub(crate) fn step(self, name: Name) -> Step
-        ensures { step_of result ≡ step_of_name self name }
+    pub(crate) fn step(self, name: Name) -> StepRef<'static>
+        ensures { seen result ≡ step_of_name self name }
     {
         match self {
-            OfName::Begin => Step::Begin(name),
-            OfName::Queue => Step::Queue(name),
-            OfName::SendTimeout => Step::SendTimeout(name),
-            OfName::SendNobody => Step::SendNobody(name),
-            OfName::SendCancel => Step::SendCancel(name),
-            OfName::Drop => Step::Drop(name),
+            OfName::Begin => StepRef::Begin(name),
+            OfName::Queue => StepRef::Queue(name),
+            OfName::SendTimeout => StepRef::SendTimeout(name),
+            OfName::SendNobody => StepRef::SendNobody(name),
+            OfName::SendCancel => StepRef::SendCancel(name),
+            OfName::Drop => StepRef::Drop(name),
         }
     }
 }

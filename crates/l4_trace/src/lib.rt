@@ -2,9 +2,11 @@
 #![tactic(auto)]
 
 pub mod fault;
+mod digits;
 mod kinds;
 pub mod lines;
 mod names;
+mod pieces;
 pub mod reading;
 pub mod spelling;
 mod steps;

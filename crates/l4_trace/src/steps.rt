@@ -1,16 +1,21 @@
 //! The steps that lines spell.
-ghost use Rattle.std.specs.Prelude.{◌≡◌, ◌++◌, ◌∷◌, [], ◌≤◌, ◌<◌, ◌/◌, ◌%◌, ◌^◌, ◌==◌, length};
+ghost use Rattle.std.specs.Prelude.{◌≡◌, ◌<◌, [], length, is_some};
 ghost use Rattle.std.specs.Option.{option_map};
-ghost use Rattle.l4_types.specs.StepView.{step_of, what_of};
+ghost use Rattle.l4_types.specs.StepView.{what_of};
+ghost use Rattle.l4_history.specs.Seen.{seen};
 ghost use Rattle.l4_words.specs.Words.{Finds};
 ghost use Rattle.l4_trace.specs.Reading.{message_words, delivered, delivery_of, what_of_word, order_of, tick_of, of_thread, of_name, step_behind, step_of_line};
+ghost use Rattle.l4_trace.specs.Telling.{told_onto};
 
 use crate::kinds::{Kind, kind_of};
 use crate::names::name;
 use arrayvec::ArrayVec;
+use l4_history::history::History;
+use l4_history::message_ref::MessageRef;
+use l4_history::step_ref::{DeliveryRef, StepRef};
 use l4_types::ids::GlobalId;
-use l4_types::messages::Message;
-use l4_types::steps::{Delivery, Name, Step, Tick, What};
+use l4_types::steps::{Name, Tick, What};
+use l4_types::tags::MsgTag;
 use l4_words::numbers::{decimal, hexadecimal};
 use l4_words::threads::thread;
 use l4_words::words::Words;
@@ -52,14 +57,14 @@ fn what(word: &[u8]) -> Option<What>
 
 /// What stands behind `order`.
 #[tactic(auto, unfolding(crate::specs::Reading::order_of))]
-fn order(operands: Words<'_>) -> Option<Step>
-    ensures { Finds step_of result (order_of operands.entry) }
+fn order(operands: Words<'_>) -> Option<StepRef<'static>>
+    ensures { Finds seen result (order_of operands.entry) }
 {
     let (first, second, third) = operands.three()?;
     let caller = thread(first)?;
     let target = thread(second)?;
     let what = what(third)?;
-    Some(Step::Order {
+    Some(StepRef::Order {
         caller,
         target,
         what,
@@ -68,13 +73,14 @@ fn order(operands: Words<'_>) -> Option<Step>
 
 /// What stands behind `tick`.
 #[tactic(auto, unfolding(crate::specs::Reading::tick_of))]
-fn tick(operands: Words<'_>) -> Option<Step>
-    ensures { Finds step_of result (tick_of operands.entry) }
+fn tick(operands: Words<'_>) -> Option<StepRef<'static>>
+    ensures { Finds seen result (tick_of operands.entry) }
 {
     let (first, second) = operands.two()?;
     let cpu = decimal(first)?;
     let clock = decimal(second)?;
-    Tick::new(u8::try_from(cpu).ok()?, clock).map(Step::Tick)
+    let tick = Tick::new(u8::try_from(cpu).ok()?, clock)?;
+    Some(StepRef::Tick(tick))
 }
 
 /// The thread that stands alone behind a word.
@@ -100,35 +106,32 @@ fn delivered(
     shown: GlobalId,
     actual: GlobalId,
     tag: u64,
-    words: ArrayVec<u64, 63>,
-) -> Option<Step>
-    ensures { Finds step_of result (delivered name receiver shown actual tag words.items) }
+    words: &[u64],
+) -> Option<StepRef<'_>>
+    requires { length words.now < 64 }
+    ensures { Finds seen result (delivered name receiver shown actual tag words.now) }
 {
-    let message = Message::new(tag >> 16, is_set(tag, 12), words, shown, actual)?;
-    let delivery = Delivery {
+    let tag = MsgTag::from_raw(tag).ok()?;
+    let propagated = tag.propagate();
+    let delivery = DeliveryRef {
         name,
         receiver,
-        message,
-        cross: is_set(tag, 14),
+        message: MessageRef::new(tag.label(), propagated, words, shown, actual),
+        cross: tag != tag.received(false, propagated),
     };
-    if delivery.tag().raw() == tag {
-        Some(Step::Deliver(delivery))
+    if delivery.tag() == tag {
+        Some(StepRef::Deliver(delivery))
     } else {
         None
     }
 }
 
-fn is_set(word: u64, bit: u32) -> bool
-    requires { bit < 64 }
-    ensures { result ≡ ((word / 2 ^ bit) % 2 == 1) }
-{
-    (word >> bit) & 1 == 1
-}
-
-/// What stands behind `deliver`.
+/// Tells what stands behind `deliver`.
 #[tactic(auto, unfolding(crate::specs::Reading::delivery_of))]
-fn delivery(operands: Words<'_>) -> Option<Step>
-    ensures { Finds step_of result (delivery_of operands.entry) }
+fn tell_delivery(operands: Words<'_>, history: &mut History) -> Option<()>
+    requires { 0 < history.old.room }
+    ensures found { is_some result ≡ is_some (delivery_of operands.entry) }
+    ensures told { history.new ≡ told_onto history.old (delivery_of operands.entry) }
 {
     let (first, second, third, fourth, fifth, others) = operands.first_five()?;
     let name = name(first)?;
@@ -137,28 +140,35 @@ fn delivery(operands: Words<'_>) -> Option<Step>
     let actual = thread(fourth)?;
     let tag = hexadecimal(fifth)?;
     let words = message_words(others)?;
-    delivered(name, receiver, shown, actual, tag, words)
+    history.push(delivered(name, receiver, shown, actual, tag, &words)?);
+    Some(())
 }
 
-/// The step of a line that begins with this word.
-fn step_behind(word: &[u8], operands: Words<'_>) -> Option<Step>
-    ensures { Finds step_of result (step_behind word.now operands.entry) }
+/// Tells the step of a line that begins with this word.
+fn tell_behind(word: &[u8], operands: Words<'_>, history: &mut History) -> Option<()>
+    requires { 0 < history.old.room }
+    ensures found { is_some result ≡ is_some (step_behind word.now operands.entry) }
+    ensures told { history.new ≡ told_onto history.old (step_behind word.now operands.entry) }
 {
-    match kind_of(word)? {
-        Kind::OfThread(kind) => Some(kind.step(of_thread(operands)?)),
-        Kind::OfName(kind) => Some(kind.step(of_name(operands)?)),
-        Kind::Delivery => delivery(operands),
-        Kind::Order => order(operands),
-        Kind::Tick => tick(operands),
-    }
+    let step = match kind_of(word)? {
+        Kind::OfThread(kind) => kind.step(of_thread(operands)?),
+        Kind::OfName(kind) => kind.step(of_name(operands)?),
+        Kind::Delivery => return tell_delivery(operands, history),
+        Kind::Order => order(operands)?,
+        Kind::Tick => tick(operands)?,
+    };
+    history.push(step);
+    Some(())
 }
 
-/// The step that a line without its end spells.
+/// Tells the step that a line without its end spells. None where it spells none, and then nothing is told.
 #[tactic(auto, unfolding(crate::specs::Reading::step_of_line))]
-pub(crate) fn step(line: &[u8]) -> Option<Step>
-    ensures { Finds step_of result (step_of_line line.now) }
+pub(crate) fn tell_line(line: &[u8], history: &mut History) -> Option<()>
+    requires { 0 < history.old.room }
+    ensures found { is_some result ≡ is_some (step_of_line line.now) }
+    ensures told { history.new ≡ told_onto history.old (step_of_line line.now) }
 {
     let mut words = Words::of(line);
     let word = words.next()?;
-    step_behind(word, words)
+    tell_behind(word, words, history)
 }

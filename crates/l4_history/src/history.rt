@@ -1,0 +1,257 @@
+//! The history of a machine.
+ghost use Rattle.std.specs.Prelude.{◌≡◌, ◌<◌, ◌≤◌, ◌-◌, ◌^◌, [], ◌∷◌, ◌++◌, ◌↔◌, All, OnOk, OnErr, IfOk, Some, IsTrue, length, map, take, drop, slice_get, false};
+ghost use Rattle.l4_types.specs.StepView.{step_of};
+ghost use Rattle.l4_history.specs.Rows.{IsHead, IsHeadOf, delivery_at, is_delivery, step_at};
+ghost use Rattle.l4_history.specs.Seen.{delivered, seen};
+
+use crate::message_ref::MessageRef;
+use crate::records::{Head, Record};
+use crate::sink::tell;
+use crate::step_ref::{DeliveryRef, StepRef};
+use crate::steps::Steps;
+use l4_types::errors::NoMemory;
+use l4_types::steps::Step;
+use std::alloc::Global;
+use std::marker::Model;
+
+/// An event has at most so many steps.
+pub const EVENT_STEPS: usize = 3;
+
+/// A message has at most so many words.
+pub const MESSAGE_WORDS: usize = 63;
+
+// Room is made for so many steps at once, since to ask each time costs more than a push.
+const CHUNK_STEPS: usize = 64;
+
+/// The steps of a machine in order, in compact form, and room for more of them. The words of a delivery lie in a row with those of all
+/// others.
+#[derive(Drop)]
+pub struct History {
+    records: Vec<Record>,
+    heads: Vec<Head>,
+    words: Vec<u64>,
+    room: usize,
+}
+
+impl Model for History {
+    ghost use Rattle.std.specs.Prelude.{◌+◌, ◌*◌, ◌≤◌, vec_len};
+    ghost use Rattle.std.specs.Vec.{vec_capacity};
+    ghost use Rattle.l4_history.specs.Rows.{Told, AreRows, told};
+
+    ghost Value = { Told };
+
+    ghost view = { λ h. record { steps = told h.records.items h.heads.items h.words.items; room = h.room } };
+
+    ghost invariant = { λ h. AreRows h.records.items h.heads.items h.words.items × (vec_len h.records + h.room ≤ vec_capacity h.records) × (vec_len h.heads + h.room ≤ vec_capacity h.heads) × (vec_len h.words + 63 * h.room ≤ vec_capacity h.words) };
+}
+
+impl History {
+    /// A history without steps or room. It takes no memory.
+    pub fn new(alloc: Global) -> History
+        ensures { result ≡ record { steps = []; room = 0 } }
+    {
+        History {
+            records: Vec::new(alloc),
+            heads: Vec::new(alloc),
+            words: Vec::new(alloc),
+            room: 0,
+        }
+    }
+
+    /// A history of these steps.
+    pub fn from_steps(alloc: Global, steps: &[Step]) -> Result<History, NoMemory>
+        ensures { IfOk result (λ history. history.steps ≡ map step_of steps.now) }
+    {
+        let mut history = History::new(alloc);
+        tell(&mut history, steps)?;
+        Ok(history)
+    }
+
+    /// Its steps, with words of their own.
+    pub fn to_steps(&self, alloc: Global) -> Result<Vec<Step>, NoMemory>
+        ensures { IfOk result (λ steps. map step_of steps.items ≡ self.now.steps) }
+    {
+        let mut steps = Vec::new(alloc);
+        for step in self.steps() {
+            steps.push(step.to_step())?;
+        }
+        Ok(steps)
+    }
+
+    /// How many steps it has, below 2^63.
+    pub fn len(&self) -> usize
+        ensures value { result ≡ length self.now.steps }
+        ensures fits { result < 2 ^ 63 }
+    {
+        self.records.as_slice().len()
+    }
+
+    /// Whether it has no step.
+    pub fn is_empty(&self) -> bool
+        ensures { IsTrue result ↔ (self.now.steps ≡ []) }
+    {
+        self.records.is_empty()
+    }
+
+    /// Makes room for the steps of an event, each of which may be a delivery of 63 words. Where memory is refused, nothing is changed.
+    pub fn reserve(&mut self) -> Result<(), NoMemory>
+        ensures steps { self.new.steps ≡ self.old.steps }
+        ensures room { self.old.room ≤ self.new.room }
+        ensures ok { OnOk result (EVENT_STEPS ≤ self.new.room) }
+        ensures err { OnErr result (self.new ≡ self.old) }
+    {
+        if self.room < EVENT_STEPS {
+            self.records.reserve(CHUNK_STEPS)?;
+            self.heads.reserve(CHUNK_STEPS)?;
+            self.words.reserve(CHUNK_STEPS * MESSAGE_WORDS)?;
+            self.room = CHUNK_STEPS;
+        }
+        Ok(())
+    }
+
+    /// Appends a step. It takes no memory, since there is room.
+    pub fn push(&mut self, step: StepRef<'_>)
+        requires { 0 < self.old.room }
+        ensures { self.new ≡ record { steps = self.old.steps ++ seen step.entry ∷ []; room = self.old.room - 1 } }
+    {
+        match step {
+            StepRef::Local(thread) => self.push_whole(Record::Local(thread)),
+            StepRef::Begin(name) => self.push_whole(Record::Begin(name)),
+            StepRef::Queue(name) => self.push_whole(Record::Queue(name)),
+            StepRef::Deliver(delivery) => self.push_delivery(&delivery),
+            StepRef::Wait(thread) => self.push_whole(Record::Wait(thread)),
+            StepRef::SendTimeout(name) => self.push_whole(Record::SendTimeout(name)),
+            StepRef::ReceiveTimeout(thread) => self.push_whole(Record::ReceiveTimeout(thread)),
+            StepRef::SendNobody(name) => self.push_whole(Record::SendNobody(name)),
+            StepRef::ReceiveNobody(thread) => self.push_whole(Record::ReceiveNobody(thread)),
+            StepRef::SendCancel(name) => self.push_whole(Record::SendCancel(name)),
+            StepRef::ReceiveCancel(thread) => self.push_whole(Record::ReceiveCancel(thread)),
+            StepRef::Drop(name) => self.push_whole(Record::Drop(name)),
+            StepRef::Order {
+                caller,
+                target,
+                what,
+            } => self.push_whole(Record::Order {
+                caller,
+                target,
+                what,
+            }),
+            StepRef::Obey(caller) => self.push_whole(Record::Obey(caller)),
+            StepRef::Tick(tick) => self.push_whole(Record::Tick(tick)),
+        }
+    }
+
+    // Appends a step that is no delivery.
+    fn push_whole(&mut self, whole: Record)
+        requires room { 0 < self.old.room }
+        requires no_delivery { is_delivery whole ≡ false }
+        ensures { self.new ≡ record { steps = self.old.steps ++ step_at [] [] whole ∷ []; room = self.old.room - 1 } }
+    {
+        self.records.push_reserved(whole);
+        self.room -= 1;
+    }
+
+    /// Appends a delivery. Its words are copied once, and no larger value moves.
+    pub fn push_delivery(&mut self, delivery: &DeliveryRef<'_>)
+        requires { 0 < self.old.room }
+        ensures { self.new ≡ record { steps = self.old.steps ++ delivered delivery.now ∷ []; room = self.old.room - 1 } }
+    {
+        self.records
+            .push_reserved(Record::Deliver(self.heads.len()));
+        self.heads.push_reserved(head(delivery, self.words.len()));
+        self.words
+            .extend_from_slice(delivery.message.words())
+            .unwrap();
+        self.room -= 1;
+    }
+
+    /// Its steps in order.
+    pub fn steps(&self) -> Steps<'_>
+        ensures { result ≡ self.now.steps }
+    {
+        self.steps_between(0, self.len())
+    }
+
+    /// The steps from one place up to another, counted from 0.
+    pub fn steps_between(&self, start: usize, end: usize) -> Steps<'_>
+        requires { end ≤ length self.now.steps }
+        ensures { result ≡ drop start (take end self.now.steps) }
+    {
+        Steps {
+            history: self,
+            next: start,
+            end,
+        }
+    }
+
+    /// The i-th step, counted from 0.
+    pub fn step(&self, i: usize) -> StepRef<'_>
+        requires { i < length self.now.steps }
+        ensures { slice_get self.now.steps i ≡ Some (seen result) }
+    {
+        match self.records[i] {
+            Record::Local(thread) => StepRef::Local(thread),
+            Record::Begin(name) => StepRef::Begin(name),
+            Record::Queue(name) => StepRef::Queue(name),
+            Record::Deliver(at) => StepRef::Deliver(delivery(&self.heads, &self.words, at)),
+            Record::Wait(thread) => StepRef::Wait(thread),
+            Record::SendTimeout(name) => StepRef::SendTimeout(name),
+            Record::ReceiveTimeout(thread) => StepRef::ReceiveTimeout(thread),
+            Record::SendNobody(name) => StepRef::SendNobody(name),
+            Record::ReceiveNobody(thread) => StepRef::ReceiveNobody(thread),
+            Record::SendCancel(name) => StepRef::SendCancel(name),
+            Record::ReceiveCancel(thread) => StepRef::ReceiveCancel(thread),
+            Record::Drop(name) => StepRef::Drop(name),
+            Record::Order {
+                caller,
+                target,
+                what,
+            } => StepRef::Order {
+                caller,
+                target,
+                what,
+            },
+            Record::Obey(caller) => StepRef::Obey(caller),
+            Record::Tick(tick) => StepRef::Tick(tick),
+        }
+    }
+}
+
+// The head of a delivery whose words begin at a place of the row.
+fn head(delivery: &DeliveryRef<'_>, start: usize) -> Head
+    ensures { IsHeadOf delivery.now start result }
+{
+    let message = &delivery.message;
+    Head {
+        name: delivery.name,
+        receiver: delivery.receiver,
+        shown: message.shown(),
+        actual: message.actual(),
+        label: message.label(),
+        start,
+        count: message.words().len() as u8,
+        propagated: message.propagated(),
+        cross: delivery.cross,
+    }
+}
+
+// The delivery of the head at a place.
+fn delivery<'a>(heads: &[Head], words: &'a [u64], at: usize) -> DeliveryRef<'a>
+    requires known { at < length heads.now }
+    requires within { All (IsHead (length words.now)) heads.now }
+    ensures { delivery_at words.now (slice_get heads.now at) ≡ delivered result }
+{
+    let head = &heads[at];
+    DeliveryRef {
+        name: head.name,
+        receiver: head.receiver,
+        message: MessageRef::new(
+            head.label,
+            head.propagated,
+            &words[head.start..head.start + usize::from(head.count)],
+            head.shown,
+            head.actual,
+        ),
+        cross: head.cross,
+    }
+}

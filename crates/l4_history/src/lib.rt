@@ -1,0 +1,15 @@
+//! The history of a machine in compact form: 24 bytes for a step, and what deliveries carry in rows of its own. Contracts see a plain list
+//! of steps.
+//!
+//! Only the calls that say so take memory.
+#![tactic(auto)]
+
+pub mod history;
+pub mod log;
+pub mod message_ref;
+mod records;
+pub mod sink;
+pub mod step_ref;
+pub mod steps;
+#[cfg(test)]
+mod tests;

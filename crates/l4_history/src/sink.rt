@@ -1,0 +1,92 @@
+//! Where the steps of a machine are told.
+ghost use Rattle.std.specs.Prelude.{◌≡◌, ◌<◌, ◌≤◌, ◌+◌, ◌-◌, ℕ, List, [], ◌∷◌, ◌++◌, OnOk, OnErr, map, vec_len};
+ghost use Rattle.std.specs.Vec.{vec_capacity};
+ghost use Rattle.arrayvec.specs.ArrayVec.{array_vec_len};
+ghost use Rattle.l4_model.specs.Steps.{Step as ModelStep};
+ghost use Rattle.l4_types.specs.StepView.{step_of};
+ghost use Rattle.l4_history.specs.Seen.{seen};
+
+use crate::history::{EVENT_STEPS, History};
+use crate::step_ref::StepRef;
+use arrayvec::ArrayVec;
+use l4_types::errors::NoMemory;
+use l4_types::steps::Step;
+
+/// What is told the steps of a machine, one after another.
+pub trait Sink {
+    /// The steps that it was told, in order.
+    ghost told: { Self → List ModelStep };
+
+    /// How many more steps it can be told, each of which may be a delivery of 63 words, and take no memory.
+    ghost room: { Self → ℕ };
+
+    /// Makes room for the steps of an event. `NoMemory` where there is no such room.
+    fn reserve(&mut self) -> Result<(), NoMemory>
+        ensures told { told self.new ≡ told self.old }
+        ensures room { room self.old ≤ room self.new }
+        ensures ok { OnOk result (EVENT_STEPS ≤ room self.new) }
+        ensures err { OnErr result (room self.new ≡ room self.old) };
+
+    /// Tells a step. It takes no memory, since there is room.
+    fn push(&mut self, step: StepRef<'_>)
+        requires { 0 < room self.old }
+        ensures told { told self.new ≡ told self.old ++ seen step.entry ∷ [] }
+        ensures room { room self.new + 1 ≡ room self.old };
+}
+
+impl Sink for History {
+    ghost told = { λ history. history.steps };
+
+    ghost room = { λ history. history.room };
+
+    fn reserve(&mut self) -> Result<(), NoMemory> {
+        History::reserve(self)
+    }
+
+    fn push(&mut self, step: StepRef<'_>) {
+        History::push(self, step);
+    }
+}
+
+impl Sink for Vec<Step> {
+    ghost told = { λ steps. map step_of steps.items };
+
+    ghost room = { λ steps. vec_capacity steps - vec_len steps };
+
+    fn reserve(&mut self) -> Result<(), NoMemory> {
+        Vec::reserve(self, EVENT_STEPS)?;
+        Ok(())
+    }
+
+    fn push(&mut self, step: StepRef<'_>) {
+        self.push_reserved(step.to_step());
+    }
+}
+
+impl<const CAP: usize> Sink for ArrayVec<Step, CAP> {
+    ghost told = { λ steps. map step_of steps.items };
+
+    ghost room = { λ steps. CAP - array_vec_len steps };
+
+    fn reserve(&mut self) -> Result<(), NoMemory> {
+        if CAP - self.len() < EVENT_STEPS {
+            return Err(NoMemory);
+        }
+        Ok(())
+    }
+
+    fn push(&mut self, step: StepRef<'_>) {
+        ArrayVec::push(self, step.to_step());
+    }
+}
+
+/// Tells steps one after another, and makes room for each. Where memory is refused, those before have been told.
+pub fn tell<S: Sink>(sink: &mut S, steps: &[Step]) -> Result<(), NoMemory>
+    ensures { OnOk result (S.told sink.new ≡ S.told sink.old ++ map step_of steps.now) }
+{
+    for step in steps {
+        sink.reserve()?;
+        sink.push(StepRef::from(step));
+    }
+    Ok(())
+}

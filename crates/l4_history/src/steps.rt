@@ -1,0 +1,44 @@
+//! The steps of a history, one after another.
+ghost use Rattle.std.specs.Iterator.{YieldsFirstBy, item_count};
+ghost use Rattle.l4_history.specs.Seen.{seen};
+
+use crate::history::History;
+use crate::step_ref::StepRef;
+use std::marker::Model;
+
+/// Goes over steps of a history in order, and moves none.
+#[derive(Drop)]
+pub struct Steps<'a> {
+    pub(crate) history: &'a History,
+    pub(crate) next: usize,
+    pub(crate) end: usize,
+}
+
+impl<'a> Model for Steps<'a> {
+    ghost use Rattle.std.specs.Prelude.{◌≤◌, List, length, take, drop};
+    ghost use Rattle.l4_model.specs.Steps.{Step};
+
+    ghost Value = { List Step };
+
+    // The steps that are still to come.
+    ghost view = { λ s. drop s.next (take s.end s.history.now.steps) };
+
+    ghost invariant = { λ s. s.end ≤ length s.history.now.steps };
+}
+
+impl<'a> Iterator for Steps<'a> {
+    type Item = StepRef<'a>;
+
+    ghost next_gives = { YieldsFirstBy seen (λ steps. steps) };
+
+    ghost remaining = { item_count (λ steps. steps) };
+
+    fn next(&mut self) -> Option<StepRef<'a>> {
+        if self.next >= self.end {
+            return None;
+        }
+        let step = self.history.step(self.next);
+        self.next += 1;
+        Some(step)
+    }
+}

@@ -1,0 +1,125 @@
+//! The words of a line, each with the space before it, written from the end of the line to its start: each in front of what stands there
+//! already.
+ghost use Rattle.std.specs.Prelude.{◌≡◌, ◌≤◌, ◌+◌, ◌*◌, true, ◌++◌, codes, decimal, flat_map, length, drop};
+ghost use Rattle.std.specs.List.{list_all};
+ghost use Rattle.l4_model.specs.Words.{is_global};
+ghost use Rattle.l4_trace.specs.Lines.{hexadecimal, thread_word, name_word, is_word, is_name};
+
+use crate::digits::{write_byte, write_hexadecimal};
+use itoa::write_digits;
+use l4_types::ids::GlobalId;
+use l4_types::steps::Name;
+
+// A number below 2^32 takes at most so many bytes in decimal.
+const HALF_BYTES: usize = 10;
+
+/// A space and a number below 2^64 in decimal take at most so many bytes.
+pub(crate) const NUMBER_BYTES: usize = 21;
+
+/// A space and a thread take at most so many bytes.
+pub(crate) const THREAD_BYTES: usize = 22;
+
+/// A space and the name of a send take at most so many bytes.
+pub(crate) const NAME_BYTES: usize = 43;
+
+/// A space and a word in hexadecimal take at most so many bytes.
+pub(crate) const WORD_BYTES: usize = 17;
+
+// Writes half a thread id in decimal in front of a place of the line. Answers where it starts.
+#[tactic(auto, using(crate::proofs::Lengths::at_most_10))]
+fn write_half(half: u32, line: &mut [u8], end: usize) -> usize
+    requires room { HALF_BYTES ≤ end }
+    requires within { end ≤ length line.old }
+    ensures room { end ≤ result + HALF_BYTES }
+    ensures within { result ≤ end }
+    ensures written { drop result line.new ≡ decimal half ++ drop end line.old }
+{
+    write_digits(u64::from(half), line, end)
+}
+
+/// Writes a space and a number in decimal in front of a place of the line. Answers where they start.
+#[tactic(auto, using(crate::proofs::Lengths::at_most_20))]
+pub(crate) fn write_number(number: u64, line: &mut [u8], end: usize) -> usize
+    requires room { NUMBER_BYTES ≤ end }
+    requires within { end ≤ length line.old }
+    ensures room { end ≤ result + NUMBER_BYTES }
+    ensures within { result ≤ end }
+    ensures written { drop result line.new ≡ codes " " ++ decimal number ++ drop end line.old }
+{
+    let digits = write_digits(number, line, end);
+    write_byte(b' ', line, digits)
+}
+
+/// Writes a space and a thread, `N.V`, its number and its version in decimal, in front of a place of the line. Answers where they start.
+pub(crate) fn write_thread(thread: GlobalId, line: &mut [u8], end: usize) -> usize
+    requires room { THREAD_BYTES ≤ end }
+    requires within { end ≤ length line.old }
+    ensures room { end ≤ result + THREAD_BYTES }
+    ensures within { result ≤ end }
+    ensures written { drop result line.new ≡ codes " " ++ thread_word thread ++ drop end line.old }
+    ensures spelled { is_global thread ≡ true }
+{
+    let version = write_half(thread.version(), line, end);
+    let dot = write_byte(b'.', line, version);
+    let number = write_half(thread.number(), line, dot);
+    write_byte(b' ', line, number)
+}
+
+/// Writes a space and the name of a send, `N.V#K`, in front of a place of the line. Answers where they start.
+#[tactic(auto, using(crate::proofs::Lengths::at_most_20))]
+pub(crate) fn write_name(name: Name, line: &mut [u8], end: usize) -> usize
+    requires room { NAME_BYTES ≤ end }
+    requires within { end ≤ length line.old }
+    ensures room { end ≤ result + NAME_BYTES }
+    ensures within { result ≤ end }
+    ensures written { drop result line.new ≡ codes " " ++ name_word name ++ drop end line.old }
+    ensures spelled { is_name name ≡ true }
+{
+    let k = write_digits(name.k(), line, end);
+    let hash = write_byte(b'#', line, k);
+    write_thread(name.thread(), line, hash)
+}
+
+/// Writes a space and a word in hexadecimal in front of a place of the line. Answers where they start.
+#[tactic(auto, using(crate::proofs::Hexadecimal::at_most_16))]
+pub(crate) fn write_word(word: u64, line: &mut [u8], end: usize) -> usize
+    requires room { WORD_BYTES ≤ end }
+    requires within { end ≤ length line.old }
+    ensures room { end ≤ result + WORD_BYTES }
+    ensures within { result ≤ end }
+    ensures written { drop result line.new ≡ codes " " ++ hexadecimal word ++ drop end line.old }
+    ensures spelled { is_word word ≡ true }
+{
+    let digits = write_hexadecimal(word, line, end);
+    write_byte(b' ', line, digits)
+}
+
+/// Writes a space and each of these words, as `write_word` does it, in front of a place of the line. Answers where they start.
+pub(crate) fn write_words(words: &[u64], line: &mut [u8], end: usize) -> usize
+    requires room { WORD_BYTES * length words.now ≤ end }
+    requires within { end ≤ length line.old }
+    ensures room { end ≤ result + WORD_BYTES * length words.now }
+    ensures within { result ≤ end }
+    ensures written { drop result line.new ≡ flat_map (λ word. codes " " ++ hexadecimal word) words.now ++ drop end line.old }
+    ensures spelled { list_all is_word words.now ≡ true }
+{
+    let mut at = end;
+    let mut rest = words;
+    'words: while let Some((last, before)) = rest.split_last() {
+        at = write_word(*last, line, at);
+        rest = before;
+    }
+    at
+}
+
+/// Writes the first word of a line in front of a place of the line. Answers where it starts.
+pub(crate) fn write_keyword(keyword: &[u8], line: &mut [u8], end: usize) -> usize
+    requires room { length keyword.now ≤ end }
+    requires within { end ≤ length line.old }
+    ensures room { end ≤ result + length keyword.now }
+    ensures written { drop result line.new ≡ keyword.now ++ drop end line.old }
+{
+    let start = end - keyword.len();
+    line[start..end].copy_from_slice(keyword);
+    start
+}

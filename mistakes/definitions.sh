@@ -92,8 +92,8 @@ refused_by() {
     (cd "$work/one/crates/$1" && rt check) >"$work/log" 2>&1
     tail -n 3 "$work/log" | grep -q 'logic=proved' && return
     crate=$(sed -n 's/^rt: the library \(\S*\) did not build.*/\1/p' "$work/log" | head -1)
-    refused=$(sed -nE 's/^(\.\/)?(proofs|src)\/(\S+):[0-9]+:[0-9]+: error: `([^`]+)`.*/\3:\4/p' "$work/log")
-    [ -n "$refused" ] || { echo "something else, as $(grep -m 1 error "$work/log")"; return; }
+    refused=$(sed -nE 's/^(\.\/)?proofs\/(\S+):[0-9]+:[0-9]+: error: `([^`]+)`.*/\2:\3/p' "$work/log")
+    [ -n "$refused" ] || { echo "no lemma: $(grep -m 1 error "$work/log")"; return; }
     echo "${crate:-$1} $(head -1 <<<"$refused")$(sed 1d <<<"$refused" | wc -l | sed 's/^0$//; s/^./ and & more/')"
 }
 
@@ -113,7 +113,8 @@ for name; do
     fi
     case $own$law in
     '') echo "$name: NOT REFUSED"; status=1 ;;
-    *) echo "$name: refused by ${own:-no lemma of $crate itself}${law:+; the law by $law}" ;;
+    *'no lemma: '*) echo "$name: NOT TRIED, $own$law"; status=1 ;;
+    *) echo "$name: refused by ${own:-nothing in $crate}${law:+; the law by $law}" ;;
     esac
     [ -z "${LAWLOG:-}" ] || cp "$work/log" "$LAWLOG/$name.log"
 done

@@ -2,7 +2,8 @@
 # Tries the mistakes in mistakes/, those of the crates that are named or all: edits of code that the prover of their crate must refuse. They
 # take the place of the edits in must-fail/ in a copy of the repository, with what its crates keep in out/, and `rt must-fail` tries them.
 # Prints for each crate how many were refused, and each that was not, or only since a name of the proofs was gone, with what rt says of it.
-# The last line has both sums; the status is 1 where one was not refused, was not tried or does not fit the code any more.
+# The last line has both sums; the status is 1 where one was not refused, was not tried or does not fit the code any more. Wrong definitions are
+# tried by mistakes/definitions.sh.
 set -eu
 here=$(cd "$(dirname "$0")/.." && pwd)
 work=$(mktemp -d)
@@ -10,7 +11,7 @@ trap 'rm -rf "$work"' EXIT
 cp -a "$here/HANDLES" "$here/crates.txt" "$here/crates" "$here/mistakes" "$work/"
 cd "$work"
 rm -rf crates/*/must-fail
-[ $# -gt 0 ] || set -- $(ls mistakes)
+[ $# -gt 0 ] || set -- $(cd mistakes && ls -d -- */ | sed 's|/$||' | grep -vx definitions)
 refused=0
 others=0
 for crate; do

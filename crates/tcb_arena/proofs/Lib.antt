@@ -1,6 +1,7 @@
 pub mod Changes
 pub mod Entries
 pub mod Finding
+pub mod Leaving
 pub mod Lists
 pub mod Once
 pub mod Rising

@@ -1,3 +1,4 @@
+pub mod Changes
 pub mod Ipcs
 pub mod Parts
 pub mod PhaseView

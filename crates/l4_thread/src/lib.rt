@@ -3,6 +3,7 @@
 //! No call of this crate takes memory.
 #![tactic(auto)]
 
+pub mod changes;
 pub mod orders;
 pub mod phases;
 pub mod requests;

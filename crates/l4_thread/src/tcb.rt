@@ -4,6 +4,7 @@ ghost use Rattle.std.specs.Option.{option_copied};
 ghost use Rattle.l4_model.specs.World.{opening_thread, is_ready, is_sending, is_deleted, receive_now};
 ghost use Rattle.l4_model.specs.History.{state_of};
 ghost use Rattle.l4_core_model.specs.Local.{armed_period, period_of_send};
+ghost use Rattle.l4_core_model.specs.Mail.{is_ordering};
 ghost use Rattle.l4_types.specs.PeriodView.{period_of, IsTimely};
 ghost use Rattle.l4_types.specs.ReportView.{state_of_view};
 ghost use Rattle.l4_thread.specs.PhaseView.{since_of};
@@ -90,6 +91,13 @@ impl Tcb {
         ensures { result ≡ is_sending self.now.thread.phase }
     {
         matches!(self.phase, Phase::Sending)
+    }
+
+    /// Whether it waits until what it asked for is done.
+    pub fn is_ordering(&self) -> bool
+        ensures { result ≡ is_ordering self.now.thread.phase }
+    {
+        matches!(self.phase, Phase::Ordering)
     }
 
     /// Whether it was deleted.

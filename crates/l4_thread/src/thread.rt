@@ -78,6 +78,13 @@ impl Thread {
         self.begun
     }
 
+    /// It has begun so many sends: it stands for a thread of another processor.
+    pub(crate) fn begin_at(&mut self, k: u64)
+        ensures { self.new ≡ record self.old { context = record self.old.context { begun = k } } }
+    {
+        self.begun = k;
+    }
+
     // The next instruction is at hand.
     fn advance(&mut self)
         requires { self.old.context.place + 1 < 2 ^ 64 }

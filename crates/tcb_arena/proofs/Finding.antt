@@ -12,12 +12,12 @@ use Rattle.tcb_arena.specs.Rings.{Lists}
 use Rattle.tcb_arena.specs.Shown.{waiting_at, shown_lists}
 use Rattle.tcb_arena.proofs.Showing.{list-shown}
 
-drop_at : (xs : List ℕ) (k x : ℕ) → slice_get xs k ≡ Some x → drop k xs ≡ x ∷ drop (suc k) xs
+pub drop_at : (xs : List ℕ) (k x : ℕ) → slice_get xs k ≡ Some x → drop k xs ≡ x ∷ drop (suc k) xs
 drop_at [] k x e = absurd (cc)
 drop_at (y ∷ ys) zero x e = let same : y ≡ x = cc in ap (λ z. z ∷ ys) same
 drop_at (y ∷ ys) (suc k) x e = drop_at ys k x e
 
-drop_past : (xs : List ℕ) (k : ℕ) → slice_get xs k ≡ None → drop k xs ≡ []
+pub drop_past : (xs : List ℕ) (k : ℕ) → slice_get xs k ≡ None → drop k xs ≡ []
 drop_past [] zero e = refl
 drop_past [] (suc k) e = refl
 drop_past (y ∷ ys) zero e = absurd (cc)

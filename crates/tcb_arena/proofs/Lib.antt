@@ -2,6 +2,7 @@ pub mod Changes
 pub mod Entries
 pub mod Finding
 pub mod Floors
+pub mod Leaving
 pub mod Lists
 pub mod Once
 pub mod RingBits

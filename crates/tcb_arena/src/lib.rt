@@ -8,7 +8,7 @@
 //! armed blocks where they have one. Every other call takes the same few steps whatever stands in the lists.
 #![tactic(auto)]
 
-ghost use Rattle.std.specs.Prelude.{◌≡◌, ◌<◌, false, length, slice_get, IfOk, IfSome};
+ghost use Rattle.std.specs.Prelude.{◌≡◌, ◌<◌, false, length, map, slice_get, All, IfOk, IfSome};
 ghost use Rattle.l4_core_model.specs.Plain.{list_of, is_queued, queued, unqueued, first_taken, made_ready, dropped, popped, armed, disarmed, due_block};
 ghost use Rattle.tcb_arena.specs.Blocks.{is_ready, is_armed, least_deadline, without_due, empty_lists};
 ghost use Rattle.tcb_arena.specs.Due.{IsFirstOfRing};
@@ -20,9 +20,11 @@ use std::marker::Model;
 
 mod links;
 mod ring_set;
+mod waiting_at;
 mod wheel;
 
 use links::Rings;
+pub use waiting_at::WaitingAt;
 use wheel::Wheel;
 
 /// A send that waits: its sender's block, the sender that it shows, and whether that one is of the receiver's space.
@@ -137,6 +139,15 @@ impl Arena {
             next = self.waiting.after(block);
         }
         None
+    }
+
+    /// The blocks whose sends wait at a receiver, in order.
+    pub fn waiting_at(&self, receiver: usize) -> WaitingAt<'_>
+        requires { receiver < length self.now.waiting }
+        ensures blocks { result ≡ map (λ w. w.block) (list_of self.now receiver) }
+        ensures below { All (λ block. block < length self.now.waiting) result }
+    {
+        WaitingAt::new(&self.waiting, receiver)
     }
 
     /// Whether a block is among the ready ones.

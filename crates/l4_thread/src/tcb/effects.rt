@@ -5,22 +5,24 @@ ghost use Rattle.l4_model.specs.Words.{word_of_tag};
 ghost use Rattle.l4_model.specs.Machine.{Machine};
 ghost use Rattle.l4_model.specs.Rules.{act};
 ghost use Rattle.l4_model.specs.Effects.{runs, fails, receives, refused, decided, delivered, goes_on, asked, asked_send, asked_receive, has_receive_phase, orders, obeyed};
-ghost use Rattle.l4_core_model.specs.Local.{ended, was_delivered, was_dropped};
+ghost use Rattle.l4_core_model.specs.Local.{ended, is_gone_now, stand_in, stands_in, was_delivered, was_dropped};
 ghost use Rattle.l4_types.specs.Codes.{code_of};
 ghost use Rattle.l4_types.specs.PeriodView.{period_of, IsTimely};
 ghost use Rattle.l4_types.specs.StepView.{what_of};
 ghost use Rattle.l4_types.specs.LetterView.{decision_of};
 ghost use Rattle.l4_script.specs.Scripts.{instr_of};
+ghost use Rattle.l4_thread.specs.Changes.{change_of, may_advance};
 ghost use Rattle.l4_thread.specs.Ipcs.{may_show, starts, began_of};
 ghost use Rattle.l4_thread.specs.Requests.{asks_to_send, is_end, receive_from};
 
+use crate::changes::Change;
 use crate::orders::Asked;
 use crate::phases::{Began, Phase};
 use crate::sends::{Receive, Send};
 use crate::tcb::Tcb;
 use l4_script::instructions::Instr;
 use l4_types::errors::IpcError;
-use l4_types::ids::ThreadId;
+use l4_types::ids::{GlobalId, ThreadId};
 use l4_types::letters::{Decision, Refusal};
 use l4_types::messages::Message;
 use l4_types::steps::What;
@@ -28,6 +30,41 @@ use l4_types::tags::MsgTag;
 use l4_types::times::Period;
 
 impl Tcb {
+    /// This happens to it, at this clock of its processor in ticks.
+    pub fn change(&mut self, change: &Change, now: u64)
+        requires room { may_advance change.now ≡ true → self.old.thread.context.place + 1 < 2 ^ 64 }
+        ensures { self.new ≡ record self.old { thread = change_of change.now now self.old.thread } }
+    {
+        match change {
+            Change::Run(instr) => self.run(instr),
+            Change::Fail(error) => self.fail(*error),
+            Change::EndSend(decision) => self.end_send(*decision, now),
+            Change::GiveOrder(order) => self.give_order(*order),
+            Change::Obey => self.obey(),
+        }
+    }
+
+    /// A send of another processor's thread, the `k`-th of it, stands here in its place: it has come to this receiver. Of its period is
+    /// known only whether it is zero.
+    pub fn stand_in(&mut self, k: u64, receiver: GlobalId, message: Message, zero_timeout: bool)
+        ensures { self.new ≡ record self.old { thread = stands_in k (stand_in receiver message zero_timeout) self.old.thread } }
+    {
+        let period = if zero_timeout {
+            Period::Zero
+        } else {
+            Period::Never
+        };
+        self.thread.begin_at(k);
+        self.send = Some(Send::new(receiver.id(), message, period, 0, None));
+    }
+
+    /// It is known as deleted here, where it is of another processor.
+    pub fn note_gone(&mut self)
+        ensures { self.new ≡ record self.old { thread = is_gone_now self.old.thread } }
+    {
+        self.phase = Phase::Deleted;
+    }
+
     /// Runs an instruction that concerns nobody else, or its script ends.
     pub fn run(&mut self, instr: &Instr)
         requires room { is_end (instr_of instr.now) ≡ false → self.old.thread.context.place + 1 < 2 ^ 64 }

@@ -1,0 +1,25 @@
+-- The names that are left to a walk along one of several lists.
+use Rattle.std.specs.Prelude.{◌≡◌, ℕ, ◌==◌, List, [], ◌∷◌, if◌then◌else◌, slice_get, Option, Some, None}
+use Rattle.tcb_arena.specs.Rings.{Lists, list_at, is_in, AreSound}
+
+-- The names of a list from one on.
+abbrev pub names_from : ℕ → List ℕ → List ℕ
+names_from name [] = []
+names_from name (x ∷ xs) = if name == x then x ∷ xs else names_from name xs
+
+-- The same, of the first list where that one stands.
+abbrev pub names_from_any : ℕ → List (List ℕ) → List ℕ
+names_from_any name [] = []
+names_from_any name (l ∷ ls) = if is_in name l then names_from name l else names_from_any name ls
+
+-- The names from the next on, if there is one.
+abbrev pub names_left : Lists → Option ℕ → List ℕ
+names_left s None = []
+names_left s (Some name) = names_from_any name s.lists
+
+-- The next name is that of a place in a list, and there is none behind the last.
+pub record IsPlace (s : Lists) (next : Option ℕ) : Type 0 where
+  pub sound : AreSound s
+  pub head : ℕ
+  pub place : ℕ
+  pub next_is : next ≡ slice_get (list_at s head) place

@@ -25,8 +25,8 @@ spelled-append (suc k) n rest =
     elim (cases_eq (n / 16) 0) [
       | inl small ↦ one_digit k n rest small ∙ ap (λ (ds : List ℕ). ds ++ rest) (sym (one_digit k n [] small))
       | inr large ↦
-        more_digits k n rest large ∙ spelled-append k (n / 16) (last n ∷ rest) ∙ sym (append_assoc (spelled k (n / 16) []) (last n ∷ []) rest)
-        ∙ ap (λ (ds : List ℕ). ds ++ rest) (sym (more_digits k n [] large ∙ spelled-append k (n / 16) (last n ∷ [])))
+          more_digits k n rest large ∙ spelled-append k (n / 16) (last n ∷ rest) ∙ sym (append_assoc (spelled k (n / 16) []) (last n ∷ []) rest)
+          ∙ ap (λ (ds : List ℕ). ds ++ rest) (sym (more_digits k n [] large ∙ spelled-append k (n / 16) (last n ∷ [])))
     ]
 
 -- Places in front of the first digit do not matter.

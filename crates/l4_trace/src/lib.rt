@@ -1,8 +1,8 @@
 //! The lines of a trace, one for each step of a machine: written, and read back.
 #![tactic(auto)]
 
-pub mod fault;
 mod digits;
+pub mod fault;
 mod kinds;
 pub mod lines;
 mod names;

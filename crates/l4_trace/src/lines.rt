@@ -9,7 +9,9 @@ ghost use Rattle.l4_trace.specs.Lines.{thread_word, name_word, what_word, line_o
 ghost use Rattle.l4_trace.specs.Room.{most_bytes};
 
 use crate::digits::write_byte;
-use crate::pieces::{WORD_BYTES, write_keyword, write_name, write_number, write_thread, write_word, write_words};
+use crate::pieces::{
+    WORD_BYTES, write_keyword, write_name, write_number, write_thread, write_word, write_words,
+};
 use l4_history::history::MESSAGE_WORDS;
 use l4_history::step_ref::{DeliveryRef, StepRef};
 use l4_types::errors::NoMemory;

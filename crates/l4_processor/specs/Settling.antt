@@ -1,0 +1,13 @@
+-- The two parts of settling a thread in its phase.
+use Rattle.std.specs.Prelude.{ℕ}
+use Rattle.l4_model.specs.World.{Thread}
+use Rattle.l4_core_model.specs.Plain.{Plain, without_block}
+use Rattle.l4_core_model.specs.Local.{readied, armed_for, armed_period}
+
+-- Its old deadline goes, and that of its phase is armed.
+abbrev pub rearms : Thread → (clock place : ℕ) → Plain → Plain
+rearms t clock place s = record s { armed = armed_for (armed_period t.phase t.send) clock place (without_block place s.armed) }
+
+-- It stands last among the ready ones, where it can run.
+abbrev pub readies : Thread → (place : ℕ) → Plain → Plain
+readies t place s = record s { ready = readied t.phase place s.ready }

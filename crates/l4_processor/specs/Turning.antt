@@ -1,0 +1,82 @@
+-- What an event of the program is in the core run.
+use Rattle.std.specs.Prelude.{◌≡◌, ℕ, ◌+◌, ◌<◌, true, false, Option, Some, None, is_some, List}
+use Rattle.l4_model.specs.World.{Ready, receive_now}
+use Rattle.l4_model.specs.Rules.{Act, Sends, Receives}
+use Rattle.l4_model.specs.Effects.{begins, waits, fails}
+use Rattle.l4_model.specs.Steps as steps
+use Rattle.l4_core_model.specs.Plain as plain
+use Rattle.l4_core_model.specs.Letters as letters
+use Rattle.l4_core_model.specs.Local.{Local, is_own, thread, comes_to}
+use Rattle.l4_core_model.specs.Acts.{Work, tells, does, ◌▷◌}
+use Rattle.l4_core_model.specs.Mail as mail
+use Rattle.l4_core_model.specs.Turns as turns
+use Rattle.tcb_arena.specs.Blocks.{is_ready as is_ready_in}
+use Rattle.l4_processor.specs.Processor.{Processor}
+use Rattle.l4_processor.specs.Settled.{IsOwn, HasSend}
+use Rattle.l4_processor.specs.Tellings.{Told, nothing}
+
+-- An event under way.
+abbrev pub work : Local → Told → Work
+work l t = record { local = l; steps = t.steps; letters = t.letters }
+
+-- A piece of an event was done.
+pub record Does (piece : Work → Work) (old new : Processor) (before after : Told) : Type 0 where
+  pub machine : new.machine ≡ old.machine
+  pub cpu : new.cpu ≡ old.cpu
+  pub stamp : new.local.stamp ≡ old.local.stamp
+  pub work : work new.local after ≡ piece (work old.local before)
+
+-- A step is told, and the phase of a thread fails with a code.
+abbrev pub fails_with : steps.Step → (code place : ℕ) → Work → Work
+fails_with step code place x = x ▷ tells step ▷ does (comes_to place (fails code))
+
+-- What the phase that an ipc begins makes of the local state.
+abbrev pub begun_by : Act → (place : ℕ) → Local → Local
+begun_by (Sends send) place l = comes_to place (begins send) l
+begun_by (Receives receive) place l = comes_to place (waits receive l.clock) l
+begun_by _ place l = l
+
+abbrev pub IsOwnOf : Processor → ℕ → Type 0
+IsOwnOf p i = IsOwn p.machine p.cpu i
+
+-- A thread with an undecided send.
+abbrev pub IsSender : Processor → ℕ → Type 0
+IsSender p i = HasSend p.machine p.cpu p.local i
+
+-- The same, and its send stands in no list.
+pub record IsNewSender (p : Processor) (i : ℕ) : Type 0 where
+  pub sender : IsSender p i
+  pub unqueued : plain.is_queued p.local.lists i ≡ false
+
+-- A thread that stands in no list, but for a deadline.
+pub record IsFree (p : Processor) (i : ℕ) : Type 0 where
+  pub own : IsOwn p.machine p.cpu i
+  pub unready : is_ready_in p.local.lists i ≡ false
+  pub unqueued : plain.is_queued p.local.lists i ≡ false
+
+-- A thread that is ready, and no more in the list of the ready ones.
+pub record IsAtHand (p : Processor) (i : ℕ) : Type 0 where
+  pub own : IsOwn p.machine p.cpu i
+  pub ready : (thread p.local i).phase ≡ Ready
+  pub unready : is_ready_in p.local.lists i ≡ false
+
+pub record IsReceiver (p : Processor) (i : ℕ) : Type 0 where
+  pub own : IsOwn p.machine p.cpu i
+  pub waits : is_some (receive_now (thread p.local i).phase) ≡ true
+
+-- An event was told, with this stamp.
+pub record IsEvent (event : Option Work) (old new : Processor) (told : Told) (stamp : ℕ) : Type 0 where
+  pub machine : new.machine ≡ old.machine
+  pub cpu : new.cpu ≡ old.cpu
+  pub is : event ≡ Some (work new.local told)
+  pub stamped : stamp ≡ new.local.stamp
+
+-- There is no such event, and nothing has changed.
+pub record IsNoEvent (event : Option Work) (old new : Processor) (told : Told) : Type 0 where
+  pub none : event ≡ None
+  pub same : new ≡ old
+  pub untold : told ≡ nothing
+
+abbrev pub IsTurn : (old new : Processor) → Told → Option ℕ → Type 0
+IsTurn old new told (Some stamp) = IsEvent (turns.turn old.machine old.cpu old.local) old new told stamp
+IsTurn old new told None = IsNoEvent (turns.turn old.machine old.cpu old.local) old new told

@@ -1,0 +1,95 @@
+//! Sets of places of threads.
+ghost use Rattle.std.specs.Prelude.{◌≡◌, ◌<◌, ◌≤◌, ℕ, false, ◌&&◌, ◌||◌, ◌==◌, not, nat_lt, MatchOption, position};
+ghost use Rattle.l4_processor.specs.Places.{has, is_filled, IsFirst, IsLowest};
+
+use std::marker::Model;
+
+// How many places a word has.
+const WIDTH: usize = 64;
+
+/// A set of places of threads, each below 1,024. Its least place is found without a look at the others.
+#[derive(Drop)]
+pub struct Places {
+    words: [u64; 16],
+}
+
+impl Model for Places {
+    ghost use Rattle.std.specs.Prelude.{ℕ, List};
+
+    ghost Value = { List ℕ };
+
+    ghost view = { λ s. s.words };
+}
+
+impl Places {
+    /// The empty set.
+    pub fn new() -> Places
+        ensures { (place : ℕ) → has result place ≡ false }
+    {
+        Places { words: [0; 16] }
+    }
+
+    /// Puts a place in, where it is not in yet.
+    pub fn insert(&mut self, place: usize)
+        requires { place < 1024 }
+        ensures { (other : ℕ) → has self.new other ≡ (has self.old other || other == place) }
+    {
+        self.words[place / WIDTH] |= 1 << (place % WIDTH);
+    }
+
+    /// Puts all places below a number in.
+    pub fn fill(&mut self, count: usize)
+        requires { count ≤ 1024 }
+        ensures { (other : ℕ) → has self.new other ≡ (has self.old other || nat_lt other count) }
+    {
+        for place in 0..count {
+            self.insert(place);
+        }
+    }
+
+    /// The same set again.
+    pub fn copy(&self) -> Places
+        ensures { result ≡ self.now }
+    {
+        Places { words: self.words }
+    }
+
+    /// Takes a place out, where it is in.
+    pub fn remove(&mut self, place: usize)
+        requires { place < 1024 }
+        ensures { (other : ℕ) → has self.new other ≡ (has self.old other && not (other == place)) }
+    {
+        self.words[place / WIDTH] &= !(1 << (place % WIDTH));
+    }
+
+    /// Whether a place is in.
+    pub fn contains(&self, place: usize) -> bool
+        requires { place < 1024 }
+        ensures { result ≡ has self.now place }
+    {
+        self.words[place / WIDTH] >> (place % WIDTH) & 1 == 1
+    }
+
+    /// The least place.
+    pub fn first(&self) -> Option<usize>
+        ensures { MatchOption result ((place : ℕ) → has self.now place ≡ false) (IsFirst self.now) }
+    {
+        let row = first_filled(&self.words)?;
+        Some(row * WIDTH + lowest(self.words[row]))
+    }
+}
+
+// The first word that has a bit.
+fn first_filled(words: &[u64]) -> Option<usize>
+    ensures { result ≡ position is_filled words.now }
+{
+    words.iter().position(|word| *word != 0)
+}
+
+// The place of the lowest bit of a word.
+fn lowest(word: u64) -> usize
+    requires { 0 < word }
+    ensures { IsLowest word result }
+{
+    word.trailing_zeros() as usize
+}

@@ -1,0 +1,221 @@
+//! One processor: its turns and its clock.
+ghost use Rattle.std.specs.Prelude.{◌≡◌, ◌<◌, IfOk, IfSome, is_some, ◌^◌, length, slice_get, true, ℕ, ◌||◌, ◌==◌};
+ghost use Rattle.std.specs.Option.{option_map};
+ghost use Rattle.l4_core_model.specs.Local.{is_own, opening_local, thread};
+ghost use Rattle.l4_core_model.specs.Plain.{due_block};
+ghost use Rattle.l4_core_model.specs.Turns.{advance, can_stamp, choice, is_busy, next_stamp};
+ghost use Rattle.l4_processor.specs.Choosing.{choice_of, IsFound, IsPossible};
+ghost use Rattle.l4_processor.specs.Processor.{with_local};
+ghost use Rattle.l4_processor.specs.Tellings.{nothing};
+ghost use Rattle.l4_processor.specs.Covered.{Covers, CoversZeros, is_zero_send};
+ghost use Rattle.l4_processor.specs.Parts.{AreCore};
+ghost use Rattle.l4_processor.specs.Places.{has};
+ghost use Rattle.l4_processor.specs.Turning.{IsOwnOf, IsTurn};
+
+use crate::known::Known;
+use crate::known::duties::{Duty, first_duty};
+use crate::places::Places;
+use crate::told::Told;
+use l4_script::machine::Machine;
+use l4_types::errors::NoMemory;
+use std::alloc::Global;
+use std::marker::Model;
+
+mod clock;
+mod effects;
+mod events;
+mod instructions;
+mod sends;
+
+/// One processor of a machine.
+#[derive(Drop)]
+pub struct Core<'m> {
+    known: Known<'m>,
+    // Each place of a thread of this processor that has a duty is in it.
+    duties: Places,
+    // Each place is in it where a send of timeout zero waits.
+    zeros: Places,
+}
+
+impl<'m> Model for Core<'m> {
+    ghost use Rattle.l4_processor.specs.Processor.{Processor};
+    ghost use Rattle.l4_processor.specs.Covered.{IsCovered};
+
+    ghost Value = { Processor };
+
+    ghost view = { λ c. c.known };
+
+    ghost invariant = { λ c. IsCovered c.duties c.zeros c.known };
+}
+
+/// What a turn is about.
+#[derive(Drop)]
+enum Choice {
+    /// A thread has a duty.
+    ByDuty(usize, Duty),
+    /// The deadline of a thread is past.
+    ByDue(usize),
+    /// A ready thread runs its next instruction.
+    ByReady(usize),
+}
+
+/// Why a processor refuses what it is asked. Nothing is changed then.
+#[derive(Clone, Copy, PartialEq, Eq, Debug)]
+pub enum Fault {
+    /// The clock is not to go on to this value: it is not above the clock, or not below 2^62.
+    Clock,
+    /// The next stamp would reach 2^62.
+    Stamp,
+}
+
+impl<'m> Core<'m> {
+    /// A processor of a machine where nothing has happened. `cpu` is its number, below the machine's count.
+    pub fn new(alloc: Global, machine: &'m Machine, cpu: u8) -> Result<Core<'m>, NoMemory>
+        requires { cpu < machine.now.cpus }
+        ensures { IfOk result (λ core. core ≡ record { machine = machine.now; cpu = cpu; local = opening_local machine.now cpu }) }
+    {
+        Ok(Core {
+            known: Known::new(alloc, machine, cpu)?,
+            duties: Places::new(),
+            zeros: Places::new(),
+        })
+    }
+
+    /// The core's turn: the first duty of a thread, else the first due timeout, else one instruction of the first ready thread. It is told behind
+    /// nothing. Answers its stamp, or None where there is nothing to do, and then nothing is changed. Conditions: `can_stamp(0)`, and nothing is
+    /// told yet.
+    pub fn turn_into(&mut self, told: &mut Told) -> Option<u64>
+        requires stamp { can_stamp self.old.local 0 ≡ true }
+        requires untold { told.old ≡ nothing }
+        ensures { IsTurn self.old self.new told.new result }
+    {
+        let _few = self.known.len();
+        let choice = self.choice()?;
+        let stamp = self.open(0);
+        self.carry_out(&choice, told);
+        Some(stamp)
+    }
+
+    /// Whether the next event can have a stamp, below 2^62. `letter_stamp` is that of the letter that it handles, 0 where there is none.
+    pub fn can_stamp(&self, letter_stamp: u64) -> bool
+        ensures { result ≡ can_stamp self.now.local letter_stamp }
+    {
+        self.known.can_stamp(letter_stamp)
+    }
+
+    /// The clock, in ticks, below 2^62.
+    pub fn clock(&self) -> u64
+        ensures value { result ≡ self.now.local.clock }
+        ensures fits { result < 2 ^ 62 }
+    {
+        self.known.clock()
+    }
+
+    /// The least deadline that a thread is armed for, in ticks.
+    pub fn least_deadline(&self) -> Option<u64>
+        ensures { result ≡ option_map (λ e. e.0) (slice_get self.now.local.lists.armed 0) }
+    {
+        self.known.least_deadline()
+    }
+
+    /// Whether there is something to do: whether `turn_into` would not answer None.
+    pub fn busy(&self) -> bool
+        ensures { result ≡ is_busy self.now.machine self.now.cpu self.now.local }
+    {
+        let mut duties = self.duties.copy();
+        let mut zeros = self.zeros.copy();
+        if first_duty(&self.known, &mut duties, &mut zeros).is_some() {
+            return true;
+        }
+        self.known.has_due() || self.known.first_ready().is_some()
+    }
+
+    // An event begins. `letter_stamp` is that of the letter that it handles, 0 where there is none. Answers its stamp.
+    fn open(&mut self, letter_stamp: u64) -> u64
+        requires { can_stamp self.old.local letter_stamp ≡ true }
+        ensures state { self.new ≡ with_local self.old (record self.old.local { stamp = next_stamp letter_stamp self.old.local }) }
+        ensures stamp { result ≡ next_stamp letter_stamp self.old.local }
+    {
+        let stamp = self.known.stamp().max(letter_stamp) + 1;
+        self.known.set_stamp(stamp);
+        stamp
+    }
+
+    // What the next turn is about.
+    fn choice(&mut self) -> Option<Choice>
+        ensures choice { option_map choice_of result ≡ choice self.old.machine self.old.cpu self.old.local }
+        ensures possible { IfSome result (λ choice. IsPossible choice self.new) }
+        ensures same { self.new ≡ self.old }
+    {
+        if let Some((place, duty)) = self.first_duty() {
+            return Some(Choice::ByDuty(place, duty));
+        }
+        if let Some(place) = self.first_due() {
+            return Some(Choice::ByDue(place));
+        }
+        let place = self.known.first_ready()?;
+        Some(Choice::ByReady(place))
+    }
+
+    // The first place with a duty.
+    fn first_duty(&mut self) -> Option<(usize, Duty)>
+        ensures found { IsFound result self.old }
+        ensures same { self.new ≡ self.old }
+    {
+        first_duty(&self.known, &mut self.duties, &mut self.zeros)
+    }
+
+    // The first thread whose deadline is past.
+    fn first_due(&mut self) -> Option<usize>
+        ensures due { result ≡ due_block self.old.local.clock self.old.local.lists.armed }
+        ensures same { self.new ≡ self.old }
+    {
+        self.known.first_due()
+    }
+}
+
+// Each thread of the processor may have a duty now.
+fn note_all(known: &Known, duties: &mut Places)
+    requires { Covers duties.old known.now.machine known.now.cpu known.now.local }
+    ensures all { (other : ℕ) → IsOwnOf known.now other → has duties.new other ≡ true }
+    ensures own { (other : ℕ) → has duties.new other ≡ true → IsOwnOf known.now other }
+    ensures core { AreCore known.now }
+{
+    for place in 0..known.len() {
+        note_own(known, duties, place);
+    }
+}
+
+// A place may have a duty now.
+fn note(known: &Known, duties: &mut Places, place: usize)
+    requires { IsOwnOf known.now place }
+    ensures core { AreCore known.now }
+    ensures put { (other : ℕ) → has duties.new other ≡ (has duties.old other || other == place) }
+{
+    let _few = known.len();
+    duties.insert(place);
+}
+
+// A place may have a duty now, where it is one of a thread of this processor.
+fn note_own(known: &Known, duties: &mut Places, place: usize)
+    requires { place < length known.now.machine.threads }
+    ensures covers { Covers duties.old known.now.machine known.now.cpu known.now.local → Covers duties.new known.now.machine known.now.cpu known.now.local }
+    ensures still { (other : ℕ) → has duties.old other ≡ true → has duties.new other ≡ true }
+    ensures there { is_own known.now.machine known.now.cpu place ≡ true → has duties.new place ≡ true }
+{
+    if known.is_own(place) {
+        note(known, duties, place);
+    }
+}
+
+// A send of timeout zero may wait at a receiver now, where this one has timeout zero.
+fn note_zero(known: &Known, zeros: &mut Places, receiver: usize, sender: usize)
+    requires receiver { IsOwnOf known.now receiver }
+    requires sender { sender < length known.now.machine.threads }
+    ensures zeros { CoversZeros zeros.old known.now.local → CoversZeros zeros.new known.now.local }
+    ensures there { is_zero_send (thread known.now.local sender).send ≡ true → has zeros.new receiver ≡ true }
+{
+    if known.is_zero(sender) {
+        note(known, zeros, receiver);
+    }
+}

@@ -1,0 +1,127 @@
+//! What was chosen is done.
+ghost use Rattle.std.specs.Prelude.{◌≡◌, ◌<◌, ◌≤◌, Some, slice_get, ℕ, true};
+ghost use Rattle.l4_types.specs.Codes.{code_of};
+ghost use Rattle.l4_types.specs.StepView.{step_of};
+ghost use Rattle.l4_core_model.specs.Plain.{due_block};
+ghost use Rattle.l4_core_model.specs.Local.{is_own, thread};
+ghost use Rattle.l4_core_model.specs.Turns.{does_choice, does_duty, times_out, TellsGone, ByDue as IsDue, ByReady as IsReady};
+ghost use Rattle.l4_processor.specs.Choosing.{choice_of, duty_of, IsPossible};
+ghost use Rattle.l4_processor.specs.Covered.{IsFirstDuty};
+ghost use Rattle.l4_processor.specs.Turning.{fails_with, Does, IsOwnOf, IsReceiver};
+
+use crate::known::duties::Duty;
+use crate::processor::{Choice, Core};
+use crate::told::Told;
+use l4_thread::changes::Change;
+use l4_types::errors::IpcError;
+use l4_types::letters::{Cause, Content, Refusal};
+use l4_types::steps::Step;
+
+impl Core<'_> {
+    /// What was chosen is done.
+    pub(super) fn carry_out(&mut self, choice: &Choice, told: &mut Told)
+        requires possible { IsPossible choice.now self.old }
+        requires count { (place : ℕ) → is_own self.old.machine self.old.cpu place ≡ true → (thread self.old.local place).context.begun < self.old.local.stamp }
+        requires room { 3 ≤ told.old.room }
+        requires slots { 2 ≤ told.old.slots }
+        ensures { Does (does_choice self.old.machine self.old.cpu (choice_of choice.now)) self.old self.new told.old told.new }
+    {
+        match choice {
+            Choice::ByDuty(place, duty) => self.do_duty(*place, *duty, told),
+            Choice::ByDue(place) => self.do_due(*place, told),
+            Choice::ByReady(place) => self.do_ready(*place, told),
+        }
+    }
+
+    // The first ready thread runs its next instruction.
+    fn do_ready(&mut self, place: usize, told: &mut Told)
+        requires first { slice_get self.old.local.lists.ready 0 ≡ Some place }
+        requires count { is_own self.old.machine self.old.cpu place ≡ true → (thread self.old.local place).context.begun < self.old.local.stamp }
+        requires room { 3 ≤ told.old.room }
+        requires slots { 2 ≤ told.old.slots }
+        ensures { Does (does_choice self.old.machine self.old.cpu (IsReady place)) self.old self.new told.old told.new }
+    {
+        let _few = self.known.len();
+        self.pop_ready();
+        self.act(place, told);
+    }
+
+    // The deadline of a thread is past.
+    fn do_due(&mut self, place: usize, told: &mut Told)
+        requires due { due_block self.old.local.clock self.old.local.lists.armed ≡ Some place }
+        requires room { 3 ≤ told.old.room }
+        requires slots { 2 ≤ told.old.slots }
+        ensures { Does (does_choice self.old.machine self.old.cpu (IsDue place)) self.old self.new told.old told.new }
+    {
+        let _few = self.known.len();
+        self.pop_due();
+        self.time_out(place, told);
+    }
+
+    // The time of a thread's phase has passed.
+    fn time_out(&mut self, place: usize, told: &mut Told)
+        requires own { IsOwnOf self.old place }
+        requires room { 3 ≤ told.old.room }
+        requires slots { 2 ≤ told.old.slots }
+        ensures { Does (times_out self.old.machine self.old.cpu place) self.old self.new told.old told.new }
+    {
+        let _few = self.known.len();
+        if self.known.receiving(place).is_some() {
+            let step = Step::ReceiveTimeout(self.known.id(place));
+            self.fail_receive(place, step, IpcError::ReceiveTimeout, told);
+        } else if self.known.is_queued(place) {
+            self.refuse(place, Refusal::TimedOut, told);
+        } else {
+            self.withdraw(place, Cause::ByTimeout, told);
+        }
+    }
+
+    // The receive phase of a thread fails, as this step tells.
+    fn fail_receive(&mut self, place: usize, step: Step, error: IpcError, told: &mut Told)
+        requires receiver { IsReceiver self.old place }
+        requires room { 0 < told.old.room }
+        ensures { Does (fails_with (step_of step) (code_of error) place) self.old self.new told.old told.new }
+    {
+        let _few = self.known.len();
+        told.tell(step);
+        self.come_to(place, &Change::Fail(error));
+    }
+
+    // The duty of a thread is done.
+    fn do_duty(&mut self, place: usize, duty: Duty, told: &mut Told)
+        requires first { IsFirstDuty place (duty_of duty) self.old.machine self.old.cpu self.old.local }
+        requires room { 3 ≤ told.old.room }
+        requires slots { 2 ≤ told.old.slots }
+        ensures { Does (does_duty self.old.machine self.old.cpu place (duty_of duty)) self.old self.new told.old told.new }
+    {
+        let _few = self.known.len();
+        match duty {
+            Duty::DropOwn => self.refuse(place, Refusal::Dropped, told),
+            Duty::RefuseFirst(sender) => self.refuse(sender, Refusal::Nobody, told),
+            Duty::TellGone(cpu) => self.tell_gone(place, cpu, told),
+            Duty::CancelOwn => self.refuse(place, Refusal::Cancelled, told),
+            Duty::CancelReceive => {
+                let step = Step::ReceiveCancel(self.known.id(place));
+                self.fail_receive(place, step, IpcError::ReceiveCancelled, told);
+            }
+            Duty::DeliverFirst(sender) => self.deliver(place, sender, told),
+            Duty::CloseReceive => {
+                let step = Step::ReceiveNobody(self.known.id(place));
+                self.fail_receive(place, step, IpcError::ReceiveNobody, told);
+            }
+            Duty::RefuseZero(sender) => self.refuse(sender, Refusal::TimedOut, told),
+        }
+    }
+
+    // A processor is told that a thread is deleted.
+    fn tell_gone(&mut self, place: usize, cpu: u8, told: &mut Told)
+        requires own { IsOwnOf self.old place }
+        requires cpu { cpu < self.old.machine.cpus }
+        requires slots { 0 < told.old.slots }
+        ensures { Does (does_duty self.old.machine self.old.cpu place (TellsGone cpu)) self.old self.new told.old told.new }
+    {
+        self.note_told(place, cpu);
+        let letter = self.letter(Content::Gone(self.known.id(place)));
+        told.post(cpu, letter);
+    }
+}

@@ -15,6 +15,9 @@ MOST_TURNS = 1_000_000
 
 MACHINES = {
     "two that call each other": texts.machine(texts.calling(1, 2)),
+    "the same with 63 words": texts.machine(texts.calling(1, 2, 63)),
+    "512 such pairs": texts.machine(texts.pairs(texts.MOST_THREADS // 2)),
+    "two that wait, each for a time of its own": texts.machine(texts.sleepers(texts.own_times(2))),
     "1,023 that wait, each for a time of its own": texts.machine(texts.sleepers(texts.own_times(texts.MOST_THREADS - 1))),
     "1,023 senders to one receiver": texts.machine(texts.crowd(texts.MOST_THREADS - 1)),
 }

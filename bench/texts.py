@@ -94,12 +94,18 @@ def waiting(count):
     return [thread(10_000 + number, ["ipc nil any never never"]) for number in range(count)]
 
 
-def calling(client, server):
-    """Two threads of which one calls the other for ever, and the other answers."""
+def calling(client, server, words=0):
+    """Two threads of which one calls the other for ever with so many long words, and the other answers with the same."""
+    message = [f"tag {words}"] + [f"set {place} {0x123456789abcdef0 + place}" for place in range(1, words + 1)] if words else []
     return [
-        thread(client, [f"ipc {server}.1 {server}.1 never never", "jump 0"]),
+        thread(client, message + [f"ipc {server}.1 {server}.1 never never", f"jump {len(message)}"]),
         thread(server, ["ipc nil any never never", "ipc last any never never", "jump 1"]),
     ]
+
+
+def pairs(count):
+    """So many such pairs of threads."""
+    return [each for client in range(1, 2 * count, 2) for each in calling(client, client + 1)]
 
 
 def crowd(count):

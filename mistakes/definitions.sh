@@ -72,7 +72,7 @@ imported() {
     echo $seen
 }
 
-# Leaves of l4_core_model in the copy its definitions, and the proof files on which the law stands: no row, no law of one processor.
+# Leaves of l4_core_model in the copy its definitions, and the proof files on which the law stands: no row.
 keep_what_the_law_imports() {
     local kept file
     cd "$work/one/crates/l4_core_model/proofs" || return 1

@@ -14,7 +14,7 @@ use Rattle.l4_model.proofs.Chains.{some_is, get-map, map-changed_same}
 use Rattle.l4_model.proofs.Places.{and_true, same_id_is, eqb_same, known_send, receiver_there}
 use Rattle.l4_core_model.specs.Letters.{Delivered}
 use Rattle.l4_core_model.specs.Local.{ended}
-use Rattle.l4_types.specs.declared.steps.Delivery.{Delivery}
+use Rattle.l4_history.specs.declared.step_ref.DeliveryRef.{DeliveryRef}
 use Rattle.l4_audit.specs.Audited.{Audited, with_world}
 use Rattle.l4_audit.specs.Delivering.{is_delivery, taken_over}
 use Rattle.l4_audit.proofs.Starting.{changes_at}
@@ -31,7 +31,7 @@ same_receives d p tag t a b c = rw (a, b, c) refl
 same_end : (send : Send) (now : ℕ) (t : Thread) → t.send ≡ Some send → ended Delivered now t ≡ delivered send now t
 same_end send now t e = rw e refl
 
-pub delivers_now : (m : Machine) (a v : Audited) (d : Delivery) (p : Pending) (r : Found) (receive : Receive) → undecided m a.world d.name ≡ Some p → receiver_of m a.world p ≡ Some r →
+pub delivers_now : (m : Machine) (a v : Audited) (d : DeliveryRef) (p : Pending) (r : Found) (receive : Receive) → undecided m a.world d.name ≡ Some p → receiver_of m a.world p ≡ Some r →
     receive_now r.now.phase ≡ Some receive → first_accepted m a.world r receive.from ≡ Some p.sender.at → is_delivery m d p r ≡ true →
     v ≡ with_world a (taken_over p.sender.at r.at d p.sender.clock a.world) →
     after_deliver m a.world d.name d.receiver d.message.shown d.message.actual (received_tag d.cross d.message) d.message.words ≡ Some v.world

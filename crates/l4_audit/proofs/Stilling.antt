@@ -12,7 +12,7 @@ use Rattle.l4_model.specs.Conditions.{Found, found, found_by, Pending, undecided
 use Rattle.l4_model.specs.Steps.{Step, next, what_code, runs_alone, send_of, receive_of, order_of, receive_passed, after_local, after_begin, after_wait, after_obey, after_receive_timeout, after_receive_nobody, after_receive_cancel, after_queue, after_send_timeout, after_send_nobody, after_send_cancel, after_drop}
 use Rattle.l4_model.specs.Still.{late, candidates, deliveries, orders, is_still_thread}
 use Rattle.l4_model.proofs.Places.{id_of, eqb_same}
-use Rattle.l4_core_model.proofs.Knows.{same_ids, same_bytes}
+use Rattle.l4_core_model.proofs.Changed.{same_ids, same_bytes}
 use Rattle.l4_thread.specs.Parts.{Block}
 use Rattle.l4_audit.specs.Audited.{Audited, with_world}
 use Rattle.l4_audit.specs.Stillness.{may_obey, may_stop, is_place, is_taken, may_arrive, may_decide, may_send, is_still_found}

@@ -9,10 +9,10 @@ use Rattle.l4_model.specs.Effects.{receives}
 use Rattle.l4_model.specs.Conditions.{Found, Pending}
 use Rattle.l4_core_model.specs.Letters.{Delivered}
 use Rattle.l4_core_model.specs.Local.{ended}
-use Rattle.l4_types.specs.declared.steps.Delivery.{Delivery}
+use Rattle.l4_history.specs.declared.step_ref.DeliveryRef.{DeliveryRef}
 
 -- It tells this send to this receiver: its senders, its tag and its words.
-abbrev pub is_delivery : Machine → Delivery → Pending → Found → Bool
+abbrev pub is_delivery : Machine → DeliveryRef → Pending → Found → Bool
 is_delivery m d p r =
     same_id d.receiver r.declared.id
     && same_id d.message.shown p.send.message.shown
@@ -21,5 +21,5 @@ is_delivery m d p r =
     && bytes_eq d.message.words p.send.message.words
 
 -- The message goes over from its sender to its receiver.
-abbrev pub taken_over : (sender receiver : ℕ) → Delivery → (now : ℕ) → World → World
+abbrev pub taken_over : (sender receiver : ℕ) → DeliveryRef → (now : ℕ) → World → World
 taken_over s r d now w = change (change (unqueued w s) r (receives d.message (received_tag d.cross d.message))) s (ended Delivered now)

@@ -6,6 +6,7 @@ ghost use Rattle.l4_audit.specs.Audited.{IsOf};
 ghost use Rattle.l4_model.specs.Still.{is_still};
 
 use crate::world::World;
+use l4_history::history::History;
 use l4_script::machine::Machine;
 use l4_types::errors::NoMemory;
 use l4_types::ids::ThreadId;
@@ -52,9 +53,25 @@ pub fn check(alloc: Global, machine: &Machine, steps: &[Step]) -> Result<Audit, 
     ensures passed { IfOk result (λ audit. Passes machine.now (map step_of steps.now) audit) }
     ensures refused { IfErr result (λ fault. Blames machine.now (map step_of steps.now) fault) }
 {
-    let world = replayed(alloc, machine, steps)?;
+    let history = History::from_steps(alloc, steps)?;
+    check_history(alloc, machine, &history)
+}
+
+/// Audits a trace that was read. `Refused` exactly where its steps are no history of the machine, memory aside.
+///
+/// The words of a delivery are compared where they are. A step costs the same however many wait, but that a receive phase looks at the senders
+/// before the first one that it accepts.
+pub fn check_history(
+    alloc: Global,
+    machine: &Machine,
+    history: &History,
+) -> Result<Audit, AuditFault>
+    ensures passed { IfOk result (λ audit. Passes machine.now history.now.steps audit) }
+    ensures refused { IfErr result (λ fault. Blames machine.now history.now.steps fault) }
+{
+    let world = replayed(alloc, machine, history)?;
     let threads = world.threads(alloc, machine)?;
-    let waiting = world.waiting(alloc, machine, steps)?;
+    let waiting = world.waiting(alloc, machine, history)?;
     let ending = ending(machine, world)?;
     Ok(Audit {
         ending,
@@ -64,13 +81,14 @@ pub fn check(alloc: Global, machine: &Machine, steps: &[Step]) -> Result<Audit, 
 }
 
 // The world that the steps reach.
-fn replayed(alloc: Global, machine: &Machine, steps: &[Step]) -> Result<World, AuditFault>
-    ensures reached { IfOk result (λ a. IsReached machine.now (map step_of steps.now) a) }
-    ensures refused { IfErr result (λ fault. Blames machine.now (map step_of steps.now) fault) }
+fn replayed(alloc: Global, machine: &Machine, history: &History) -> Result<World, AuditFault>
+    ensures reached { IfOk result (λ a. IsReached machine.now history.now.steps a) }
+    ensures refused { IfErr result (λ fault. Blames machine.now history.now.steps fault) }
 {
     let mut world = World::new(alloc, machine)?;
-    for place in 0..steps.len() {
-        if !world.take(machine, &steps[place])? {
+    for place in 0..history.len() {
+        let step = history.step(place);
+        if !world.take(machine, &step) {
             return Err(AuditFault::Refused { place: place + 1 });
         }
     }

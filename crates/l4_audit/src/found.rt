@@ -18,7 +18,7 @@ use l4_script::machine::{Declaration, Machine};
 use l4_thread::orders::Asked;
 use l4_thread::sends::{Receive, Send};
 use l4_thread::tcb::Tcb;
-use l4_types::ids::{GlobalId, ThreadId};
+use l4_types::ids::{GlobalId, Kind, ThreadId};
 use l4_types::steps::What;
 use std::marker::Model;
 
@@ -317,5 +317,8 @@ pub fn same_cpu(machine: &Machine, a: GlobalId, b: GlobalId) -> bool
 pub fn accepts(machine: &Machine, from: ThreadId, shown: GlobalId, receiver: GlobalId) -> bool
     ensures { result ≡ accepts machine.now from shown receiver }
 {
-    from.takes(shown, machine.same_space(shown, receiver))
+    match from.kind() {
+        Kind::AnyLocal => machine.same_space(shown, receiver),
+        Kind::Nil | Kind::Any | Kind::Local | Kind::Global { .. } => from.takes(shown, false),
+    }
 }

@@ -4,5 +4,4 @@
 pub mod audit;
 mod found;
 mod periods;
-mod queue;
 mod world;

@@ -14,30 +14,31 @@ mod takes;
 mod views;
 
 use crate::found::{Found, Pending};
-use crate::queue::Queue;
 use l4_script::machine::Machine;
 use l4_thread::tcb::Tcb;
 use l4_types::ids::{GlobalId, ThreadId};
 use l4_types::steps::Name;
 use std::marker::Model;
+use tcb_arena::Arena;
 
-/// All threads in order of declaration, for each the senders that wait at it, and the clocks of the processors.
+/// All threads in order of declaration, for each the senders that wait at it by their places, and the clocks of the processors. Of the
+/// lists only those of the waiting senders are used.
 #[derive(Drop)]
 pub struct World {
     threads: Vec<Tcb>,
-    waiting: Vec<Queue>,
+    lists: Arena,
     clocks: Vec<u64>,
 }
 
 impl Model for World {
     ghost use Rattle.std.specs.Prelude.{map};
-    ghost use Rattle.l4_audit.specs.Audited.{Audited};
+    ghost use Rattle.l4_audit.specs.Audited.{Audited, senders_of};
 
     ghost Value = { Audited };
 
     ghost view = { λ w. record {
       ids = map (λ b. b.id) w.threads.items;
-      world = record { threads = map (λ b. b.thread) w.threads.items; waiting = w.waiting.items; clocks = w.clocks.items };
+      world = record { threads = map (λ b. b.thread) w.threads.items; waiting = senders_of w.lists.waiting; clocks = w.clocks.items };
     } };
 }
 

@@ -1,60 +1,99 @@
 -- What a duty says of the threads and the lists.
-use Rattle.std.proofs.Common.{◌≡◌, ℕ, Bool, true, false, cond, ◌&&◌, ◌||◌, Option, Some, None, List, [], ◌∷◌, refl, subst}
-use Rattle.std.specs.Prelude.{◌==◌, nat_le, slice_get}
+use Rattle.std.proofs.Common.{◌≡◌, ℕ, zero, suc, Bool, true, false, cond, ◌&&◌, ◌||◌, Option, Some, None, List, [], ◌∷◌, refl, ap, sym, ◌∙◌, subst}
+use Rattle.std.specs.Prelude.{◌==◌, find, nat_le, slice_get, slice_index_or}
 use Rattle.std.specs.Option.{option_map}
 use Rattle.std.specs.List.{list_any}
-use Rattle.l4_model.specs.Words.{AnyThread}
+use Rattle.std.proofs.lemmas.Bool.{eq-eqb}
+use Rattle.l4_model.specs.Words.{Id, AnyThread}
 use Rattle.l4_model.specs.World.{Receive, Thread, is_deleted, receive_now}
+use Rattle.l4_model.specs.Rules.{takes}
 use Rattle.l4_core_model.specs.Plain as plain
-use Rattle.l4_core_model.specs.Turns.{Duty, DropsOwn, RefusesFirst, CancelsOwn, CancelsReceive, DeliversFirst, ClosesReceive}
-use Rattle.l4_core_model.proofs.Knows.{same_nat}
-use Rattle.l4_core.specs.Duties.{deleted_duty, or_close, names_nobody, receive_duty, living_duty, duty_at, thread_at}
-use Rattle.l4_core.specs.Processor.{Processor, IsCore}
+use Rattle.l4_core_model.specs.Local.{thread}
+use Rattle.l4_core_model.specs.Turns.{Duty, DropsOwn, RefusesFirst, TellsGone, CancelsOwn, CancelsReceive, DeliversFirst, ClosesReceive, RefusesZero}
+use Rattle.l4_core.specs.Covered.{duty_at, names_nobody, first_refusable, untold_of, or_tell, deleted_duty, or_close, receive_duty, or_refuse}
+use Rattle.l4_core.specs.Parts.{AreCore}
+use Rattle.l4_core.specs.Processor.{Processor}
 use Rattle.l4_core.specs.Turning.{IsSender}
-use Rattle.l4_core.proofs.Pieces.{queued_sender, taken_sender}
-use Rattle.l4_core.proofs.Settling.{sooner}
+use Rattle.l4_core.proofs.Parting.{duty_is}
+use Rattle.l4_core.proofs.Settling.{sooner, later}
 
--- What a duty needs of the waiting sends: its own thread's, or the one that it names.
-abbrev pub Needs : Processor → (place : ℕ) → Duty → Type 0
-Needs p place DropsOwn = IsSender p place
-Needs p place CancelsOwn = IsSender p place
-Needs p place (RefusesFirst sender) = IsSender p sender
-Needs p place (DeliversFirst sender) = IsSender p sender
-Needs p place duty = Unit {0}
+abbrev Waits : List plain.Waiting → ℕ → Type 0
+Waits ws s = list_any (λ (w : plain.Waiting). s == w.block) ws ≡ true
 
-unneeded : (p : Processor) (place : ℕ) → (o : Option ℕ) → ((i : ℕ) → o ≡ Some i → IsSender p i) → (d : Duty) → option_map RefusesFirst o ≡ Some d → Needs p place d
-unneeded p place None f d e = cc
-unneeded p place (Some i) f d e = let same : RefusesFirst i ≡ d = cc in subst (Needs p place) same (f i refl)
+-- What a duty names waits in the list.
+abbrev NamesWaiting : List plain.Waiting → Duty → Type 0
+NamesWaiting ws (RefusesFirst s) = Waits ws s
+NamesWaiting ws (DeliversFirst s) = Waits ws s
+NamesWaiting ws (RefusesZero s) = Waits ws s
+NamesWaiting ws d = Unit {0}
 
-closes : (p : Processor) (place : ℕ) (o : Option ℕ) (nobody : Bool) → ((i : ℕ) → o ≡ Some i → IsSender p i) → (d : Duty) → or_close o nobody ≡ Some d → Needs p place d
-closes p place (Some i) nobody f d e = let same : DeliversFirst i ≡ d = cc in subst (Needs p place) same (f i refl)
-closes p place None true f d e = let same : ClosesReceive ≡ d = cc in subst (Needs p place) same tt
-closes p place None false f d e = cc
+found_waits : (p : plain.Waiting → Bool) (ws : List plain.Waiting) (v : plain.Waiting) → find p ws ≡ Some v → Waits ws v.block
+found_waits p [] v e = cc
+found_waits p (w ∷ ws) v e = by (p w) e (found_waits p ws v)
+  where
+    by : (b : Bool) → cond b (Some w) (find p ws) ≡ Some v → (find p ws ≡ Some v → Waits ws v.block) → Waits (w ∷ ws) v.block
+    by true e f = let same : w ≡ v = cc in sooner _ _ (eq-eqb v.block w.block (ap (λ (x : plain.Waiting). x.block) (sym same)))
+    by false e f = later _ _ (f e)
 
-receives : (p : Processor) (place : ℕ) (ts : List Thread) (c : Bool) (r : Option Receive) → IsCore p.machine p.local → (d : Duty) → receive_duty p.machine ts c (plain.list_of p.local.lists place) r ≡ Some d → Needs p place d
-receives p place ts c None core d e = cc
-receives p place ts true (Some receive) core d e = let same : CancelsReceive ≡ d = cc in subst (Needs p place) same tt
-receives p place ts false (Some receive) core d e =
-    closes p place (plain.first_taken receive.from (plain.list_of p.local.lists place)) (names_nobody p.machine ts receive.from) (λ i h. taken_sender p place i receive.from core h) d e
+taken_waits : (from : Id) (ws : List plain.Waiting) (s : ℕ) → plain.first_taken from ws ≡ Some s → Waits ws s
+taken_waits from ws s e = by (find (λ (w : plain.Waiting). takes from w.shown w.local) ws) refl e
+  where
+    by : (o : Option plain.Waiting) → find (λ (w : plain.Waiting). takes from w.shown w.local) ws ≡ o → option_map (λ (w : plain.Waiting). w.block) o ≡ Some s → Waits ws s
+    by None f g = cc
+    by (Some v) f g = let same : v.block ≡ s = cc in subst (Waits ws) same (found_waits _ ws v f)
 
-lives : (p : Processor) (place : ℕ) (ts : List Thread) (t : Thread) (cs q : Bool) → IsCore p.machine p.local → (q ≡ true → IsSender p place) → (d : Duty) →
-    cond (cs && q) (Some CancelsOwn) (receive_duty p.machine ts t.cancel_receive (plain.list_of p.local.lists place) (receive_now t.phase)) ≡ Some d → Needs p place d
-lives p place ts t true true core f d e = let same : CancelsOwn ≡ d = cc in subst (Needs p place) same (f refl)
-lives p place ts t true false core f d e = receives p place ts t.cancel_receive (receive_now t.phase) core d e
-lives p place ts t false q core f d e = receives p place ts t.cancel_receive (receive_now t.phase) core d e
+tells : (ws : List plain.Waiting) (o untold : Option ℕ) (d : Duty) → ((s : ℕ) → o ≡ Some s → Waits ws s) → or_tell o untold ≡ Some d → NamesWaiting ws d
+tells ws None None d f e = cc
+tells ws None (Some cpu) d f e = let same : TellsGone cpu ≡ d = cc in subst (NamesWaiting ws) same tt
+tells ws (Some s) untold d f e = let same : RefusesFirst s ≡ d = cc in subst (NamesWaiting ws) same (f s refl)
 
-dies : (p : Processor) (place : ℕ) (q : Bool) → IsCore p.machine p.local → (q ≡ true → IsSender p place) → (d : Duty) → deleted_duty q (plain.list_of p.local.lists place) ≡ Some d → Needs p place d
-dies p place true core f d e = let same : DropsOwn ≡ d = cc in subst (Needs p place) same (f refl)
-dies p place false core f d e = unneeded p place (plain.first_taken AnyThread (plain.list_of p.local.lists place)) (λ i h. taken_sender p place i AnyThread core h) d e
+closes : (ws : List plain.Waiting) (o : Option ℕ) (nobody : Bool) (d : Duty) → ((s : ℕ) → o ≡ Some s → Waits ws s) → or_close o nobody ≡ Some d → NamesWaiting ws d
+closes ws (Some s) nobody d f e = let same : DeliversFirst s ≡ d = cc in subst (NamesWaiting ws) same (f s refl)
+closes ws None true d f e = let same : ClosesReceive ≡ d = cc in subst (NamesWaiting ws) same tt
+closes ws None false d f e = cc
 
-either : (p : Processor) (place : ℕ) (ts : List Thread) (t : Thread) (b q : Bool) → IsCore p.machine p.local → (q ≡ true → IsSender p place) → (d : Duty) →
-    cond b (deleted_duty q (plain.list_of p.local.lists place)) (living_duty p.machine ts t q (plain.list_of p.local.lists place)) ≡ Some d → Needs p place d
-either p place ts t true q core f d e = dies p place q core f d e
-either p place ts t false q core f d e = lives p place ts t t.cancel_send q core f d e
+receives : (nobody : Id → Bool) (cancelled : Bool) (ws : List plain.Waiting) (r : Option Receive) (d : Duty) → receive_duty nobody cancelled ws r ≡ Some d → NamesWaiting ws d
+receives nobody cancelled ws None d e = cc
+receives nobody true ws (Some receive) d e = let same : CancelsReceive ≡ d = cc in subst (NamesWaiting ws) same tt
+receives nobody false ws (Some receive) d e = closes ws (plain.first_taken receive.from ws) (nobody receive.from) d (taken_waits receive.from ws) e
 
-pub needs : (p : Processor) (place : ℕ) (d : Duty) → IsCore p.machine p.local → duty_at p.machine p.local.threads p.local.lists place ≡ Some d → Needs p place d
-needs p place d core e =
-    either p place p.local.threads (thread_at p.local.threads place) (is_deleted (thread_at p.local.threads place).phase) (plain.is_queued p.local.lists place) core (λ q. queued_sender p place core q) d e
+refuses : (ws : List plain.Waiting) (o : Option Duty) (zeros : Option plain.Waiting) (d : Duty) → ((e : Duty) → o ≡ Some e → NamesWaiting ws e) → ((v : plain.Waiting) → zeros ≡ Some v → Waits ws v.block) → or_refuse o zeros ≡ Some d → NamesWaiting ws d
+refuses ws (Some x) zeros d f g e = let same : x ≡ d = cc in subst (NamesWaiting ws) same (f x refl)
+refuses ws None None d f g e = cc
+refuses ws None (Some v) d f g e = let same : RefusesZero v.block ≡ d = cc in subst (NamesWaiting ws) same (g v refl)
+
+either : (nobody : Id → Bool) (t : Thread) (dead cancelled queued : Bool) (ws : List plain.Waiting) (untold : Option ℕ) (zeros : Option plain.Waiting) (d : Duty) → ((v : plain.Waiting) → zeros ≡ Some v → Waits ws v.block) →
+    cond dead (deleted_duty queued ws untold) (cond (cancelled && queued) (Some CancelsOwn) (or_refuse (receive_duty nobody t.cancel_receive ws (receive_now t.phase)) zeros)) ≡ Some d → NamesWaiting ws d
+either nobody t true cancelled true ws untold zeros d g e = let same : DropsOwn ≡ d = cc in subst (NamesWaiting ws) same tt
+either nobody t true cancelled false ws untold zeros d g e = tells ws (plain.first_taken AnyThread ws) untold d (taken_waits AnyThread ws) e
+either nobody t false true true ws untold zeros d g e = let same : CancelsOwn ≡ d = cc in subst (NamesWaiting ws) same tt
+either nobody t false true false ws untold zeros d g e = refuses ws (receive_duty nobody t.cancel_receive ws (receive_now t.phase)) zeros d (λ x f. receives nobody t.cancel_receive ws (receive_now t.phase) x f) g e
+either nobody t false false queued ws untold zeros d g e = refuses ws (receive_duty nobody t.cancel_receive ws (receive_now t.phase)) zeros d (λ x f. receives nobody t.cancel_receive ws (receive_now t.phase) x f) g e
+
+names : (p : Processor) (i : ℕ) (d : Duty) → duty_at p.machine p.cpu p.local i ≡ Some d → NamesWaiting (plain.list_of p.local.lists i) d
+names p i d e =
+    let t = thread p.local i in
+    either (names_nobody p.machine p.local) t (is_deleted t.phase) t.cancel_send (plain.is_queued p.local.lists i) (plain.list_of p.local.lists i) (untold_of p.machine p.cpu p.local i) (first_refusable p.machine p.local i) d
+    (λ v f. found_waits _ (plain.list_of p.local.lists i) v f) (sym (duty_is p.machine p.cpu p.local i) ∙ e)
+
+somewhere : {A : Type 0} (p : A → Bool) (xss : List (List A)) (r : ℕ) → list_any p (slice_index_or xss r []) ≡ true → list_any (list_any p) xss ≡ true
+somewhere p [] r e = e
+somewhere p (xs ∷ xss) zero e = sooner _ _ e
+somewhere p (xs ∷ xss) (suc r) e = later _ _ (somewhere p xss r e)
+
+waits_sends : (p : Processor) (i s : ℕ) → AreCore p → Waits (plain.list_of p.local.lists i) s → IsSender p s
+waits_sends p i s core e =
+    let waits = core.settled.queued s (somewhere (λ (w : plain.Waiting). s == w.block) p.local.lists.waiting i e) in
+    record { within = waits.within; sends = waits.sends }
+
+pub refused_sends : (p : Processor) (i s : ℕ) → AreCore p → duty_at p.machine p.cpu p.local i ≡ Some (RefusesFirst s) → IsSender p s
+refused_sends p i s core e = waits_sends p i s core (names p i (RefusesFirst s) e)
+
+pub delivered_sends : (p : Processor) (i s : ℕ) → AreCore p → duty_at p.machine p.cpu p.local i ≡ Some (DeliversFirst s) → IsSender p s
+delivered_sends p i s core e = waits_sends p i s core (names p i (DeliversFirst s) e)
+
+pub zero_sends : (p : Processor) (i s : ℕ) → AreCore p → duty_at p.machine p.cpu p.local i ≡ Some (RefusesZero s) → IsSender p s
+zero_sends p i s core e = waits_sends p i s core (names p i (RefusesZero s) e)
 
 -- A due thread is armed.
 pub due_armed : (clock : ℕ) (es : List (ℕ × ℕ)) (i : ℕ) → plain.due_block clock es ≡ Some i → list_any (λ (e : ℕ × ℕ). i == e.1) es ≡ true
@@ -62,12 +101,10 @@ due_armed clock [] i e = cc
 due_armed clock (x ∷ es) i e = by (nat_le x.0 clock) e
   where
     by : (b : Bool) → cond b (Some x.1) None ≡ Some i → ((i == x.1) || list_any (λ (e : ℕ × ℕ). i == e.1) es) ≡ true
-    by true e = let same : x.1 ≡ i = cc in sooner _ _ (subst (λ k. (k == x.1) ≡ true) same (same_nat x.1))
+    by true e = let same : x.1 ≡ i = cc in sooner _ _ (eq-eqb i x.1 (sym same))
     by false e = cc
 
 -- The first ready thread is ready.
 pub ready_there : (i : ℕ) (ready : List ℕ) → slice_get ready 0 ≡ Some i → list_any (λ b. i == b) ready ≡ true
 ready_there i [] e = cc
-ready_there i (b ∷ bs) e =
-    let same : b ≡ i = cc in
-    sooner _ _ (subst (λ k. (k == b) ≡ true) same (same_nat b))
+ready_there i (b ∷ bs) e = let same : b ≡ i = cc in sooner _ _ (eq-eqb i b (sym same))

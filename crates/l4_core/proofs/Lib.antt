@@ -1,14 +1,26 @@
-pub mod Asking
-pub mod Busy
-pub mod Choosing
-pub mod Coming
-pub mod Covering
-pub mod Dues
-pub mod Keeping
-pub mod Opening
-pub mod Ordering
-pub mod Pieces
-pub mod PlaceSets
-pub mod Reporting
-pub mod Settling
-pub mod Starting
+mod Arriving
+mod Asking
+mod Beginning
+mod Busy
+mod Choosing
+mod Covering
+mod Crossing
+mod Deciding
+mod Delivering
+mod Dues
+mod Elsewhere
+mod Fitting
+mod Going
+mod Handling
+mod Noting
+mod Opening
+mod Ordering
+mod Parting
+mod PlaceSets
+mod Queueing
+mod Sending
+mod Settling
+mod Starting
+mod Turning
+mod Writing
+mod Zeros

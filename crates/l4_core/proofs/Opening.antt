@@ -1,5 +1,5 @@
 -- A processor where nothing has happened.
-use Rattle.std.proofs.Common.{◌≡◌, ℕ, zero, suc, ◌+◌, ◌<◌, ◌≤◌, Bool, true, false, List, [], ◌∷◌, ◌++◌, map, length, refl, ap, sym, ◌∙◌, subst, take, arith}
+use Rattle.std.proofs.Common.{◌≡◌, ℕ, zero, suc, ◌+◌, ◌<◌, ◌≤◌, Bool, true, false, cond, is_some, List, [], ◌∷◌, ◌++◌, map, filter, length, refl, ap, sym, ◌∙◌, subst, take, arith}
 use Rattle.std.specs.Prelude.{slice_index_or, replicate, ◌==◌, ◌||◌}
 use Rattle.std.specs.List.{list_any, range_with_len}
 use Rattle.std.proofs.lemmas.Bool.{eqb-true}
@@ -7,16 +7,15 @@ use Rattle.std.proofs.lemmas.List.{map_push}
 use Rattle.l4_model.specs.Machine.{Declaration, Machine}
 use Rattle.l4_model.specs.World.{Thread, opening_thread}
 use Rattle.l4_core_model.specs.Plain as plain
-use Rattle.l4_core_model.specs.Local.{Local, declared, undeclared, opening_local}
+use Rattle.l4_core_model.specs.Local.{Local, declared, undeclared, is_own, opening_local}
 use Rattle.l4_core_model.specs.Runs.{IsMachine}
 use Rattle.l4_thread.specs.Parts.{Block}
-use Rattle.l4_core.specs.Opening.{lists_after}
-use Rattle.l4_core.specs.Places.{has}
-use Rattle.l4_core.specs.Duties.{thread_at}
-use Rattle.l4_core.specs.Settled.{IsSettled, IsOwn}
-use Rattle.l4_core.specs.Processor.{Processor, threads_of, ids_of, local_of, IsKept}
-use Rattle.l4_core.proofs.Choosing.{places-all}
-use Rattle.l4_core.proofs.Covering.{unchanging}
+use Rattle.tcb_arena.specs.Blocks.{empty_lists}
+use Rattle.l4_core.specs.Opening.{lists_below, opening_lists}
+use Rattle.l4_core_model.specs.Mail.{is_ordering}
+use Rattle.l4_core.specs.Settled.{IsSettled, IsSent}
+use Rattle.l4_core.specs.Parts.{threads_of, ids_of, local_of, IsKept}
+use Rattle.l4_core.proofs.Settling.{any-filter}
 
 pub replicate-push : {A : Type 0} (n : ℕ) (x : A) → replicate n x ++ x ∷ [] ≡ replicate (n + 1) x
 replicate-push n x = let e : suc n ≡ n + 1 = omega arith in by n ∙ ap (λ k. replicate k x) e
@@ -47,8 +46,30 @@ in_range s (suc n) b e = by (b == s) (eqb-true b s) e (in_range (s + 1) n b)
     by true f e g = let same = f refl in omega arith
     by false f e g = let h = g e in omega arith
 
-pub not_yet : (n : ℕ) → list_any (λ k. n == k) (range_with_len 0 n) ≡ false
-not_yet n = by (list_any (λ k. n == k) (range_with_len 0 n)) (in_range 0 n n)
+filter-push : {A : Type 0} (p : A → Bool) (xs : List A) (x : A) → filter p (xs ++ x ∷ []) ≡ cond (p x) (filter p xs ++ x ∷ []) (filter p xs)
+filter-push p [] x = refl
+filter-push p (y ∷ ys) x = by (p y) (p x) (filter-push p ys x)
+  where
+    by : (b c : Bool) → filter p (ys ++ x ∷ []) ≡ cond c (filter p ys ++ x ∷ []) (filter p ys) → cond b (y ∷ filter p (ys ++ x ∷ [])) (filter p (ys ++ x ∷ [])) ≡ cond c (cond b (y ∷ filter p ys) (filter p ys) ++ x ∷ []) (cond b (y ∷ filter p ys) (filter p ys))
+    by true true e = ap (λ zs. y ∷ zs) e
+    by true false e = ap (λ zs. y ∷ zs) e
+    by false true e = e
+    by false false e = e
+
+-- One more place
+below_more : (m : Machine) (cpu n : ℕ) (b : Bool) → is_own m cpu n ≡ b → filter (is_own m cpu) (range_with_len 0 (n + 1)) ≡ cond b (filter (is_own m cpu) (range_with_len 0 n) ++ n ∷ []) (filter (is_own m cpu) (range_with_len 0 n))
+below_more m cpu n b e =
+    ap (filter (is_own m cpu)) (sym (range-push n)) ∙ filter-push (is_own m cpu) (range_with_len 0 n) n
+    ∙ ap (λ c. cond c (filter (is_own m cpu) (range_with_len 0 n) ++ n ∷ []) (filter (is_own m cpu) (range_with_len 0 n))) e
+
+pub own_more : (m : Machine) (cpu n : ℕ) (s u : plain.Plain) → s ≡ lists_below m cpu n → is_own m cpu n ≡ true → u ≡ plain.made_ready n s → u ≡ lists_below m cpu (n + 1)
+own_more m cpu n s u e own f = f ∙ ap (plain.made_ready n) e ∙ ap (λ r. record (lists_below m cpu n) { ready = r }) (sym (below_more m cpu n true own))
+
+pub other_more : (m : Machine) (cpu n : ℕ) (s : plain.Plain) → s ≡ lists_below m cpu n → is_own m cpu n ≡ false → s ≡ lists_below m cpu (n + 1)
+other_more m cpu n s e away = e ∙ ap (λ r. record (lists_below m cpu n) { ready = r }) (sym (below_more m cpu n false away))
+
+pub not_yet : (m : Machine) (cpu n : ℕ) → list_any (λ k. n == k) (filter (is_own m cpu) (range_with_len 0 n)) ≡ false
+not_yet m cpu n = by (list_any (λ k. n == k) (filter (is_own m cpu) (range_with_len 0 n))) (λ e. in_range 0 n n (any-filter (λ k. n == k) (is_own m cpu) (range_with_len 0 n) e))
   where
     by : (b : Bool) → (b ≡ true → n < 0 + n) → b ≡ false
     by true f = absurd (let h = f refl in omega arith)
@@ -59,64 +80,73 @@ get-replicate zero x i = refl
 get-replicate (suc n) x zero = refl
 get-replicate (suc n) x (suc i) = get-replicate n x i
 
-none_queued : (n b : ℕ) → plain.is_queued (record { waiting = replicate n []; ready = []; armed = [] }) b ≡ false
-none_queued zero b = refl
-none_queued (suc n) b = none_queued n b
-
-replicate-map : {A B : Type 0} (x : B) (ys : List A) → replicate (length ys) x ≡ map (λ y. x) ys
+pub replicate-map : {A B : Type 0} (x : B) (ys : List A) → replicate (length ys) x ≡ map (λ y. x) ys
 replicate-map x [] = refl
 replicate-map x (y ∷ ys) = ap (λ xs. x ∷ xs) (replicate-map x ys)
 
--- The opening local state.
-abbrev pub opened : Machine → (count : ℕ) → Local
-opened m n = record { threads = replicate n opening_thread; lists = lists_after n n; told = map (λ d. 0) m.threads; clock = 0; stamp = 0 }
+pub none_below : (m : Machine) (cpu n : ℕ) (s : plain.Plain) → n ≡ length m.threads → s ≡ empty_lists n → s ≡ lists_below m cpu 0
+none_below m cpu n s e f = f ∙ ap empty_lists e ∙ ap (λ ws. record { waiting = ws; ready = []; armed = [] }) (replicate-map [] m.threads)
 
-opened-settled : (m : Machine) → IsSettled m (opened m (length m.threads))
-opened-settled m =
-    let n : ℕ = length m.threads in
-    record {
-      threads = length-replicate n opening_thread;
-      lists = length-replicate n [];
-      own = λ i. subst (λ (t : Thread). IsOwn (declared m i).id t.send t.context.begun) (sym (get-replicate n opening_thread i)) tt;
-      begun = λ i. subst (λ (t : Thread). t.context.begun ≤ 0) (sym (get-replicate n opening_thread i)) (omega arith);
-      queued = λ i e. let none = none_queued n i in absurd (differ _ none e);
-      ready = λ i e. record { within = let lt = in_range 0 n i e in omega arith; phase = ap (λ (t : Thread). t.phase) (get-replicate n opening_thread i) };
-      armed = λ i e. cc;
-      clock = omega arith;
-    }
+pub length-map : {A B : Type 0} (f : A → B) (xs : List A) → length (map f xs) ≡ length xs
+length-map f [] = refl
+length-map f (x ∷ xs) = ap suc (length-map f xs)
+
+pub get-map : {A B : Type 0} (x : B) (ys : List A) (i : ℕ) → slice_index_or (map (λ y. x) ys) i x ≡ x
+get-map x [] i = refl
+get-map x (y ∷ ys) zero = refl
+get-map x (y ∷ ys) (suc i) = get-map x ys i
+
+pub none_queued : {A : Type 0} (ys : List A) (b : ℕ) → list_any (list_any (λ (w : plain.Waiting). b == w.block)) (map (λ y. []) ys) ≡ false
+none_queued [] b = refl
+none_queued (y ∷ ys) b = none_queued ys b
+
+owned : (m : Machine) (cpu i : ℕ) (ns : List ℕ) → list_any (λ k. i == k) (filter (is_own m cpu) ns) ≡ true → is_own m cpu i ≡ true
+owned m cpu i [] e = cc
+owned m cpu i (n ∷ ns) e = by (is_own m cpu n) refl (owned m cpu i ns) e
+  where
+    first : (t : Bool) → (i == n) ≡ t → is_own m cpu n ≡ true → (list_any (λ k. i == k) (filter (is_own m cpu) ns) ≡ true → is_own m cpu i ≡ true) → (t || list_any (λ k. i == k) (filter (is_own m cpu) ns)) ≡ true → is_own m cpu i ≡ true
+    first true at own f h = let same = eqb-true i n at in subst (λ k. is_own m cpu k ≡ true) (sym same) own
+    first false at own f h = f h
+
+    by : (b : Bool) → is_own m cpu n ≡ b → (list_any (λ k. i == k) (filter (is_own m cpu) ns) ≡ true → is_own m cpu i ≡ true) → list_any (λ k. i == k) (cond b (n ∷ filter (is_own m cpu) ns) (filter (is_own m cpu) ns)) ≡ true → is_own m cpu i ≡ true
+    by true own f h = first (i == n) refl own f h
+    by false own f h = f h
+
+opened-settled : (m : Machine) (cpu : ℕ) → IsSettled m cpu (opening_local m cpu)
+opened-settled m cpu = record {
+  threads = length-map (λ d. opening_thread) m.threads;
+  lists = length-map (λ d. []) m.threads;
+  told = length-map (λ d. 0) m.threads;
+  known = λ i. let none = get-map {B = ℕ} 0 m.threads i in omega (arith, none);
+  sent = λ i. subst (λ (t : Thread). IsSent (declared m i).id t.send t.context.begun) (sym (get-map opening_thread m.threads i)) tt;
+  sending = λ i own e. let none = ap (λ (t : Thread). is_some t.send) (get-map opening_thread m.threads i) in let wrong : true ≡ false = sym e ∙ none in cc;
+  begun = λ i own. subst (λ (t : Thread). t.context.begun ≤ 0) (sym (get-map opening_thread m.threads i)) (omega arith);
+  ordering = λ i own e. let none = ap (λ (t : Thread). is_ordering t.phase) (get-map opening_thread m.threads i) in let wrong : true ≡ false = sym e ∙ none in cc;
+  queued = λ i e. let none = none_queued m.threads i in absurd (differ _ none e);
+  ready = λ i e. record {
+    own = record { within = let lt = in_range 0 (length m.threads) i (any-filter (λ k. i == k) (is_own m cpu) (range_with_len 0 (length m.threads)) e) in omega arith; own = owned m cpu i (range_with_len 0 (length m.threads)) e };
+    phase = ap (λ (t : Thread). t.phase) (get-map opening_thread m.threads i);
+  };
+  armed = λ i e. cc;
+  clock = omega arith;
+}
   where
     differ : (b : Bool) → b ≡ false → b ≡ true → ⊥
     differ true e f = cc
     differ false e f = cc
 
-same_opened : (m : Machine) (n : ℕ) (bs : List Block) (lists : plain.Plain) → n ≡ length m.threads → threads_of bs ≡ replicate n opening_thread → lists ≡ lists_after n n → local_of m bs lists 0 0 ≡ opened m (length m.threads)
-same_opened m n bs lists e threads is =
-    let put : List Thread → plain.Plain → Local = λ us s. record { threads = us; lists = s; told = map (λ d. 0) m.threads; clock = 0; stamp = 0 } in
-    ap (λ us. put us lists) threads ∙ ap (λ s. put (replicate n opening_thread) s) is ∙ ap (opened m) e
+pub opened-is : (m : Machine) (cpu : ℕ) (bs : List Block) (lists : plain.Plain) (told : List ℕ) → threads_of bs ≡ replicate (length m.threads) opening_thread → lists ≡ opening_lists m cpu → told ≡ map (λ d. 0) m.threads →
+    local_of bs lists told 0 0 ≡ opening_local m cpu
+opened-is m cpu bs lists told threads is untold =
+    let put : List Thread → plain.Plain → List ℕ → Local = λ us s ns. record { threads = us; lists = s; told = ns; clock = 0; stamp = 0 } in
+    ap (λ us. put us lists told) (threads ∙ replicate-map opening_thread m.threads) ∙ ap (λ s. put (map (λ d. opening_thread) m.threads) s told) is ∙ ap (λ ns. put (map (λ d. opening_thread) m.threads) (opening_lists m cpu) ns) untold
 
-pub opened-kept : (m : Machine) (n : ℕ) (bs : List Block) (lists : plain.Plain) (d : List ℕ) → IsMachine m → m.cpus ≡ 1 → length m.threads ≤ 1024 → n ≡ length m.threads → threads_of bs ≡ replicate n opening_thread → ids_of bs ≡ map (λ d. d.id) m.threads →
-    lists ≡ lists_after n n → ((o : ℕ) → has d o ≡ false) → IsKept m bs lists d 0 0
-opened-kept m n bs lists d machine one few e threads ids is empty = record {
-  core = record { machine = machine; single = one; few = few; settled = subst (IsSettled m) (sym (same_opened m n bs lists e threads is)) (opened-settled m) };
+pub opened-kept : (m : Machine) (cpu : ℕ) (bs : List Block) (lists : plain.Plain) (told : List ℕ) → IsMachine m → cpu < m.cpus → length m.threads ≤ 1024 → threads_of bs ≡ replicate (length m.threads) opening_thread → ids_of bs ≡ map (λ d. d.id) m.threads →
+    lists ≡ opening_lists m cpu → told ≡ map (λ d. 0) m.threads → IsKept m cpu bs lists told 0 0
+opened-kept m cpu bs lists told machine below few threads ids is untold = record {
+  core = record { machine = machine; processor = below; few = few; settled = subst (IsSettled m cpu) (sym (opened-is m cpu bs lists told threads is untold)) (opened-settled m cpu) };
   ids = ids;
-  covers = record {
-    within = λ o h. let none = empty o in let wrong : true ≡ false = sym h ∙ none in cc;
-    others = λ o h. unchanging m (threads_of bs) lists o (thread_at (threads_of bs) o) (ap (λ us. thread_at us o) threads ∙ get-replicate n opening_thread o) refl;
-  };
 }
-
-pub opened-is : (m : Machine) (n cpu : ℕ) (bs : List Block) (lists : plain.Plain) → IsMachine m → m.cpus ≡ 1 → cpu < m.cpus → n ≡ length m.threads → threads_of bs ≡ replicate n opening_thread → lists ≡ lists_after n n →
-    ◌≡◌ {A = Processor} (record { machine = m; cpu = 0; local = local_of m bs lists 0 0 }) (record { machine = m; cpu = cpu; local = opening_local m cpu })
-opened-is m n cpu bs lists machine one lt e threads is =
-    let none : 0 ≡ cpu = omega arith in
-    let places = places-all m (λ i h. let home = machine.homed i h in omega arith) in
-    let same = same_opened m n bs lists e threads is in
-    let put : List Thread → List (List plain.Waiting) → List ℕ → Local = λ us ws ready. record { threads = us; lists = record { waiting = ws; ready = ready; armed = [] }; told = map (λ d. 0) m.threads; clock = 0; stamp = 0 } in
-    let opens : opened m (length m.threads) ≡ opening_local m 0 =
-    ap (λ us. put us (replicate (length m.threads) []) (range_with_len 0 (length m.threads))) (replicate-map opening_thread m.threads)
-    ∙ ap (λ ws. put (map (λ d. opening_thread) m.threads) ws (range_with_len 0 (length m.threads))) (replicate-map [] m.threads)
-    ∙ ap (λ r. put (map (λ d. opening_thread) m.threads) (map (λ d. []) m.threads) r) (sym places) in
-    ap (λ (l : Local). record { machine = m; cpu = 0; local = l }) (same ∙ opens) ∙ ap (λ n. record { machine = m; cpu = n; local = opening_local m n }) none
 
 -- One more thread
 pub threads_more : (n : ℕ) (bs cs : List Block) (b : Block) → threads_of bs ≡ replicate n opening_thread → cs ≡ bs ++ b ∷ [] → b.thread ≡ opening_thread → threads_of cs ≡ replicate (n + 1) opening_thread
@@ -133,6 +163,3 @@ ids_more ds n bs cs b lt e f g = ap ids_of f ∙ map_push (λ (x : Block). x.id)
 pub take-whole : (ds : List Declaration) → take (length ds) (map (λ d. d.id) ds) ≡ map (λ d. d.id) ds
 take-whole [] = refl
 take-whole (d ∷ ds) = ap (λ xs. d.id ∷ xs) (take-whole ds)
-
-pub lists_more : (count n : ℕ) (s u : plain.Plain) → s ≡ lists_after count n → u ≡ plain.made_ready n s → u ≡ lists_after count (n + 1)
-lists_more count n s u e f = f ∙ ap (plain.made_ready n) e ∙ ap (λ r. record { waiting = replicate count []; ready = r; armed = [] }) (range-push n)

@@ -1,55 +1,57 @@
 -- An order is given and done.
-use Rattle.std.proofs.Common.{◌≡◌, ℕ, zero, suc, ◌<◌, not, Bool, true, false, cond, Option, Some, None, List, [], ◌∷◌, ◌++◌, map, length, refl, ap, sym, ◌∙◌, subst}
+use Rattle.std.proofs.Common.{◌≡◌, ℕ, zero, suc, ◌<◌, not, Bool, true, false, cond, is_some, Option, Some, None, List, [], ◌∷◌, refl, ap, sym, ◌∙◌, subst, arith}
 use Rattle.std.specs.Prelude.{slice_index_or, ◌==◌}
-use Rattle.std.proofs.lemmas.List.{map_push}
-use Rattle.std.proofs.lemmas.List.Quantifiers.{position-Some}
-use Rattle.l4_model.specs.Words.{GlobalId, Id, NilThread, AnyThread, AnyLocalThread, LocalThread, GlobalThread, same_id}
-use Rattle.l4_model.specs.Machine.{Declaration, Machine, What, CancelSend, CancelReceive, CancelBoth, Delete, place_of}
-use Rattle.l4_model.specs.World.{Send, Asked, Thread, changed, opening_thread, is_deleted}
+use Rattle.l4_model.specs.Words.{GlobalId}
+use Rattle.l4_model.specs.Machine.{Machine, What, CancelSend, CancelReceive, CancelBoth, Delete, place_of}
+use Rattle.l4_model.specs.World.{Asked, Context, Thread, changed, opening_thread, is_deleted}
 use Rattle.l4_model.specs.Effects.{asked, orders, obeyed}
 use Rattle.l4_model.specs.Steps as steps
 use Rattle.l4_core_model.specs.Plain as plain
-use Rattle.l4_core_model.specs.Letters.{Cause, cause_of}
-use Rattle.l4_core_model.specs.Local.{Local, declared, undeclared, is_own, thread, destination_place, comes_to}
-use Rattle.l4_core_model.specs.Acts.{Work, tells, does, asks, obeys, gives_order, split_receiver, withdraws, withdraws_for}
-use Rattle.l4_types.specs.declared.steps.What.{What as CodeWhat}
-use Rattle.l4_types.specs.declared.steps.Step.{Step}
-use Rattle.l4_types.specs.declared.steps.Step.TheVariants as told
-use Rattle.l4_types.specs.StepView.{step_of, what_of}
+use Rattle.l4_core_model.specs.Letters.{Cause, Letter, OrderLetter, cause_of}
+use Rattle.l4_core_model.specs.Local.{Local, declared, is_own, thread, comes_to}
+use Rattle.l4_core_model.specs.Acts.{Work, ◌▷◌, tells, does, posts, asks, obeys, gives_order, order_goes_to, split_place, withdraws, withdraws_for}
+use Rattle.l4_thread.specs.declared.changes.Change.TheVariants.{Obey}
 use Rattle.tcb_arena.specs.Blocks.{is_ready as is_ready_in}
-use Rattle.l4_core.specs.Processor.{Processor, with_local, IsCore}
+use Rattle.l4_core.specs.Changing.{IsFitting}
+use Rattle.l4_core.specs.Parts.{AreCore}
+use Rattle.l4_core.specs.Processor.{Processor, with_local}
+use Rattle.l4_core.specs.Tellings.{Told, with_letter, with_step}
 use Rattle.l4_core.specs.Turning.{work, Does, IsAtHand, IsFree}
-use Rattle.l4_core.proofs.Choosing.{own}
-use Rattle.l4_core.proofs.Coming.{unqueued, ready_not_sends}
 use Rattle.l4_core.proofs.Covering.{any-filtered}
+use Rattle.l4_core.proofs.Fitting.{ready_not_sends, unqueued}
 
--- No send is split.
+-- What is asked of a thread, and then known.
 
-elsewhere : (m : Machine) (l : Local) (to : Id) (r : ℕ) → IsCore m l → destination_place m to ≡ Some r → is_own m 0 r ≡ true
-elsewhere m l NilThread r c e = cc
-elsewhere m l AnyThread r c e = cc
-elsewhere m l AnyLocalThread r c e = cc
-elsewhere m l (LocalThread word) r c e = cc
-elsewhere m l (GlobalThread t) r c e = own m l r c (position-Some (λ (d : Declaration). same_id d.id t) m.threads r undeclared e).0
+withdraws_local : (m : Machine) (cause : Cause) (i : ℕ) (o : Option ℕ) (x : Work) → (withdraws m cause i o x).local ≡ x.local
+withdraws_local m cause i None x = refl
+withdraws_local m cause i (Some r) x = refl
 
-unsplit : (m : Machine) (l : Local) (o : Option Send) → IsCore m l → split_receiver m 0 o ≡ None
-unsplit m l None c = refl
-unsplit m l (Some send) c = by (destination_place m send.to) refl
+withdrawn_local : (p : Processor) (j : ℕ) (o : Option Cause) (x : Work) → (withdraws_for p.machine p.cpu j o x).local ≡ x.local
+withdrawn_local p j None x = refl
+withdrawn_local p j (Some cause) x = withdraws_local p.machine cause j (split_place p.machine p.cpu x.local j) x
+
+obeys_local : (p : Processor) (caller : GlobalId) (what : What) (j : ℕ) (x : Work) → (obeys p.machine p.cpu caller what j x).local ≡ asks what j x.local
+obeys_local p caller what j x = by (is_deleted (thread x.local j).phase)
   where
-    by : (o : Option ℕ) → destination_place m send.to ≡ o → split_receiver m 0 (Some send) ≡ None
-    by None e = rw e
-    by (Some r) e = let here = elsewhere m l send.to r c e in rw (e, here)
+    done : Work
+    done = x ▷ tells (steps.Obey caller) ▷ does (asks what j)
 
-withdraws_none : (m : Machine) (l : Local) (j : ℕ) (o : Option Cause) (x : Work) → IsCore m l → withdraws_for m 0 j o x ≡ x
-withdraws_none m l j None x c = refl
-withdraws_none m l j (Some cause) x c = ap (λ (o : Option ℕ). withdraws m cause j o x) (unsplit m l (thread x.local j).send c)
-
-obeys_is : (m : Machine) (l : Local) (caller : GlobalId) (what : What) (j : ℕ) (x : Work) → IsCore m l → obeys m 0 caller what j x ≡ does (asks what j) (tells (steps.Obey caller) x)
-obeys_is m l caller what j x c = by (is_deleted (thread x.local j).phase)
-  where
-    by : (b : Bool) → cond b (does (asks what j) (tells (steps.Obey caller) x)) (withdraws_for m 0 j (cause_of what) (does (asks what j) (tells (steps.Obey caller) x))) ≡ does (asks what j) (tells (steps.Obey caller) x)
+    by : (b : Bool) → (cond b done (withdraws_for p.machine p.cpu j (cause_of what) done)).local ≡ asks what j x.local
     by true = refl
-    by false = withdraws_none m l j (cause_of what) _ c
+    by false = withdrawn_local p j (cause_of what) done
+
+-- What an order leaves of a processor.
+pub obeyed_is : (p q v : Processor) (i j : ℕ) (order : Asked) (caller : GlobalId) (middle after : Told) → q ≡ with_local p (comes_to i (orders order) p.local) → Does (obeys q.machine q.cpu caller order.what j) q v middle after →
+    v ≡ with_local p (asks order.what j (comes_to i (orders order) p.local))
+obeyed_is p q v i j order caller middle after is doing =
+    let machine = doing.machine ∙ ap (λ (x : Processor). x.machine) is in
+    let cpu = doing.cpu ∙ ap (λ (x : Processor). x.cpu) is in
+    let local = ap (λ (x : Work). x.local) doing.work ∙ obeys_local q caller order.what j (work q.local middle) ∙ ap (λ (x : Processor). asks order.what j x.local) is in
+    rebuilt v p _ machine cpu local
+  where
+    rebuilt : (v p : Processor) (l : Local) → v.machine ≡ p.machine → v.cpu ≡ p.cpu → v.local ≡ l → v ≡ with_local p l
+    rebuilt v p l m c e =
+        ap (λ n. with_local (record v { machine = n }) v.local) m ∙ ap (λ n. with_local (record p { cpu = n }) v.local) c ∙ ap (with_local p) e
 
 -- The caller stays as it is while another thread, or itself, is asked.
 
@@ -65,56 +67,100 @@ asks_unqueued CancelReceive j i l = refl
 asks_unqueued CancelBoth j i l = refl
 asks_unqueued Delete j i l = refl
 
-context_in : (ts : List Thread) (f : Thread → Thread) (j i : ℕ) → ((t : Thread) → (f t).context ≡ t.context) → (slice_index_or (changed f ts j) i opening_thread).context ≡ (slice_index_or ts i opening_thread).context
-context_in [] f j i same = refl
-context_in (t ∷ ts) f zero zero same = same t
-context_in (t ∷ ts) f zero (suc i) same = refl
-context_in (t ∷ ts) f (suc j) zero same = refl
-context_in (t ∷ ts) f (suc j) (suc i) same = context_in ts f j i same
+-- A part of a thread that a change keeps.
+kept_in : {A : Type 0} (part : Thread → A) (ts : List Thread) (f : Thread → Thread) (j i : ℕ) → ((t : Thread) → part (f t) ≡ part t) → part (slice_index_or (changed f ts j) i opening_thread) ≡ part (slice_index_or ts i opening_thread)
+kept_in part [] f j i same = refl
+kept_in part (t ∷ ts) f zero zero same = same t
+kept_in part (t ∷ ts) f zero (suc i) same = refl
+kept_in part (t ∷ ts) f (suc j) zero same = refl
+kept_in part (t ∷ ts) f (suc j) (suc i) same = kept_in part ts f j i same
 
 asks_context : (what : What) (j i : ℕ) (l : Local) → (thread (asks what j l) i).context ≡ (thread l i).context
-asks_context CancelSend j i l = context_in l.threads (asked CancelSend) j i (λ t. refl)
-asks_context CancelReceive j i l = context_in l.threads (asked CancelReceive) j i (λ t. refl)
-asks_context CancelBoth j i l = context_in l.threads (asked CancelBoth) j i (λ t. refl)
-asks_context Delete j i l = context_in l.threads (asked Delete) j i (λ t. refl)
+asks_context CancelSend j i l = kept_in (λ t. t.context) l.threads (asked CancelSend) j i (λ t. refl)
+asks_context CancelReceive j i l = kept_in (λ t. t.context) l.threads (asked CancelReceive) j i (λ t. refl)
+asks_context CancelBoth j i l = kept_in (λ t. t.context) l.threads (asked CancelBoth) j i (λ t. refl)
+asks_context Delete j i l = kept_in (λ t. t.context) l.threads (asked Delete) j i (λ t. refl)
 
-pub still_free : (p q u : Processor) (i j : ℕ) (order : Asked) (what : What) → IsCore p.machine p.local → IsAtHand p i → q ≡ with_local p (comes_to i (orders order) p.local) → u ≡ with_local q (asks what j q.local) → IsFree u i
-still_free p q u i j order what c hand first then_is =
-    let at : u ≡ with_local p (asks what j (comes_to i (orders order) p.local)) = then_is ∙ ap (λ (x : Processor). with_local x (asks what j x.local)) first in
-    subst (λ (x : Processor). IsFree x i) (sym at) (record {
-      within = hand.within;
-      unready = asks_unready what j i (comes_to i (orders order) p.local) hand.unready;
-      unqueued = asks_unqueued what j i (comes_to i (orders order) p.local) ∙ unqueued p.machine p.local i c.settled (ready_not_sends _ hand.ready);
-    })
+asks_send : (what : What) (j i : ℕ) (l : Local) → (thread (asks what j l) i).send ≡ (thread l i).send
+asks_send CancelSend j i l = kept_in (λ t. t.send) l.threads (asked CancelSend) j i (λ t. refl)
+asks_send CancelReceive j i l = kept_in (λ t. t.send) l.threads (asked CancelReceive) j i (λ t. refl)
+asks_send CancelBoth j i l = kept_in (λ t. t.send) l.threads (asked CancelBoth) j i (λ t. refl)
+asks_send Delete j i l = kept_in (λ t. t.send) l.threads (asked Delete) j i (λ t. refl)
 
-pub still_there : (p q u : Processor) (i j : ℕ) (order : Asked) (what : What) → IsCore p.machine p.local → i < length p.machine.threads → q ≡ with_local p (comes_to i (orders order) p.local) → u ≡ with_local q (asks what j q.local) → (thread u.local i).context ≡ (thread p.local i).context
-still_there p q u i j order what c lt first then_is =
-    ap (λ (x : Processor). (thread x.local i).context) (then_is ∙ ap (λ (x : Processor). with_local x (asks what j x.local)) first) ∙ asks_context what j i (comes_to i (orders order) p.local) ∙ context_in p.local.threads (orders order) i i (λ t. refl)
+pub still_free : (p v : Processor) (i j : ℕ) (order : Asked) → AreCore p → IsAtHand p i → v ≡ with_local p (asks order.what j (comes_to i (orders order) p.local)) → IsFree v i
+still_free p v i j order core hand is = subst (λ (x : Processor). IsFree x i) (sym is) (record {
+  own = hand.own;
+  unready = asks_unready order.what j i (comes_to i (orders order) p.local) hand.unready;
+  unqueued = asks_unqueued order.what j i (comes_to i (orders order) p.local) ∙ unqueued p.machine p.cpu p.local i core.settled hand.own.own (ready_not_sends _ hand.ready);
+})
 
-pub give_does : (p q v u : Processor) (i j : ℕ) (target caller : GlobalId) (what : CodeWhat) (before middle after : List Step) → IsCore p.machine p.local → place_of p.machine target ≡ Some j → caller ≡ (declared p.machine i).id →
-    q ≡ with_local p (comes_to i (orders (record { target = target; what = what_of what })) p.local) → middle ≡ before ++ told.Order caller target what ∷ [] → after ≡ middle ++ told.Obey caller ∷ [] →
-    v ≡ with_local q (asks (what_of what) j q.local) → u ≡ with_local v (comes_to i obeyed v.local) → Does (gives_order p.machine 0 i (record { target = target; what = what_of what })) p u before after
-give_does p q v u i j target caller what before middle after c at named first adds adds_more then_is last =
-    let order : Asked = record { target = target; what = what_of what } in
-    let asked_now : v ≡ with_local p (asks (what_of what) j (comes_to i (orders order) p.local)) = then_is ∙ ap (λ (x : Processor). with_local x (asks (what_of what) j x.local)) first in
-    let done : u ≡ with_local p (comes_to i obeyed (asks (what_of what) j (comes_to i (orders order) p.local))) = last ∙ ap (λ (x : Processor). with_local x (comes_to i obeyed x.local)) asked_now in
-    let mine = own p.machine p.local j c (position-Some (λ (d : Declaration). same_id d.id target) p.machine.threads j undeclared at).0 in
-    let given : Work = record { local = comes_to i (orders order) p.local; steps = map step_of before ++ steps.Order (declared p.machine i).id target (what_of what) ∷ []; letters = [] } in
-    let goes : gives_order p.machine 0 i order (work p.local before) ≡ does (comes_to i obeyed) (obeys p.machine 0 (declared p.machine i).id (what_of what) j given) = rw (at, mine) in
-    let told_steps : map step_of after ≡ (map step_of before ++ steps.Order (declared p.machine i).id target (what_of what) ∷ []) ++ steps.Obey (declared p.machine i).id ∷ [] =
-    ap (map step_of) (adds_more ∙ ap (λ (ss : List Step). ss ++ told.Obey caller ∷ []) adds) ∙ map_push step_of (before ++ told.Order caller target what ∷ []) (told.Obey caller)
-    ∙ ap (λ ss. ss ++ steps.Obey caller ∷ []) (map_push step_of before (told.Order caller target what))
-    ∙ ap (λ g. (map step_of before ++ steps.Order g target (what_of what) ∷ []) ++ steps.Obey g ∷ []) named in
-    record {
-      machine = ap (λ (x : Processor). x.machine) done;
-      cpu = ap (λ (x : Processor). x.cpu) done;
-      stamp = ap (λ (x : Processor). x.local.stamp) done ∙ stamp_kept (what_of what);
-      work = ap (λ (x : Processor). work x.local after) done ∙ ap (λ (ss : List steps.Step). record { local = comes_to i obeyed (asks (what_of what) j (comes_to i (orders order) p.local)); steps = ss; letters = [] }) told_steps
-          ∙ sym (ap (does (comes_to i obeyed)) (obeys_is p.machine p.local (declared p.machine i).id (what_of what) j given c)) ∙ sym goes;
-    }
+pub still_fitting : (p v : Processor) (i j : ℕ) (order : Asked) → AreCore p → IsAtHand p i → (thread p.local i).context.place < 1024 → v ≡ with_local p (asks order.what j (comes_to i (orders order) p.local)) → IsFitting Obey (thread v.local i)
+still_fitting p v i j order core hand lt is = record {
+  living = λ e. cc;
+  idle = λ e sends. absurd (ready_not_sends _ hand.ready (core.settled.sending i hand.own.own (ap is_some (sym send) ∙ sends)));
+  room = λ e. omega (arith, place, lt);
+  next = λ e. cc;
+}
   where
-    stamp_kept : (w : What) → (asks w j (comes_to i (orders (record { target = target; what = what_of what })) p.local)).stamp ≡ p.local.stamp
-    stamp_kept CancelSend = refl
-    stamp_kept CancelReceive = refl
-    stamp_kept CancelBoth = refl
-    stamp_kept Delete = refl
+    ordered : Local
+    ordered = comes_to i (orders order) p.local
+
+    send : (thread v.local i).send ≡ (thread p.local i).send
+    send = ap (λ (x : Processor). (thread x.local i).send) is ∙ asks_send order.what j i ordered ∙ kept_in (λ t. t.send) p.local.threads (orders order) i i (λ t. refl)
+
+    place : (thread v.local i).context.place ≡ (thread p.local i).context.place
+    place = ap (λ (x : Processor). (thread x.local i).context.place) is ∙ ap (λ (c : Context). c.place) (asks_context order.what j i ordered ∙ kept_in (λ t. t.context) p.local.threads (orders order) i i (λ t. refl))
+
+-- An order is given.
+
+abbrev given : Processor → (i : ℕ) → Asked → Told → Work
+given p i order before = work p.local before ▷ does (comes_to i (orders order)) ▷ tells (steps.Order (declared p.machine i).id order.target order.what)
+
+given_is : (p q : Processor) (i : ℕ) (order : Asked) (caller : GlobalId) (before middle : Told) → caller ≡ (declared p.machine i).id → q ≡ with_local p (comes_to i (orders order) p.local) → middle ≡ with_step (steps.Order caller order.target order.what) before →
+    work q.local middle ≡ given p i order before
+given_is p q i order caller before middle named is adds =
+    ap (λ (x : Processor). work x.local middle) is ∙ ap (work (comes_to i (orders order) p.local)) adds
+    ∙ ap (λ (id : GlobalId). work (comes_to i (orders order) p.local) (with_step (steps.Order id order.target order.what) before)) named
+
+pub gives_here : (p q v u : Processor) (i j : ℕ) (order : Asked) (caller : GlobalId) (before middle after : Told) → caller ≡ (declared p.machine i).id → q ≡ with_local p (comes_to i (orders order) p.local) → middle ≡ with_step (steps.Order caller order.target order.what) before →
+    place_of p.machine order.target ≡ Some j → is_own p.machine p.cpu j ≡ true → Does (obeys q.machine q.cpu caller order.what j) q v middle after → u ≡ with_local v (comes_to i obeyed v.local) → Does (gives_order p.machine p.cpu i order) p u before after
+gives_here p q v u i j order caller before middle after named is adds at own doing last =
+    let x = given p i order before in
+    let goes : order_goes_to p.machine p.cpu i order (place_of p.machine order.target) x ≡ does (comes_to i obeyed) (obeys p.machine p.cpu (declared p.machine i).id order.what j x) =
+    ap (λ o. order_goes_to p.machine p.cpu i order o x) at ∙ ap (λ b. cond b (does (comes_to i obeyed) (obeys p.machine p.cpu (declared p.machine i).id order.what j x)) (posts (declared p.machine j).cpu (OrderLetter (declared p.machine i).id order.target order.what) x)) own in
+    let done : work v.local after ≡ obeys p.machine p.cpu (declared p.machine i).id order.what j x =
+    doing.work ∙ ap (λ (y : Processor). obeys y.machine y.cpu caller order.what j (work q.local middle)) is ∙ ap (obeys p.machine p.cpu caller order.what j) (given_is p q i order caller before middle named is adds)
+    ∙ ap (λ (id : GlobalId). obeys p.machine p.cpu id order.what j x) named in
+    record {
+      machine = ap (λ (y : Processor). y.machine) last ∙ doing.machine ∙ ap (λ (y : Processor). y.machine) is;
+      cpu = ap (λ (y : Processor). y.cpu) last ∙ doing.cpu ∙ ap (λ (y : Processor). y.cpu) is;
+      stamp = ap (λ (y : Processor). y.local.stamp) last ∙ doing.stamp ∙ ap (λ (y : Processor). y.local.stamp) is;
+      work = ap (λ (y : Processor). work y.local after) last ∙ ap (does (comes_to i obeyed)) done ∙ sym goes;
+    }
+
+pub gives_away : (p q : Processor) (i j : ℕ) (order : Asked) (caller : GlobalId) (before middle after : Told) (cpu : ℕ) (letter : Letter) → caller ≡ (declared p.machine i).id → q ≡ with_local p (comes_to i (orders order) p.local) →
+    middle ≡ with_step (steps.Order caller order.target order.what) before → place_of p.machine order.target ≡ Some j → is_own p.machine p.cpu j ≡ false → cpu ≡ (declared p.machine j).cpu →
+    letter ≡ record { stamp = q.local.stamp; content = OrderLetter caller order.target order.what } → after ≡ with_letter cpu letter middle → Does (gives_order p.machine p.cpu i order) p q before after
+gives_away p q i j order caller before middle after cpu letter named is adds at away there written posted =
+    let x = given p i order before in
+    let goes : order_goes_to p.machine p.cpu i order (place_of p.machine order.target) x ≡ posts (declared p.machine j).cpu (OrderLetter (declared p.machine i).id order.target order.what) x =
+    ap (λ o. order_goes_to p.machine p.cpu i order o x) at ∙ ap (λ b. cond b (does (comes_to i obeyed) (obeys p.machine p.cpu (declared p.machine i).id order.what j x)) (posts (declared p.machine j).cpu (OrderLetter (declared p.machine i).id order.target order.what) x)) away in
+    let sent : work q.local after ≡ posts cpu (OrderLetter caller order.target order.what) (work q.local middle) =
+    ap (work q.local) posted ∙ ap (λ (n : Letter). work q.local (with_letter cpu n middle)) written in
+    record {
+      machine = ap (λ (y : Processor). y.machine) is;
+      cpu = ap (λ (y : Processor). y.cpu) is;
+      stamp = ap (λ (y : Processor). y.local.stamp) is;
+      work = sent ∙ ap (λ n. posts n (OrderLetter caller order.target order.what) (work q.local middle)) there
+          ∙ ap (λ (id : GlobalId). posts (declared p.machine j).cpu (OrderLetter id order.target order.what) (work q.local middle)) named
+          ∙ ap (posts (declared p.machine j).cpu (OrderLetter (declared p.machine i).id order.target order.what)) (given_is p q i order caller before middle named is adds) ∙ sym goes;
+    }
+
+pub gives_nobody : (p q : Processor) (i : ℕ) (order : Asked) (caller : GlobalId) (before middle : Told) → caller ≡ (declared p.machine i).id → q ≡ with_local p (comes_to i (orders order) p.local) → middle ≡ with_step (steps.Order caller order.target order.what) before →
+    place_of p.machine order.target ≡ None → Does (gives_order p.machine p.cpu i order) p q before middle
+gives_nobody p q i order caller before middle named is adds at = record {
+  machine = ap (λ (y : Processor). y.machine) is;
+  cpu = ap (λ (y : Processor). y.cpu) is;
+  stamp = ap (λ (y : Processor). y.local.stamp) is;
+  work = given_is p q i order caller before middle named is adds ∙ sym (ap (λ o. order_goes_to p.machine p.cpu i order o (given p i order before)) at);
+}

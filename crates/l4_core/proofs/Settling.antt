@@ -1,16 +1,19 @@
 -- A settled local state stays settled.
-use Rattle.std.proofs.Common.{◌≡◌, ℕ, zero, suc, ◌+◌, ◌<◌, ◌≤◌, ◌^◌, Bool, true, false, cond, Option, Some, None, is_some, List, [], ◌∷◌, ◌++◌, map, filter, drop, length, refl, ap, sym, ◌∙◌, subst, inl, inr, ⊎_elim, ◌⊎◌, arith}
+use Rattle.std.proofs.Common.{◌≡◌, ℕ, zero, suc, ◌+◌, ◌<◌, ◌≤◌, ◌^◌, Bool, true, false, cond, None, is_some, List, [], ◌∷◌, ◌++◌, map, filter, drop, length, refl, ap, sym, ◌∙◌, subst, inl, inr, ⊎_elim, ◌⊎◌, arith}
 use Rattle.std.specs.Prelude.{slice_index_or, ◌==◌, not, ◌||◌, nat_le}
 use Rattle.std.specs.List.{list_any}
 use Rattle.std.proofs.lemmas.Bool.{eqb-true}
 use Rattle.l4_model.specs.Machine.{Machine}
 use Rattle.l4_model.specs.World.{Phase, Ready, Sending, Receiving, Ordering, Ended, Deleted, Thread, changed, opening_thread, is_ready}
 use Rattle.l4_core_model.specs.Plain as plain
-use Rattle.l4_core_model.specs.Local.{Local, declared, thread, changes, settles, comes_to, relists, readied, armed_for, armed_period}
+use Rattle.l4_core_model.specs.Local.{Local, declared, is_own, thread, changes, settles, comes_to, relists, readied}
+use Rattle.l4_core_model.specs.Acts.{split_receiver}
+use Rattle.l4_core_model.specs.Mail.{is_ordering}
+use Rattle.l4_core_model.specs.Turns.{has_told, clock_is}
 use Rattle.tcb_arena.specs.Blocks.{without_due, is_ready as is_ready_in}
 use Rattle.l4_core_model.proofs.Fit.{get_cases}
-use Rattle.l4_core_model.proofs.Knows.{length-changed, get-changed}
-use Rattle.l4_core.specs.Settled.{IsOwn, MaySend, IsLasting, IsQueued, IsReadied, IsSettled}
+use Rattle.l4_core_model.proofs.Changed.{length-changed, get-changed}
+use Rattle.l4_core.specs.Settled.{IsSent, MaySend, IsOwn, IsWaiting, IsReadied, IsSettled}
 
 -- Lists
 
@@ -90,108 +93,166 @@ same : (i j : ℕ) → (i == j) ≡ true → i ≡ j
 same i j e = eqb-true i j e
 
 -- What is said of a thread stays, where the threads do.
-pub stays_queued : (m : Machine) (l k : Local) (i : ℕ) → k.threads ≡ l.threads → IsQueued m l i → IsQueued m k i
-stays_queued m l k i e h = record {
+pub stays_queued : (m : Machine) (cpu : ℕ) (l k : Local) (i : ℕ) → k.threads ≡ l.threads → IsWaiting m cpu l i → IsWaiting m cpu k i
+stays_queued m cpu l k i e h = record {
   within = h.within;
-  phase = subst (λ ts. MaySend (slice_index_or ts i opening_thread).phase) (sym e) h.phase;
-  lasting = subst (λ ts. IsLasting (slice_index_or ts i opening_thread).send) (sym e) h.lasting;
+  sends = subst (λ ts. is_some (slice_index_or ts i opening_thread).send ≡ true) (sym e) h.sends;
+  here = λ own. subst (λ ts. split_receiver m cpu (slice_index_or ts i opening_thread).send ≡ None) (sym e) (h.here own);
 }
 
-pub stays_readied : (m : Machine) (l k : Local) (i : ℕ) → k.threads ≡ l.threads → IsReadied m l i → IsReadied m k i
-stays_readied m l k i e h = record { within = h.within; phase = ap (λ ts. (slice_index_or ts i opening_thread).phase) e ∙ h.phase }
+pub stays_readied : (m : Machine) (cpu : ℕ) (l k : Local) (i : ℕ) → k.threads ≡ l.threads → IsReadied m cpu l i → IsReadied m cpu k i
+stays_readied m cpu l k i e h = record { own = h.own; phase = ap (λ ts. (slice_index_or ts i opening_thread).phase) e ∙ h.phase }
 
-pub settled-stamped : (m : Machine) (l : Local) (stamp : ℕ) → l.stamp ≤ stamp → IsSettled m l → IsSettled m (record l { stamp = stamp })
-settled-stamped m l stamp le s = record {
+pub settled-stamped : (m : Machine) (cpu : ℕ) (l : Local) (stamp : ℕ) → l.stamp ≤ stamp → IsSettled m cpu l → IsSettled m cpu (record l { stamp = stamp })
+settled-stamped m cpu l stamp le s = record {
   threads = s.threads;
   lists = s.lists;
-  own = s.own;
-  begun = λ i. let b = s.begun i in omega arith;
-  queued = λ i e. stays_queued m l _ i refl (s.queued i e);
-  ready = λ i e. stays_readied m l _ i refl (s.ready i e);
+  told = s.told;
+  known = s.known;
+  sent = s.sent;
+  sending = s.sending;
+  begun = λ i own. let b = s.begun i own in omega arith;
+  ordering = s.ordering;
+  queued = λ i e. stays_queued m cpu l _ i refl (s.queued i e);
+  ready = λ i e. stays_readied m cpu l _ i refl (s.ready i e);
   armed = s.armed;
   clock = s.clock;
 }
 
-pub settled-clocked : (m : Machine) (l : Local) (clock : ℕ) → clock < 2 ^ 62 → IsSettled m l → IsSettled m (record l { clock = clock })
-settled-clocked m l clock lt s = record {
+pub settled-clocked : (m : Machine) (cpu : ℕ) (l : Local) (clock : ℕ) → clock < 2 ^ 62 → IsSettled m cpu l → IsSettled m cpu (clock_is clock l)
+settled-clocked m cpu l clock lt s = record {
   threads = s.threads;
   lists = s.lists;
-  own = s.own;
+  told = s.told;
+  known = s.known;
+  sent = s.sent;
+  sending = s.sending;
   begun = s.begun;
-  queued = λ i e. stays_queued m l _ i refl (s.queued i e);
-  ready = λ i e. stays_readied m l _ i refl (s.ready i e);
+  ordering = s.ordering;
+  queued = λ i e. stays_queued m cpu l _ i refl (s.queued i e);
+  ready = λ i e. stays_readied m cpu l _ i refl (s.ready i e);
   armed = s.armed;
   clock = lt;
 }
 
-pub settled-popped : (m : Machine) (l : Local) → IsSettled m l → IsSettled m (relists plain.popped l)
-settled-popped m l s = record {
+pub settled-told : (m : Machine) (cpu : ℕ) (l : Local) (i to : ℕ) → to < m.cpus → IsSettled m cpu l → IsSettled m cpu (has_told to i l)
+settled-told m cpu l i to lt s = record {
   threads = s.threads;
   lists = s.lists;
-  own = s.own;
+  told = length-changed (λ n. to + 1) l.told i ∙ s.told;
+  known = λ j. by j (s.known j);
+  sent = s.sent;
+  sending = s.sending;
   begun = s.begun;
-  queued = λ i e. stays_queued m l _ i refl (s.queued i e);
-  ready = λ i e. stays_readied m l _ i refl (s.ready i (any-drop (λ b. i == b) l.lists.ready e));
+  ordering = s.ordering;
+  queued = λ i e. stays_queued m cpu l _ i refl (s.queued i e);
+  ready = λ i e. stays_readied m cpu l _ i refl (s.ready i e);
+  armed = s.armed;
+  clock = s.clock;
+}
+  where
+    told : (ns : List ℕ) (i j : ℕ) → slice_index_or ns j 0 ≤ m.cpus → slice_index_or (changed (λ n. to + 1) ns i) j 0 ≤ m.cpus
+    told [] i j h = h
+    told (n ∷ ns) zero zero h = omega (arith, lt)
+    told (n ∷ ns) zero (suc j) h = h
+    told (n ∷ ns) (suc i) zero h = h
+    told (n ∷ ns) (suc i) (suc j) h = told ns i j h
+
+    by : (j : ℕ) → slice_index_or l.told j 0 ≤ m.cpus → slice_index_or (changed (λ n. to + 1) l.told i) j 0 ≤ m.cpus
+    by j h = told l.told i j h
+
+pub settled-popped : (m : Machine) (cpu : ℕ) (l : Local) → IsSettled m cpu l → IsSettled m cpu (relists plain.popped l)
+settled-popped m cpu l s = record {
+  threads = s.threads;
+  lists = s.lists;
+  told = s.told;
+  known = s.known;
+  sent = s.sent;
+  sending = s.sending;
+  begun = s.begun;
+  ordering = s.ordering;
+  queued = λ i e. stays_queued m cpu l _ i refl (s.queued i e);
+  ready = λ i e. stays_readied m cpu l _ i refl (s.ready i (any-drop (λ b. i == b) l.lists.ready e));
   armed = s.armed;
   clock = s.clock;
 }
 
-pub settled-dropped : (m : Machine) (l : Local) (block : ℕ) → IsSettled m l → IsSettled m (relists (plain.dropped block) l)
-settled-dropped m l block s = record {
+pub settled-dropped : (m : Machine) (cpu : ℕ) (l : Local) (block : ℕ) → IsSettled m cpu l → IsSettled m cpu (relists (plain.dropped block) l)
+settled-dropped m cpu l block s = record {
   threads = s.threads;
   lists = s.lists;
-  own = s.own;
+  told = s.told;
+  known = s.known;
+  sent = s.sent;
+  sending = s.sending;
   begun = s.begun;
-  queued = λ i e. stays_queued m l _ i refl (s.queued i e);
-  ready = λ i e. stays_readied m l _ i refl (s.ready i (any-filter (λ b. i == b) (λ b. not (block == b)) l.lists.ready e));
+  ordering = s.ordering;
+  queued = λ i e. stays_queued m cpu l _ i refl (s.queued i e);
+  ready = λ i e. stays_readied m cpu l _ i refl (s.ready i (any-filter (λ b. i == b) (λ b. not (block == b)) l.lists.ready e));
   armed = s.armed;
   clock = s.clock;
 }
 
-pub settled-readied : (m : Machine) (l : Local) (i : ℕ) → i < length m.threads → (thread l i).phase ≡ Ready → IsSettled m l → IsSettled m (relists (plain.made_ready i) l)
-settled-readied m l i lt ready s = record {
+pub settled-readied : (m : Machine) (cpu : ℕ) (l : Local) (i : ℕ) → IsOwn m cpu i → (thread l i).phase ≡ Ready → IsSettled m cpu l → IsSettled m cpu (relists (plain.made_ready i) l)
+settled-readied m cpu l i own ready s = record {
   threads = s.threads;
   lists = s.lists;
-  own = s.own;
+  told = s.told;
+  known = s.known;
+  sent = s.sent;
+  sending = s.sending;
   begun = s.begun;
-  queued = λ j e. stays_queued m l _ j refl (s.queued j e);
-  ready = λ j e. ⊎_elim (λ h. stays_readied m l _ j refl (s.ready j h)) (λ h. let P : ℕ → Type 0 = λ k. IsReadied m (relists (plain.made_ready i) l) k in subst P (sym (same j i h)) (record { within = lt; phase = ready })) (any-push (λ b. j == b) l.lists.ready i e);
+  ordering = s.ordering;
+  queued = λ i e. stays_queued m cpu l _ i refl (s.queued i e);
+  ready = λ j e. ⊎_elim (λ h. stays_readied m cpu l _ j refl (s.ready j h)) (λ h. let P : ℕ → Type 0 = λ k. IsReadied m cpu (relists (plain.made_ready i) l) k in subst P (sym (same j i h)) (record { own = own; phase = ready })) (any-push (λ b. j == b) l.lists.ready i e);
   armed = s.armed;
   clock = s.clock;
 }
 
-pub settled-disarmed : (m : Machine) (l : Local) (i : ℕ) → IsSettled m l → IsSettled m (relists (plain.disarmed i) l)
-settled-disarmed m l i s = record {
+pub settled-disarmed : (m : Machine) (cpu : ℕ) (l : Local) (i : ℕ) → IsSettled m cpu l → IsSettled m cpu (relists (plain.disarmed i) l)
+settled-disarmed m cpu l i s = record {
   threads = s.threads;
   lists = s.lists;
-  own = s.own;
+  told = s.told;
+  known = s.known;
+  sent = s.sent;
+  sending = s.sending;
   begun = s.begun;
-  queued = λ j e. stays_queued m l _ j refl (s.queued j e);
-  ready = λ j e. stays_readied m l _ j refl (s.ready j e);
+  ordering = s.ordering;
+  queued = λ i e. stays_queued m cpu l _ i refl (s.queued i e);
+  ready = λ i e. stays_readied m cpu l _ i refl (s.ready i e);
   armed = λ j e. s.armed j (any-filter (λ (x : ℕ × ℕ). j == x.1) (λ (x : ℕ × ℕ). not (i == x.1)) l.lists.armed e);
   clock = s.clock;
 }
 
-pub settled-popped_due : (m : Machine) (l : Local) → IsSettled m l → IsSettled m (relists plain.popped_due l)
-settled-popped_due m l s = record {
+pub settled-popped_due : (m : Machine) (cpu : ℕ) (l : Local) → IsSettled m cpu l → IsSettled m cpu (relists plain.popped_due l)
+settled-popped_due m cpu l s = record {
   threads = s.threads;
   lists = s.lists;
-  own = s.own;
+  told = s.told;
+  known = s.known;
+  sent = s.sent;
+  sending = s.sending;
   begun = s.begun;
-  queued = λ i e. stays_queued m l _ i refl (s.queued i e);
-  ready = λ i e. stays_readied m l _ i refl (s.ready i e);
+  ordering = s.ordering;
+  queued = λ i e. stays_queued m cpu l _ i refl (s.queued i e);
+  ready = λ i e. stays_readied m cpu l _ i refl (s.ready i e);
   armed = λ i e. s.armed i (any-drop (λ (x : ℕ × ℕ). i == x.1) l.lists.armed e);
   clock = s.clock;
 }
 
-pub settled-unqueued : (m : Machine) (l : Local) (i : ℕ) → IsSettled m l → IsSettled m (relists (plain.unqueued i) l)
-settled-unqueued m l i s = record {
+pub settled-unqueued : (m : Machine) (cpu : ℕ) (l : Local) (i : ℕ) → IsSettled m cpu l → IsSettled m cpu (relists (plain.unqueued i) l)
+settled-unqueued m cpu l i s = record {
   threads = s.threads;
   lists = length_map _ l.lists.waiting ∙ s.lists;
-  own = s.own;
+  told = s.told;
+  known = s.known;
+  sent = s.sent;
+  sending = s.sending;
   begun = s.begun;
-  queued = λ j e. stays_queued m l _ j refl (s.queued j (queued-filter i j l.lists.waiting e));
-  ready = λ j e. stays_readied m l _ j refl (s.ready j e);
+  ordering = s.ordering;
+  queued = λ j e. stays_queued m cpu l _ j refl (s.queued j (queued-filter i j l.lists.waiting e));
+  ready = λ i e. stays_readied m cpu l _ i refl (s.ready i e);
   armed = s.armed;
   clock = s.clock;
 }
@@ -200,14 +261,18 @@ settled-unqueued m l i s = record {
     length_map f [] = refl
     length_map f (es ∷ ess) = ap suc (length_map f ess)
 
-pub settled-queued : (m : Machine) (l : Local) (r : ℕ) (w : plain.Waiting) → IsQueued m l w.block → IsSettled m l → IsSettled m (relists (plain.queued r w) l)
-settled-queued m l r w sends s = record {
+pub settled-queued : (m : Machine) (cpu : ℕ) (l : Local) (r : ℕ) (w : plain.Waiting) → IsWaiting m cpu l w.block → IsSettled m cpu l → IsSettled m cpu (relists (plain.queued r w) l)
+settled-queued m cpu l r w sends s = record {
   threads = s.threads;
   lists = length-changed (λ ws. ws ++ w ∷ []) l.lists.waiting r ∙ s.lists;
-  own = s.own;
+  told = s.told;
+  known = s.known;
+  sent = s.sent;
+  sending = s.sending;
   begun = s.begun;
-  queued = λ j e. stays_queued m l _ j refl (⊎_elim (λ h. s.queued j h) (λ h. let P : ℕ → Type 0 = λ k. IsQueued m l k in subst P (sym (same j w.block h)) sends) (queued-push r j w l.lists.waiting e));
-  ready = λ j e. stays_readied m l _ j refl (s.ready j e);
+  ordering = s.ordering;
+  queued = λ j e. stays_queued m cpu l _ j refl (⊎_elim (λ h. s.queued j h) (λ h. let P : ℕ → Type 0 = λ k. IsWaiting m cpu l k in subst P (sym (same j w.block h)) sends) (queued-push r j w l.lists.waiting e));
+  ready = λ i e. stays_readied m cpu l _ i refl (s.ready i e);
   armed = s.armed;
   clock = s.clock;
 }
@@ -215,33 +280,36 @@ settled-queued m l r w sends s = record {
 -- A thread changes.
 
 -- What a thread has to be like once it has changed.
-pub record Fits (m : Machine) (l : Local) (i : ℕ) (t : Thread) : Type 0 where
+pub record Fits (m : Machine) (cpu : ℕ) (l : Local) (i : ℕ) (t : Thread) : Type 0 where
   pub within : i < length m.threads
-  pub own : IsOwn (declared m i).id t.send t.context.begun
-  pub begun : t.context.begun ≤ l.stamp
-  pub phase : plain.is_queued l.lists i ≡ true → MaySend t.phase
-  pub lasting : plain.is_queued l.lists i ≡ true → IsLasting t.send
+  pub sent : IsSent (declared m i).id t.send t.context.begun
+  pub begun : is_own m cpu i ≡ true → t.context.begun ≤ l.stamp
+  pub ordering : is_own m cpu i ≡ true → is_ordering t.phase ≡ true → t.context.place + 1 < 2 ^ 64
+  pub sends : plain.is_queued l.lists i ≡ true → is_some t.send ≡ true
+  pub here : plain.is_queued l.lists i ≡ true → is_own m cpu i ≡ true → split_receiver m cpu t.send ≡ None
+  pub sending : is_own m cpu i ≡ true → is_some t.send ≡ true → MaySend t.phase
   pub ready : is_ready_in l.lists i ≡ true → t.phase ≡ Ready
 
-pub at_changed : (P : Thread → Type 0) (f : Thread → Thread) (l : Local) (i j : ℕ) → i < length l.threads → P (f (thread l i)) → P (thread l j) → P (slice_index_or (changed f l.threads i) j opening_thread)
-at_changed P f l i j lt p q = get_cases P f l.threads i j lt (λ e. p) (λ ne. q)
-
-pub settled-changed : (m : Machine) (l : Local) (i : ℕ) (f : Thread → Thread) → IsSettled m l → Fits m l i (f (thread l i)) → IsSettled m (changes i f l)
-settled-changed m l i f s c =
+pub settled-changed : (m : Machine) (cpu : ℕ) (l : Local) (i : ℕ) (f : Thread → Thread) → IsSettled m cpu l → Fits m cpu l i (f (thread l i)) → IsSettled m cpu (changes i f l)
+settled-changed m cpu l i f s c =
     let within : i < length l.threads = omega (arith, s.threads, c.within) in
     record {
       threads = length-changed f l.threads i ∙ s.threads;
       lists = s.lists;
-      own = λ j. get_cases (λ t. IsOwn (declared m j).id t.send t.context.begun) f l.threads i j within (λ e. let P : ℕ → Type 0 = λ k. IsOwn (declared m k).id (f (thread l i)).send (f (thread l i)).context.begun in subst P e c.own) (λ ne. s.own j);
-      begun = λ j. at_changed (λ t. t.context.begun ≤ l.stamp) f l i j within c.begun (s.begun j);
+      told = s.told;
+      known = s.known;
+      sent = λ j. get_cases (λ t. IsSent (declared m j).id t.send t.context.begun) f l.threads i j within (λ e. let P : ℕ → Type 0 = λ k. IsSent (declared m k).id (f (thread l i)).send (f (thread l i)).context.begun in subst P e c.sent) (λ ne. s.sent j);
+      sending = λ j own. get_cases (λ t. is_some t.send ≡ true → MaySend t.phase) f l.threads i j within (λ e. c.sending (subst (λ k. is_own m cpu k ≡ true) (sym e) own)) (λ ne. s.sending j own);
+      begun = λ j own. get_cases (λ t. t.context.begun ≤ l.stamp) f l.threads i j within (λ e. c.begun (subst (λ k. is_own m cpu k ≡ true) (sym e) own)) (λ ne. s.begun j own);
+      ordering = λ j own. get_cases (λ t. is_ordering t.phase ≡ true → t.context.place + 1 < 2 ^ 64) f l.threads i j within (λ e. c.ordering (subst (λ k. is_own m cpu k ≡ true) (sym e) own)) (λ ne. s.ordering j own);
       queued = λ j e. record {
         within = (s.queued j e).within;
-        phase = get_cases (λ t. MaySend t.phase) f l.threads i j within (λ q. let P : ℕ → Type 0 = λ k. plain.is_queued l.lists k ≡ true in c.phase (subst P (sym q) e)) (λ ne. (s.queued j e).phase);
-        lasting = get_cases (λ t. IsLasting t.send) f l.threads i j within (λ q. let P : ℕ → Type 0 = λ k. plain.is_queued l.lists k ≡ true in c.lasting (subst P (sym q) e)) (λ ne. (s.queued j e).lasting);
+        sends = get_cases (λ t. is_some t.send ≡ true) f l.threads i j within (λ q. c.sends (subst (λ k. plain.is_queued l.lists k ≡ true) (sym q) e)) (λ ne. (s.queued j e).sends);
+        here = λ own. get_cases (λ t. split_receiver m cpu t.send ≡ None) f l.threads i j within (λ q. c.here (subst (λ k. plain.is_queued l.lists k ≡ true) (sym q) e) (subst (λ k. is_own m cpu k ≡ true) (sym q) own)) (λ ne. (s.queued j e).here own);
       };
       ready = λ j e. record {
-        within = (s.ready j e).within;
-        phase = get_cases (λ t. t.phase ≡ Ready) f l.threads i j within (λ q. let P : ℕ → Type 0 = λ k. is_ready_in l.lists k ≡ true in c.ready (subst P (sym q) e)) (λ ne. (s.ready j e).phase);
+        own = (s.ready j e).own;
+        phase = get_cases (λ t. t.phase ≡ Ready) f l.threads i j within (λ q. c.ready (subst (λ k. is_ready_in l.lists k ≡ true) (sym q) e)) (λ ne. (s.ready j e).phase);
       };
       armed = s.armed;
       clock = s.clock;
@@ -271,37 +339,21 @@ put-cases x j (e ∷ es) h = by (nat_le e.0 x.0) h (put-cases x j es)
     by true h f = ⊎_elim (λ g. inl (sooner _ _ g)) (λ g. ⊎_elim (λ k. inl (later _ _ k)) (λ k. inr k) (f g)) (or_cases _ _ h)
     by false h f = ⊎_elim (λ g. inr g) (λ g. inl g) (or_cases _ _ h)
 
-pub settled-armed : (m : Machine) (l : Local) (i deadline : ℕ) → i < length m.threads → IsSettled m l → IsSettled m (relists (plain.armed deadline i) l)
-settled-armed m l i deadline lt s = record {
+pub settled-armed : (m : Machine) (cpu : ℕ) (l : Local) (i deadline : ℕ) → IsOwn m cpu i → IsSettled m cpu l → IsSettled m cpu (relists (plain.armed deadline i) l)
+settled-armed m cpu l i deadline own s = record {
   threads = s.threads;
   lists = s.lists;
-  own = s.own;
+  told = s.told;
+  known = s.known;
+  sent = s.sent;
+  sending = s.sending;
   begun = s.begun;
-  queued = λ j e. stays_queued m l _ j refl (s.queued j e);
-  ready = λ j e. stays_readied m l _ j refl (s.ready j e);
-  armed = λ j e. ⊎_elim (λ h. s.armed j h) (λ h. let P : ℕ → Type 0 = λ k. k < length m.threads in subst P (sym (same j i h)) lt) (put-cases (deadline, i) j l.lists.armed e);
+  ordering = s.ordering;
+  queued = λ i e. stays_queued m cpu l _ i refl (s.queued i e);
+  ready = λ i e. stays_readied m cpu l _ i refl (s.ready i e);
+  armed = λ j e. ⊎_elim (λ h. s.armed j h) (λ h. subst (IsOwn m cpu) (sym (same j i h)) own) (put-cases (deadline, i) j l.lists.armed e);
   clock = s.clock;
 }
-
-armed-cases : (o : Option ℕ) (clock i j : ℕ) (es : List (ℕ × ℕ)) → list_any (λ (e : ℕ × ℕ). j == e.1) (armed_for o clock i (plain.without_block i es)) ≡ true → (list_any (λ (e : ℕ × ℕ). j == e.1) es ≡ true) ⊎ (j ≡ i)
-armed-cases None clock i j es h = inl (any-filter (λ (e : ℕ × ℕ). j == e.1) (λ (e : ℕ × ℕ). not (i == e.1)) es h)
-armed-cases (Some n) clock i j es h = ⊎_elim (λ g. inl (any-filter (λ (e : ℕ × ℕ). j == e.1) (λ (e : ℕ × ℕ). not (i == e.1)) es g)) (λ g. inr (same j i g)) (put-cases (clock + n, i) j (plain.without_block i es) h)
-
-pub settled-settles : (m : Machine) (l : Local) (i : ℕ) → i < length m.threads → IsSettled m l → IsSettled m (settles i l)
-settled-settles m l i lt s = record {
-  threads = s.threads;
-  lists = s.lists;
-  own = s.own;
-  begun = s.begun;
-  queued = λ j e. stays_queued m l _ j refl (s.queued j e);
-  ready = λ j e. by j (readied-cases (thread l i).phase i j l.lists.ready e);
-  armed = λ j e. ⊎_elim (λ h. s.armed j h) (λ h. let P : ℕ → Type 0 = λ k. k < length m.threads in subst P (sym h) lt) (armed-cases (armed_period (thread l i).phase (thread l i).send) l.clock i j l.lists.armed e);
-  clock = s.clock;
-}
-  where
-    by : (j : ℕ) → (is_ready_in l.lists j ≡ true) ⊎ ((j ≡ i) × ((thread l i).phase ≡ Ready)) → IsReadied m (settles i l) j
-    by j (inl h) = stays_readied m l _ j refl (s.ready j h)
-    by j (inr h) = let P : ℕ → Type 0 = λ k. IsReadied m (settles i l) k in subst P (sym h.0) (record { within = lt; phase = h.1 })
 
 -- A thread that changes and is settled has come to its phase.
 pub comes : (i : ℕ) (f : Thread → Thread) (l : Local) → i < length l.threads → settles i (changes i f l) ≡ comes_to i f l
@@ -323,9 +375,9 @@ without_due_waiting now s = by (is_some (plain.due_block now s.armed))
     by true = refl
     by false = refl
 
-pub settled-without_due : (m : Machine) (l : Local) → IsSettled m l → IsSettled m (relists (without_due l.clock) l)
-settled-without_due m l s = by (is_some (plain.due_block l.clock l.lists.armed))
+pub settled-without_due : (m : Machine) (cpu : ℕ) (l : Local) → IsSettled m cpu l → IsSettled m cpu (relists (without_due l.clock) l)
+settled-without_due m cpu l s = by (is_some (plain.due_block l.clock l.lists.armed))
   where
-    by : (b : Bool) → IsSettled m (record l { lists = cond b (plain.popped_due l.lists) l.lists })
-    by true = settled-popped_due m l s
+    by : (b : Bool) → IsSettled m cpu (record l { lists = cond b (plain.popped_due l.lists) l.lists })
+    by true = settled-popped_due m cpu l s
     by false = s

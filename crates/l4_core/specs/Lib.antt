@@ -1,10 +1,14 @@
-pub mod Arriving
 pub mod Asking
-pub mod Duties
-pub mod DutyView
+pub mod Changing
+pub mod Choosing
+pub mod Covered
 pub mod Opening
+pub mod Parts
 pub mod Places
 pub mod Processor
 pub mod Settled
 pub mod Settling
+pub mod Tasks
+pub mod Tellings
 pub mod Turning
+pub mod Values

@@ -62,6 +62,14 @@ impl Places {
         self.words[place / WIDTH] &= !(1 << (place % WIDTH));
     }
 
+    /// Whether a place is in.
+    pub fn contains(&self, place: usize) -> bool
+        requires { place < 1024 }
+        ensures { result ≡ has self.now place }
+    {
+        self.words[place / WIDTH] >> (place % WIDTH) & 1 == 1
+    }
+
     /// The least place.
     pub fn first(&self) -> Option<usize>
         ensures { MatchOption result ((place : ℕ) → has self.now place ≡ false) (IsFirst self.now) }

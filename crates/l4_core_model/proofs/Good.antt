@@ -1,13 +1,13 @@
 -- What becomes of one thread goes on to be good.
 use Rattle.std.proofs.Common.{◌≡◌, ℕ, ◌≤◌, true, false, Option, Some, None, refl, sym, subst, arith}
-use Rattle.l4_model.specs.Machine.{Instr, End, What, CancelSend, CancelReceive, CancelBoth, Delete}
+use Rattle.l4_model.specs.Machine.{Instr, End, Delete}
 use Rattle.l4_model.specs.World.{Thread, Send, Receive, Asked, Message, Phase, Ready, Sending, Receiving, Ordering, Ended, Deleted, is_ready, is_alive}
 use Rattle.l4_model.specs.Effects.{phase_after, runs, waits, begins, fails, decided, refused, receives, goes_on, delivered, asked, orders, obeyed}
 use Rattle.l4_model.proofs.Chains.{cond_both, cond_keeps}
 use Rattle.l4_model.specs.Reached.{Suits}
 use Rattle.l4_core_model.specs.Letters.{Refusal, TimedOut, Nobody, Cancelled, Dropped, Refused, Delivered}
 use Rattle.l4_core_model.specs.Local.{ended, was_delivered, was_dropped}
-use Rattle.l4_core_model.proofs.Fit.{IsGood, SendIsSince, PhaseIsSince, IsMild}
+use Rattle.l4_core_model.proofs.Fit.{IsGood, SendIsSince, PhaseIsSince}
 
 -- which phases have neither a send nor an order
 pub ready_has_none : (p : Phase) (send : Option Send) (order : Option Asked) → is_ready p ≡ true → Suits p send order → (send ≡ None) × (order ≡ None)
@@ -28,15 +28,6 @@ sender_has_no_order (Receiving receive since) send order h s = cc
 sender_has_no_order Ordering send order h s = cc
 sender_has_no_order Ended send order h s = cc
 sender_has_no_order Deleted send order h s = cc
-
--- a thread with an undecided send is not ready
-pub sender_not_ready : (p : Phase) (send : Send) (order : Option Asked) → Suits p (Some send) order → is_ready p ≡ false
-sender_not_ready Ready send order s = cc
-sender_not_ready Sending send order s = refl
-sender_not_ready (Receiving receive since) send order s = refl
-sender_not_ready Ordering send order s = refl
-sender_not_ready Ended send order s = refl
-sender_not_ready Deleted send order s = refl
 
 pub deleted_is : (p : Phase) → is_alive p ≡ false → p ≡ Deleted
 deleted_is Ready h = cc
@@ -154,13 +145,6 @@ obeyed_good clock t order has g =
     (λ alive. let none = caller_has_no_send t.phase t.send order alive (rw has at g.suits) in
     record { suits = (none, refl); sends = none_since clock t.send none; receives = tt })
     (λ gone. let is = deleted_is t.phase gone in record { suits = rw is tt; sends = g.sends; receives = rw is tt })
-
--- wishes alone
-pub asked_mild : (what : What) → (what ≡ Delete → ⊥) → IsMild (asked what)
-asked_mild CancelSend ne = record { phase = λ t. refl; send = λ t. refl; order = λ t. refl }
-asked_mild CancelReceive ne = record { phase = λ t. refl; send = λ t. refl; order = λ t. refl }
-asked_mild CancelBoth ne = record { phase = λ t. refl; send = λ t. refl; order = λ t. refl }
-asked_mild Delete ne = absurd (ne refl)
 
 -- Of a thread whose send was decided, neither send nor order is left.
 

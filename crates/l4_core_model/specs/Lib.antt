@@ -6,5 +6,4 @@ pub mod Turns
 pub mod Mail
 pub mod Runs
 pub mod Schedules
-pub mod Known
 pub mod Laws

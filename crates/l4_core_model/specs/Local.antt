@@ -1,4 +1,4 @@
--- What one processor knows.
+-- What one processor knows. All that this crate defines is this project's own: what goes on in and between processors the manual leaves open.
 use Rattle.std.specs.Prelude.{ℕ, ◌+◌, ◌==◌, Bool, if◌then◌else◌, Option, Some, None, List, [], ◌∷◌, ◌++◌, map, filter, length, slice_index_or}
 use Rattle.std.specs.Option.{option_map}
 use Rattle.std.specs.List.{range_with_len}

@@ -1,5 +1,5 @@
-//! Runs the examples of this repository that its words name, one after the other, audits the trace of each, and prints the traces. The gate
-//! compares them.
+//! Runs or replays the examples of this repository that its words name, one after the other, audits the trace of each, and prints the traces.
+//! The gate compares them.
 #![tactic(auto)]
 
 use l4_jobs::fault::{Fault, report};
@@ -37,24 +37,36 @@ fn audit_example<R: Files + AllocGlobal, E: Sink>(
     }
 }
 
-// Runs an example, audits its trace and prints it. Answers the first status that is not 0, or 0.
+// What a word asks for: to replay the text before its colon by the schedule behind it, or where it has none, to run the text.
+fn job_of(word: &str) -> Job<'_> {
+    match word.split_once(':') {
+        Some((file, schedule)) => Job::Replay {
+            file,
+            schedule,
+            report: false,
+        },
+        None => Job::Run {
+            file: word,
+            turns: 100_000,
+            report: false,
+        },
+    }
+}
+
+// Runs or replays an example, audits its trace and prints it. Answers the first status that is not 0, or 0.
 fn run_example<R: Files + AllocGlobal, W: Sink, E: Sink>(
     rt: &R,
-    name: &str,
+    word: &str,
     out: &mut W,
     faults: &mut E,
 ) -> u8 {
-    let run = Job::Run {
-        file: name,
-        turns: 100_000,
-        report: false,
-    };
+    let job = job_of(word);
     let mut trace = Vec::new(rt.alloc());
-    let status = perform_on_files(rt.alloc(), rt, &run, &mut trace, faults);
+    let status = perform_on_files(rt.alloc(), rt, &job, &mut trace, faults);
     if status != 0 {
         return status;
     }
-    let status = audit_example(rt, name, trace.as_slice(), faults);
+    let status = audit_example(rt, job.file(), trace.as_slice(), faults);
     if status != 0 {
         return status;
     }
@@ -67,12 +79,12 @@ fn run_example<R: Files + AllocGlobal, W: Sink, E: Sink>(
 // Runs the examples up to the first one that does not come to rest or whose trace does not pass, and answers its status, or 0.
 fn run_examples<R: Files + AllocGlobal, W: Sink, E: Sink>(
     rt: &R,
-    names: &[String],
+    words: &[String],
     out: &mut W,
     faults: &mut E,
 ) -> u8 {
-    for name in names {
-        let status = run_example(rt, name.as_str(), out, faults);
+    for word in words {
+        let status = run_example(rt, word.as_str(), out, faults);
         if status != 0 {
             return status;
         }
@@ -81,7 +93,7 @@ fn run_examples<R: Files + AllocGlobal, W: Sink, E: Sink>(
 }
 
 fn main(rt: HostRuntime) -> io::Result<ExitCode> {
-    let names: Vec<String> = env::args(&rt)?.skip(1).collect(rt.alloc())?;
-    let status = run_examples(&rt, names.as_slice(), &mut rt.stdout(), &mut rt.stderr());
+    let words: Vec<String> = env::args(&rt)?.skip(1).collect(rt.alloc())?;
+    let status = run_examples(&rt, words.as_slice(), &mut rt.stdout(), &mut rt.stderr());
     Ok(ExitCode::from(status))
 }

@@ -21,6 +21,7 @@ use Rattle.l4_types.specs.ReportView.{report_of_view}
 use Rattle.l4_audit.specs.Audits.{is_quiet}
 use Rattle.l4_audit.specs.declared.audit.AuditFault.{AuditFault}
 use Rattle.l4_audit.specs.declared.audit.AuditFault.TheVariants as audit_fault
+use Rattle.l4_machine.specs.Outcomes.{in_order}
 use Rattle.l4_machine.specs.Entries.{turns_fault}
 use Rattle.l4_machine.specs.declared.outcome.Outcome.{Outcome}
 use Rattle.l4_machine.specs.declared.outcome.RunFault.{RunFault}
@@ -64,13 +65,13 @@ abbrev pub IsUnread : (file : List ℕ) → ErrorKind → Fault → Type 0
 IsUnread file OutOfMemory f = f ≡ fault.NoMemory
 IsUnread file _ f = Names file f
 
--- The core run in rounds of a machine, and that by a list of items, or why there is none.
+-- The core run in rounds of a machine, its events in order of stamp, and that by a list of items, or why there is none.
 abbrev pub unless : {X : Type 0} → Option RunFault → X → Result X RunFault
 unless None x = Ok x
 unless (Some fault) x = Err fault
 
 abbrev pub run_in_rounds : Machine → (turns : ℕ) → Result CoreRun RunFault
-run_in_rounds m turns = unless (turns_fault turns) (run m turns)
+run_in_rounds m turns = unless (turns_fault turns) (in_order (run m turns))
 
 abbrev pub replayed : Machine → Result (List ℕ) RunFault → Result CoreRun RunFault
 replayed m (Ok schedule) = Ok (replay m schedule)

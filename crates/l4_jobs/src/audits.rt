@@ -6,10 +6,10 @@ ghost use Rattle.l4_jobs.specs.declared.fault.Fault.TheVariants.{NoMemory as Out
 
 use crate::fault::Fault;
 use crate::report_lines::spelled_ending;
-use l4_audit::audit::check;
+use l4_audit::audit::check_history;
 use l4_model::law_first_fault;
 use l4_script::machine::Machine;
-use l4_trace::reading::read_events;
+use l4_trace::reading::read_history;
 use l4_types::errors::NoMemory;
 use l4_types::reports::Ending;
 use std::alloc::Global;
@@ -24,9 +24,9 @@ pub(crate) fn audited<'a>(
     ensures err { IfErr result (λ fault. (fault ≡ OutOfMemory) ⊎ (fault_of_trace machine.now trace.now ≡ Some fault)) }
 {
     law_first_fault();
-    let steps = read_events(alloc, trace)?;
-    let audit = check(alloc, machine, steps.as_slice())?;
-    Ok(passed_line(alloc, steps.len(), audit.ending)?)
+    let history = read_history(alloc, trace)?;
+    let audit = check_history(alloc, machine, &history)?;
+    Ok(passed_line(alloc, history.len(), audit.ending)?)
 }
 
 fn passed_line(alloc: Global, steps: usize, ending: Ending) -> Result<Vec<u8>, NoMemory>

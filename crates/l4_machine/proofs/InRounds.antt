@@ -1,103 +1,150 @@
--- Runs in rounds where the machine has one processor: each round is one turn of it, or its tick where it has none, until there is neither.
-use Rattle.std.proofs.Common.{◌≡◌, ℕ, zero, suc, ◌+◌, ◌-◌, ◌<◌, Bool, true, false, Option, Some, None, List, [], ◌∷◌, ◌++◌, length, map, refl, sym, ap, ◌∙◌, arith, length-append}
-use Rattle.std.specs.Prelude.{if◌then◌else◌, nat_le}
+-- Rounds: a turn or a tick of each processor, one after the other, and rounds one after the other.
+use Rattle.std.proofs.Common.{◌≡◌, ℕ, zero, suc, ◌+◌, ◌-◌, ◌<◌, ◌≤◌, Bool, true, false, cond, Option, Some, None, List, [], ◌∷◌, ◌++◌, map, length, refl, ap, sym, ◌∙◌, subst, arith, length-append}
+use Rattle.std.specs.Prelude.{nat_le, if◌then◌else◌}
 use Rattle.std.specs.List.{range_with_len}
 use Rattle.std.proofs.lemmas.Bool.Decides.{nat_tests}
+use Rattle.std.proofs.lemmas.List.{length-map}
 use Rattle.l4_model.specs.Machine.{Machine}
-use Rattle.l4_model.specs.Conditions.{◌>>=◌}
-use Rattle.l4_core_model.specs.Local.{Local}
-use Rattle.l4_core_model.specs.Acts.{Work}
-use Rattle.l4_core_model.specs.Turns.{turn, advance}
-use Rattle.l4_core_model.specs.Runs.{Ticks, Event, Run}
-use Rattle.l4_core_model.specs.Schedules.{attempts, attempts_all, turns_in_order, round, least_deadline, earliest, earliest_of, earliest_deadline, ticks_to, ticks, turns_of, has_gone_on, round_or_ticks, unless_ended, rounds, run}
-use Rattle.l4_machine.specs.Turns.{alone, deadline_of, tick, or_else, turn_or_tick}
-use Rattle.l4_machine.proofs.Alone.{run_of, event_of, next_is_turn, then_does, then_does-some}
+use Rattle.l4_core_model.specs.Runs.{Happening, Ticks, Happened, happens, processors, Run, then_event}
+use Rattle.l4_core_model.specs.Schedules.{or_stays, attempts, attempts_all, next_turn, turns_in_order, turns_of, has_gone_on, round, ticks, ticks_to, round_or_ticks, unless_ended, rounds}
+use Rattle.l4_machine.specs.Parts.{event_of}
+use Rattle.l4_machine.specs.UnderWay.{UnderWay, IsRun, HasRun, GoesOn}
 
-round_is : (m : Machine) (events : List Event) (l : Local) → m.cpus ≡ 1 → round m (run_of events l) ≡ then_does events l (turn m 0 l)
-round_is m events l one =
-    ap (λ n. turns_in_order m (run_of events l) (range_with_len 0 n)) one ∙ ap (attempts m (run_of events l)) (next_is_turn m l one)
+-- There are as many parts as events.
+pub as_many : (m : Machine) (r : Run) (u : UnderWay) → IsRun m r u → length u.parts ≡ length r.events
+as_many m r u i = sym (length-map u.parts (event_of u.steps)) ∙ ap length i.events
 
-earliest_is : (m : Machine) (l : Local) → m.cpus ≡ 1 → earliest_deadline m (alone l) ≡ earliest (deadline_of l) None
-earliest_is m l one = ap (λ n. earliest_of (map (least_deadline (alone l)) (range_with_len 0 n))) one
-
-ticks_are : (m : Machine) (events : List Event) (l : Local) → m.cpus ≡ 1 → ticks m (run_of events l) ≡ then_does events l (tick m 0 l)
-ticks_are m events l one = ap (ticks_to m (run_of events l)) (earliest_is m l one) ∙ by (deadline_of l)
+-- What is tried adds one event at most.
+pub one_more : (m : Machine) (r : Run) (e : Happening) → length (attempts m r e).events ≤ length r.events + 1
+one_more m r e = by (happens m r.system e)
   where
-    by : (d : Option ℕ) → ticks_to m (run_of events l) (earliest d None) ≡ then_does events l (d >>= λ to. advance m 0 to l)
-    by None = refl
-    by (Some to) = ap (λ n. attempts_all m (run_of events l) (map (λ cpu. Ticks cpu to) (range_with_len 0 n))) one
+    by : (o : Option Happened) → length (or_stays r o).events ≤ length r.events + 1
+    by None = omega arith
+    by (Some h) = let longer = length-append r.events (h.event ∷ []) in omega arith
 
-gone_on-more : (events : List Event) (l later : Local) (e : Event) → has_gone_on (run_of events l) (run_of (events ++ e ∷ []) later) ≡ true
-gone_on-more events l later e = let longer : length (events ++ e ∷ []) ≡ length events + 1 = length-append events (e ∷ []) in rw longer (grind (arith, nat_tests))
+-- Some of the processors were asked, rising.
+pub record IsMidway (m : Machine) (all : Run → List ℕ → Run) (first : Run) (u : UnderWay) (k : ℕ) : Type 0 where
+  pub run : Run
+  pub is : IsRun m run u
+  pub goes_on : all first (processors m) ≡ all run (range_with_len k (m.cpus - k))
+  pub count : length run.events ≤ length first.events + k
 
-gone_on-same : (events : List Event) (l later : Local) → has_gone_on (run_of events l) (run_of events later) ≡ false
-gone_on-same events l later = grind (arith, nat_tests)
+pub midway_start : (m : Machine) (all : Run → List ℕ → Run) (first : Run) (u : UnderWay) → IsRun m first u → IsMidway m all first u 0
+midway_start m all first u i = record {
+  run = first;
+  is = i;
+  goes_on = let same : m.cpus ≡ m.cpus - 0 = omega arith in ap (λ n. all first (range_with_len 0 n)) same;
+  count = omega arith;
+}
 
--- A round with a turn, or else the ticks.
-round_or_ticks_is : (m : Machine) (events : List Event) (l : Local) (o : Option Work) → m.cpus ≡ 1 → turn_or_tick m 0 l ≡ o → ((x : Work) → o ≡ Some x → x.letters ≡ []) →
-    round_or_ticks m (run_of events l) (round m (run_of events l)) ≡ then_does events l o
-round_or_ticks_is m events l o one is quiet = ap (round_or_ticks m (run_of events l)) (round_is m events l one) ∙ by (turn m 0 l) is
-  where
-    by : (t : Option Work) → or_else t (tick m 0 l) ≡ o → round_or_ticks m (run_of events l) (then_does events l t) ≡ then_does events l o
-    by None e = let same = gone_on-same events l l in rw same (ticks_are m events l one ∙ ap (then_does events l) e)
-    by (Some x) e =
-        let after : then_does events l (Some x) ≡ run_of (events ++ event_of x ∷ []) x.local = then_does-some events l (Some x) x refl (quiet x (sym e)) in
-        let gone = gone_on-more events l x.local (event_of x) in
-        ap (round_or_ticks m (run_of events l)) after ∙ rw gone refl ∙ sym after ∙ ap (then_does events l) e
+pub midway_next : (m : Machine) (all : Run → List ℕ → Run) (asked : Machine → Run → Happening) (first : Run) (u v : UnderWay) (k : ℕ) → k < m.cpus →
+    ((r : Run) (cpus : List ℕ) → all r (k ∷ cpus) ≡ all (attempts m r (asked m r)) cpus) →
+    IsMidway m all first u k → GoesOn (λ m r. attempts m r (asked m r)) u v → IsMidway m all first v (k + 1)
+midway_next m all asked first u v k lt one mid goes = record {
+  run = attempts m mid.run (asked m mid.run);
+  is = goes m mid.run mid.is;
+  goes_on =
+      let left : m.cpus - k ≡ suc (m.cpus - (k + 1)) = omega arith in
+      mid.goes_on ∙ ap (λ n. all mid.run (range_with_len k n)) left ∙ one mid.run (range_with_len (k + 1) (m.cpus - (k + 1)));
+  count = let before = mid.count in let more = one_more m mid.run (asked m mid.run) in omega arith;
+}
 
--- A turn or tick of the one processor is a round. Where it is the last, no rounds are left.
-pub rounds-some : (m : Machine) (turns left : ℕ) (events : List Event) (l : Local) (x : Work) →
-    m.cpus ≡ 1 → turn_or_tick m 0 l ≡ Some x → x.letters ≡ [] → length events + suc left ≡ turns →
-    rounds m turns (suc left) (run_of events l) ≡ rounds m turns left (run_of (events ++ event_of x ∷ []) x.local)
-rounds-some m turns left events l x one has quiet count =
-    let after : Run = run_of (events ++ event_of x ∷ []) x.local in
-    let gone : has_gone_on (run_of events l) after ≡ true = gone_on-more events l x.local (event_of x) in
-    let is_round : round_or_ticks m (run_of events l) (round m (run_of events l)) ≡ after =
-    round_or_ticks_is m events l (Some x) one has (λ y is. cc) ∙ then_does-some events l (Some x) x refl quiet
-    in
-    ap (λ r. unless_ended turns (run_of events l) r (λ r. rounds m turns left r)) is_round ∙ rw gone (more left after counted)
-  where
-    counted : turns_of (run_of (events ++ event_of x ∷ []) x.local) + left ≡ turns
-    counted = let longer = length-append events (event_of x ∷ []) in omega arith
+pub midway_end : (m : Machine) (all : Run → List ℕ → Run) (first : Run) (u : UnderWay) (k : ℕ) → m.cpus ≤ k → ((r : Run) → all r [] ≡ r) →
+    IsMidway m all first u k → IsRun m (all first (processors m)) u
+midway_end m all first u k past none mid =
+    let left : m.cpus - k ≡ 0 = omega arith in
+    subst (λ r. IsRun m r u) (sym (mid.goes_on ∙ ap (λ n. all mid.run (range_with_len k n)) left ∙ none mid.run)) mid.is
 
-    both : (b : Bool) (r : Run) → (if b then r else r) ≡ r
-    both true r = refl
-    both false r = refl
+-- A turn of each, or a tick of each to one deadline.
+abbrev pub turns_of_all : Machine → Run → List ℕ → Run
+turns_of_all m r cpus = turns_in_order m r cpus
 
-    more : (left : ℕ) (r : Run) → turns_of r + left ≡ turns → (if nat_le turns (turns_of r) then r else rounds m turns left r) ≡ rounds m turns left r
-    more zero r h = both (nat_le turns (turns_of r)) r
-    more (suc left) r h = let go : nat_le turns (turns_of r) ≡ false = grind (arith, nat_tests) in rw go refl
+abbrev pub ticks_of_all : Machine → (deadline : ℕ) → Run → List ℕ → Run
+ticks_of_all m deadline r cpus = attempts_all m r (map (λ cpu. Ticks cpu deadline) cpus)
 
--- Without a turn and a tick the rounds end.
-pub rounds-none : (m : Machine) (turns left : ℕ) (events : List Event) (l : Local) →
-    m.cpus ≡ 1 → turn_or_tick m 0 l ≡ None →
-    rounds m turns left (run_of events l) ≡ run_of events l
-rounds-none m turns zero events l one none = refl
-rounds-none m turns (suc left) events l one none =
-    let r : Run = run_of events l in
-    let stays : has_gone_on r r ≡ false = gone_on-same events l l in
-    let is_round : round_or_ticks m r (round m r) ≡ r = round_or_ticks_is m events l None one none (λ y is. cc) in
-    ap (λ after. unless_ended turns r after (λ r. rounds m turns left r)) is_round ∙ rw stays refl
+-- Rounds
 
--- With so many turns taken, the run goes on from here.
-abbrev pub GoesOn : Machine → (turns taken : ℕ) → Run → Type 0
-GoesOn m turns taken r = run m turns ≡ rounds m turns (turns - taken) r
+pub gone_on : (before after : Run) → turns_of before < turns_of after → has_gone_on before after ≡ true
+gone_on before after lt = grind (arith, nat_tests)
 
-pub goes_on-some : (m : Machine) (turns taken : ℕ) (l : Local) → m.cpus ≡ 1 → taken < turns → (events : List Event) (x : Work) →
-    turn_or_tick m 0 l ≡ Some x → x.letters ≡ [] → length events ≡ taken →
-    GoesOn m turns taken (run_of events l) → GoesOn m turns (taken + 1) (run_of (events ++ event_of x ∷ []) x.local)
-goes_on-some m turns taken l one within events x has quiet count so_far =
-    let one_more : length events + suc (turns - (taken + 1)) ≡ turns = omega arith in
-    let left : turns - taken ≡ suc (turns - (taken + 1)) = omega arith in
-    so_far ∙ ap (λ k. rounds m turns k (run_of events l)) left ∙ rounds-some m turns (turns - (taken + 1)) events l x one has quiet one_more
+pub not_gone_on : (before after : Run) → turns_of after ≤ turns_of before → has_gone_on before after ≡ false
+not_gone_on before after le = grind (arith, nat_tests)
 
-pub goes_on-none : (m : Machine) (turns taken : ℕ) (l : Local) → m.cpus ≡ 1 → (events : List Event) →
-    turn_or_tick m 0 l ≡ None → GoesOn m turns taken (run_of events l) → run m turns ≡ run_of events l
-goes_on-none m turns taken l one events none so_far = so_far ∙ rounds-none m turns (turns - taken) events l one none
+pub with_turns : (m : Machine) (r after : Run) → turns_of r < turns_of after → round_or_ticks m r after ≡ after
+with_turns m r after lt = ap (λ b. if b then after else ticks m after) (gone_on r after lt)
 
--- No turn is left.
-pub goes_on-end : (m : Machine) (turns : ℕ) (r : Run) → GoesOn m turns turns r → run m turns ≡ r
-goes_on-end m turns r so_far = so_far ∙ ap (λ k. rounds m turns k r) none
-  where
-    none : turns - turns ≡ 0
-    none = omega arith
+pub with_ticks : (m : Machine) (r after : Run) → turns_of after ≤ turns_of r → round_or_ticks m r after ≡ ticks m after
+with_ticks m r after le = ap (λ b. if b then after else ticks m after) (not_gone_on r after le)
+
+-- Some of the rounds are done.
+pub record IsInRounds (m : Machine) (turns : ℕ) (first : Run) (u : UnderWay) (k : ℕ) : Type 0 where
+  pub run : Run
+  pub is : IsRun m run u
+  pub goes_on : rounds m turns turns first ≡ rounds m turns (turns - k) run
+  pub count : length run.events ≤ turns
+
+pub in_rounds_start : (m : Machine) (turns : ℕ) (first : Run) (u : UnderWay) → IsRun m first u → length u.parts ≡ 0 → IsInRounds m turns first u 0
+in_rounds_start m turns first u i fresh = record {
+  run = first;
+  is = i;
+  goes_on = let same : turns ≡ turns - 0 = omega arith in ap (λ n. rounds m turns n first) same;
+  count = let same = as_many m first u i in omega arith;
+}
+
+next_round : (m : Machine) (turns : ℕ) (first : Run) (u : UnderWay) (k : ℕ) → k < turns → (i : IsInRounds m turns first u k) →
+    rounds m turns turns first ≡ unless_ended turns i.run (round_or_ticks m i.run (round m i.run)) (λ r. rounds m turns (turns - (k + 1)) r)
+next_round m turns first u k lt i = let left : turns - k ≡ suc (turns - (k + 1)) = omega arith in i.goes_on ∙ ap (λ n. rounds m turns n i.run) left
+
+abbrev pub next_run : Machine → Run → Run
+next_run m r = round_or_ticks m r (round m r)
+
+-- The rounds go on where there was an event and turns are left.
+pub in_rounds_next : (m : Machine) (turns : ℕ) (first : Run) (u v : UnderWay) (k : ℕ) → k < turns → length u.parts < length v.parts → length v.parts < turns →
+    IsInRounds m turns first u k → GoesOn next_run u v → IsInRounds m turns first v (k + 1)
+in_rounds_next m turns first u v k lt more less i goes =
+    let after : Run = next_run m i.run in
+    let is : IsRun m after v = goes m i.run i.is in
+    let a = as_many m i.run u i.is in
+    let b = as_many m after v is in
+    let gone = gone_on i.run after (omega arith) in
+    let left : nat_le turns (turns_of after) ≡ false = grind (arith, nat_tests) in
+    record {
+      run = after;
+      is = is;
+      goes_on = next_round m turns first u k lt i
+          ∙ ap (λ b. if b then (if nat_le turns (turns_of after) then after else rounds m turns (turns - (k + 1)) after) else after) gone
+          ∙ ap (λ b. if b then after else rounds m turns (turns - (k + 1)) after) left;
+      count = omega arith;
+    }
+
+either : (b : Bool) (r : Run) → (if b then r else r) ≡ r
+either true r = refl
+either false r = refl
+
+-- They end where there was none, or none is left.
+pub in_rounds_idle : (m : Machine) (turns : ℕ) (first : Run) (u v : UnderWay) (k : ℕ) → k < turns → length v.parts ≤ length u.parts →
+    IsInRounds m turns first u k → GoesOn next_run u v → IsRun m (rounds m turns turns first) v
+in_rounds_idle m turns first u v k lt none i goes =
+    let after : Run = next_run m i.run in
+    let is : IsRun m after v = goes m i.run i.is in
+    let a = as_many m i.run u i.is in
+    let b = as_many m after v is in
+    let stays = not_gone_on i.run after (omega arith) in
+    subst (λ r. IsRun m r v) (sym (next_round m turns first u k lt i
+    ∙ ap (λ b. if b then (if nat_le turns (turns_of after) then after else rounds m turns (turns - (k + 1)) after) else after) stays)) is
+
+pub in_rounds_used : (m : Machine) (turns : ℕ) (first : Run) (u v : UnderWay) (k : ℕ) → k < turns → turns ≤ length v.parts →
+    IsInRounds m turns first u k → GoesOn next_run u v → IsRun m (rounds m turns turns first) v
+in_rounds_used m turns first u v k lt used i goes =
+    let after : Run = next_run m i.run in
+    let is : IsRun m after v = goes m i.run i.is in
+    let b = as_many m after v is in
+    let none : nat_le turns (turns_of after) ≡ true = grind (arith, nat_tests) in
+    subst (λ r. IsRun m r v) (sym (next_round m turns first u k lt i
+    ∙ ap (λ b. if has_gone_on i.run after then (if b then after else rounds m turns (turns - (k + 1)) after) else after) none
+    ∙ either (has_gone_on i.run after) after)) is
+
+pub in_rounds_end : (m : Machine) (turns : ℕ) (first : Run) (u : UnderWay) (k : ℕ) → turns ≤ k → IsInRounds m turns first u k → IsRun m (rounds m turns turns first) u
+in_rounds_end m turns first u k past i =
+    let left : turns - k ≡ 0 = omega arith in
+    subst (λ r. IsRun m r u) (sym (i.goes_on ∙ ap (λ n. rounds m turns n i.run) left)) i.is

@@ -1,5 +1,11 @@
-pub mod Alone
+pub mod Endings
+pub mod Happening
 pub mod InRounds
-pub mod ByEntries
-pub mod SoFar
-pub mod Whole
+pub mod Inboxes
+pub mod Opening
+pub mod Outcomes
+pub mod PartOrder
+pub mod Posting
+pub mod Replays
+pub mod Stamps
+pub mod Systems

@@ -2,12 +2,30 @@
 use Rattle.std.specs.Prelude.{ℕ, ◌+◌, ◌-◌, ◌==◌, ◌&&◌, ◌||◌, nat_lt, nat_le, Bool, if◌then◌else◌, Option, Some, None, List, [], ◌∷◌, length}
 use Rattle.std.specs.Option.{option_map}
 use Rattle.l4_model.specs.Machine.{Machine}
+use Rattle.l4_model.specs.Conditions.{◌>>=◌}
+use Rattle.l4_core_model.specs.Runs.{Run, happens}
+use Rattle.l4_core_model.specs.Schedules.{entry_event, or_stays}
+use Rattle.l4_machine.specs.declared.schedules.Entry.{Entry}
+use Rattle.l4_machine.specs.declared.schedules.Entry.TheVariants.{Turn, Tick}
 use Rattle.l4_machine.specs.declared.outcome.RunFault.{RunFault}
 use Rattle.l4_machine.specs.declared.outcome.RunFault.TheVariants.{Turns, Schedule}
 
 -- A run has 1 to 1,000,000 turns.
 abbrev pub turns_fault : (turns : ℕ) → Option RunFault
 turns_fault turns = if turns == 0 || nat_lt 1000000 turns then Some Turns else None
+
+-- What an entry asks for, as its number, and of which processor.
+abbrev pub number_of : Entry → ℕ
+number_of (Turn cpu) = cpu
+number_of (Tick cpu) = cpu + 16
+
+abbrev pub processor_of : Entry → ℕ
+processor_of (Turn cpu) = cpu
+processor_of (Tick cpu) = cpu
+
+-- What an entry makes of a run.
+abbrev pub after_entry : (entry : ℕ) → Machine → Run → Run
+after_entry entry m r = or_stays r (entry_event m r.system entry >>= happens m r.system)
 
 -- An entry is the number of a processor of the machine for a turn of it, and 16 more for a tick of its clock.
 abbrev pub is_entry : Machine → ℕ → Bool

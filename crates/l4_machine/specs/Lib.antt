@@ -1,4 +1,6 @@
 pub mod CoreRuns
 pub mod Entries
 pub mod Outcomes
-pub mod Turns
+pub mod Parts
+pub mod Stations
+pub mod UnderWay

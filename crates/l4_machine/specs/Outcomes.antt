@@ -5,7 +5,7 @@ use Rattle.l4_model.specs.World.{World}
 use Rattle.l4_model.specs.History.{IsHistory, reached, view, waiting as undecided_sends}
 use Rattle.l4_model.specs.Laws.{IsLawful}
 use Rattle.l4_model.specs.Still.{IsStill}
-use Rattle.l4_core_model.specs.Runs.{Run, told, at_rest}
+use Rattle.l4_core_model.specs.Runs.{Run, merged, told, at_rest}
 use Rattle.l4_core_model.specs.Schedules.{run, replay}
 use Rattle.l4_types.specs.declared.reports.Ending.TheVariants.{Quiet}
 use Rattle.l4_types.specs.StepView.{step_of}
@@ -32,10 +32,20 @@ pub record IsOutcomeOf (m : Machine) (r : Run) (o : Outcome) : Type 0 where
   -- and then nothing but clocks can go on in that world
   pub still : o.ending ≡ Quiet → (w : World) → reached m (map step_of o.history.items) ≡ Some w → IsStill m w
 
--- The outcome of a run in rounds of this machine for at most so many turns.
-abbrev pub IsOutcome : Machine → (most : ℕ) → Outcome → Type 0
-IsOutcome m most o = IsOutcomeOf m (run m most) o
+-- A core run with its events in order of stamp, and of equal ones by processor.
+abbrev pub in_order : Run → Run
+in_order r = record r { events = merged r.events }
 
--- The outcome of a run of this machine by a schedule.
+-- The outcome of a run in rounds of this machine for at most so many turns. Its history is in order of stamp.
+abbrev pub IsOutcome : Machine → (most : ℕ) → Outcome → Type 0
+IsOutcome m most o = IsOutcomeOf m (in_order (run m most)) o
+
+-- The outcome of a run of this machine by a schedule. Its history is in the order told.
 abbrev pub IsReplayed : Machine → (schedule : List ℕ) → Outcome → Type 0
 IsReplayed m schedule o = IsOutcomeOf m (replay m schedule) o
+
+-- What the laws say of a core run in any order.
+pub record IsSound (m : Machine) (r : Run) : Type 0 where
+  pub possible : IsHistory m (told r.events)
+  pub lawful : IsLawful m (told r.events)
+  pub still : at_rest m r.system ≡ true → (w : World) → reached m (told r.events) ≡ Some w → IsStill m w

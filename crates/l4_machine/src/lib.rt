@@ -1,11 +1,13 @@
 //! Machines at work: runs in rounds, replays of a schedule, and the law of core runs.
 #![tactic(auto)]
 
+mod core_run;
+mod events;
 mod laws;
 mod outcome;
 mod rounds;
 mod schedules;
-mod turns;
+mod station;
 
 pub use laws::law_core_run;
 pub use outcome::{Outcome, RunFault};

@@ -1,16 +1,24 @@
 //! What a run comes to.
-ghost use Rattle.std.specs.Prelude.{◌≡◌};
+ghost use Rattle.std.specs.Prelude.{◌≡◌, ◌↔◌, IfOk, length, true};
+ghost use Rattle.l4_model.specs.History.{IsHistory};
+ghost use Rattle.l4_core_model.specs.Runs.{Run, at_rest, told};
+ghost use Rattle.l4_types.specs.declared.reports.Ending.TheVariants.{Quiet};
+ghost use Rattle.l4_machine.specs.Outcomes.{IsOutcomeOf, IsSound};
 ghost use Rattle.l4_machine.specs.declared.outcome.RunFault.TheVariants.{NoMemory as RunNoMemory};
 
+use l4_audit::audit::{AuditFault, check_history};
+use l4_history::history::History;
+use l4_script::machine::Machine;
 use l4_types::errors::NoMemory;
 use l4_types::ids::ThreadId;
 use l4_types::reports::{Ending, ThreadView};
 use l4_types::steps::{Name, Step};
+use std::alloc::Global;
 
 /// What a run did, and what it came to.
 #[derive(Drop)]
 pub struct Outcome {
-    /// The steps of all turns, in order.
+    /// The steps of all turns: of a run in order of stamp, and of equal ones by processor; of a replay in the order told.
     pub history: Vec<Step>,
     /// The sends that were begun and are undecided, in order of beginning, each with its destination.
     pub waiting: Vec<(Name, ThreadId)>,
@@ -38,5 +46,30 @@ impl From<NoMemory> for RunFault {
 
     fn from(_: NoMemory) -> RunFault {
         RunFault::NoMemory
+    }
+}
+
+/// The outcome of a run with this history, ending and number of turns. What the threads have come to is what an audit finds.
+pub(crate) fn outcome_of(
+    alloc: Global,
+    machine: &Machine,
+    history: &History,
+    ending: Ending,
+    turns: u64,
+) -> Result<Outcome, NoMemory>
+    requires { IsHistory machine.now history.now.steps }
+    ensures { IfOk result (λ o. (r : Run) → IsSound machine.now r → history.now.steps ≡ told r.events → turns ≡ length r.events →
+        (ending ≡ Quiet) ↔ (at_rest machine.now r.system ≡ true) → IsOutcomeOf machine.now r o) }
+{
+    match check_history(alloc, machine, history) {
+        Ok(audit) => Ok(Outcome {
+            history: history.to_steps(alloc)?,
+            waiting: audit.waiting,
+            threads: audit.threads,
+            ending,
+            turns,
+        }),
+        Err(AuditFault::NoMemory) => Err(NoMemory),
+        Err(AuditFault::Refused { .. }) => unreachable!(),
     }
 }

@@ -1,53 +1,103 @@
-//! A run of a machine in rounds: its turns and ticks, until nothing is left to do or they are used up.
-ghost use Rattle.std.specs.Prelude.{◌≡◌, ◌<◌, ◌≤◌, ◌↔◌, ◌⊎◌, IfOk, IfErr, IsErrOf, Some};
-ghost use Rattle.l4_core_model.specs.Local.{opening_local};
-ghost use Rattle.l4_core_model.specs.Schedules.{run as run_in_rounds};
+//! A run of a machine in rounds: one turn of each processor, and ticks where none has one, until nothing is left to do or the turns are used up.
+ghost use Rattle.std.specs.Prelude.{◌≡◌, ◌<◌, ◌≤◌, ◌↔◌, ◌⊎◌, ◌^◌, IfOk, IfErr, IsErrOf, OnOk, Some, length};
+ghost use Rattle.l4_core_model.specs.Runs.{opening_run};
+ghost use Rattle.l4_core_model.specs.Schedules.{round, round_or_ticks, rounds as in_rounds, run as run_in_rounds, ticks};
 ghost use Rattle.l4_machine.specs.Entries.{turns_fault};
 ghost use Rattle.l4_machine.specs.Outcomes.{IsOutcome};
-ghost use Rattle.l4_machine.specs.Turns.{HasRun};
+ghost use Rattle.l4_machine.specs.UnderWay.{GoesOn, HasRun, IsRun};
 
-use crate::outcome::{Outcome, RunFault};
-use crate::turns::{only_core, outcome, take_turn_or_tick};
-use l4_core::processor::Core;
-use l4_core_model::law_single_run;
+use crate::core_run::CoreRun;
+use crate::laws::law_core_run;
+use crate::outcome::{Outcome, RunFault, outcome_of};
 use l4_script::machine::Machine;
 use l4_types::errors::NoMemory;
-use l4_types::steps::Step;
 use std::alloc::Global;
 
 /// A run has at most this many turns.
 pub const MOST_TURNS: u64 = 1_000_000;
 
-// Takes turns while there is something to do, and ticks where only time is left to wait for, but no more than `turns` of both. Answers
-// their steps and how many they are.
-fn take_turns(alloc: Global, core: &mut Core, turns: u64) -> Result<(Vec<Step>, u64), NoMemory>
-    requires single { core.old.machine.cpus ≡ 1 }
-    requires first { core.old.cpu ≡ 0 }
-    requires fresh { core.old.local ≡ opening_local core.old.machine 0 }
-    requires few { turns ≤ 1000000 }
-    ensures { IfOk result (λ r. HasRun core.old.machine core.new (run_in_rounds core.old.machine turns) r.0.items r.1) }
+// One turn of each processor, rising.
+fn round(run: &mut CoreRun<'_>) -> Result<(), NoMemory>
+    requires run { HasRun run.old }
+    requires few { length run.old.parts ≤ 2 ^ 60 }
+    ensures { OnOk result (GoesOn round run.old run.new) }
 {
-    let mut history = Vec::new(alloc);
-    for taken in 0..turns {
-        if !take_turn_or_tick(core, &mut history)? {
-            return Ok((history, taken));
+    for cpu in 0..run.cpus() {
+        run.take_turn(cpu)?;
+    }
+    Ok(())
+}
+
+// All clocks go on to the least deadline of all, where there is one.
+fn ticks(run: &mut CoreRun<'_>) -> Result<(), NoMemory>
+    requires run { HasRun run.old }
+    requires few { length run.old.parts ≤ 2 ^ 60 }
+    ensures { OnOk result (GoesOn ticks run.old run.new) }
+{
+    let deadline = match run.first_deadline() {
+        Some(deadline) => deadline,
+        None => return Ok(()),
+    };
+    for cpu in 0..run.cpus() {
+        run.tick(cpu, deadline)?;
+    }
+    Ok(())
+}
+
+// A round, or where it has no event the ticks.
+fn round_or_ticks(run: &mut CoreRun<'_>) -> Result<(), NoMemory>
+    requires run { HasRun run.old }
+    requires few { length run.old.parts ≤ 1000000 }
+    ensures { OnOk result (GoesOn (λ m r. round_or_ticks m r (round m r)) run.old run.new) }
+{
+    let before = run.events();
+    round(run)?;
+    if run.events() > before {
+        return Ok(());
+    }
+    ticks(run)?;
+    Ok(())
+}
+
+// Rounds, until nothing goes on or so many turns are used up.
+fn rounds(run: &mut CoreRun<'_>, turns: u64) -> Result<(), NoMemory>
+    requires run { HasRun run.old }
+    requires few { turns ≤ 1000000 }
+    requires fresh { length run.old.parts ≡ 0 }
+    ensures { OnOk result (GoesOn (λ m r. in_rounds m turns turns r) run.old run.new) }
+{
+    for done in 0..turns {
+        let _ = done;
+        let before = run.events();
+        round_or_ticks(run)?;
+        let after = run.events();
+        if after <= before {
+            return Ok(());
+        }
+        if after as u64 >= turns {
+            return Ok(());
         }
     }
-    Ok((history, turns))
+    Ok(())
 }
 
 fn outcome_of_turns(alloc: Global, machine: &Machine, turns: u64) -> Result<Outcome, NoMemory>
     requires { turns ≤ 1000000 }
     ensures { IfOk result (IsOutcome machine.now turns) }
 {
-    law_single_run();
-    let mut core = only_core(alloc, machine)?;
-    let (history, turns) = take_turns(alloc, &mut core, turns)?;
-    outcome(&core, history, turns)
+    law_core_run();
+    let mut run = CoreRun::new(alloc, machine)?;
+    rounds(&mut run, turns)?;
+    let turns = run.events();
+    let ending = run.ending();
+    let history = run.into_ordered_history(alloc)?;
+    Ok(outcome_of(alloc, machine, &history, ending, turns as u64)?)
 }
 
-/// Runs a machine for at most so many turns, 1 to 1,000,000. Each turn is one of its only processor. Where it has none to take, its clock is
-/// advanced to the least deadline, which counts as a turn; where that is none or does not go on, the run ends.
+/// Runs a machine for at most so many turns, 1 to 1,000,000, on one thread of the host. A round is one turn of each processor in rising order:
+/// mail first, and of it that of the lowest poster, else the core's turn. Where a round has no event, all clocks are advanced to the least
+/// deadline of all, each of which counts as a turn; where that is none or no clock goes on, the run ends. It ends too after the round, or
+/// the ticks, with which the turns are used up. The history is in order of stamp, and of equal ones by processor.
 ///
 /// `Turns`: the number of turns is 0 or above 1,000,000.
 pub fn run(alloc: Global, machine: &Machine, turns: u64) -> Result<Outcome, RunFault>

@@ -9,7 +9,7 @@ use Rattle.l4_model.specs.Machine.{Machine}
 use Rattle.l4_core_model.specs.Letters.{Letter}
 use Rattle.l4_core_model.specs.Local.{Local, opening_local}
 use Rattle.l4_core_model.specs.Runs.{System, letters, Happening, Run, then_event, core_run}
-use Rattle.l4_core_model.proofs.Fit.{all-map, all-map_with, all-filter}
+use Rattle.l4_core_model.proofs.Lists.{all-map, all-map_with, all-filter}
 use Rattle.l4_merge.specs.Deeds.{LocalEvent, Handled, Turned, Ticked, letter_of, Deed, told_by, posted_by, handled_by, letters_with, Lead}
 use Rattle.l4_merge.specs.Pasts.{Begins}
 use Rattle.l4_merge.proofs.Lists.{all-of_map, all-flat_map}

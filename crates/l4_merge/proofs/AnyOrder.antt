@@ -6,7 +6,7 @@ use Rattle.l4_model.specs.Machine.{Machine}
 use Rattle.l4_core_model.specs.Letters.{Letter}
 use Rattle.l4_core_model.specs.Local.{Local, opening_local}
 use Rattle.l4_core_model.specs.Runs.{System, Run, letters}
-use Rattle.l4_core_model.proofs.Fit.{all-map}
+use Rattle.l4_core_model.proofs.Lists.{all-map}
 use Rattle.l4_merge.specs.Deeds.{Deed, posted_by, handled_by, letters_with, Lead}
 use Rattle.l4_merge.proofs.Deeds.{HasStamps}
 use Rattle.l4_merge.proofs.Own.{own, own_none}

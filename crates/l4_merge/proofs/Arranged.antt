@@ -6,7 +6,7 @@ use Rattle.l4_model.specs.Machine.{Machine}
 use Rattle.l4_model.proofs.Chains.{cond_keeps}
 use Rattle.l4_core_model.specs.Local.{Local}
 use Rattle.l4_core_model.specs.Runs.{is_earlier, put_event, merged}
-use Rattle.l4_core_model.proofs.Fit.{all-map, all-filter}
+use Rattle.l4_core_model.proofs.Lists.{all-map, all-filter}
 use Rattle.l4_merge.specs.Deeds.{Deed, told_by, Lead}
 use Rattle.l4_merge.proofs.Deeds.{stamp_of, lead_above}
 use Rattle.l4_merge.proofs.EventOrder.{earlier_flip, earlier_than_rest, earlier_by_stamp, stamps_rise}

@@ -3,7 +3,7 @@ use Rattle.std.proofs.Common.{◌≡◌, ℕ, ◌<◌, List, [], ◌∷◌, ◌+
 use Rattle.std.specs.List.{AllByRecursion}
 use Rattle.l4_model.specs.Machine.{Machine}
 use Rattle.l4_core_model.specs.Local.{Local}
-use Rattle.l4_core_model.proofs.Fit.{all-map}
+use Rattle.l4_core_model.proofs.Lists.{all-map}
 use Rattle.l4_merge.specs.Deeds.{letter_of, Deed, Does, Lead}
 use Rattle.l4_merge.proofs.StampsOfEvents.{work_later}
 

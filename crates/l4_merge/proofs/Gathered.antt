@@ -7,7 +7,7 @@ use Rattle.std.proofs.lemmas.List.Elements.{filter-append}
 use Rattle.std.proofs.lemmas.List.Prefix.{front_rest}
 use Rattle.l4_model.specs.Machine.{Machine}
 use Rattle.l4_model.proofs.Chains.{some_is}
-use Rattle.l4_core_model.proofs.Fit.{all-map}
+use Rattle.l4_core_model.proofs.Lists.{all-map}
 use Rattle.l4_merge.specs.Deeds.{Deed, told_by}
 use Rattle.l4_merge.specs.Pasts.{Past, AreDeedsBetween, HasWorked, added_events}
 use Rattle.l4_merge.proofs.Lists.{all-append}

@@ -9,7 +9,7 @@ use Rattle.l4_model.proofs.Chains.{some_is, get-map}
 use Rattle.l4_core_model.specs.Letters.{Letter}
 use Rattle.l4_core_model.specs.Local.{Local}
 use Rattle.l4_core_model.specs.Runs.{letters, Run, merged}
-use Rattle.l4_core_model.proofs.Fit.{all-map}
+use Rattle.l4_core_model.proofs.Lists.{all-map}
 use Rattle.l4_merge.specs.Deeds.{Deed, posted_by, handled_by, letters_with, Lead}
 use Rattle.l4_merge.specs.Pasts.{Past, posted_in, handled_in, letters_posted, letters_handled, HaveWorked}
 use Rattle.l4_merge.specs.Merges.{EndsAt, HasMergedRun}

@@ -4,7 +4,7 @@ use Rattle.std.specs.Prelude.{filter, ◌==◌}
 use Rattle.std.specs.List.{AllByRecursion}
 use Rattle.std.proofs.lemmas.Bool.{eq-eqb, ne_eqb}
 use Rattle.l4_core_model.specs.Letters.{Letter}
-use Rattle.l4_core_model.proofs.Fit.{all-map}
+use Rattle.l4_core_model.proofs.Lists.{all-map}
 use Rattle.l4_merge.specs.Deeds.{letter_of, Deed, posted_by, handled_by, letters_with}
 use Rattle.l4_merge.proofs.Lists.{filter-none}
 use Rattle.l4_merge.proofs.Mail.{letters_with-append}

@@ -10,7 +10,7 @@ use Rattle.l4_model.specs.Machine.{Machine}
 use Rattle.l4_core_model.specs.Local.{Local, opening_local}
 use Rattle.l4_core_model.specs.Runs.{Event, Run, opening_run, processors, letters}
 use Rattle.l4_core_model.specs.Laws.{IsCoreRun}
-use Rattle.l4_core_model.proofs.Fit.{all-map}
+use Rattle.l4_core_model.proofs.Lists.{all-map}
 use Rattle.l4_merge.specs.Deeds.{Deed, told_by, posted_by, handled_by, letters_with, Lead}
 use Rattle.l4_merge.specs.Pasts.{Past, empty_past, HasWorked, posted_in, handled_in, letters_posted, letters_handled}
 use Rattle.l4_merge.specs.Merges.{HasPasts}

@@ -24,7 +24,7 @@ use Rattle.l4_merge.proofs.StampsOfActs.{IsStamped, KeepsStamp, posts_stamped, r
 use Rattle.l4_merge.proofs.StampsOfActs.{withdraws_stamped, fails_receive_stamped, obeys_stamped, acts_stamped}
 
 -- The first act of an event gives it its stamp.
-opened_stamped : (letter_stamp : ℕ) (l : Local) → IsStamped (next_stamp letter_stamp l) (opened letter_stamp l)
+pub opened_stamped : (letter_stamp : ℕ) (l : Local) → IsStamped (next_stamp letter_stamp l) (opened letter_stamp l)
 opened_stamped letter_stamp l = record { local = refl; letters = tt }
 
 -- What has the value of a chain is what the chain ends in.
@@ -56,7 +56,7 @@ does_choice_stamped m cpu (ByDue i) s x h =
 does_choice_stamped m cpu (ByReady i) s x h =
     acts_stamped m cpu i (act_of m (held m x.local i)) s (x ▷ does (relists plain.popped)) (record { local = h.local; letters = h.letters })
 
-turn_stamped : (m : Machine) (cpu : ℕ) (l : Local) (x : Work) → turn m cpu l ≡ Some x → IsStamped (next_stamp 0 l) x
+pub turn_stamped : (m : Machine) (cpu : ℕ) (l : Local) (x : Work) → turn m cpu l ≡ Some x → IsStamped (next_stamp 0 l) x
 turn_stamped m cpu l x h = by (choice m cpu l) h
   where
     by : (c : Option Choice) → option_map (λ c. does_choice m cpu c (opened 0 l)) c ≡ Some x → IsStamped (next_stamp 0 l) x
@@ -65,7 +65,7 @@ turn_stamped m cpu l x h = by (choice m cpu l) h
 
 -- a tick
 
-advance_stamped : (m : Machine) (cpu clock : ℕ) (l : Local) (x : Work) → advance m cpu clock l ≡ Some x → IsStamped (next_stamp 0 l) x
+pub advance_stamped : (m : Machine) (cpu clock : ℕ) (l : Local) (x : Work) → advance m cpu clock l ≡ Some x → IsStamped (next_stamp 0 l) x
 advance_stamped m cpu clock l x h =
     let y : Work = opened 0 l ▷ tells (Tick cpu clock) ▷ does (clock_is clock) in
     guard_then (nat_lt l.clock clock) _ x h λ later h.
@@ -78,7 +78,7 @@ withdraws_here_stamped : (m : Machine) (cpu i k : ℕ) (cause : Cause) → Keeps
 withdraws_here_stamped m cpu i k cause s x h =
     cond_keeps (IsStamped s) (waits_here x.local i k) _ _ (λ yes. refuses_stamped m cpu (refusal_of cause) i s x h) (λ no. h)
 
-handled_stamped : (m : Machine) (cpu : ℕ) (content : Content) (s : ℕ) (x y : Work) → IsStamped s x → handled m cpu content x ≡ Some y → IsStamped s y
+pub handled_stamped : (m : Machine) (cpu : ℕ) (content : Content) (s : ℕ) (x y : Work) → IsStamped s x → handled m cpu content x ≡ Some y → IsStamped s y
 handled_stamped m cpu (SendLetter name receiver message zero_timeout) s x y h is =
     bind_then (own_place m cpu receiver) _ y is λ r _ is.
     bind_then (foreign_place m cpu name.thread) _ y is λ i _ is.

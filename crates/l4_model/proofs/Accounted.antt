@@ -1,6 +1,6 @@
 -- Each begun send is decided once, or is still undecided: a step that begins it makes it undecided, one that
 -- decides it ends that, and no other step touches it.
-use Rattle.std.proofs.Common.{subst, ◌≡◌, ℕ, zero, suc, ◌+◌, ◌≤◌, Bool, true, false, cond, Option, Some, None, List, [], ◌∷◌, map, refl, ap, sym, ◌∙◌, arith, get_or}
+use Rattle.std.proofs.Common.{subst, ◌≡◌, ℕ, zero, suc, ◌+◌, ◌<◌, ◌≤◌, Bool, true, false, cond, Option, Some, None, List, [], ◌∷◌, map, refl, ap, sym, ◌∙◌, arith, get_or}
 use Rattle.std.proofs.lemmas.Bool.{eqb-true}
 use Rattle.std.proofs.lemmas.Bool.Decides.{nat_tests}
 use Rattle.std.proofs.lemmas.Option.{slice_get-get_or, slice_get-map}
@@ -9,7 +9,7 @@ use Rattle.std.specs.Prelude.{slice_get, ◌*◌, nat_lt, ◌==◌, is_some}
 use Rattle.std.specs.List.{count_by, cons_option}
 use Rattle.std.specs.Option.{option_map}
 use Rattle.l4_model.specs.Words.{GlobalId, Id}
-use Rattle.l4_model.specs.Machine.{Machine, Declaration, place_of}
+use Rattle.l4_model.specs.Machine.{Machine, Declaration, place_of, is_declared}
 use Rattle.l4_model.specs.World.{World, Send, Thread, changed, opening, opening_thread, Name}
 use Rattle.l4_model.specs.Steps.{Step, Begin, Deliver, SendTimeout, SendNobody, SendCancel, Drop, next}
 use Rattle.l4_model.specs.Conditions.{Pending, undecided, found_at, ◌>>=◌, ◌>>◌}
@@ -21,18 +21,18 @@ use Rattle.l4_model.proofs.Sound.{AreSound, ready_has_none, opening_sound, step_
 use Rattle.l4_model.proofs.Places.{same_name_is, same_name_refl, place_id, one_place}
 
 -- 1 where the k-th send is undecided
-abbrev pending : ℕ → Option Status → ℕ
+abbrev pub pending : ℕ → Option Status → ℕ
 pending k None = 0
 pending k (Some x) = cond (x.begun == k) (cond (is_some x.send) 1 0) 0
 
-abbrev pending_of : Machine → World → Name → ℕ
+abbrev pub pending_of : Machine → World → Name → ℕ
 pending_of m w s = pending s.k (place_of m s.thread >>= slice_get (statuses w))
 
 -- in how many of these steps a send is decided
-abbrev decisions : Name → Step → ℕ
+abbrev pub decisions : Name → Step → ℕ
 decisions s step = cond (names s (delivered_name step)) 1 0 + cond (names s (refused_name step)) 1 0 + cond (names s (dropped_name step)) 1 0
 
-abbrev beginnings : Name → Step → ℕ
+abbrev pub beginnings : Name → Step → ℕ
 beginnings s step = cond (names s (begun_name step)) 1 0
 
 kept_pending : (m : Machine) (w v : World) (s : Name) → Keeps w v → pending_of m w s ≡ pending_of m v s
@@ -137,7 +137,7 @@ decided_pending m w v s t d = by (same_name s t) refl
         omega (arith, same)
 
 -- the account of one step
-step_balance : (m : Machine) (w v : World) (s : Name) (step : Step) → Effect m w v step → AreSound m w →
+pub step_balance : (m : Machine) (w v : World) (s : Name) (step : Step) → Effect m w v step → AreSound m w →
     beginnings s step + pending_of m w s ≡ decisions s step + pending_of m v s
 step_balance m w v s (Begin t) e sound = omega (arith, begun_pending m w v s t e sound)
 step_balance m w v s (Deliver t receiver shown actual tag words) e sound = omega (arith, decided_pending m w v s t e)
@@ -162,7 +162,7 @@ run_balance m s (step ∷ h) w v r sound =
     omega arith
 
 -- at the opening nothing is undecided
-opening_pending : (m : Machine) (s : Name) → pending_of m (opening m) s ≡ 0
+pub opening_pending : (m : Machine) (s : Name) → pending_of m (opening m) s ≡ 0
 opening_pending m s = by (place_of m s.thread)
   where
     none_at : (ds : List Declaration) (j : ℕ) → pending s.k (slice_get (map status (map (λ d. opening_thread) ds)) j) ≡ 0
@@ -175,7 +175,7 @@ opening_pending m s = by (place_of m s.thread)
     by (Some j) = none_at m.threads j
 
 -- a send is undecided where it is pending
-pending_is : (m : Machine) (w : World) (s : Name) → cond (is_some (undecided m w s)) 1 0 ≡ pending_of m w s
+pub pending_is : (m : Machine) (w : World) (s : Name) → cond (is_some (undecided m w s)) 1 0 ≡ pending_of m w s
 pending_is m w s = by (place_of m s.thread) refl
   where
     chained : (b : Bool) (o : Option Send) (f : Send → Pending) → ◌≡◌ {A = ℕ} (cond (is_some (b >> (o >>= λ send. Some (f send)))) 1 0) (cond b (cond (is_some o) 1 0) 0)
@@ -294,7 +294,7 @@ step_unbegun m w v s (SendCancel t) e = omega (arith, decided_unbegun m w v s t 
 step_unbegun m w v s (Drop t) e = omega (arith, decided_unbegun m w v s t e)
 step_unbegun m w v s _ e = omega (arith, kept_unbegun m w v s e)
 
-run_unbegun : (m : Machine) (s : Name) (h : List Step) (w v : World) → run m w h ≡ Some v → begins_of s h + unbegun_of m v s ≤ unbegun_of m w s
+pub run_unbegun : (m : Machine) (s : Name) (h : List Step) (w v : World) → run m w h ≡ Some v → begins_of s h + unbegun_of m v s ≤ unbegun_of m w s
 run_unbegun m s [] w v r = let e = kept_unbegun m w v s (ap statuses (sym (some_is w v r))) in omega arith
 run_unbegun m s (step ∷ h) w v r =
     bind_then (next m w step) (λ u. run m u h) v r λ u is rest.
@@ -308,6 +308,17 @@ begins_once m h s w r =
     let all = run_unbegun m s h (opening m) w r in
     let one = unbegun_one s.k (place_of m s.thread >>= slice_get (statuses (opening m))) in
     omega arith
+
+-- a thread that is not declared begins nothing
+pub begun_declared : (m : Machine) (h : List Step) (s : Name) (w : World) → reached m h ≡ Some w → 0 < begins_of s h → is_declared m s.thread ≡ true
+begun_declared m h s w r some = by (place_of m s.thread) refl
+  where
+    by : (o : Option ℕ) → place_of m s.thread ≡ o → is_some o ≡ true
+    by None none =
+        let nothing : unbegun_of m (opening m) s ≡ 0 = ap (λ o. unbegun s.k (o >>= slice_get (statuses (opening m)))) none in
+        let all = run_unbegun m s h (opening m) w r in
+        absurd (omega arith)
+    by (Some i) at = refl
 
 pub accounted : (m : Machine) (h : List Step) (s : Name) (w : World) → reached m h ≡ Some w →
     deliveries_of s h + refusals_of s h + drops_of s h + count_by (λ p. same_name s p.0) (waiting m w h) ≡ begins_of s h

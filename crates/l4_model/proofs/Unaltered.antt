@@ -1,25 +1,27 @@
--- What is delivered is the message that the send had when it began: until a send is decided, nothing changes it.
-use Rattle.std.proofs.Common.{subst, ◌≡◌, ℕ, zero, suc, ◌+◌, ◌*◌, ◌/◌, ◌^◌, ◌<◌, ◌≤◌, Bool, true, false, Some, List, [], ◌∷◌, length, refl, ap, sym, ◌∙◌, arith}
+-- What is delivered is the message that the send had when it began: it began, since nothing is under way at the opening, and until it is
+-- decided nothing changes it.
+use Rattle.std.proofs.Common.{subst, ◌≡◌, ℕ, zero, suc, ◌+◌, ◌*◌, ◌/◌, ◌^◌, ◌<◌, ◌≤◌, Bool, true, false, cond, Option, Some, List, [], ◌∷◌, length, refl, ap, sym, ◌∙◌, arith}
 use Rattle.std.proofs.lemmas.Bool.{eqb-true}
 use Rattle.std.proofs.lemmas.Slice.Eq.{bytes_eq-Decides}
-use Rattle.std.specs.Prelude.{slice_get, ◌==◌, IsSomeAnd}
-use Rattle.std.specs.List.{AllByRecursion}
+use Rattle.std.specs.Prelude.{slice_get, ◌==◌, is_some}
 use Rattle.std.specs.Str.{bytes_eq}
-use Rattle.l4_model.specs.Words.{GlobalId, same_id, tag_of_word}
-use Rattle.l4_model.specs.Machine.{Machine, place_of}
+use Rattle.l4_model.specs.Words.{GlobalId, same_id}
+use Rattle.l4_model.specs.Machine.{Machine}
 use Rattle.std.specs.Option.{option_map}
-use Rattle.l4_model.specs.World.{World, Context, Message, Send, changed, opening, Name}
+use Rattle.l4_model.specs.World.{World, Message, Send, changed, opening, Name}
 use Rattle.l4_model.specs.Rules.{message_of, received_tag, is_cross, bit}
-use Rattle.l4_model.specs.Conditions.{instruction}
+use Rattle.l4_model.specs.Conditions.{Pending, instruction, undecided}
 use Rattle.l4_model.specs.Effects.{begins}
 use Rattle.l4_model.specs.Steps.{Step, Begin, Deliver, SendTimeout, SendNobody, SendCancel, Drop, next}
-use Rattle.l4_model.specs.History.{run, reached}
-use Rattle.l4_model.specs.Laws.{message_at, Carries, DeliversAs, IsUnaltered}
+use Rattle.l4_model.specs.History.{run, reached, begun_name}
+use Rattle.l4_model.specs.Laws.{names, message_at, message_begun, Carries, IsUnaltered}
 use Rattle.l4_model.proofs.Chains.{bind_then, some_is, get-map, get-changed_same}
 use Rattle.l4_model.proofs.Requests.{act_request, message_short}
 use Rattle.l4_model.proofs.Inversions.{BeginTaken, begin_taken, deliver_taken}
 use Rattle.l4_model.proofs.Sends.{Status, status, statuses, with_begun, with_decided, Begins, Decides, Effect, effect}
 use Rattle.l4_model.proofs.Deleted.{parted}
+use Rattle.l4_model.proofs.Sound.{AreSound, opening_sound, step_sound}
+use Rattle.l4_model.proofs.Accounted.{pending_of, pending_is, opening_pending, beginnings, step_balance}
 use Rattle.l4_model.proofs.Places.{same_id_is, same_name_is, known, known_send, id_of}
 
 label_read : (label cross propagated count : ℕ) → cross ≤ 1 → propagated ≤ 1 → count < 64 → (label * 2 ^ 16 + cross * 2 ^ 14 + propagated * 2 ^ 12 + count) / 2 ^ 16 ≡ label
@@ -73,61 +75,75 @@ step_holds m w v (SendCancel t) j k send e = decides_hold m w v t j k send e
 step_holds m w v (Drop t) j k send e = decides_hold m w v t j k send e
 step_holds m w v _ j k send e = keeps_hold w v j k send e
 
--- what a delivery shows, of a send that holds
-delivery_carries : (m : Machine) (id : GlobalId) (c : Context) (send : Send) (receiver shown actual : GlobalId) (tag : ℕ) (words : List ℕ) → message_of m id c ≡ send.message →
-    same_id shown send.message.shown ≡ true → same_id actual send.message.actual ≡ true →
-    (tag == received_tag (is_cross m receiver send.message) send.message) ≡ true → bytes_eq words send.message.words ≡ true →
-    Carries (message_of m id c) shown actual tag words
-delivery_carries m id c send receiver shown actual tag words e same_shown same_actual same_tag same_words =
-    let message : Message = send.message in
-    let short : length message.words < 64 = subst (λ (x : Message). length x.words < 64) e (message_short m id c) in
-    let tag_is : tag ≡ received_tag (is_cross m receiver message) message = eqb-true _ _ same_tag in
-    let label : (tag_of_word tag).label ≡ message.label =
-    ap (λ t. t / 2 ^ 16) tag_is
-    ∙ label_read message.label (bit (is_cross m receiver message)) (bit message.propagated) (length message.words) (bit_small (is_cross m receiver message)) (bit_small message.propagated) short in
-    subst (λ x. Carries x shown actual tag words) (sym e) (record {
-      same_label = label;
-      same_words = (bytes_eq-Decides words message.words).0 same_words;
-      same_shown = same_id_is shown message.shown same_shown;
-      same_actual = same_id_is actual message.actual same_actual;
-    })
-
-step_delivers : (m : Machine) (w v : World) (step : Step) (s : Name) (j : ℕ) (id : GlobalId) (c : Context) (send : Send) → next m w step ≡ Some v → place_of m s.thread ≡ Some j →
-    HoldsAt j s.k send w → message_of m id c ≡ send.message → DeliversAs s (message_of m id c) step
-step_delivers m w v (Deliver t receiver shown actual tag words) s j id c send h place holds e = λ match.
-    let k = deliver_taken m w v t receiver shown actual tag words h in
-    let known = known_send m w t k.p k.is_undecided in
-    let one : s ≡ t = same_name_is s t match in
-    let at : k.p.sender.at ≡ j = some_is _ j (sym known.sender.place ∙ ap (λ (x : Name). place_of m x.thread) (sym one) ∙ place) in
-    let now : slice_get (statuses w) j ≡ Some (status k.p.sender.now) = ap (slice_get (statuses w)) (sym at) ∙ get-map status w.threads k.p.sender.at k.p.sender.now known.sender.now in
-    let same : send ≡ k.p.send = (holds (status k.p.sender.now) now).same k.p.send (known.last ∙ ap (λ (x : Name). x.k) (sym one)) known.send in
-    delivery_carries m id c k.p.send receiver shown actual tag words (e ∙ ap (λ (x : Send). x.message) same) k.same_shown k.same_actual k.same_tag k.same_words
-step_delivers m w v _ s j id c send h place holds e = tt
-
-run_delivers : (m : Machine) (h : List Step) (w v : World) (s : Name) (j : ℕ) (id : GlobalId) (c : Context) (send : Send) → run m w h ≡ Some v → place_of m s.thread ≡ Some j →
-    HoldsAt j s.k send w → message_of m id c ≡ send.message → AllByRecursion (DeliversAs s (message_of m id c)) h
-run_delivers m [] w v s j id c send r place holds e = tt
-run_delivers m (step ∷ h) w v s j id c send r place holds e =
+run_holds : (m : Machine) (h : List Step) (w v : World) (j k : ℕ) (send : Send) → run m w h ≡ Some v → HoldsAt j k send w → HoldsAt j k send v
+run_holds m [] w v j k send r holds = subst (HoldsAt j k send) (some_is w v r) holds
+run_holds m (step ∷ h) w v j k send r holds =
     bind_then (next m w step) (λ u. run m u h) v r λ u is rest.
-    (step_delivers m w u step s j id c send is place holds e, run_delivers m h u v s j id c send rest place (step_holds m w u step j s.k send (effect m w u step is) holds) e)
+    run_holds m h u v j k send rest (step_holds m w u step j k send (effect m w u step is) holds)
+
+-- An undecided send has the message that it began with.
+record HasBegun (send : Send) (message : Option Message) : Type 0 where
+  same : message ≡ Some send.message
+  short : length send.message.words < 64
 
 -- the begin step itself
-begin_delivers : (m : Machine) (w u v : World) (s : Name) (after : List Step) → BeginTaken m w u s → run m u after ≡ Some v →
-    IsSomeAnd (message_at m w s.thread) (λ message. AllByRecursion (DeliversAs s message) after)
-begin_delivers m w u v s after k r =
-    let known = known m w s.thread k.t k.found in
+begins_so : (m : Machine) (w u v : World) (s : Name) (p : Pending) (h : List Step) → BeginTaken m w u s → run m u h ≡ Some v → undecided m v s ≡ Some p →
+    HasBegun p.send (message_at m w s.thread)
+begins_so m w u v s p h k r waits =
+    let sender = known m w s.thread k.t k.found in
     let id : k.t.declared.id ≡ s.thread = (id_of m w s.thread k.t k.found).0 in
     let e : message_of m s.thread k.t.now.context ≡ k.send.message =
     ap (λ x. message_of m x k.t.now.context) (sym id) ∙ (act_request m k.t.declared.id k.t.clock k.t.now.context (instruction k.t) k.send k.sends).message in
-    let holds : HoldsAt k.t.at s.k k.send u = subst (HoldsAt k.t.at s.k k.send) k.leads_to (λ x at.
-    subst (Holds s.k k.send) (some_is _ x (sym (get-map status (changed (begins k.send) w.threads k.t.at) k.t.at _ (get-changed_same (begins k.send) w.threads k.t.at ∙ ap (option_map (begins k.send)) known.now)) ∙ at))
+    let begun : HoldsAt k.t.at s.k k.send u = subst (HoldsAt k.t.at s.k k.send) k.leads_to (λ x at.
+    subst (Holds s.k k.send) (some_is _ x (sym (get-map status (changed (begins k.send) w.threads k.t.at) k.t.at _ (get-changed_same (begins k.send) w.threads k.t.at ∙ ap (option_map (begins k.send)) sender.now)) ∙ at))
     (record { begun = omega (arith, eqb-true _ _ k.next_k); same = λ y last has. some_is k.send y has })) in
-    rw k.found (run_delivers m after u v s k.t.at s.thread k.t.now.context k.send r known.place holds e)
+    let later = known_send m v s p waits in
+    let at : p.sender.at ≡ k.t.at = some_is _ _ (sym later.sender.place ∙ sender.place) in
+    let now : slice_get (statuses v) k.t.at ≡ Some (status p.sender.now) = ap (slice_get (statuses v)) (sym at) ∙ get-map status v.threads p.sender.at p.sender.now later.sender.now in
+    let same : k.send ≡ p.send = (run_holds m h u v k.t.at s.k k.send r begun (status p.sender.now) now).same p.send later.last later.send in
+    let is : message_of m s.thread k.t.now.context ≡ p.send.message = e ∙ ap (λ (x : Send). x.message) same in
+    record { same = rw k.found (ap Some is); short = subst (λ (x : Message). length x.words < 64) is (message_short m s.thread k.t.now.context) }
+
+-- a send that was not under way, and is, began in between
+begun_between : (m : Machine) (s : Name) (p : Pending) (h : List Step) (w v : World) → run m w h ≡ Some v → AreSound m w → pending_of m w s ≡ 0 → undecided m v s ≡ Some p →
+    HasBegun p.send (message_begun m w s h)
+begun_between m s p [] w v r sound none waits =
+    let one : ◌≡◌ {A = ℕ} 1 (pending_of m v s) = ap (λ o. cond (is_some o) 1 0) (sym waits) ∙ pending_is m v s in
+    absurd (omega (arith, one, ap (λ x. pending_of m x s) (some_is w v r), none))
+begun_between m s p (step ∷ h) w v r sound none waits =
+    bind_then (next m w step) (λ u. run m u h) v r λ u is rest.
+    by_step u is rest (begun_between m s p h u v rest (step_sound m w u step is sound)) (names s (begun_name step)) refl
+  where
+    here : (t : Step) (u : World) → next m w t ≡ Some u → run m u h ≡ Some v → names s (begun_name t) ≡ true → HasBegun p.send (message_at m w s.thread)
+    here (Begin t) u is rest named =
+        begins_so m w u v s p h (subst (BeginTaken m w u) (sym (same_name_is s t named)) (begin_taken m w u t is)) rest waits
+    here _ u is rest named = cc
+
+    by_step : (u : World) → next m w step ≡ Some u → run m u h ≡ Some v → (pending_of m u s ≡ 0 → undecided m v s ≡ Some p → HasBegun p.send (message_begun m u s h)) → (b : Bool) → names s (begun_name step) ≡ b → HasBegun p.send (message_begun m w s (step ∷ h))
+    by_step u is rest later true named = rw named (here step u is rest named)
+    by_step u is rest later false other =
+        let account = step_balance m w u s step (effect m w u step is) sound in
+        let begins : beginnings s step ≡ 0 = ap (λ b. cond b 1 0) other in
+        rw (other, is) (later (omega (arith, account, begins, none)) waits)
+
+-- what a delivery shows is the message of its send
+delivery_carries : (message : Message) (cross : Bool) (shown actual : GlobalId) (tag : ℕ) (words : List ℕ) → length message.words < 64 →
+    same_id shown message.shown ≡ true → same_id actual message.actual ≡ true →
+    (tag == received_tag cross message) ≡ true → bytes_eq words message.words ≡ true → Carries message shown actual tag words
+delivery_carries message cross shown actual tag words short same_shown same_actual same_tag same_words =
+    let tag_is : tag ≡ received_tag cross message = eqb-true _ _ same_tag in
+    record {
+      same_label = ap (λ t. t / 2 ^ 16) tag_is
+          ∙ label_read message.label (bit cross) (bit message.propagated) (length message.words) (bit_small cross) (bit_small message.propagated) short;
+      same_words = (bytes_eq-Decides words message.words).0 same_words;
+      same_shown = same_id_is shown message.shown same_shown;
+      same_actual = same_id_is actual message.actual same_actual;
+    }
 
 pub unaltered : (m : Machine) (h : List Step) (v : World) → reached m h ≡ Some v → IsUnaltered m h
-unaltered m h v r before after s w split first =
-    let p = parted m before (Begin s ∷ after) (opening m) v (ap (reached m) (sym split) ∙ r) in
-    let same : p.between ≡ w = some_is p.between w (sym p.first ∙ first) in
-    bind_then (next m p.between (Begin s)) (λ x. run m x after) v p.second λ x is rest.
-    subst (λ y. IsSomeAnd (message_at m y s.thread) (λ message. AllByRecursion (DeliversAs s message) after)) same
-    (begin_delivers m p.between x v s after (begin_taken m p.between x s is) rest)
+unaltered m h v r before after s receiver shown actual tag words split =
+    let parts = parted m before (Deliver s receiver shown actual tag words ∷ after) (opening m) v (ap (reached m) (sym split) ∙ r) in
+    bind_then (next m parts.between (Deliver s receiver shown actual tag words)) (λ x. run m x after) v parts.second λ x is rest.
+    let k = deliver_taken m parts.between x s receiver shown actual tag words is in
+    let begun = begun_between m s k.p before (opening m) parts.between parts.first (opening_sound m) (opening_pending m s) k.is_undecided in
+    rw begun.same (delivery_carries k.p.send.message (is_cross m receiver k.p.send.message) shown actual tag words begun.short k.same_shown k.same_actual k.same_tag k.same_words)

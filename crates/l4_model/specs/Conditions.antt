@@ -94,7 +94,7 @@ is_nobody (LocalThread word) t = true
 is_nobody (GlobalThread id) t = is_gone t
 is_nobody _ t = false
 
--- Nobody can be sent to by anythread or anylocalthread either.
+-- Nobody can be sent to by anythread (manual: Ipc) or anylocalthread (own) either.
 abbrev pub is_no_destination : Id → Option Found → Bool
 is_no_destination AnyThread t = true
 is_no_destination AnyLocalThread t = true
@@ -130,13 +130,13 @@ may_still_accept m r shown (Receiving receive since) = accepts m receive.from sh
 may_still_accept m r shown Sending = call_accepts m r r.now.send shown
 may_still_accept m r shown _ = false
 
--- A send of timeout zero may be refused (manual: Ipc, send timeout): its receiver is alive, and neither waits and accepts it nor is
--- in a call between processors that would still accept it.
+-- A send of timeout zero may be refused (manual: Ipc, send timeout; where is own): its receiver is alive, and neither waits and
+-- accepts it nor is in a call between processors that would still accept it.
 abbrev pub is_refusable : Machine → Send → Option Found → Bool
 is_refusable m send None = false
 is_refusable m send (Some r) = is_alive r.now.phase && not (may_still_accept m r send.message.shown r.now.phase)
 
--- A send may time out: of timeout zero where it may be refused, else where its period has passed and it waits.
+-- A send may time out: of timeout zero where it may be refused, else where its period has passed and it waits in a list (own).
 abbrev pub is_timed_out : Machine → World → Pending → Bool
 is_timed_out m w p =
     has_passed p.send.period p.send.since p.sender.clock

@@ -21,7 +21,7 @@ begins send t = record t { context = record (advanced t.context) { begun = t.con
 abbrev pub waits : Receive → (now : ℕ) → Thread → Thread
 waits receive now t = record t { context = advanced t.context; phase = Receiving receive now }
 
--- Its ipc has failed. A deleted thread stays as it is.
+-- Its ipc has failed (manual: Ipc). A deleted thread stays as it is (own).
 abbrev pub fails : ℕ → Thread → Thread
 fails code t = if is_alive t.phase then record t { context = failed code t.context; phase = Ready; cancel_receive = false } else t
 
@@ -32,12 +32,12 @@ decided t = record t { send = None; cancel_send = false; cancel_receive = false 
 abbrev pub refused : ℕ → Thread → Thread
 refused code t = fails code (decided t)
 
--- It receives a message.
+-- It receives a message (manual: Ipc, receive phase).
 abbrev pub receives : Message → (tag : ℕ) → Thread → Thread
 receives message tag t = record t { context = received message tag t.context; phase = Ready; cancel_receive = false }
 
 -- Its send was delivered: the receive phase of the same call begins at once (manual: Ipc, the switch from the one phase to the
--- other is atomic), with a wish that its receive phase be cancelled kept; or the ipc has ended.
+-- other is atomic), with a wish that its receive phase be cancelled kept (own); or the ipc has ended.
 abbrev pub goes_on : Option Receive → (now : ℕ) → Thread → Thread
 goes_on (Some receive) now t = record t { phase = Receiving receive now; send = None; cancel_send = false }
 goes_on None now t = record (decided t) { context = sent t.context; phase = Ready }
@@ -54,7 +54,7 @@ has_receive_phase (Receiving receive since) send = true
 has_receive_phase Sending send = calls_to_receive send
 has_receive_phase _ send = false
 
--- It is asked for a cancellation (manual: ExchangeRegisters, `S` and `R`). `S` makes a wish in a send phase; `R` makes one in a
+-- It is asked for a cancellation (manual: ExchangeRegisters, `S` and `R`). Own: `S` makes a wish in a send phase; `R` makes one in a
 -- receive phase and in the send phase of a call that has one. Else there is no effect.
 abbrev pub asked_send : Thread → Thread
 asked_send t = record t { cancel_send = t.cancel_send || is_sending t.phase }
@@ -62,7 +62,7 @@ asked_send t = record t { cancel_send = t.cancel_send || is_sending t.phase }
 abbrev pub asked_receive : Thread → Thread
 asked_receive t = record t { cancel_receive = t.cancel_receive || has_receive_phase t.phase t.send }
 
--- It is asked for a cancellation, or it is deleted (manual: ThreadControl).
+-- It is asked for a cancellation, or it is deleted (manual: ThreadControl). Own: its registers stay, and its send goes on.
 abbrev pub asked : What → Thread → Thread
 asked CancelSend t = asked_send t
 asked CancelReceive t = asked_receive t

@@ -2,10 +2,10 @@
 use Rattle.std.specs.Prelude.{ℕ, ◌+◌, ◌<◌, ◌≤◌, ◌≡◌, Bool, true, false, if◌then◌else◌, ◌&&◌, ◌==◌, Option, Some, None, is_some, IsSomeAnd, List, [], ◌∷◌, ◌++◌, filter_map, count_by}
 use Rattle.std.specs.List.{AllByRecursion, before_first}
 use Rattle.l4_model.specs.Words.{GlobalId, same_id, tag_of_word}
-use Rattle.l4_model.specs.Machine.{Machine, Delete}
-use Rattle.l4_model.specs.World.{World, Asked, Message, receive_now, Name}
+use Rattle.l4_model.specs.Machine.{Machine, Delete, is_declared}
+use Rattle.l4_model.specs.World.{World, opening, Asked, Message, receive_now, Name}
 use Rattle.l4_model.specs.Rules.{accepts, message_of}
-use Rattle.l4_model.specs.Steps.{Step, Begin, Queue, Deliver, SendTimeout, SendNobody, SendCancel, Drop, Obey}
+use Rattle.l4_model.specs.Steps.{Step, Queue, Deliver, SendTimeout, SendNobody, SendCancel, Drop, Obey, next}
 use Rattle.l4_model.specs.Conditions.{found, undecided, receiver_of, ◌>>=◌, ◌>>◌}
 use Rattle.l4_model.specs.History.{reached, waiting, begun_name}
 
@@ -48,6 +48,10 @@ refusals_of s h = count_by (λ step. names s (refused_name step)) h
 abbrev pub drops_of : Name → List Step → ℕ
 drops_of s h = count_by (λ step. names s (dropped_name step)) h
 
+-- In how many steps a send ends.
+abbrev pub ends_of : Name → List Step → ℕ
+ends_of s h = deliveries_of s h + refusals_of s h + drops_of s h
+
 -- No send is delivered twice.
 abbrev pub AtMostOnce : List Step → Type 0
 AtMostOnce h = (s : Name) → deliveries_of s h ≤ 1
@@ -76,17 +80,18 @@ pub record Carries (message : Message) (shown actual : GlobalId) (tag : ℕ) (wo
   pub same_shown : shown ≡ message.shown
   pub same_actual : actual ≡ message.actual
 
--- A step, if it delivers this send, delivers this message.
-abbrev pub DeliversAs : Name → Message → Step → Type 0
-DeliversAs s message (Deliver t receiver shown actual tag words) = same_name s t ≡ true → Carries message shown actual tag words
-DeliversAs s message _ = Unit {0}
+-- The message of a send: what stands in its thread's registers at the step that begins it. None where no such step is reached.
+abbrev pub message_begun : Machine → World → Name → List Step → Option Message
+message_begun m w s [] = None
+message_begun m w s (step ∷ steps) =
+    if names s (begun_name step) then message_at m w s.thread else (next m w step >>= λ v. message_begun m v s steps)
 
--- What is delivered is what stood in the sender's registers when the send began.
+-- Before each delivery stands the step that began its send, and what is delivered is what stood in the sender's registers there.
 abbrev pub IsUnaltered : Machine → List Step → Type 0
 IsUnaltered m h =
-    (before after : List Step) (s : Name) (w : World) →
-    h ≡ before ++ Begin s ∷ after → reached m before ≡ Some w →
-    IsSomeAnd (message_at m w s.thread) (λ message. AllByRecursion (DeliversAs s message) after)
+    (before after : List Step) (s : Name) (receiver shown actual : GlobalId) (tag : ℕ) (words : List ℕ) →
+    h ≡ before ++ Deliver s receiver shown actual tag words ∷ after →
+    IsSomeAnd (message_begun m (opening m) s before) (λ message. Carries message shown actual tag words)
 
 -- The sends that were queued before this one.
 abbrev pub queued_before : Name → List Step → List Name
@@ -124,22 +129,30 @@ NoneAfterDelete m h =
     h ≡ before ++ Obey caller ∷ after → reached m before ≡ Some w → undone m w caller ≡ Some (record { target = target; what = Delete }) →
     AllByRecursion (λ step. is_delivered_to target step ≡ false) after
 
--- A send begins once, and then it is delivered, refused, dropped, or waits: one of these, and once. Nothing
--- of this happens to a send that never began.
-pub record IsAccounted (m : Machine) (h : List Step) (w : World) (s : Name) : Type 0 where
-  pub once : begins_of s h ≤ 1
-  pub parts : deliveries_of s h + refusals_of s h + drops_of s h + count_by (λ p. same_name s p.0) (waiting m w h) ≡ begins_of s h
+-- A declared thread begins a send, at most once; it ends at most once, and not before it began.
+pub record IsBegunThenEnded (m : Machine) (h : List Step) (s : Name) : Type 0 where
+  pub begun_once : begins_of s h ≤ 1
+  pub by_declared : 0 < begins_of s h → is_declared m s.thread ≡ true
+  pub begun_first : (before after : List Step) → h ≡ before ++ after → ends_of s before ≤ begins_of s before
+
+abbrev pub AreBegunThenEnded : Machine → List Step → Type 0
+AreBegunThenEnded m h = (s : Name) → IsBegunThenEnded m h s
+
+-- A send that began has ended or waits: one of these, and once.
+abbrev pub IsAccounted : Machine → List Step → World → Name → Type 0
+IsAccounted m h w s = ends_of s h + count_by (λ p. same_name s p.0) (waiting m w h) ≡ begins_of s h
 
 abbrev pub AreAccounted : Machine → List Step → Type 0
 AreAccounted m h = (w : World) → reached m h ≡ Some w → (s : Name) → IsAccounted m h w s
 
--- The laws of a history. Each send is delivered at most once and unaltered, one sender's messages reach one receiver in
--- sending order, a receive takes its first acceptable waiting sender, a deleted thread receives nothing, and every other
--- begun send is refused, dropped with its deleted sender, or listed waiting.
+-- The laws of a history. What is delivered was begun, and each send is delivered at most once and unaltered, one sender's messages
+-- reach one receiver in sending order, a receive takes its first acceptable waiting sender, a deleted thread receives nothing, and
+-- every other begun send is refused, dropped with its deleted sender, or listed waiting.
 pub record IsLawful (m : Machine) (h : List Step) : Type 0 where
   pub delivered_at_most_once : AtMostOnce h
   pub delivered_unaltered : IsUnaltered m h
   pub in_sending_order : InOrder h
   pub first_acceptable_taken : TakesTurns m h
   pub nothing_after_deletion : NoneAfterDelete m h
+  pub begun_then_ended : AreBegunThenEnded m h
   pub every_send_accounted : AreAccounted m h

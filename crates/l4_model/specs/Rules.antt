@@ -19,7 +19,7 @@ takes (LocalThread word) shown local = false
 abbrev pub accepts : Machine → Id → (shown receiver : GlobalId) → Bool
 accepts m from shown receiver = takes from shown (same_space m shown receiver)
 
--- What happens to a context (manual: Ipc, output parameters). Registers change only when the operation ends.
+-- What happens to a context (manual: Ipc, output parameters). Registers change only when the operation ends (own).
 
 abbrev pub register : Context → ℕ → ℕ
 register c a = slice_index c.words a
@@ -31,22 +31,22 @@ with_register a word c = record c { words = slice_set c.words a word }
 abbrev pub advanced : Context → Context
 advanced c = record c { place = c.place + 1 }
 
--- An ipc failed with this ErrorCode: MR0 has the bit `E` alone, and nobody is `from`. Bit 0 of an ErrorCode is the phase that
--- failed, 0 for send and 1 for receive; bits 1 to 3 are the cause: 1 timeout, 2 non-existing partner, 3 cancelled.
+-- An ipc failed with this ErrorCode: MR0 has the bit `E` alone, and nobody is `from` (own). Bit 0 of an ErrorCode is the phase
+-- that failed, 0 for send and 1 for receive; bits 1 to 3 are the cause: 1 timeout, 2 non-existing partner, 3 cancelled.
 abbrev pub failed : ℕ → Context → Context
 failed code c = record c { words = slice_set c.words 0 0x8000; error = code; from = NilThread }
 
--- An ipc ended well and received nothing.
+-- An ipc ended well and received nothing. Own: MR0 is 0 then, and nobody is `from`.
 abbrev pub sent : Context → Context
 sent c = record c { words = slice_set c.words 0 0; error = 0; from = NilThread }
 
--- An ipc received a message: `from` is the sender that it shows, ActualSender the one that sent it. Registers past its words
--- keep their contents.
+-- An ipc received a message: `from` is the sender that it shows, ActualSender the one that sent it. Own: this is written of an
+-- ordinary message too, and registers past its words keep their contents.
 abbrev pub received : Message → (mr0 : ℕ) → Context → Context
 received message mr0 c =
     record c { words = mr0 ∷ message.words ++ drop (1 + length message.words) c.words; error = 0; from = GlobalThread message.shown; actual = GlobalThread message.actual }
 
--- An order (manual: ExchangeRegisters, ThreadControl) was done, ErrorCode 0, or refused, ErrorCode 2.
+-- An order (manual: ExchangeRegisters, ThreadControl) was done, ErrorCode 0, or refused, ErrorCode 2 (the codes are own).
 abbrev pub ordered : ℕ → Context → Context
 ordered code c = advanced (record c { error = code })
 
@@ -81,16 +81,19 @@ abbrev pub receive_phase : Id → Period → Option Receive
 receive_phase NilThread period = None
 receive_phase from period = Some (record { from = from; period = period })
 
--- Propagation (manual: Messages and Message Registers, `p`; Ipc, VirtualSender). An originator is permitted where it is a declared thread of the sender's space, on no other ground (own).
+-- Propagation (manual: Messages and Message Registers, `p`; Ipc, VirtualSender). An originator is permitted where it is a declared thread of
+-- the sender's space, on no other ground (own).
 abbrev pub permitted : Machine → GlobalId → Id → Option GlobalId
 permitted m sender (GlobalThread t) = if same_space m t sender then Some t else None
 permitted m sender _ = None
 
--- The originator of a propagated send: bit 12 of MR0 asks for propagation, VirtualSender names the originator.
+-- The originator of a propagated send: bit 12 of MR0 asks for propagation, VirtualSender names the originator. The other flags
+-- of a tag that is sent, bits 13 to 15, are ignored (own).
 abbrev pub originator : Machine → GlobalId → Context → Option GlobalId
 originator m sender c = if (register c 0 / 2 ^ 12) % 2 == 1 then permitted m sender c.actual else None
 
--- The message of a send that begins now. Where propagation is not asked for or not permitted, the sender is shown.
+-- The message of a send that begins now (manual: Messages and Message Registers). Where propagation is not asked for or not permitted, the
+-- sender is shown; that it then goes as an ordinary message is own.
 abbrev pub message_of : Machine → GlobalId → Context → Message
 message_of m sender c =
     record {
@@ -113,7 +116,8 @@ ipc_act m sender now c NilThread period None = RunsAlone
 ipc_act m sender now c NilThread period (Some receive) = Receives receive
 ipc_act m sender now c to period receive = Sends (request m sender now c to period receive)
 
--- An order is admitted where its target is declared, and for a cancellation of the caller's space.
+-- An order is admitted where its target is declared, and for a cancellation of the caller's space. Own: any thread may delete (in
+-- the manual, ThreadControl, a privileged one alone).
 abbrev pub is_admitted : Machine → GlobalId → GlobalId → What → Bool
 is_admitted m caller target Delete = is_declared m target
 is_admitted m caller target _ = same_space m caller target
@@ -138,6 +142,6 @@ abbrev pub received_tag : (cross : Bool) → Message → ℕ
 received_tag cross message =
     message.label * 2 ^ 16 + bit cross * 2 ^ 14 + bit message.propagated * 2 ^ 12 + length message.words
 
--- A message comes from another processor.
+-- A message comes from another processor: the one that sent it, and not the originator, is on another (own).
 abbrev pub is_cross : Machine → GlobalId → Message → Bool
 is_cross m receiver message = not (same_cpu m message.actual receiver)

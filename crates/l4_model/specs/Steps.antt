@@ -126,7 +126,7 @@ after_send_cancel m w s = do
   p.sender.now.cancel_send
   Some (without_send w p (refused 6))
 
--- The waiting send of a deleted thread is dropped.
+-- The waiting send of a deleted thread is dropped (own).
 abbrev pub after_drop : Machine → World → Name → Option World
 after_drop m w s = do
   p ← undecided m w s
@@ -139,7 +139,7 @@ abbrev pub receive_passed : Found → Phase → Bool
 receive_passed t (Receiving receive since) = has_passed receive.period since t.clock
 receive_passed t _ = false
 
--- A receive phase is over since its time is (manual: Ipc, Time): ErrorCode 3.
+-- A receive phase is over since its time is (manual: Ipc, Time), and no message that it accepts waits (own): ErrorCode 3.
 abbrev pub after_receive_timeout : Machine → World → GlobalId → Option World
 after_receive_timeout m w id = do
   t ← found m w id

@@ -1,5 +1,5 @@
 -- The ids, tags and times of the manual (X.2), and the words that stand for them in the 64-bit format. A section of the
--- manual is named by its title.
+-- manual is named by its title; a rule that names none is this project's own, and so is what is marked own beside one.
 use Rattle.std.specs.Prelude.{ℕ, ◌+◌, ◌*◌, ◌/◌, ◌%◌, ◌^◌, ◌-◌, Bool, if◌then◌else◌, ◌==◌, not, ◌&&◌, nat_lt, Option, Some, None}
 
 -- A global thread id (manual: ThreadId): a thread number and a version.
@@ -29,7 +29,7 @@ is_global t =
     nat_lt t.number (2 ^ 32) && nat_lt t.version (2 ^ 32) && not (t.version % 64 == 0)
     && not (t.number == 2 ^ 32 - 1 && t.version == 2 ^ 32 - 1)
 
--- The word of an id.
+-- The word of an id (manual: ThreadId).
 abbrev pub word_of : Id → ℕ
 word_of NilThread = 0
 word_of AnyThread = 2 ^ 64 - 1
@@ -37,7 +37,7 @@ word_of AnyLocalThread = 2 ^ 64 - 64
 word_of (LocalThread word) = word
 word_of (GlobalThread t) = t.number * 2 ^ 32 + t.version
 
--- The id that a word of 64 bits stands for.
+-- The id that a word of 64 bits stands for (manual: ThreadId).
 abbrev pub id_of_word : ℕ → Id
 id_of_word word =
     if word == 0 then NilThread
@@ -59,20 +59,20 @@ tag_of_word word = record { label = word / 2 ^ 16; flags = (word / 2 ^ 12) % 16;
 abbrev pub word_of_tag : MessageTag → ℕ
 word_of_tag tag = tag.label * 2 ^ 16 + tag.flags * 2 ^ 12 + tag.untyped
 
--- A period in ticks of a processor's clock (manual: Time). None is never.
+-- A period in ticks of a processor's clock, of a microsecond each (manual: Time; the ticks are own). None is never.
 abbrev pub Period : Type 0
 Period = Option ℕ
 
 -- What a time of 16 bits means where bit 15 is zero (manual: Time): 0 never, else the mantissa, bits 0 to 9, times the power of
--- two of the exponent, bits 10 to 14. A mantissa of 0 with another exponent than 0 means zero.
+-- two of the exponent, bits 10 to 14. A mantissa of 0 with another exponent than 0 means zero (own, but for exponent 1).
 abbrev pub period_of : ℕ → Period
 period_of time = if time == 0 then None else Some (2 ^ (time / 1024) * (time % 1024))
 
--- Bits 6 to 11 of a tag count typed words, which are left out.
+-- Bits 6 to 11 of a tag (manual: Messages and Message Registers, MsgTag) count typed words, which are left out.
 abbrev pub has_typed_words : ℕ → Bool
 has_typed_words word = not ((word / 2 ^ 6) % 64 == 0)
 
--- The period of a time. Bit 15 set would be a point in time, which is left out.
+-- The period of a time (manual: Time). Bit 15 set would be a point in time, which is left out.
 abbrev pub time_of : ℕ → Option Period
 time_of time = if nat_lt time (2 ^ 15) then Some (period_of time) else None
 

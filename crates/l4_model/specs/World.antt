@@ -10,8 +10,8 @@ pub record Name : Type 0 where
   pub k : ℕ
 
 -- The part of a thread that its own instructions read and write: MR0 to MR63 (manual: Messages and Message Registers), ErrorCode
--- (manual: Thread Control Registers), the register `from` (manual: Ipc), the one register that is VirtualSender and ActualSender
--- (manual: Thread Control Registers), its place in its script, and how many sends it began.
+-- (manual: Thread Control Registers), the register `from` (manual: Ipc), VirtualSender and ActualSender (manual: Thread Control
+-- Registers; that they are one register is own), its place in its script, and how many sends it began.
 pub record Context : Type 0 where
   pub words : List ℕ
   pub error : ℕ
@@ -25,7 +25,8 @@ pub record Receive : Type 0 where
   pub from : Id
   pub period : Period
 
--- What a message carries: its label and words, whether it is propagated, and the senders that it shows and has.
+-- What a message carries (manual: Messages and Message Registers; Ipc): its label and words, whether it is propagated, and the senders that
+-- it shows and has.
 pub record Message : Type 0 where
   pub label : ℕ
   pub words : List ℕ
@@ -33,7 +34,7 @@ pub record Message : Type 0 where
   pub shown : GlobalId
   pub actual : GlobalId
 
--- What a send asks for, fixed when it begins: its destination, its message, its period, the clock at its
+-- What a send asks for, fixed when it begins (own): its destination, its message, its period, the clock at its
 -- beginning, and the receive phase that follows it, or none.
 pub record Send : Type 0 where
   pub to : Id

@@ -9,8 +9,13 @@ const WORDS: [&str; 3] = ["audit", "m.l4", "m.trace"];
 
 const PASSED: (u8, &str, &str) = (0, "passed 8 quiet\n", "");
 
-// Tests what an audit comes to: the status, and what is written to the output and to the faults.
-fn tells<R: AllocGlobal + Abort>(rt: &R, text: &str, trace: &str, want: (u8, &str, &str)) {
+/// Tests what an audit comes to: the status, and what is written to the output and to the faults.
+pub(crate) fn tells<R: AllocGlobal + Abort>(
+    rt: &R,
+    text: &str,
+    trace: &str,
+    want: (u8, &str, &str),
+) {
     let done = does_on(rt, &WORDS, text.as_bytes(), trace.as_bytes());
     assert_eq!(rt; done.faults.as_slice(), want.2.as_bytes(), "{trace}");
     assert_eq!(rt; done.out.as_slice(), want.1.as_bytes(), "{trace}");

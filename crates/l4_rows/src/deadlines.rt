@@ -9,6 +9,7 @@ fn one_ring_has_deadlines_of_one_remainder(rt: HostRuntime) -> Result<(), Fail> 
     arena.arm(1, 6);
     arena.arm(2, 70);
     assert_eq!(rt; arena.ring_first(6), Some(0));
+    assert_eq!(rt; arena.wheel().ring_first(6), Some(0));
     assert_eq!(rt; arena.least_deadline(), Some(6));
     assert_eq!(rt; arena.pop_due(5), None);
     let popped = [arena.pop_due(70), arena.pop_due(70), arena.pop_due(70)];

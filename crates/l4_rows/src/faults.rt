@@ -38,6 +38,7 @@ fn a_faulty_line_is_named_with_its_kind(rt: HostRuntime) -> Result<(), Fail> {
         ("l4 1 64\ncpus 0\n", "2: BadNumber"),
         ("l4 1 64\ncpus 1\nthread 1.64 cpu 0 space 1\n", "3: BadId"),
         ("l4 1 64\ncpus 1\nthread 1.1 cpu 1 space 1\n", "3: BadCpu"),
+        ("l4 1 64\ncpus 16\nthread 1.1 cpu 16 space 1\n", "3: BadCpu"),
     ] {
         is_faulty(&rt, "", text, line)?;
     }

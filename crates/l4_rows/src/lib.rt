@@ -11,17 +11,25 @@ mod calls;
 #[cfg(test)]
 mod codes;
 #[cfg(test)]
+mod crossings;
+#[cfg(test)]
 mod deadlines;
 #[cfg(test)]
 mod faults;
 #[cfg(test)]
+mod letters;
+#[cfg(test)]
 mod orders;
+#[cfg(test)]
+mod processors;
 #[cfg(test)]
 mod program;
 #[cfg(test)]
 mod receives;
 #[cfg(test)]
 mod round_trips;
+#[cfg(test)]
+mod rounds;
 #[cfg(test)]
 mod runs;
 #[cfg(test)]

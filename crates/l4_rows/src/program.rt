@@ -100,6 +100,15 @@ pub(crate) fn shows<R: AllocGlobal + Abort>(
     }
 }
 
+/// Tests the status of words that ask for a trace, and that what they print passes the audit. Answers what came of them.
+pub(crate) fn ends<R: AllocGlobal + Abort>(rt: &R, words: &[&str], text: &str, status: u8) -> Done {
+    let done = does(rt, words, text.as_bytes());
+    assert_eq!(rt; done.faults.as_slice(), b"".as_slice(), "{words:?}");
+    assert_eq!(rt; done.status, status, "{words:?}");
+    passes(rt, text, &done);
+    done
+}
+
 // Whether the words ask for the trace of a run or a replay.
 fn is_trace(words: &[&str]) -> bool {
     matches!(words, ["run" | "replay", ..]) && !words.contains(&"--report")

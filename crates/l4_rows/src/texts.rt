@@ -135,7 +135,7 @@ fn each_kind_of_fault_is_named_with_its_line(rt: HostRuntime) -> Result<(), Fail
         ("", "1: BadLine"),
         ("l4 1\n", "1: BadLine"),
         ("l4 1 32\n", "1: BadNumber"),
-        ("l4 1 64\ncpus 2\n", "2: BadNumber"),
+        ("l4 1 64\ncpus 17\n", "2: BadNumber"),
     ] {
         is_faulty(&rt, "", text, line)?;
     }

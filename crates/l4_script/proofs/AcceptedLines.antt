@@ -1,5 +1,5 @@
 -- What lines say that are accepted can be spelled.
-use Rattle.std.proofs.Common.{◌≡◌, ℕ, ◌/◌, ◌%◌, ◌^◌, ◌-◌, ◌<◌, Bool, true, false, cond, eqb, ◌&&◌, List, [], length, take, drop, Some, None, Ok, refl, subst, inl, inr, arith}
+use Rattle.std.proofs.Common.{◌≡◌, ℕ, ◌/◌, ◌%◌, ◌^◌, ◌-◌, ◌<◌, ◌≤◌, Bool, true, false, cond, eqb, ◌&&◌, List, [], length, take, drop, Some, None, Ok, refl, subst, inl, inr, arith}
 use Rattle.std.specs.Prelude.{◌==◌, nat_lt, nat_le, codes, bytes_eq}
 use Rattle.std.specs.Option.{option_map}
 use Rattle.std.proofs.lemmas.Bool.{ltb-true, lt-ltb, le-leb, eqb-false, ne_eqb, and_from, and_left, and_right, not_from_false, cases_eq}
@@ -232,10 +232,9 @@ declaration_said cpus operands d e =
     subst (λ (d : Declaration). IsOpened cpus d) (same_ok _ d space.2)
     (record { global = (thread_is_written words.0.0 id.0 (needs_ok (thread_of words.0.0) BadId id.0 id.1)).0; home = processor_below cpus words.0.2 cpu.0 cpu.1; space = below; script = refl })
 
-pub processors_one : (words : List (List ℕ)) (cpus : ℕ) → processors_line words ≡ Ok cpus → cpus ≡ 1
+pub processors_said : (words : List (List ℕ)) (cpus : ℕ) → processors_line words ≡ Ok cpus → (1 ≤ cpus) × (cpus ≤ 16)
 unfolding processors_line
-processors_one words cpus e =
+processors_said words cpus e =
     let operands = bind_ok (after (codes "cpus") words) _ cpus e in
     let number = bind_ok (needs (one operands.0) BadLine) _ cpus operands.2 in
-    let within = number_within 1 1 number.0 cpus number.2 in
-    omega (arith, within.0, within.1)
+    number_within 1 16 number.0 cpus number.2

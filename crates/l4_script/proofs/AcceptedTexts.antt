@@ -21,7 +21,7 @@ use Rattle.l4_script.specs.Texts.{Target, Reading, Stage, Format, Processors, Th
 use Rattle.l4_script.specs.Canonical.{can_be_written, can_be_declared, are_apart, HasText, EachHasText}
 use Rattle.l4_script.proofs.Growing.{lawful-with_thread, lawful-extended}
 use Rattle.l4_script.proofs.Judging.{bind_ok, then_ok, must_ok, chosen, says, same_ok}
-use Rattle.l4_script.proofs.AcceptedLines.{is_said, instruction_said, IsOpened, declaration_said, processors_one}
+use Rattle.l4_script.proofs.AcceptedLines.{is_said, instruction_said, IsOpened, declaration_said, processors_said}
 
 -- The place that an instruction names is kept among the targets, with the place of its thread.
 abbrev names : (thread place : ℕ) → Target → Bool
@@ -35,7 +35,6 @@ is_kept targets thread _ = true
 -- A thread as it stands before the end of a text.
 record IsUnderway (targets : List Target) (place : ℕ) (d : Declaration) : Type 0 where
   global : is_global d.id ≡ true
-  home : d.cpu ≡ 0
   space : d.space < 2 ^ 32
   few : length d.script ≤ 1024
   said : list_all is_said d.script ≡ true
@@ -43,7 +42,6 @@ record IsUnderway (targets : List Target) (place : ℕ) (d : Declaration) : Type
 
 record IsRead (r : Reading) : Type 0 where
   lawful : IsLawful r.machine
-  one_processor : r.machine.cpus ≡ 1
   apart : are_apart r.machine.threads ≡ true
   threads : (i : ℕ) → i < length r.machine.threads → IsUnderway r.targets i (declared r.machine i)
 
@@ -68,7 +66,7 @@ all_still_kept targets more thread (instr ∷ script) h =
     and_from _ _ (still_kept targets more thread instr parts.0) (all_still_kept targets more thread script parts.1)
 
 still_underway : (targets more : List Target) (place : ℕ) (d : Declaration) → IsUnderway targets place d → IsUnderway (targets ++ more) place d
-still_underway targets more place d h = record { global = h.global; home = h.home; space = h.space; few = h.few; said = h.said; kept = all_still_kept targets more place d.script h.kept }
+still_underway targets more place d h = record { global = h.global; space = h.space; few = h.few; said = h.said; kept = all_still_kept targets more place d.script h.kept }
 
 named_last : (targets : List Target) (line thread place : ℕ) → list_any (names thread place) (targets ++ target line thread place) ≡ true
 named_last targets line thread place =
@@ -104,11 +102,10 @@ own-set (x ∷ ds) (suc k) d l e = rw (any-set x.id.number ds k d (omega arith) 
 
 -- One more thread
 
-opened : (cpus : ℕ) (targets : List Target) (place : ℕ) (d : Declaration) → cpus ≡ 1 → IsOpened cpus d → IsUnderway targets place d
-opened cpus targets place d one h =
+opened : (cpus : ℕ) (targets : List Target) (place : ℕ) (d : Declaration) → IsOpened cpus d → IsUnderway targets place d
+opened cpus targets place d h =
     record {
       global = h.global;
-      home = omega (arith, one, h.home);
       space = h.space;
       few = rw h.script (omega arith);
       said = rw h.script refl;
@@ -119,7 +116,6 @@ with_thread_read : (r : Reading) (d : Declaration) → IsRead r → IsOpened r.m
 with_thread_read r d known h room new =
     record {
       lawful = lawful-with_thread d r.machine known.lawful room h.home new;
-      one_processor = known.one_processor;
       apart = own-push r.machine.threads d known.apart new;
       threads = threads;
     }
@@ -130,7 +126,7 @@ with_thread_read r d known h room new =
           | inl lt ↦ rw (get_or_append_left r.machine.threads (d ∷ []) undeclared i lt) (known.threads i lt)
           | inr ge ↦
               let e : length r.machine.threads ≡ i = omega (arith, length_push r.machine.threads d) in
-              rw (get_or_push r.machine.threads d undeclared i e) (opened r.machine.cpus r.targets i d known.one_processor h)
+              rw (get_or_push r.machine.threads d undeclared i e) (opened r.machine.cpus r.targets i d h)
         ]
 
 declared_read : (r after : Reading) (d : Declaration) → IsRead r → IsOpened r.machine.cpus d → declared_in r d ≡ Ok after → IsRead after
@@ -151,7 +147,6 @@ more_underway : (targets : List Target) (line place : ℕ) (d : Declaration) (in
 more_underway targets line place d instr h room said =
     record {
       global = h.global;
-      home = h.home;
       space = h.space;
       few = omega (arith, length_push d.script instr);
       said = list_all-append is_said d.script (instr ∷ []) ∙ and_from _ _ h.said (and_from _ true said refl);
@@ -163,7 +158,6 @@ extended_read : (line : ℕ) (r : Reading) (instr : Instr) → IsRead r → 0 < 
 extended_read line r instr known some room said =
     record {
       lawful = lawful-extended instr r.machine known.lawful some;
-      one_processor = known.one_processor;
       apart = own-set r.machine.threads (last_place r.machine) (with_instruction instr (last_thread r.machine)) (omega arith) refl ∙ known.apart;
       threads = threads;
     }
@@ -204,11 +198,10 @@ thread_line_read line r after (name ∷ operands) known e =
     let instr = bind_ok (instruction_of name operands) _ after some.1 in
     extended_at_read line r after instr.0 known (ltb-true 0 (length r.machine.threads) (must_ok _ BadLine some.0)) (instruction_said name operands instr.0 instr.1) instr.2)
 
-nothing_is_read : (cpus : ℕ) → cpus ≡ 1 → IsRead (nothing_read cpus)
-nothing_is_read cpus one =
+nothing_is_read : (cpus : ℕ) → 1 ≤ cpus → cpus ≤ 16 → IsRead (nothing_read cpus)
+nothing_is_read cpus some limit =
     record {
-      lawful = record { machine = record { placed = λ i l. absurd (omega (arith, l)); homed = λ i l. absurd (omega (arith, l)) }; threads = omega arith };
-      one_processor = one;
+      lawful = record { machine = record { placed = λ i l. absurd (omega (arith, l)); homed = λ i l. absurd (omega (arith, l)) }; some = some; limit = limit; threads = omega arith };
       apart = refl;
       threads = λ i l. absurd (omega (arith, l));
     }
@@ -218,7 +211,8 @@ unfolding after_words
 words_sound line Format after words known e = let format = bind_ok (format_line words) _ after e in subst IsSound (same_ok _ after format.2) tt
 words_sound line Processors after words known e =
     let cpus = bind_ok (processors_line words) _ after e in
-    subst IsSound (same_ok _ after cpus.2) (nothing_is_read cpus.0 (processors_one words cpus.0 cpus.1))
+    let range = processors_said words cpus.0 cpus.1 in
+    subst IsSound (same_ok _ after cpus.2) (nothing_is_read cpus.0 range.0 range.1)
 words_sound line (Threads r) after words known e =
     let next = bind_ok (thread_line line r words) _ after e in
     subst IsSound (same_ok _ after next.2) (thread_line_read line r next.0 words known next.1)
@@ -270,9 +264,10 @@ script_hit targets m place (instr ∷ script) hits said kept =
     let kepts = and_parts (is_kept targets place instr) (list_all (is_kept targets place) script) kept in
     and_from _ _ (instruction_hit targets m place instr hits saids.0 kepts.0) (script_hit targets m place script hits saids.1 kepts.1)
 
-thread_ended : (targets : List Target) (m : Machine) (place : ℕ) → list_any (is_missed m) targets ≡ false → IsUnderway targets place (declared m place) → can_be_declared (declared m place) ≡ true
-thread_ended targets m place hits h =
-    let found = and_from (is_global (declared m place).id) _ h.global (eq-eqb (declared m place).cpu 0 h.home) in
+thread_ended : (targets : List Target) (m : Machine) (place : ℕ) → list_any (is_missed m) targets ≡ false → (declared m place).cpu < m.cpus → IsUnderway targets place (declared m place)
+    → can_be_declared m.cpus (declared m place) ≡ true
+thread_ended targets m place hits home h =
+    let found = and_from (is_global (declared m place).id) _ h.global (lt-ltb (declared m place).cpu m.cpus home) in
     and_from _ _ (and_from _ _ (and_from _ _ found (lt-ltb (declared m place).space (2 ^ 32) h.space)) (le-leb (length (declared m place).script) 1024 h.few))
     (script_hit targets m place (declared m place).script hits h.said h.kept)
 
@@ -301,10 +296,13 @@ read_written : (r : Reading) → IsRead r → find (is_missed r.machine) r.targe
 read_written r known none = (
   known.lawful.machine,
   record {
-    one_processor = known.one_processor;
+    some = known.lawful.some;
+    limit = known.lawful.limit;
     few = known.lawful.threads;
     apart = known.apart;
-    each = all_places can_be_declared r.machine.threads (λ i l. thread_ended r.targets r.machine i (not_found (is_missed r.machine) r.targets none) (known.threads i l));
+    each =
+        all_places (can_be_declared r.machine.cpus) r.machine.threads
+        (λ i l. thread_ended r.targets r.machine i (not_found (is_missed r.machine) r.targets none) (known.lawful.machine.homed i l) (known.threads i l));
   },
 )
 

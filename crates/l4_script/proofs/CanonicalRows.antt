@@ -59,16 +59,16 @@ script =
 
 abbrev machine : Machine
 machine = record {
-  cpus = 1;
+  cpus = 16;
   threads =
       record { id = global_id 1 1; cpu = 0; space = 1; script = script }
-      ∷ record { id = global_id 2 65; cpu = 0; space = 4294967295; script = [] } ∷ [];
+      ∷ record { id = global_id 2 65; cpu = 15; space = 4294967295; script = [] } ∷ [];
 }
 
 abbrev lines : List (List ℕ)
 lines =
     codes "l4 1 64"
-    ∷ codes "cpus 1"
+    ∷ codes "cpus 16"
     ∷ codes "thread 1.1 cpu 0 space 1"
     ∷ codes "set 1 10"
     ∷ codes "copy 63 0"
@@ -88,7 +88,7 @@ lines =
     ∷ codes "jump 18"
     ∷ codes "onerr 0"
     ∷ codes "end"
-    ∷ codes "thread 2.65 cpu 0 space 4294967295"
+    ∷ codes "thread 2.65 cpu 15 space 4294967295"
     ∷ []
 
 text_of_machine : canonical_text machine ≡ text lines
@@ -97,4 +97,4 @@ text_of_machine = refl
 
 has_text : HasText machine
 unfolding exponent_of
-has_text = record { one_processor = refl; few = omega arith; apart = refl; each = refl }
+has_text = record { some = omega arith; limit = omega arith; few = omega arith; apart = refl; each = refl }

@@ -55,6 +55,8 @@ pub lawful-with_thread : (d : Declaration) (m : Machine) → IsLawful m → leng
 lawful-with_thread d m lawful room home fresh =
     record {
       machine = record { placed = placed; homed = homed };
+      some = lawful.some;
+      limit = lawful.limit;
       threads = omega (arith, length_push m.threads d);
     }
   where
@@ -104,6 +106,8 @@ lawful-set : (m : Machine) (k : ℕ) (d : Declaration) → IsLawful m → k < le
 lawful-set m k d lawful in_range id cpu =
     record {
       machine = record { placed = placed; homed = homed };
+      some = lawful.some;
+      limit = lawful.limit;
       threads = omega (arith, lawful.threads, length-set m.threads k d);
     }
   where

@@ -43,13 +43,13 @@ read_on words lines stage next n h e =
     read_first words lines stage n
     ∙ ap (λ (judged : Judged Stage). judged_at n judged (λ after. read (parts lines) after (n + 1))) (after_line_read n stage words h ∙ e)
 
--- Threads
+-- What was read of a machine
 
-abbrev machine : List Declaration → Machine
-machine ds = record { cpus = 1; threads = ds }
+abbrev read_of : Machine → List Declaration → Machine
+read_of m ds = record m { threads = ds }
 
-abbrev so_far : List Declaration → List Target → Stage
-so_far ds ts = Threads (record { machine = machine ds; targets = ts })
+abbrev so_far : Machine → List Declaration → List Target → Stage
+so_far m ds ts = Threads (record { machine = read_of m ds; targets = ts })
 
 -- A thread with the instructions that were read of its script.
 abbrev partial : Declaration → List Instr → Declaration
@@ -81,27 +81,27 @@ named_is_met m k n i h = refl
 last_is : (before : List Declaration) (d : Declaration) → length (before ++ d ∷ []) - 1 ≡ length before
 last_is before d = omega (arith, length-append before (d ∷ []))
 
-last_thread_is : (before : List Declaration) (d : Declaration) → last_thread (machine (before ++ d ∷ [])) ≡ d
-last_thread_is before d = rw (last_is before d) (get_or-append_seam before d [] undeclared)
+last_thread_is : (m : Machine) (before : List Declaration) (d : Declaration) → last_thread (read_of m (before ++ d ∷ [])) ≡ d
+last_thread_is m before d = rw (last_is before d) (get_or-append_seam before d [] undeclared)
 
-extended_is : (before : List Declaration) (d : Declaration) (done : List Instr) (i : Instr) → extended i (machine (before ++ partial d done ∷ [])) ≡ machine (before ++ partial d (done ++ i ∷ []) ∷ [])
-extended_is before d done i =
-    ap machine (rw (last_is before (partial d done), get_or-append_seam before (partial d done) [] undeclared) (set-append_seam before (partial d done) [] (partial d (done ++ i ∷ []))))
+extended_is : (m : Machine) (before : List Declaration) (d : Declaration) (done : List Instr) (i : Instr) → extended i (read_of m (before ++ partial d done ∷ [])) ≡ read_of m (before ++ partial d (done ++ i ∷ []) ∷ [])
+extended_is m before d done i =
+    ap (read_of m) (rw (last_is before (partial d done), get_or-append_seam before (partial d done) [] undeclared) (set-append_seam before (partial d done) [] (partial d (done ++ i ∷ []))))
 
-extend_is : (before : List Declaration) (d : Declaration) (done : List Instr) (i : Instr) → length done < 1024 → extend i (machine (before ++ partial d done ∷ [])) ≡ Ok (machine (before ++ partial d (done ++ i ∷ []) ∷ []))
+extend_is : (m : Machine) (before : List Declaration) (d : Declaration) (done : List Instr) (i : Instr) → length done < 1024 → extend i (read_of m (before ++ partial d done ∷ [])) ≡ Ok (read_of m (before ++ partial d (done ++ i ∷ []) ∷ []))
 unfolding extend
-extend_is before d done i room =
-    rw (extended_is before d done i, last_thread_is before (partial d done), lt-ltb (length done) 1024 room) refl
+extend_is m before d done i room =
+    rw (extended_is m before d done i, last_thread_is m before (partial d done), lt-ltb (length done) 1024 room) refl
 
-declare_is : (before : List Declaration) (d : Declaration) → length before < 1024 → list_any (has_number d.id.number) before ≡ false → declare d (machine before) ≡ Ok (machine (before ++ d ∷ []))
+declare_is : (m : Machine) (before : List Declaration) (d : Declaration) → length before < 1024 → list_any (has_number d.id.number) before ≡ false → declare d (read_of m before) ≡ Ok (read_of m (before ++ d ∷ []))
 unfolding declare
-declare_is before d room fresh = rw (lt-ltb (length before) 1024 room, fresh) refl
+declare_is m before d room fresh = rw (lt-ltb (length before) 1024 room, fresh) refl
 
 -- Scripts
 
 -- The lines that are left are read to the same end from another stage, at another line.
 abbrev LeadsTo : Machine → List Declaration → List (List (List ℕ)) → Result Machine TextFault → Type 0
-LeadsTo m ds lines end = (ts : List Target) × (n : ℕ) × (are_missed m ts ≡ false) × (end ≡ read (parts lines) (so_far ds ts) n)
+LeadsTo m ds lines end = (ts : List Target) × (n : ℕ) × (are_missed m ts ≡ false) × (end ≡ read (parts lines) (so_far m ds ts) n)
 
 comes_to : (m : Machine) (ds : List Declaration) (lines : List (List (List ℕ))) (first second : Result Machine TextFault) → first ≡ second → LeadsTo m ds lines second → LeadsTo m ds lines first
 comes_to m ds lines first second e left = (left.0, left.1, left.2, e ∙ left.3)
@@ -109,21 +109,21 @@ comes_to m ds lines first second e left = (left.0, left.1, left.2, e ∙ left.3)
 -- The script of the thread that was declared last is read to its end.
 read_script : (m : Machine) (before : List Declaration) (d : Declaration) (done rest : List Instr) (lines : List (List (List ℕ))) (ts : List Target) (n : ℕ)
     → declared m (length before) ≡ d → d.script ≡ done ++ rest → length d.script ≤ 1024 → list_all (can_be_written (length d.script)) rest ≡ true → are_missed m ts ≡ false
-    → LeadsTo m (before ++ d ∷ []) lines (read (parts (map words_of_instruction rest ++ lines)) (so_far (before ++ partial d done ∷ []) ts) n)
+    → LeadsTo m (before ++ d ∷ []) lines (read (parts (map words_of_instruction rest ++ lines)) (so_far m (before ++ partial d done ∷ []) ts) n)
 read_script m before d done [] lines ts n at e room h met =
     let whole : partial d done ≡ d = ap (partial d) (sym (e ∙ append-nil done)) in
-    (ts, n, met, ap (λ (x : Declaration). read (parts lines) (so_far (before ++ x ∷ []) ts) n) whole)
+    (ts, n, met, ap (λ (x : Declaration). read (parts lines) (so_far m (before ++ x ∷ []) ts) n) whole)
 read_script m before d done (i ∷ rest) lines ts n at e room h met =
     let both = and_parts (can_be_written (length d.script) i) (list_all (can_be_written (length d.script)) rest) h in
     let size : length d.script ≡ length done + length (i ∷ rest) = ap length e ∙ length-append done (i ∷ rest) in
-    let grown = extend_is before d done i (omega (arith, size, room)) in
+    let grown = extend_is m before d done i (omega (arith, size, room)) in
     let next_ts = ts ++ targets_of n (length before) i in
-    let stage = so_far (before ++ partial d (done ++ i ∷ []) ∷ []) next_ts in
+    let stage = so_far m (before ++ partial d (done ++ i ∷ []) ∷ []) next_ts in
     let filled : 0 < length (before ++ partial d done ∷ []) = omega (arith, length-append before (partial d done ∷ [])) in
-    let said = instruction_read n (record { machine = machine (before ++ partial d done ∷ []); targets = ts }) (length d.script) i filled room both.0 in
-    let named : extended_at n (record { machine = machine (before ++ partial d done ∷ []); targets = ts }) i ≡ Ok (record { machine = machine (before ++ partial d (done ++ i ∷ []) ∷ []); targets = next_ts }) = rw (grown, last_is before (partial d done)) refl in
+    let said = instruction_read n (record { machine = read_of m (before ++ partial d done ∷ []); targets = ts }) (length d.script) i filled room both.0 in
+    let named : extended_at n (record { machine = read_of m (before ++ partial d done ∷ []); targets = ts }) i ≡ Ok (record { machine = read_of m (before ++ partial d (done ++ i ∷ []) ∷ []); targets = next_ts }) = rw (grown, last_is before (partial d done)) refl in
     let line = after_thread_line n _ _ (words_of_instruction i) (said ∙ named) in
-    let one = read_on (words_of_instruction i) (map words_of_instruction rest ++ lines) (so_far (before ++ partial d done ∷ []) ts) stage n (instruction_is_line (length d.script) i room both.0) line in
+    let one = read_on (words_of_instruction i) (map words_of_instruction rest ++ lines) (so_far m (before ++ partial d done ∷ []) ts) stage n (instruction_is_line (length d.script) i room both.0) line in
     let written : can_be_written (length (declared m (length before)).script) i ≡ true = subst (λ (x : Declaration). can_be_written (length x.script) i ≡ true) (sym at) both.0 in
     let met_too = list_any-append (is_missed m) ts (targets_of n (length before) i) ∙ or_from _ _ met (named_is_met m (length before) n i written) in
     comes_to m (before ++ d ∷ []) lines _ _ one (read_script m before d (done ++ i ∷ []) rest lines next_ts (n + 1) at (e ∙ sym (append_assoc done (i ∷ []) rest)) room both.1 met_too)
@@ -147,27 +147,27 @@ still_fresh before d (x ∷ ds) h other =
     let none : list_any (has_number x.id.number) (before ++ d ∷ []) ≡ false = list_any-append (has_number x.id.number) before (d ∷ []) ∙ or_from _ _ (not-true _ fresh.0) (or_from _ false apart refl) in
     and_from _ _ (not_from_false _ none) (still_fresh before d ds fresh.1 others.1)
 
-read_threads : (m : Machine) (before ds : List Declaration) (ts : List Target) (n : ℕ) → m.cpus ≡ 1 → m.threads ≡ before ++ ds → length m.threads ≤ 1024
-    → list_all can_be_declared ds ≡ true → are_apart ds ≡ true → are_fresh before ds ≡ true → are_missed m ts ≡ false
-    → read (parts (flat_map lines_of_thread ds)) (so_far before ts) n ≡ Ok m
-read_threads m before [] ts n one e room each apart fresh met =
-    let same : m ≡ machine before = λ i. record { cpus = one i; threads = (e ∙ append-nil before) i } in
+read_threads : (m : Machine) (before ds : List Declaration) (ts : List Target) (n : ℕ) → m.cpus ≤ 16 → m.threads ≡ before ++ ds → length m.threads ≤ 1024
+    → list_all (can_be_declared m.cpus) ds ≡ true → are_apart ds ≡ true → are_fresh before ds ≡ true → are_missed m ts ≡ false
+    → read (parts (flat_map lines_of_thread ds)) (so_far m before ts) n ≡ Ok m
+read_threads m before [] ts n limit e room each apart fresh met =
+    let same : m ≡ read_of m before = λ i. record m { threads = (e ∙ append-nil before) i } in
     ap (λ (x : Machine). unless_missed x (find (is_missed x) ts)) (sym same) ∙ rw (none_missed m ts met) refl
-read_threads m before (d ∷ ds) ts n one e room each apart fresh met =
-    let declarations = and_parts (can_be_declared d) (list_all can_be_declared ds) each in
+read_threads m before (d ∷ ds) ts n limit e room each apart fresh met =
+    let declarations = and_parts (can_be_declared m.cpus d) (list_all (can_be_declared m.cpus) ds) each in
     let numbers = and_parts (not (list_any (has_number d.id.number) ds)) (are_apart ds) apart in
     let news = and_parts (not (list_any (has_number d.id.number) before)) (are_fresh before ds) fresh in
-    let can = declarable d declarations.0 in
+    let can = declarable m.cpus d declarations.0 in
     let size : length m.threads ≡ length before + length (d ∷ ds) = ap length e ∙ length-append before (d ∷ ds) in
-    let grown = declare_is before (partial d []) (omega (arith, size, room)) (not-true _ news.0) in
-    let said = thread_line_read n (record { machine = machine before; targets = ts }) d refl can in
-    let named : declared_in (record { machine = machine before; targets = ts }) (partial d []) ≡ Ok (record { machine = machine (before ++ partial d [] ∷ []); targets = ts }) = rw grown refl in
+    let grown = declare_is m before (partial d []) (omega (arith, size, room)) (not-true _ news.0) in
+    let said = thread_line_read n (record { machine = read_of m before; targets = ts }) d limit can in
+    let named : declared_in (record { machine = read_of m before; targets = ts }) (partial d []) ≡ Ok (record { machine = read_of m (before ++ partial d [] ∷ []); targets = ts }) = rw grown refl in
     let line = after_thread_line n _ _ (words_of_thread d) (said ∙ named) in
     let lines = map words_of_instruction d.script ++ flat_map lines_of_thread ds in
-    let first = read_on (words_of_thread d) lines (so_far before ts) (so_far (before ++ partial d [] ∷ []) ts) n (thread_is_line d can) line in
+    let first = read_on (words_of_thread d) lines (so_far m before ts) (so_far m (before ++ partial d [] ∷ []) ts) n (thread_is_line m.cpus d limit can) line in
     let at : declared m (length before) ≡ d = ap (λ (xs : List Declaration). get_or xs (length before) undeclared) e ∙ get_or-append_seam before d ds undeclared in
     let script = read_script m before d [] d.script (flat_map lines_of_thread ds) ts (n + 1) at refl can.room can.script met in
-    let left = read_threads m (before ++ d ∷ []) ds script.0 script.1 one (e ∙ sym (append_assoc before (d ∷ []) ds)) room declarations.1 numbers.1 (still_fresh before d ds news.1 (not-true _ numbers.0)) script.2 in
+    let left = read_threads m (before ++ d ∷ []) ds script.0 script.1 limit (e ∙ sym (append_assoc before (d ∷ []) ds)) room declarations.1 numbers.1 (still_fresh before d ds news.1 (not-true _ numbers.0)) script.2 in
     first ∙ script.3 ∙ left
 
 -- Whole texts
@@ -178,21 +178,21 @@ script_is_lines size (i ∷ script) room h =
     let both = and_parts (can_be_written size i) (list_all (can_be_written size) script) h in
     and_from _ _ (instruction_is_line size i room both.0) (script_is_lines size script room both.1)
 
-threads_are_lines : (ds : List Declaration) → list_all can_be_declared ds ≡ true → are_lines (flat_map lines_of_thread ds) ≡ true
-threads_are_lines [] h = refl
-threads_are_lines (d ∷ ds) h =
-    let both = and_parts (can_be_declared d) (list_all can_be_declared ds) h in
-    let can = declarable d both.0 in
+threads_are_lines : (cpus : ℕ) (ds : List Declaration) → cpus ≤ 16 → list_all (can_be_declared cpus) ds ≡ true → are_lines (flat_map lines_of_thread ds) ≡ true
+threads_are_lines cpus [] limit h = refl
+threads_are_lines cpus (d ∷ ds) limit h =
+    let both = and_parts (can_be_declared cpus d) (list_all (can_be_declared cpus) ds) h in
+    let can = declarable cpus d both.0 in
     list_all-append are_line (lines_of_thread d) (flat_map lines_of_thread ds)
-    ∙ and_from _ _ (and_from _ _ (thread_is_line d can) (script_is_lines (length d.script) d.script can.room can.script)) (threads_are_lines ds both.1)
+    ∙ and_from _ _ (and_from _ _ (thread_is_line cpus d limit can) (script_is_lines (length d.script) d.script can.room can.script)) (threads_are_lines cpus ds limit both.1)
 
 pub read_back : (m : Machine) → HasText m → length (canonical_text m) ≤ 0x100000 → machine_of_text (canonical_text m) ≡ Ok m
 read_back m h short =
-    let one = h.one_processor in
+    let limit = h.limit in
     let threads = flat_map lines_of_thread m.threads in
     let cpus = codes "cpus" ∷ decimal m.cpus ∷ [] in
-    let split = text_is_split (lines_of m) (and_from _ _ refl (and_from _ _ (processors_is_line m.cpus one) (threads_are_lines m.threads h.each))) in
+    let split = text_is_split (lines_of m) (and_from _ _ refl (and_from _ _ (processors_is_line m.cpus limit) (threads_are_lines m.cpus m.threads limit h.each))) in
     let format = read_on (codes "l4" ∷ codes "1" ∷ codes "64" ∷ []) (cpus ∷ threads) Format Processors 1 refl format_read in
-    let processors = read_on cpus threads Processors (so_far [] []) 2 (processors_is_line m.cpus one) (processors_read m.cpus one ∙ ap (λ (n : ℕ). Ok (Threads (nothing_read n))) one) in
-    let left = read_threads m [] m.threads [] 3 one refl h.few h.each h.apart (fresh_at_first m.threads) refl in
+    let processors = read_on cpus threads Processors (so_far m [] []) 2 (processors_is_line m.cpus limit) (processors_read m.cpus h.some limit) in
+    let left = read_threads m [] m.threads [] 3 limit refl h.few h.each h.apart (fresh_at_first m.threads) refl in
     rw (le-ltb 0x100000 (length (canonical_text m)) short) (ap (λ (ps : List (List ℕ)). read ps Format 1) split ∙ format ∙ processors ∙ left)

@@ -345,6 +345,14 @@ no_threads_read = refl
 abbrev no_thread : Result Machine TextFault
 no_thread = Ok (record { cpus = 1; threads = [] })
 
+-- Two threads of different processors.
+abbrev apart : Result Machine TextFault
+apart =
+    Ok (record {
+      cpus = 16;
+      threads = record { id = global_id 1 1; cpu = 15; space = 1; script = [] } ∷ record { id = global_id 2 1; cpu = 0; space = 1; script = [] } ∷ [];
+    })
+
 abbrev script : List Instr → Result Machine TextFault
 script instrs = Ok (record { cpus = 1; threads = thread 1 1 instrs ∷ [] })
 
@@ -364,9 +372,15 @@ texts =
     ∷ (text (codes "l4 1 64 1" ∷ []), Err (fault_at 1 BadLine))
     ∷ (text (codes "cpus 1" ∷ []), Err (fault_at 1 BadLine))
     ∷ (text (codes "l4 1 64" ∷ codes "cpus 0" ∷ []), Err (fault_at 2 BadNumber))
-    ∷ (text (codes "l4 1 64" ∷ codes "cpus 2" ∷ []), Err (fault_at 2 BadNumber))
+    ∷ (text (codes "l4 1 64" ∷ codes "cpus 17" ∷ []), Err (fault_at 2 BadNumber))
+    ∷ (text (codes "l4 1 64" ∷ codes "cpus x" ∷ []), Err (fault_at 2 BadNumber))
+    ∷ (text (codes "l4 1 64" ∷ codes "cpus 2 2" ∷ []), Err (fault_at 2 BadLine))
     ∷ (text (codes "l4 1 64" ∷ codes "cpus" ∷ []), Err (fault_at 2 BadLine))
     ∷ (text (codes "l4 1 64" ∷ codes "thread 1.1 cpu 0 space 1" ∷ []), Err (fault_at 2 BadLine))
+    -- Processors
+    ∷ (text (codes "l4 1 64" ∷ codes "cpus 16" ∷ codes "thread 1.1 cpu 0xf space 1" ∷ codes "thread 2.1 cpu 0 space 1" ∷ []), apart)
+    ∷ (text (codes "l4 1 64" ∷ codes "cpus 16" ∷ codes "thread 1.1 cpu 16 space 1" ∷ []), Err (fault_at 3 BadCpu))
+    ∷ (text (codes "l4 1 64" ∷ codes "cpus 2" ∷ codes "thread 1.1 cpu 1 space 1" ∷ codes "thread 2.1 cpu 2 space x" ∷ []), Err (fault_at 4 BadCpu))
     -- Threads
     ∷ (behind_headers (codes "thread 1.1 cpu 0x0 space 4294967295" ∷ []), Ok (record { cpus = 1; threads = thread 1 4294967295 [] ∷ [] }))
     ∷ (behind_thread [], script [])

@@ -260,42 +260,42 @@ instruction_read n r size (OnErr place) some l h =
     rw (lt-ltb 0 (length r.machine.threads) some, number_read place (omega (arith, upper, l))) refl
 instruction_read n r size End some l h = rw (lt-ltb 0 (length r.machine.threads) some) refl
 
-pub record IsDeclarable (d : Declaration) : Type 0 where
+pub record IsDeclarable (cpus : ℕ) (d : Declaration) : Type 0 where
   pub global : is_global d.id ≡ true
-  pub home : d.cpu ≡ 0
+  pub home : d.cpu < cpus
   pub space : d.space < 2 ^ 32
   pub room : length d.script ≤ 1024
   pub script : list_all (can_be_written (length d.script)) d.script ≡ true
 
-pub declarable : (d : Declaration) → can_be_declared d ≡ true → IsDeclarable d
-declarable d h =
+pub declarable : (cpus : ℕ) (d : Declaration) → can_be_declared cpus d ≡ true → IsDeclarable cpus d
+declarable cpus d h =
     let all_4 = and_parts _ _ h in
     let all_3 = and_parts _ _ all_4.0 in
     let all_2 = and_parts _ _ all_3.0 in
     let all_1 = and_parts _ _ all_2.0 in
     record {
       global = all_1.0;
-      home = eqb-true d.cpu 0 all_1.1;
+      home = ltb-true d.cpu cpus all_1.1;
       space = ltb-true d.space (2 ^ 32) all_2.1;
       room = leb-true (length d.script) 1024 all_3.1;
       script = all_4.1;
     }
 
-pub thread_is_line : (d : Declaration) → IsDeclarable d → are_line (words_of_thread d) ≡ true
-thread_is_line d h =
+pub thread_is_line : (cpus : ℕ) (d : Declaration) → cpus ≤ 16 → IsDeclarable cpus d → are_line (words_of_thread d) ≡ true
+thread_is_line cpus d limit h =
     let home = h.home in
     let space = h.space in
-    let cpu = number_is_plain d.cpu (omega (arith, home)) in
+    let cpu = number_is_plain d.cpu (omega (arith, home, limit)) in
     let number = number_is_plain d.space (omega (arith, space)) in
     and_from _ _ (thread_is_plain d.id h.global) (and_from _ _ cpu (and_from _ _ number refl))
 
-pub thread_line_read : (n : ℕ) (r : Reading) (d : Declaration) → r.machine.cpus ≡ 1 → IsDeclarable d → thread_line n r (words_of_thread d) ≡ declared_in r (record d { script = [] })
+pub thread_line_read : (n : ℕ) (r : Reading) (d : Declaration) → r.machine.cpus ≤ 16 → IsDeclarable r.machine.cpus d → thread_line n r (words_of_thread d) ≡ declared_in r (record d { script = [] })
 unfolding thread_line declaration_of processor_of
-thread_line_read n r d one h =
+thread_line_read n r d limit h =
     let home = h.home in
     let space = h.space in
-    let below : nat_lt d.cpu r.machine.cpus ≡ true = lt-ltb d.cpu r.machine.cpus (omega (arith, home, one)) in
-    rw (thread_is_read d.id h.global, number_read d.cpu (omega (arith, home)), below, ranged_read 0 (2 ^ 32 - 1) d.space (omega arith) (omega (arith, space)) (omega arith)) refl
+    let below : nat_lt d.cpu r.machine.cpus ≡ true = lt-ltb d.cpu r.machine.cpus home in
+    rw (thread_is_read d.id h.global, number_read d.cpu (omega (arith, home, limit)), below, ranged_read 0 (2 ^ 32 - 1) d.space (omega arith) (omega (arith, space)) (omega arith)) refl
 
 -- The two first lines
 
@@ -303,9 +303,9 @@ pub format_read : after_words 1 Format (codes "l4" ∷ codes "1" ∷ codes "64" 
 unfolding after_words format_line number_from number_of
 format_read = refl
 
-pub processors_read : (cpus : ℕ) → cpus ≡ 1 → after_words 2 Processors (codes "cpus" ∷ decimal cpus ∷ []) ≡ Ok (Threads (nothing_read cpus))
+pub processors_read : (cpus : ℕ) → 1 ≤ cpus → cpus ≤ 16 → after_words 2 Processors (codes "cpus" ∷ decimal cpus ∷ []) ≡ Ok (Threads (nothing_read cpus))
 unfolding after_words processors_line
-processors_read cpus one = rw (ranged_read 1 1 cpus (omega (arith, one)) (omega (arith, one)) (omega arith)) refl
+processors_read cpus some limit = rw (ranged_read 1 16 cpus some limit (omega arith)) refl
 
-pub processors_is_line : (cpus : ℕ) → cpus ≡ 1 → are_line (codes "cpus" ∷ decimal cpus ∷ []) ≡ true
-processors_is_line cpus one = one_number (codes "cpus") cpus refl refl (omega (arith, one))
+pub processors_is_line : (cpus : ℕ) → cpus ≤ 16 → are_line (codes "cpus" ∷ decimal cpus ∷ []) ≡ true
+processors_is_line cpus limit = one_number (codes "cpus") cpus refl refl (omega (arith, limit))

@@ -110,9 +110,10 @@ can_be_written size (Jump place) = nat_le place size
 can_be_written size (OnErr place) = nat_le place size
 can_be_written size End = true
 
-abbrev pub can_be_declared : Declaration → Bool
-can_be_declared d =
-    is_global d.id && d.cpu == 0 && nat_lt d.space (2 ^ 32) && nat_le (length d.script) 1024
+-- A thread of a machine of this number of processors.
+abbrev pub can_be_declared : (cpus : ℕ) → Declaration → Bool
+can_be_declared cpus d =
+    is_global d.id && nat_lt d.cpu cpus && nat_lt d.space (2 ^ 32) && nat_le (length d.script) 1024
     && list_all (can_be_written (length d.script)) d.script
 
 -- No thread number stands twice.
@@ -121,10 +122,11 @@ are_apart [] = true
 are_apart (d ∷ ds) = not (list_any (has_number d.id.number) ds) && are_apart ds
 
 pub record HasText (m : Machine) : Type 0 where
-  pub one_processor : m.cpus ≡ 1
+  pub some : 1 ≤ m.cpus
+  pub limit : m.cpus ≤ 16
   pub few : length m.threads ≤ 1024
   pub apart : are_apart m.threads ≡ true
-  pub each : list_all can_be_declared m.threads ≡ true
+  pub each : list_all (can_be_declared m.cpus) m.threads ≡ true
 
 -- A machine that has a canonical text is what is read of it, unless that text is too long.
 abbrev pub IsReadBack : Type 0

@@ -8,6 +8,8 @@ use Rattle.l4_core_model.specs.Runs.{IsMachine}
 -- A machine as a text declares it.
 pub record IsLawful (m : Machine) : Type 0 where
   pub machine : IsMachine m
+  pub some : 1 ≤ m.cpus
+  pub limit : m.cpus ≤ 16
   pub threads : length m.threads ≤ 1024
 
 abbrev pub has_number : ℕ → Declaration → Bool

@@ -20,12 +20,12 @@ format_line words = do
   width ← number_from 64 64 numbers.1
   Ok tt
 
--- `cpus N`, N 1.
+-- `cpus N`, N 1 to 16.
 unfoldable pub processors_line : List (List ℕ) → Judged ℕ
 processors_line words = do
   operands ← after (codes "cpus") words
   number ← needs (one operands) BadLine
-  number_from 1 1 number
+  number_from 1 16 number
 
 -- A number below the number of processors.
 unfoldable pub processor_of : (cpus : ℕ) → List ℕ → Judged ℕ

@@ -18,10 +18,14 @@ pub const MOST_THREADS: usize = 1024;
 /// How many instructions a script has at most.
 pub const MOST_INSTRUCTIONS: usize = 1024;
 
-/// A declared thread: its id, its address space by a number, and its script. Its processor is 0.
+/// How many processors a machine has at most.
+pub const MOST_PROCESSORS: u8 = 16;
+
+/// A declared thread: its id, its processor and its address space by their numbers, and its script.
 #[derive(Debug, Drop)]
 pub struct Declaration {
     id: GlobalId,
+    cpu: u8,
     space: u32,
     script: Vec<Instr>,
 }
@@ -34,18 +38,19 @@ impl Model for Declaration {
 
     ghost use Rattle.l4_script.specs.Scripts.{instr_of};
 
-    ghost view = { λ d. record { id = d.id; cpu = 0; space = d.space; script = map instr_of d.script.items } };
+    ghost view = { λ d. record { id = d.id; cpu = d.cpu; space = d.space; script = map instr_of d.script.items } };
 
     ghost invariant = { λ d. length d.script.items ≤ 1024 };
 }
 
 impl Declaration {
     /// A thread with an empty script.
-    pub(crate) fn new(alloc: Global, id: GlobalId, space: u32) -> Declaration
-        ensures { result ≡ record { id = id; cpu = 0; space = space; script = [] } }
+    pub(crate) fn new(alloc: Global, id: GlobalId, cpu: u8, space: u32) -> Declaration
+        ensures { result ≡ record { id = id; cpu = cpu; space = space; script = [] } }
     {
         Declaration {
             id,
+            cpu,
             space,
             script: Vec::new(alloc),
         }
@@ -58,12 +63,11 @@ impl Declaration {
         self.id
     }
 
-    /// The thread's processor.
+    /// The number of the thread's processor, below the number of the machine's.
     pub fn cpu(&self) -> u8
         ensures { result ≡ self.now.cpu }
     {
-        let _ = &self.space;
-        0
+        self.cpu
     }
 
     /// The number of the thread's address space.
@@ -97,15 +101,17 @@ impl Declaration {
     {
         Ok(Declaration {
             id: self.id,
+            cpu: self.cpu,
             space: self.space,
             script: Vec::from_slice(alloc, self.script.as_slice())?,
         })
     }
 }
 
-/// A machine of one processor: its threads in order of declaration, at most 1,024. No thread number stands twice.
+/// A machine of 1 to 16 processors: their number, and its threads in order of declaration, at most 1,024. No thread number stands twice.
 #[derive(Debug, Drop)]
 pub struct Machine {
+    cpus: u8,
     threads: Vec<Declaration>,
     // The ids of the threads in the same order, by which a place is found.
     places: IndexSet<GlobalId>,
@@ -118,32 +124,35 @@ impl Model for Machine {
 
     ghost use Rattle.l4_script.specs.Machines.{IsLawful};
 
-    ghost view = { λ m. record { cpus = 1; threads = m.threads.items } };
+    ghost view = { λ m. record { cpus = m.cpus; threads = m.threads.items } };
 
     ghost use Rattle.std.specs.Prelude.{◌≡◌, map};
 
-    ghost invariant = { λ m. IsLawful (record { cpus = 1; threads = m.threads.items }) × (m.places.keys ≡ map (λ d. d.id) m.threads.items) };
+    ghost invariant = { λ m. IsLawful (record { cpus = m.cpus; threads = m.threads.items }) × (m.places.keys ≡ map (λ d. d.id) m.threads.items) };
 }
 
 impl Machine {
-    /// A machine without threads.
-    pub(crate) fn new(alloc: Global) -> Machine
-        ensures { result ≡ record { cpus = 1; threads = [] } }
+    /// A machine of so many processors, without threads.
+    pub(crate) fn new(alloc: Global, cpus: u8) -> Machine
+        requires some { 1 ≤ cpus }
+        requires limit { cpus ≤ 16 }
+        ensures { result ≡ record { cpus = cpus; threads = [] } }
     {
         Machine {
+            cpus,
             threads: Vec::new(alloc),
             places: IndexSet::new(alloc),
         }
     }
 
-    /// The number of processors.
+    /// The number of processors, 1 to 16.
     pub fn cpus(&self) -> u8
         ensures value { result ≡ self.now.cpus }
-        ensures one { result ≡ 1 }
+        ensures some { 1 ≤ result }
+        ensures limit { result ≤ 16 }
         ensures lawful { IsMachine self.now }
     {
-        let _ = &self.threads;
-        1
+        self.cpus
     }
 
     /// The threads in order of declaration, at most 1,024.
@@ -183,7 +192,7 @@ impl Machine {
     // Appends a thread.
     pub(crate) fn declare(&mut self, thread: Declaration) -> Result<(), NoMemory>
         requires room { length self.old.threads < 1024 }
-        requires home { thread.cpu ≡ 0 }
+        requires home { thread.cpu < self.old.cpus }
         requires fresh { is_taken thread.id.number self.old ≡ false }
         ensures ok { OnOk result (self.new ≡ with_thread thread self.old) }
         ensures err { OnErr result (self.new ≡ self.old) }
@@ -215,6 +224,7 @@ impl Machine {
             threads.push(thread.try_clone(alloc)?)?;
         }
         Ok(Machine {
+            cpus: self.cpus,
             threads,
             places: self.places.clone()?,
         })

@@ -4,11 +4,11 @@ use Rattle.l4_split.proofs.Lists.{get_other_place}
 use Rattle.l4_split.proofs.Turns.Choices.{turn_then}
 use Rattle.std.specs.Option.{option_map}
 use Rattle.l4_core_model.specs.Local.{Local}
-use Rattle.l4_core_model.proofs.Knows.{get-changed}
+use Rattle.l4_core_model.proofs.Changed.{get-changed}
 use Rattle.std.proofs.lemmas.Bool.{eqb-true}
 use Rattle.l4_model.specs.Steps.{Tick}
 use Rattle.l4_core_model.specs.Mail.{handle}
-use Rattle.l4_core_model.proofs.Remembers.{apart}
+use Rattle.l4_core_model.proofs.Apart.{apart}
 use Rattle.l4_model.proofs.Chains.{bind_then, guard_then, some_is}
 use Rattle.l4_model.specs.Machine.{Machine}
 use Rattle.l4_split.proofs.Relation.Views.{amid, nowhere, scene}

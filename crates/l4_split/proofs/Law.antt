@@ -13,7 +13,7 @@ use Rattle.l4_split.proofs.Letters.Gone.{handles_gone}
 use Rattle.l4_split.proofs.Orders.Ordered.{handles_order}
 use Rattle.l4_split.proofs.Orders.Obeyed.{handles_order_done}
 use Rattle.l4_split.proofs.Lists.{all_join, all_without}
-use Rattle.l4_core_model.proofs.Law.{run-append, told-last}
+use Rattle.l4_core_model.proofs.Telling.{run-append, told-last}
 use Rattle.l4_core_model.specs.Runs.{told, Happened, Happening, IsMachine, Posted, Run, System, at_rest, core_run, done, happens, letters, opening_run, posted, taken, then_event}
 use Rattle.std.proofs.lemmas.List.FromFn.{length-map-range_with_len}
 use Rattle.l4_model.proofs.Lawful.{lawful}
@@ -25,7 +25,7 @@ use Rattle.std.specs.Prelude.{slice_get}
 use Rattle.l4_split.proofs.Letters.AddressedEvents.{turn_addressed, handled_addressed}
 use Rattle.l4_split.proofs.Promises.Choosing.{turn_keeps}
 use Rattle.l4_split.proofs.Letters.Lawful.{all_lawful, first_lawful, AreAddressed}
-use Rattle.l4_core_model.proofs.Knows.{length-changed}
+use Rattle.l4_core_model.proofs.Changed.{length-changed}
 use Rattle.l4_split.proofs.Relation.Rows.{Matches}
 use Rattle.l4_split.specs.Laws.{IsLawfulRun, LettersAreLawful}
 use Rattle.l4_split.proofs.Relation.Opening.{opening_promised, opening_relates}

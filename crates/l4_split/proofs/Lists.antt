@@ -7,8 +7,8 @@ use Rattle.std.proofs.lemmas.List.{append-nil}
 use Rattle.std.proofs.lemmas.List.Elements.{filter-append}
 use Rattle.l4_model.specs.World.{changed}
 use Rattle.l4_core_model.specs.Plain as plain
-use Rattle.l4_core_model.proofs.Knows.{same_nat, blocks}
-use Rattle.l4_core_model.proofs.Remembers.{apart}
+use Rattle.l4_core_model.proofs.Changed.{same_nat, blocks}
+use Rattle.l4_core_model.proofs.Apart.{apart}
 use Rattle.l4_model.proofs.Lists.{or_right}
 use Rattle.l4_split.proofs.Relation.Views.{is_of}
 

@@ -1,5 +1,6 @@
 pub mod Changes
 pub mod Ipcs
+pub mod Messages
 pub mod Parts
 pub mod PhaseView
 pub mod Requests

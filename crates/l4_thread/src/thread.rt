@@ -1,5 +1,5 @@
 //! The part of a thread that its own instructions read and write.
-ghost use Rattle.std.specs.Prelude.{◌≡◌, ◌<◌, ◌^◌, ◌+◌, ◌%◌, IfSome, false, true, take, drop};
+ghost use Rattle.std.specs.Prelude.{◌≡◌, ◌<◌, ◌^◌, ◌+◌, ◌%◌, IfSome, false, true, take, drop, length};
 ghost use Rattle.std.specs.Option.{option_map};
 ghost use Rattle.l4_model.specs.Words.{word_of_tag};
 ghost use Rattle.l4_model.specs.World.{opening_context};
@@ -7,6 +7,7 @@ ghost use Rattle.l4_model.specs.Rules.{failed, sent, received, ordered, advanced
 ghost use Rattle.l4_types.specs.Codes.{code_of};
 ghost use Rattle.l4_types.specs.PeriodView.{period_of, IsTimely};
 ghost use Rattle.l4_script.specs.Scripts.{instr_of, ipc_of, to_of};
+ghost use Rattle.l4_thread.specs.Messages.{unlabelled};
 ghost use Rattle.l4_thread.specs.Requests.{originator_if, message_if, phases_of, phases_from, phases_begun, receive_from, counted, AreTimely, asks_to_send, is_end};
 
 use crate::requests::Request;
@@ -163,17 +164,18 @@ impl Thread {
         }
     }
 
-    /// An Ipc received a message, with this tag in message register 0. Registers past its words keep their contents.
-    pub fn received(&mut self, message: &Message, tag: MsgTag)
-        ensures { self.new ≡ record self.old { context = received message.now (word_of_tag tag) self.old.context } }
+    /// An Ipc received a message of these words, at most 63, with this tag in message register 0. It shows one sender, and another one may
+    /// have sent it. Registers past its words keep their contents.
+    pub fn received(&mut self, words: &[u64], shown: GlobalId, actual: GlobalId, tag: MsgTag)
+        requires { length words.now < 64 }
+        ensures { self.new ≡ record self.old { context = received (unlabelled words.now shown actual) (word_of_tag tag) self.old.context } }
     {
-        let words = message.words();
         let end = words.len() + 1;
         self.regs.words[0] = tag.raw();
         self.regs.words[1..end].copy_from_slice(words);
         self.regs.error = 0;
-        self.regs.from = message.shown().id();
-        self.regs.actual = message.actual().id();
+        self.regs.from = shown.id();
+        self.regs.actual = actual.id();
     }
 
     /// An Ipc ended well and received nothing.

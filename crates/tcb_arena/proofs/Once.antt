@@ -1,6 +1,6 @@
 -- Each block is armed at most once, since it stands in one place of one ring.
 use Rattle.std.specs.Prelude.{slice_get, Some, drop}
-use Rattle.std.proofs.Common.{◌≡◌, ℕ, ◌+◌, ◌<◌, ◌≤◌, true, false, cond, eqb, ◌||◌, List, [], ◌∷◌, length, map, get_or, refl, sym, ◌∙◌, ap, subst, ⊎_elim, arith, zero, suc}
+use Rattle.std.proofs.Common.{◌≡◌, ℕ, ◌+◌, ◌<◌, ◌≤◌, true, false, cond, eqb, ◌||◌, List, [], ◌∷◌, map, get_or, refl, sym, ◌∙◌, ap, subst, ⊎_elim, arith, zero, suc}
 use Rattle.std.proofs.lemmas.Bool.{cases_eq, ne_eqb, eq-eqb, cases_lt, or_left, or_right, or_cases, false≢true, eqb-true, cases_Bool}
 use Rattle.std.specs.List.{list_any}
 use Rattle.l4_core_model.specs.Plain.{put_entry, without_block}

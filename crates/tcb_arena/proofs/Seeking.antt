@@ -1,12 +1,12 @@
 -- The first entry of all rings, by one ring after another in whatever order.
-use Rattle.std.specs.Prelude.{slice_get, Some, None, Option, take, drop, is_some, ◌==◌}
-use Rattle.std.proofs.Common.{◌≡◌, ◌≢◌, ℕ, ◌+◌, ◌-◌, ◌<◌, ◌≤◌, ◌%◌, Bool, true, false, cond, leb, ◌&&◌, not, ◌⊎◌, inl, inr, List, [], ◌∷◌, length, map, get_or, set, refl, sym, ◌∙◌, ap, subst, ⊎_elim, arith, zero, suc, get_or-set_same, get_or-set_other}
+use Rattle.std.specs.Prelude.{slice_get, Some, None, Option, take, is_some, ◌==◌}
+use Rattle.std.proofs.Common.{◌≡◌, ◌≢◌, ℕ, ◌+◌, ◌-◌, ◌<◌, ◌≤◌, ◌%◌, Bool, true, false, leb, ◌&&◌, not, ◌⊎◌, inl, inr, List, [], ◌∷◌, length, map, get_or, set, refl, sym, ◌∙◌, ap, subst, ⊎_elim, arith, zero, suc, get_or-set_same, get_or-set_other}
 use Rattle.std.proofs.lemmas.Bool.{cases_eq, cases_lt, ne_eqb, cond-true, cond-false, le-leb, lt-leb, leb-true, false≢true}
 use Rattle.std.proofs.lemmas.List.{length-map}
 use Rattle.l4_core_model.specs.Plain.{put_entry}
 use Rattle.tcb_arena.specs.RingSets.{has, IsNext}
 use Rattle.tcb_arena.specs.Rings.{Lists}
-use Rattle.tcb_arena.specs.Due.{ArePlaced, AreFilled, AreFloors, IsFloor, earlier_of, at_most, put_all, put_rings, entry, entries_in, armed_in, IsBest, IsLeast, ring_count}
+use Rattle.tcb_arena.specs.Due.{ArePlaced, AreFilled, AreFloors, IsFloor, earlier_of, at_most, put_all, put_rings, entry, entries_in, armed_in, IsBest, IsLeast}
 use Rattle.tcb_arena.proofs.Entries.{E, best_at, first-put, entries-at, entry-from}
 
 -- The first entry, where these come behind the first one so far.

@@ -1,14 +1,14 @@
 -- The plain lists of an `Arena` beside the names in its rings.
-use Rattle.std.specs.Prelude.{replicate, drop, slice_get, Some, None, Option, is_some}
+use Rattle.std.specs.Prelude.{replicate, drop, Some, None, Option, is_some}
 use Rattle.std.proofs.Common.{◌≡◌, ℕ, ◌<◌, ◌≤◌, Bool, true, false, not, cond, eqb, leb, ◌||◌, List, [], ◌∷◌, ◌++◌, length, map, filter, get_or, set, refl, sym, ◌∙◌, ap, subst, get_or-set_same, get_or-set_other, zero, suc}
-use Rattle.std.proofs.lemmas.Bool.{eqb-false, or_parts, cond-true, le-leb}
+use Rattle.std.proofs.lemmas.Bool.{eqb-false, or_parts}
 use Rattle.std.proofs.lemmas.List.{map-set, map_push}
 use Rattle.std.specs.List.{list_any}
 use Rattle.l4_model.specs.World.{changed}
 use Rattle.l4_core_model.specs.Plain.{Waiting, Plain, unqueued, queued, is_queued, due_block, popped_due, put_entry, without_block, armed, disarmed}
 use Rattle.tcb_arena.specs.declared.Sender.{Sender}
 use Rattle.tcb_arena.specs.Blocks.{empty_lists, without_due}
-use Rattle.tcb_arena.specs.Due.{Due, AreOnce, none_armed, armed_of, times_armed}
+use Rattle.tcb_arena.specs.Due.{Due, none_armed, armed_of, times_armed, without_first_due}
 use Rattle.tcb_arena.specs.Rings.{Lists, list_at, no_names, taken_out, put_last, is_linked, without, is_in, is_in_any}
 use Rattle.tcb_arena.specs.Shown.{waiting_of, waiting_at, sender_at, no_sender, shown_lists}
 use Rattle.tcb_arena.proofs.Lists.{is_in-at}
@@ -127,12 +127,15 @@ first-undue now b (x ∷ xs) h once =
     by true e k = cc
     by false e k = absurd (cc)
 
-pub shown-undue : (now : ℕ) (waiting : Lists) (f : List Sender) (ready : Lists) (due after : Due) (s : Plain) (b : ℕ) → shown_lists waiting f ready due ≡ s → AreOnce due → due_block now (armed_of due) ≡ Some b → armed_of after ≡ without_block b (armed_of due)
+pub without-due : (now b : ℕ) (xs : List E) → due_block now xs ≡ Some b → times_armed b xs ≤ 1 → without_block b xs ≡ without_first_due now xs
+without-due now b xs h once = first-undue now b xs h once ∙ sym (ap (λ (o : Option ℕ). cond (is_some o) (drop 1 xs) xs) h)
+
+pub shown-undue : (now : ℕ) (waiting : Lists) (f : List Sender) (ready : Lists) (due after : Due) (s : Plain) → shown_lists waiting f ready due ≡ s → armed_of after ≡ without_first_due now (armed_of due)
     → shown_lists waiting f ready after ≡ without_due now s
-shown-undue now waiting f ready due after s b v once h out =
+shown-undue now waiting f ready due after s v e =
     let old : Plain = shown_lists waiting f ready due in
-    ap (with_armed old) (out ∙ first-undue now b (armed_of due) h (once.once b))
-    ∙ sym (ap (λ (o : Option ℕ). cond (is_some o) (popped_due old) old) h)
+    ap (with_armed old) e
+    ∙ elim (is_some (due_block now (armed_of due))) as (λ b. with_armed old (cond b (drop 1 (armed_of due)) (armed_of due)) ≡ cond b (popped_due old) old) [ true ↦ refl | false ↦ refl ]
     ∙ ap (without_due now) v
 
 -- No block in any list

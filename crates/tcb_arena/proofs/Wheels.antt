@@ -1,6 +1,6 @@
 -- The fields of a `Wheel` beside the rings of its value, before and after each change.
 use Rattle.std.specs.Prelude.{slice_get, Some, None, Option, replicate, is_some, ◌==◌}
-use Rattle.std.proofs.Common.{◌≡◌, ◌≢◌, ℕ, ◌<◌, ◌≤◌, ◌%◌, Bool, true, false, eqb, ◌||◌, ◌&&◌, not, cond, min, List, [], ◌∷◌, ◌++◌, length, map, get_or, set, refl, sym, ◌∙◌, ap, subst, ⊎_elim, arith, zero, suc, get_or-set_same, get_or-set_other}
+use Rattle.std.proofs.Common.{◌≡◌, ◌≢◌, ℕ, ◌<◌, ◌≤◌, ◌%◌, Bool, true, false, ◌||◌, cond, min, List, [], ◌∷◌, ◌++◌, length, map, get_or, set, refl, sym, ◌∙◌, ap, subst, ⊎_elim, arith, zero, suc, get_or-set_same, get_or-set_other}
 use Rattle.std.proofs.lemmas.Bool.{cases_eq, ne_eqb, eq-eqb, cond-true, cond-false, false≢true}
 use Rattle.std.proofs.lemmas.List.{length-map, length-set, length-replicate}
 use Rattle.l4_core_model.specs.Plain.{put_entry, without_block}
@@ -9,7 +9,7 @@ use Rattle.tcb_arena.specs.RingSets.{has}
 use Rattle.tcb_arena.specs.Rings.{Lists, no_names, put_last, taken_out, is_linked, is_in_any, without}
 use Rattle.tcb_arena.specs.Due.{Due, IsWheel, AreRings, ArePlaced, AreFilled, AreFloors, IsFloor, IsFound, IsLeast, none_armed, with_entry, without_entry, shown_due, armed_of, armed_in, entries_in, put_rings, other_than, earlier_of, entry}
 use Rattle.tcb_arena.proofs.Lists.{without_absent, without_all_absent, get_or-without, is_in_any-at}
-use Rattle.tcb_arena.proofs.Entries.{E, any-put_rings, all_entries-without, entries-put, armed-put, armed-without, placed-put, placed-without, entries-at, entry-from, first-put, without_there, is_in-get, get-without}
+use Rattle.tcb_arena.proofs.Entries.{E, any-put_rings, all_entries-without, entries-put, armed-put, armed-without, placed-put, placed-without, entries-at, entry-from, first-put, without_there, is_in-get}
 use Rattle.tcb_arena.proofs.Floors.{floor-armed_in, first-from, floors-armed, floor-armed, floors-disarmed, floor-disarmed, floor-found, floor-none, get-pushed, get-left}
 use Rattle.tcb_arena.proofs.Seeking.{earlier-kept, earlier-new}
 

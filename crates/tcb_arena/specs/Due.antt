@@ -1,9 +1,9 @@
 -- What a contract sees of a `Wheel`: the rings of the armed blocks, and the plain list that they make; and what it keeps of them.
-use Rattle.std.specs.Prelude.{◌≡◌, ℕ, ◌+◌, ◌<◌, ◌≤◌, ◌%◌, ◌==◌, ◌&&◌, nat_le, Bool, true, false, List, [], ◌∷◌, ◌++◌, length, slice_index, slice_index_or, slice_set, slice_get, Some, None, Option, is_some, map, replicate, if◌then◌else◌, refl}
+use Rattle.std.specs.Prelude.{◌≡◌, ℕ, ◌+◌, ◌<◌, ◌≤◌, ◌%◌, ◌==◌, nat_le, Bool, true, false, List, [], ◌∷◌, ◌++◌, length, slice_index, slice_index_or, slice_set, slice_get, Some, None, Option, is_some, map, drop, replicate, if◌then◌else◌, refl}
 use Rattle.std.specs.Option.{option_map}
 use Rattle.std.specs.List.{list_all}
 use Rattle.std.specs.Coded.{Coded, code_by, coded×, coded_ℕ, coded_list}
-use Rattle.l4_core_model.specs.Plain.{Plain, put_entry, without_block}
+use Rattle.l4_core_model.specs.Plain.{Plain, put_entry, without_block, due_block}
 use Rattle.tcb_arena.specs.RingSets.{has}
 use Rattle.tcb_arena.specs.Rings.{Lists, list_at}
 
@@ -34,6 +34,11 @@ with_entry deadline block s =
 abbrev pub without_entry : ℕ → Due → Due
 without_entry block s = record s { rings = map (without_block block) s.rings }
 
+-- Where a block was found, they are without it.
+abbrev pub without_found : Option ℕ → Due → Due
+without_found None s = s
+without_found (Some block) s = without_entry block s
+
 -- The first block of a ring.
 abbrev pub first_of_ring : List (List (ℕ × ℕ)) → (ring : ℕ) → Option ℕ
 first_of_ring rings ring = option_map (λ e. e.1) (slice_get (ring_at rings ring) 0)
@@ -52,6 +57,10 @@ put_rings acc (l ∷ ls) = put_rings (put_all acc l) ls
 -- The armed blocks by rising deadline. Blocks of equal deadlines stand in one ring, so their order of arming is kept.
 abbrev pub armed_of : Due → List (ℕ × ℕ)
 armed_of s = put_rings [] s.rings
+
+-- The plain list without its first entry, where the deadline of that one is not after `now`.
+abbrev pub without_first_due : (now : ℕ) → List (ℕ × ℕ) → List (ℕ × ℕ)
+without_first_due now es = if is_some (due_block now es) then drop 1 es else es
 
 -- Each entry stands in the ring of its deadline's remainder, and these rings make that plain list.
 pub record AreRings (rings : List (List (ℕ × ℕ))) (armed : List (ℕ × ℕ)) : Type 0 where

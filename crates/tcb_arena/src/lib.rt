@@ -11,7 +11,7 @@
 ghost use Rattle.std.specs.Prelude.{◌≡◌, ◌<◌, false, length, map, slice_get, All, IfOk, IfSome};
 ghost use Rattle.l4_core_model.specs.Plain.{list_of, is_queued, queued, unqueued, first_taken, made_ready, dropped, popped, armed, disarmed, due_block};
 ghost use Rattle.tcb_arena.specs.Blocks.{is_ready, is_armed, least_deadline, without_due, empty_lists};
-ghost use Rattle.tcb_arena.specs.Due.{IsFirstOfRing};
+ghost use Rattle.tcb_arena.specs.Due.{armed_of, IsFirstOfRing};
 
 use l4_types::errors::NoMemory;
 use l4_types::ids::{GlobalId, ThreadId};
@@ -25,7 +25,7 @@ mod wheel;
 
 use links::Rings;
 pub use waiting_at::WaitingAt;
-use wheel::Wheel;
+pub use wheel::Wheel;
 
 /// A send that waits: its sender's block, the sender that it shows, and whether that one is of the receiver's space.
 #[derive(Clone, Copy)]
@@ -238,17 +238,24 @@ impl Arena {
         ensures rest { self.new ≡ without_due now self.old }
         ensures gone { IfSome result (λ block. is_armed self.new block ≡ false) }
     {
-        let first = self.wheel.first_due(now)?;
-        self.wheel.disarm(first);
-        Some(first)
+        self.wheel.pop_due(now)
     }
 
-    /// The first block of a ring, which is below 64: of the blocks whose deadlines have this remainder by 64, that which was armed first.
+    /// The first block of a ring, which is below 64: of the blocks whose deadlines have this remainder by 64, that which was armed first. Which of two
+    /// deadlines of one ring was armed first the plain lists do not tell; `Arena::wheel` does.
     pub fn ring_first(&self, ring: usize) -> Option<usize>
         requires { ring < 64 }
         ensures { IsFirstOfRing self.now ring result }
     {
         self.wheel.ring_first(ring)
+    }
+
+    /// The armed blocks in their 64 rings.
+    pub fn wheel(&self) -> &Wheel
+        ensures blocks { result.now.blocks ≡ length self.now.waiting }
+        ensures armed { armed_of result.now ≡ self.now.armed }
+    {
+        &self.wheel
     }
 }
 

@@ -5,7 +5,7 @@ ghost use Rattle.std.specs.Option.{option_map};
 ghost use Rattle.l4_core_model.specs.Plain.{put_entry, without_block, due_block};
 ghost use Rattle.tcb_arena.specs.Blocks.{has_entry};
 ghost use Rattle.tcb_arena.specs.Rings.{list_at, head_count};
-ghost use Rattle.tcb_arena.specs.Due.{armed_of, armed_in, ring_count, none_armed, with_entry, without_entry, first_of_ring, other_than, at_most, earlier_of, put_all, entry, IsBest, IsLeast, ArePlaced, AreRings, AreFilled, AreFloors, IsFloor, AreOnce};
+ghost use Rattle.tcb_arena.specs.Due.{armed_of, armed_in, ring_count, none_armed, with_entry, without_entry, without_found, without_first_due, first_of_ring, other_than, at_most, earlier_of, put_all, entry, IsBest, IsLeast, ArePlaced, AreRings, AreFilled, AreFloors, IsFloor, AreOnce};
 
 use crate::links::Rings;
 use crate::ring_set::RingSet;
@@ -16,8 +16,9 @@ use std::marker::Model;
 // A block stands in the ring of its deadline's remainder by this number, so blocks of equal deadlines are in one.
 const RINGS: usize = 64;
 
-/// A fixed number of blocks, numbered from 0, some of them armed for a deadline. In its ring a block stands behind those
-/// that were armed before it.
+/// A fixed number of blocks, numbered from 0, some of them armed for a deadline, which is a tick of the caller's clock. A block that is armed
+/// for `d` stands in ring `d` modulo 64, behind those of its ring that were armed before it. A contract sees the 64 rings, and beside them the plain
+/// list that they make: the armed blocks by rising deadline, equal ones in order of arming.
 #[derive(Drop)]
 pub struct Wheel {
     // By block; it says something of an armed one alone.
@@ -46,7 +47,7 @@ impl Model for Wheel {
 }
 
 impl Wheel {
-    /// Blocks of which none is armed.
+    /// Blocks of which none is armed. No other call takes memory.
     pub fn new(alloc: Global, blocks: usize) -> Result<Wheel, NoMemory>
         ensures { IfOk result (λ wheel. wheel ≡ none_armed blocks) }
     {
@@ -71,7 +72,7 @@ impl Wheel {
         self.rings.is_linked(block)
     }
 
-    /// Arms a block that is not armed.
+    /// Arms a block at the end of the ring of its deadline's remainder by 64. The block is not armed (`is_armed`).
     pub fn arm(&mut self, block: usize, deadline: u64)
         requires block { block < self.old.blocks }
         requires free { has_entry block (armed_of self.old) ≡ false }
@@ -89,7 +90,7 @@ impl Wheel {
         }
     }
 
-    /// Disarms a block, if it is armed.
+    /// Disarms a block, if it is armed. All others stay as they stand.
     pub fn disarm(&mut self, block: usize)
         requires { block < self.old.blocks }
         ensures rings { self.new ≡ without_entry block self.old }
@@ -105,7 +106,7 @@ impl Wheel {
         self.first = other_than(block, self.first);
     }
 
-    /// The least deadline.
+    /// The least deadline that a block is armed for.
     pub fn least_deadline(&self) -> Option<u64>
         ensures { result ≡ option_map (λ e. e.0) (slice_get (armed_of self.now) 0) }
     {
@@ -136,7 +137,19 @@ impl Wheel {
         if deadline <= now { Some(block) } else { None }
     }
 
-    /// The first block of a ring.
+    /// Disarms the first block by deadline, of equal ones that which was armed first, where its deadline is not after `now`.
+    pub fn pop_due(&mut self, now: u64) -> Option<usize>
+        ensures first { result ≡ due_block now (armed_of self.old) }
+        ensures rings { self.new ≡ without_found result self.old }
+        ensures armed { armed_of self.new ≡ without_first_due now (armed_of self.old) }
+        ensures gone { IfSome result (λ block. has_entry block (armed_of self.new) ≡ false) }
+    {
+        let first = self.first_due(now)?;
+        self.disarm(first);
+        Some(first)
+    }
+
+    /// The first block of a ring, which is below 64: of the blocks in it, that which was armed first.
     pub fn ring_first(&self, ring: usize) -> Option<usize>
         requires { ring < ring_count }
         ensures first { result ≡ first_of_ring self.now.rings ring }

@@ -1,19 +1,18 @@
 //! The step that delivers a send.
 ghost use Rattle.std.specs.Prelude.{◌≡◌, ◌<◌, length};
 ghost use Rattle.l4_model.specs.Steps.{next};
-ghost use Rattle.l4_types.specs.StepView.{step_of};
-ghost use Rattle.l4_types.specs.declared.steps.Step.TheVariants.{Deliver};
+ghost use Rattle.l4_history.specs.Seen.{delivered};
 ghost use Rattle.l4_audit.specs.Audited.{IsOf, Makes, with_world};
 ghost use Rattle.l4_audit.specs.Delivering.{is_delivery, taken_over};
 
 use crate::found::{Found, Pending, same_cpu};
 use crate::world::World;
+use l4_history::step_ref::DeliveryRef;
 use l4_script::machine::Machine;
 use l4_types::letters::Decision;
-use l4_types::steps::Delivery;
 
 // Whether a delivery tells this send to this receiver: the senders, the tag and the words.
-fn tells(delivery: &Delivery, machine: &Machine, pending: &Pending, receiver: &Found) -> bool
+fn tells(delivery: &DeliveryRef<'_>, machine: &Machine, pending: &Pending, receiver: &Found) -> bool
     ensures { result ≡ is_delivery machine.now delivery.now pending.now receiver.now }
 {
     let sent = pending.send().message();
@@ -28,9 +27,9 @@ fn tells(delivery: &Delivery, machine: &Machine, pending: &Pending, receiver: &F
 
 impl World {
     /// A receiver takes the message of the first waiting sender that it accepts, and the sender goes on.
-    pub fn deliver(&mut self, machine: &Machine, delivery: &Delivery) -> bool
+    pub fn deliver(&mut self, machine: &Machine, delivery: &DeliveryRef<'_>) -> bool
         requires { IsOf machine.now self.old }
-        ensures step { Makes result (next machine.now self.old.world (step_of (Deliver delivery.now))) self.new.world }
+        ensures step { Makes result (next machine.now self.old.world (delivered delivery.now)) self.new.world }
         ensures ids { self.new.ids ≡ self.old.ids }
     {
         let Some(pending) = self.undecided(machine, delivery.name) else {
@@ -60,7 +59,7 @@ impl World {
         machine: &Machine,
         sender: usize,
         receiver: usize,
-        delivery: &Delivery,
+        delivery: &DeliveryRef<'_>,
         now: u64,
     )
         requires of { IsOf machine.now self.old }
@@ -68,8 +67,9 @@ impl World {
         requires receiver { receiver < length self.old.world.threads }
         ensures { self.new ≡ with_world self.old (taken_over sender receiver delivery.now now self.old.world) }
     {
-        self.unqueue(machine, sender);
-        self.receive(receiver, &delivery.message, delivery.tag());
+        let _ = machine;
+        self.unqueue(sender);
+        self.receive(receiver, delivery);
         self.end_send(sender, Decision::Delivered, now);
     }
 }

@@ -1,7 +1,7 @@
 //! What a step does to the threads and lists of a world.
-ghost use Rattle.std.specs.Prelude.{◌≡◌, ◌<◌, ◌^◌, ◌+◌, IsSomeAnd, false, length, slice_get, OnErr, OnOk};
-ghost use Rattle.l4_model.specs.Words.{word_of_tag};
-ghost use Rattle.l4_model.specs.World.{change, queued, unqueued};
+ghost use Rattle.std.specs.Prelude.{◌≡◌, ◌<◌, ◌^◌, ◌+◌, IsSomeAnd, false, length, slice_get};
+ghost use Rattle.l4_model.specs.Rules.{received_tag};
+ghost use Rattle.l4_model.specs.World.{change, is_queued, queued, unqueued};
 ghost use Rattle.l4_model.specs.Effects.{runs, fails, receives, decided, orders, asked, obeyed};
 ghost use Rattle.l4_core_model.specs.Local.{ended};
 ghost use Rattle.l4_types.specs.Codes.{code_of};
@@ -9,18 +9,19 @@ ghost use Rattle.l4_types.specs.LetterView.{decision_of};
 ghost use Rattle.l4_types.specs.StepView.{what_of};
 ghost use Rattle.l4_script.specs.Scripts.{instr_of};
 ghost use Rattle.l4_thread.specs.Requests.{is_end};
-ghost use Rattle.l4_audit.specs.Audited.{IsOf, with_world, id_at};
+ghost use Rattle.l4_audit.specs.Audited.{with_world, id_at};
 ghost use Rattle.l4_audit.specs.Starting.{CanStart, starts_at};
 
 use crate::world::World;
+use l4_history::step_ref::DeliveryRef;
 use l4_script::instructions::Instr;
 use l4_script::machine::Machine;
 use l4_thread::orders::Asked;
-use l4_types::errors::{IpcError, NoMemory};
+use l4_types::errors::IpcError;
+use l4_types::ids::GlobalId;
 use l4_types::letters::Decision;
-use l4_types::messages::Message;
 use l4_types::steps::What;
-use l4_types::tags::MsgTag;
+use tcb_arena::Waiting;
 
 impl World {
     /// A thread runs an instruction that concerns nobody else, or its script ends.
@@ -54,12 +55,18 @@ impl World {
         self.threads[place].fail(error);
     }
 
-    /// A thread receives a message, with this tag.
-    pub fn receive(&mut self, place: usize, message: &Message, tag: MsgTag)
+    /// A thread receives the message of a delivery.
+    pub fn receive(&mut self, place: usize, delivery: &DeliveryRef<'_>)
         requires { place < length self.old.world.threads }
-        ensures { self.new ≡ with_world self.old (change self.old.world place (receives message.now (word_of_tag tag))) }
+        ensures { self.new ≡ with_world self.old (change self.old.world place (receives delivery.now.message (received_tag delivery.now.cross delivery.now.message))) }
     {
-        self.threads[place].receive(message, tag);
+        let message = &delivery.message;
+        self.threads[place].receive_words(
+            message.words(),
+            message.shown(),
+            message.actual(),
+            delivery.tag(),
+        );
     }
 
     /// The send of a thread is decided, at this clock of its processor.
@@ -102,23 +109,27 @@ impl World {
         self.threads[place].obey();
     }
 
-    /// A sender arrives at a receiver.
-    pub fn queue(&mut self, receiver: usize, sender: usize) -> Result<(), NoMemory>
-        requires { receiver < length self.old.world.waiting }
-        ensures { OnOk result (self.new ≡ with_world self.old (queued self.old.world receiver sender)) }
+    /// A sender, which stands in no list, arrives at a receiver.
+    pub fn queue(&mut self, receiver: usize, sender: usize)
+        requires receiver { receiver < length self.old.world.waiting }
+        requires sender { sender < length self.old.world.waiting }
+        requires free { is_queued self.old.world.waiting sender ≡ false }
+        ensures { self.new ≡ with_world self.old (queued self.old.world receiver sender) }
     {
-        self.waiting[receiver].push(sender)?;
-        Ok(())
+        // Whom a receive phase accepts is asked of the sender's block, so nothing of the send stands here.
+        let waiting = Waiting {
+            block: sender,
+            shown: GlobalId::default(),
+            local: false,
+        };
+        self.lists.queue_send(receiver, waiting);
     }
 
     /// A sender leaves the list that it stands in, if it stands in one.
-    pub fn unqueue(&mut self, machine: &Machine, sender: usize)
-        requires of { IsOf machine.now self.old }
-        requires within { sender < length self.old.world.threads }
+    pub fn unqueue(&mut self, sender: usize)
+        requires { sender < length self.old.world.waiting }
         ensures { self.new ≡ with_world self.old (unqueued self.old.world sender) }
     {
-        if let Some(receiver) = self.receiver_place(machine, sender) {
-            self.waiting[receiver].remove(sender);
-        }
+        self.lists.unqueue_send(sender);
     }
 }

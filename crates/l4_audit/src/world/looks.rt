@@ -1,7 +1,7 @@
 //! Where a step is possible in a world.
-ghost use Rattle.std.specs.Prelude.{◌≡◌, ◌<◌, Some, IfSome, length, slice_get};
+ghost use Rattle.std.specs.Prelude.{◌≡◌, Some, slice_get};
 ghost use Rattle.l4_model.specs.Conditions.{is_waiting, first_accepted, shows_accepted, is_nobody, is_no_destination, is_refusable, is_timed_out, receiver_of, found_by};
-ghost use Rattle.l4_audit.specs.Audited.{IsOf, receiver_place};
+ghost use Rattle.l4_audit.specs.Audited.{IsOf};
 
 use crate::found::{Found, Pending, accepts};
 use crate::periods::{has_passed, is_zero};
@@ -10,28 +10,14 @@ use l4_script::machine::Machine;
 use l4_types::ids::{GlobalId, Kind, ThreadId};
 
 impl World {
-    // The place of the thread that the undecided send of a thread goes to.
-    pub(super) fn receiver_place(&self, machine: &Machine, sender: usize) -> Option<usize>
-        requires { sender < length self.now.world.threads }
-        ensures value { result ≡ receiver_place machine.now self.now.world sender }
-        ensures within { IfSome result (λ place. place < length machine.now.threads) }
-    {
-        let send = self.threads[sender].send()?;
-        machine.place_of(send.to().as_global()?)
-    }
-
     /// Whether an undecided send stands in a list.
     pub fn is_waiting(&self, machine: &Machine, pending: &Pending) -> bool
         requires of { IsOf machine.now self.now }
         requires sender { slice_get self.now.world.threads pending.now.sender.at ≡ Some pending.now.sender.now }
-        requires send { pending.now.sender.now.send ≡ Some pending.now.send }
         ensures { result ≡ is_waiting self.now.world pending.now }
     {
-        let sender = pending.sender().place();
-        match self.receiver_place(machine, sender) {
-            Some(receiver) => self.waiting[receiver].contains(sender),
-            None => false,
-        }
+        let _ = machine;
+        self.lists.is_queued(pending.sender().place())
     }
 
     // Whether the undecided send of the thread at a place shows a sender that is accepted.
@@ -57,15 +43,14 @@ impl World {
         receiver: &Found,
         from: ThreadId,
     ) -> Option<usize>
+        requires of { IsOf machine.now self.now }
+        requires there { slice_get self.now.world.threads receiver.now.at ≡ Some receiver.now.now }
         ensures { result ≡ first_accepted machine.now self.now.world receiver.now from }
     {
         let id = receiver.id();
-        for sender in self.waiting.get(receiver.place())?.senders() {
-            if self.shows_accepted(machine, from, id, *sender) {
-                return Some(*sender);
-            }
-        }
-        None
+        self.lists
+            .waiting_at(receiver.place())
+            .find(|sender| self.shows_accepted(machine, from, id, *sender))
     }
 
     /// Whether a receive phase closed for this id waits for nobody.
@@ -105,7 +90,6 @@ impl World {
     pub fn is_timed_out(&self, machine: &Machine, pending: &Pending) -> bool
         requires of { IsOf machine.now self.now }
         requires sender { slice_get self.now.world.threads pending.now.sender.at ≡ Some pending.now.sender.now }
-        requires send { pending.now.sender.now.send ≡ Some pending.now.send }
         ensures { result ≡ is_timed_out machine.now self.now.world pending.now }
     {
         let send = pending.send();

@@ -1,13 +1,13 @@
 //! The world of a machine before its first step.
-ghost use Rattle.std.specs.Prelude.{◌≡◌, IfOk, [], map, replicate};
+ghost use Rattle.std.specs.Prelude.{◌≡◌, IfOk, map, replicate};
 ghost use Rattle.l4_model.specs.World.{opening, opening_thread};
 
-use crate::queue::Queue;
 use crate::world::World;
 use l4_script::machine::Machine;
 use l4_thread::tcb::Tcb;
 use l4_types::errors::NoMemory;
 use std::alloc::Global;
+use tcb_arena::Arena;
 
 impl World {
     /// The world of a machine before its first step.
@@ -16,7 +16,7 @@ impl World {
     {
         Ok(World {
             threads: blocks(alloc, machine)?,
-            waiting: queues(alloc, machine)?,
+            lists: Arena::new(alloc, machine.threads().len())?,
             clocks: clocks(alloc, machine)?,
         })
     }
@@ -31,17 +31,6 @@ fn blocks(alloc: Global, machine: &Machine) -> Result<Vec<Tcb>, NoMemory>
         blocks.push(Tcb::new(declared.id()))?;
     }
     Ok(blocks)
-}
-
-// Nobody waits at any thread.
-fn queues(alloc: Global, machine: &Machine) -> Result<Vec<Queue>, NoMemory>
-    ensures { IfOk result (λ queues. queues.items ≡ map (λ d. []) machine.now.threads) }
-{
-    let mut queues = Vec::new(alloc);
-    for _declared in machine.threads() {
-        queues.push(Queue::new(alloc))?;
-    }
-    Ok(queues)
 }
 
 // All clocks are at 0.

@@ -11,6 +11,7 @@ use l4_types::ids::GlobalId;
 impl World {
     /// A receive phase is over since its time is.
     pub fn receive_timeout(&mut self, machine: &Machine, id: GlobalId) -> bool
+        requires { IsOf machine.now self.old }
         ensures step { Makes result (next machine.now self.old.world (ReceiveTimeout id)) self.new.world }
         ensures ids { self.new.ids ≡ self.old.ids }
     {
@@ -34,6 +35,7 @@ impl World {
 
     /// A receive phase is closed for an id that nobody has.
     pub fn receive_nobody(&mut self, machine: &Machine, id: GlobalId) -> bool
+        requires { IsOf machine.now self.old }
         ensures step { Makes result (next machine.now self.old.world (ReceiveNobody id)) self.new.world }
         ensures ids { self.new.ids ≡ self.old.ids }
     {

@@ -1,5 +1,5 @@
 //! The steps that queue or decide a send.
-ghost use Rattle.std.specs.Prelude.{◌≡◌, ◌<◌, IfOk, length};
+ghost use Rattle.std.specs.Prelude.{◌≡◌, ◌<◌, length};
 ghost use Rattle.l4_model.specs.World.{change, unqueued};
 ghost use Rattle.l4_model.specs.Steps.{next, Queue, SendTimeout, SendNobody, SendCancel, Drop as Drops};
 ghost use Rattle.l4_core_model.specs.Local.{ended};
@@ -9,29 +9,28 @@ ghost use Rattle.l4_audit.specs.Audited.{IsOf, Makes, with_world};
 
 use crate::world::World;
 use l4_script::machine::Machine;
-use l4_types::errors::NoMemory;
 use l4_types::letters::{Decision, Refusal};
 use l4_types::steps::Name;
 
 impl World {
     /// An undecided send is appended to the list of its destination.
-    pub fn queue_send(&mut self, machine: &Machine, name: Name) -> Result<bool, NoMemory>
+    pub fn queue_send(&mut self, machine: &Machine, name: Name) -> bool
         requires { IsOf machine.now self.old }
-        ensures step { IfOk result (λ r. Makes r (next machine.now self.old.world (Queue name)) self.new.world) }
-        ensures ids { IfOk result (λ r. self.new.ids ≡ self.old.ids) }
+        ensures step { Makes result (next machine.now self.old.world (Queue name)) self.new.world }
+        ensures ids { self.new.ids ≡ self.old.ids }
     {
         let Some(pending) = self.undecided(machine, name) else {
-            return Ok(false);
+            return false;
         };
         let Some(receiver) = self.receiver_of(machine, &pending) else {
-            return Ok(false);
+            return false;
         };
         if receiver.is_deleted() || self.is_waiting(machine, &pending) {
-            return Ok(false);
+            return false;
         }
         let (place, sender) = (receiver.place(), pending.sender().place());
-        self.queue(place, sender)?;
-        Ok(true)
+        self.queue(place, sender);
+        true
     }
 
     // A send is decided without a delivery.
@@ -40,7 +39,8 @@ impl World {
         requires within { sender < length self.old.world.threads }
         ensures { self.new ≡ with_world self.old (change (unqueued self.old.world sender) sender (ended (decision_of (Refused refusal)) now)) }
     {
-        self.unqueue(machine, sender);
+        let _ = machine;
+        self.unqueue(sender);
         self.end_send(sender, Decision::Refused(refusal), now);
     }
 
@@ -108,7 +108,7 @@ impl World {
             return false;
         }
         let (sender, _clock) = pending.sender_now();
-        self.unqueue(machine, sender);
+        self.unqueue(sender);
         self.drop_send(sender);
         true
     }

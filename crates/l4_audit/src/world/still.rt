@@ -64,6 +64,8 @@ impl World {
 
     // Whether the receive phase of a thread can end without a message.
     fn may_stop(&self, machine: &Machine, thread: &Found) -> bool
+        requires of { IsOf machine.now self.now }
+        requires there { slice_get self.now.world.threads thread.now.at ≡ Some thread.now.now }
         ensures { result ≡ may_stop machine.now self.now.world thread.now (receive_now thread.now.now.phase) }
     {
         let Some(receive) = thread.receiving() else {
@@ -92,7 +94,6 @@ impl World {
     fn may_decide<'a>(&'a self, machine: &'a Machine, pending: &Pending<'a>) -> bool
         requires of { IsOf machine.now self.now }
         requires sender { slice_get self.now.world.threads pending.now.sender.at ≡ Some pending.now.sender.now }
-        requires send { pending.now.sender.now.send ≡ Some pending.now.send }
         ensures { result ≡ may_decide machine.now self.now.world pending.now }
     {
         let sender = pending.sender();
@@ -107,7 +108,6 @@ impl World {
     fn may_arrive<'a>(&'a self, machine: &'a Machine, pending: &Pending<'a>) -> bool
         requires of { IsOf machine.now self.now }
         requires sender { slice_get self.now.world.threads pending.now.sender.at ≡ Some pending.now.sender.now }
-        requires send { pending.now.sender.now.send ≡ Some pending.now.send }
         ensures { result ≡ may_arrive machine.now self.now.world pending.now (receiver_of machine.now self.now.world pending.now) }
     {
         let Some(receiver) = self.receiver_of(machine, pending) else {
@@ -119,6 +119,8 @@ impl World {
 
     // Whether a sender is the first that a receiver accepts.
     fn is_taken(&self, machine: &Machine, receiver: &Found, sender: usize) -> bool
+        requires of { IsOf machine.now self.now }
+        requires there { slice_get self.now.world.threads receiver.now.at ≡ Some receiver.now.now }
         ensures { result ≡ is_taken machine.now self.now.world receiver.now sender (receive_now receiver.now.now.phase) }
     {
         let Some(receive) = receiver.receiving() else {

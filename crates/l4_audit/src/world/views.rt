@@ -4,16 +4,18 @@ ghost use Rattle.std.specs.Option.{option_map};
 ghost use Rattle.l4_model.specs.Conditions.{undecided};
 ghost use Rattle.l4_model.specs.History.{report_of, view, waiting, waiting_name};
 ghost use Rattle.l4_types.specs.ReportView.{report_of_view};
-ghost use Rattle.l4_types.specs.StepView.{step_of};
+ghost use Rattle.l4_history.specs.Seen.{seen};
 ghost use Rattle.l4_audit.specs.Audited.{IsOf};
 
 use crate::world::World;
+use l4_history::history::History;
+use l4_history::step_ref::StepRef;
 use l4_script::machine::Machine;
 use l4_thread::tcb::Tcb;
 use l4_types::errors::NoMemory;
 use l4_types::ids::ThreadId;
 use l4_types::reports::ThreadView;
-use l4_types::steps::{Name, Step};
+use l4_types::steps::Name;
 use std::alloc::Global;
 
 // The report of one thread.
@@ -46,13 +48,13 @@ impl World {
         &self,
         alloc: Global,
         machine: &Machine,
-        steps: &[Step],
+        history: &History,
     ) -> Result<Vec<(Name, ThreadId)>, NoMemory>
-        ensures { IfOk result (λ sends. sends.items ≡ waiting machine.now self.now.world (map step_of steps.now)) }
+        ensures { IfOk result (λ sends. sends.items ≡ waiting machine.now self.now.world history.now.steps) }
     {
         let mut sends = Vec::new(alloc);
-        for step in steps {
-            if let Some(send) = self.waiting_send(machine, step) {
+        for step in history.steps() {
+            if let Some(send) = self.waiting_send(machine, &step) {
                 sends.push(send)?;
             }
         }
@@ -60,11 +62,11 @@ impl World {
     }
 
     // The send that a step begins, where it is undecided here, and its destination.
-    fn waiting_send(&self, machine: &Machine, step: &Step) -> Option<(Name, ThreadId)>
-        ensures { result ≡ waiting_name machine.now self.now.world (step_of step.now) }
+    fn waiting_send(&self, machine: &Machine, step: &StepRef<'_>) -> Option<(Name, ThreadId)>
+        ensures { result ≡ waiting_name machine.now self.now.world (seen step.now) }
     {
         match step {
-            Step::Begin(name) => {
+            StepRef::Begin(name) => {
                 let pending = self.undecided(machine, *name)?;
                 Some((*name, pending.send().to()))
             }

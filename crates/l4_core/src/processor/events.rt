@@ -1,111 +1,127 @@
 //! What was chosen is done.
-ghost use Rattle.std.specs.Prelude.{◌≡◌, ◌<◌, ◌≤◌, ◌+◌, Some, slice_get, length, ℕ};
+ghost use Rattle.std.specs.Prelude.{◌≡◌, ◌<◌, ◌≤◌, Some, slice_get, ℕ, true};
 ghost use Rattle.l4_types.specs.Codes.{code_of};
 ghost use Rattle.l4_types.specs.StepView.{step_of};
 ghost use Rattle.l4_core_model.specs.Plain.{due_block};
-ghost use Rattle.l4_core_model.specs.Local.{thread};
-ghost use Rattle.l4_core_model.specs.Turns.{does_choice, does_duty, times_out, ByDue as IsDue, ByReady as IsReady};
-ghost use Rattle.std.specs.Vec.{vec_len, vec_capacity};
-ghost use Rattle.l4_core.specs.Duties.{duty_at, HasNoDuty};
-ghost use Rattle.l4_core.specs.DutyView.{duty_of};
-ghost use Rattle.l4_core.specs.Turning.{choice_of, fails_with, Does, IsPossible, IsReceiver};
+ghost use Rattle.l4_core_model.specs.Local.{is_own, thread};
+ghost use Rattle.l4_core_model.specs.Turns.{does_choice, does_duty, times_out, TellsGone, ByDue as IsDue, ByReady as IsReady};
+ghost use Rattle.l4_core.specs.Choosing.{choice_of, duty_of, IsPossible};
+ghost use Rattle.l4_core.specs.Covered.{IsFirstDuty};
+ghost use Rattle.l4_core.specs.Turning.{fails_with, Does, IsOwnOf, IsReceiver};
 
-use crate::processor::duties::Duty;
-use crate::processor::{Choice, State};
+use crate::known::duties::Duty;
+use crate::processor::{Choice, Core};
+use crate::told::Told;
+use l4_thread::changes::Change;
 use l4_types::errors::IpcError;
-use l4_types::letters::Refusal;
+use l4_types::letters::{Cause, Content, Refusal};
 use l4_types::steps::Step;
 
-impl State {
+impl Core<'_> {
     /// What was chosen is done.
-    pub(super) fn carry_out(&mut self, choice: &Choice, steps: &mut Vec<Step>)
+    pub(super) fn carry_out(&mut self, choice: &Choice, told: &mut Told)
         requires possible { IsPossible choice.now self.old }
-        requires count { (place : ℕ) → (thread self.old.local place).context.begun < self.old.local.stamp }
-        requires room { vec_len steps.old + 3 ≤ vec_capacity steps.old }
-        ensures does { Does (does_choice self.old.machine 0 (choice_of choice.now)) self.old self.new steps.old.items steps.new.items }
-        ensures capacity { vec_capacity steps.new ≡ vec_capacity steps.old }
+        requires count { (place : ℕ) → is_own self.old.machine self.old.cpu place ≡ true → (thread self.old.local place).context.begun < self.old.local.stamp }
+        requires room { 3 ≤ told.old.room }
+        requires slots { 2 ≤ told.old.slots }
+        ensures { Does (does_choice self.old.machine self.old.cpu (choice_of choice.now)) self.old self.new told.old told.new }
     {
         match choice {
-            Choice::ByDuty(place, duty) => self.do_duty(*place, *duty, steps),
-            Choice::ByDue(place) => self.do_due(*place, steps),
-            Choice::ByReady(place) => self.do_ready(*place, steps),
+            Choice::ByDuty(place, duty) => self.do_duty(*place, *duty, told),
+            Choice::ByDue(place) => self.do_due(*place, told),
+            Choice::ByReady(place) => self.do_ready(*place, told),
         }
     }
 
     // The first ready thread runs its next instruction.
-    fn do_ready(&mut self, place: usize, steps: &mut Vec<Step>)
+    fn do_ready(&mut self, place: usize, told: &mut Told)
         requires first { slice_get self.old.local.lists.ready 0 ≡ Some place }
-        requires idle { HasNoDuty self.old.machine self.old.local.threads self.old.local.lists }
-        requires count { (thread self.old.local place).context.begun < self.old.local.stamp }
-        requires room { vec_len steps.old + 3 ≤ vec_capacity steps.old }
-        ensures does { Does (does_choice self.old.machine 0 (IsReady place)) self.old self.new steps.old.items steps.new.items }
-        ensures capacity { vec_capacity steps.new ≡ vec_capacity steps.old }
+        requires count { is_own self.old.machine self.old.cpu place ≡ true → (thread self.old.local place).context.begun < self.old.local.stamp }
+        requires room { 3 ≤ told.old.room }
+        requires slots { 2 ≤ told.old.slots }
+        ensures { Does (does_choice self.old.machine self.old.cpu (IsReady place)) self.old self.new told.old told.new }
     {
-        let _ = &self.machine;
+        let _few = self.known.len();
         self.pop_ready();
-        self.act(place, steps);
+        self.act(place, told);
     }
 
     // The deadline of a thread is past.
-    fn do_due(&mut self, place: usize, steps: &mut Vec<Step>)
+    fn do_due(&mut self, place: usize, told: &mut Told)
         requires due { due_block self.old.local.clock self.old.local.lists.armed ≡ Some place }
-        requires room { vec_len steps.old + 3 ≤ vec_capacity steps.old }
-        ensures does { Does (does_choice self.old.machine 0 (IsDue place)) self.old self.new steps.old.items steps.new.items }
-        ensures capacity { vec_capacity steps.new ≡ vec_capacity steps.old }
+        requires room { 3 ≤ told.old.room }
+        requires slots { 2 ≤ told.old.slots }
+        ensures { Does (does_choice self.old.machine self.old.cpu (IsDue place)) self.old self.new told.old told.new }
     {
-        let _ = &self.machine;
+        let _few = self.known.len();
         self.pop_due();
-        self.time_out(place, steps);
+        self.time_out(place, told);
     }
 
     // The time of a thread's phase has passed.
-    fn time_out(&mut self, place: usize, steps: &mut Vec<Step>)
-        requires within { place < length self.old.machine.threads }
-        requires room { vec_len steps.old + 3 ≤ vec_capacity steps.old }
-        ensures does { Does (times_out self.old.machine 0 place) self.old self.new steps.old.items steps.new.items }
-        ensures capacity { vec_capacity steps.new ≡ vec_capacity steps.old }
+    fn time_out(&mut self, place: usize, told: &mut Told)
+        requires own { IsOwnOf self.old place }
+        requires room { 3 ≤ told.old.room }
+        requires slots { 2 ≤ told.old.slots }
+        ensures { Does (times_out self.old.machine self.old.cpu place) self.old self.new told.old told.new }
     {
-        let _ = &self.machine;
-        if self.threads[place].receiving().is_some() {
-            let step = Step::ReceiveTimeout(self.id(place));
-            self.fail_receive(place, step, IpcError::ReceiveTimeout, steps);
-        } else if self.lists.is_queued(place) {
-            self.refuse(place, Refusal::TimedOut, steps);
+        let _few = self.known.len();
+        if self.known.receiving(place).is_some() {
+            let step = Step::ReceiveTimeout(self.known.id(place));
+            self.fail_receive(place, step, IpcError::ReceiveTimeout, told);
+        } else if self.known.is_queued(place) {
+            self.refuse(place, Refusal::TimedOut, told);
+        } else {
+            self.withdraw(place, Cause::ByTimeout, told);
         }
     }
 
     // The receive phase of a thread fails, as this step tells.
-    fn fail_receive(&mut self, place: usize, step: Step, error: IpcError, steps: &mut Vec<Step>)
+    fn fail_receive(&mut self, place: usize, step: Step, error: IpcError, told: &mut Told)
         requires receiver { IsReceiver self.old place }
-        requires room { vec_len steps.old < vec_capacity steps.old }
-        ensures does { Does (fails_with (step_of step) (code_of error) place) self.old self.new steps.old.items steps.new.items }
-        ensures capacity { vec_capacity steps.new ≡ vec_capacity steps.old }
+        requires room { 0 < told.old.room }
+        ensures { Does (fails_with (step_of step) (code_of error) place) self.old self.new told.old told.new }
     {
-        steps.push_reserved(step);
-        self.fail(place, error);
+        let _few = self.known.len();
+        told.tell(step);
+        self.come_to(place, &Change::Fail(error));
     }
 
     // The duty of a thread is done.
-    fn do_duty(&mut self, place: usize, duty: Duty, steps: &mut Vec<Step>)
-        requires due { duty_at self.old.machine self.old.local.threads self.old.local.lists place ≡ Some (duty_of duty) }
-        requires room { vec_len steps.old + 3 ≤ vec_capacity steps.old }
-        ensures does { Does (does_duty self.old.machine 0 place (duty_of duty)) self.old self.new steps.old.items steps.new.items }
-        ensures capacity { vec_capacity steps.new ≡ vec_capacity steps.old }
+    fn do_duty(&mut self, place: usize, duty: Duty, told: &mut Told)
+        requires first { IsFirstDuty place (duty_of duty) self.old.machine self.old.cpu self.old.local }
+        requires room { 3 ≤ told.old.room }
+        requires slots { 2 ≤ told.old.slots }
+        ensures { Does (does_duty self.old.machine self.old.cpu place (duty_of duty)) self.old self.new told.old told.new }
     {
-        let _ = &self.machine;
+        let _few = self.known.len();
         match duty {
-            Duty::DropOwn => self.refuse(place, Refusal::Dropped, steps),
-            Duty::RefuseFirst(sender) => self.refuse(sender, Refusal::Nobody, steps),
-            Duty::CancelOwn => self.refuse(place, Refusal::Cancelled, steps),
+            Duty::DropOwn => self.refuse(place, Refusal::Dropped, told),
+            Duty::RefuseFirst(sender) => self.refuse(sender, Refusal::Nobody, told),
+            Duty::TellGone(cpu) => self.tell_gone(place, cpu, told),
+            Duty::CancelOwn => self.refuse(place, Refusal::Cancelled, told),
             Duty::CancelReceive => {
-                let step = Step::ReceiveCancel(self.id(place));
-                self.fail_receive(place, step, IpcError::ReceiveCancelled, steps);
+                let step = Step::ReceiveCancel(self.known.id(place));
+                self.fail_receive(place, step, IpcError::ReceiveCancelled, told);
             }
-            Duty::DeliverFirst(sender) => self.deliver(place, sender, steps),
+            Duty::DeliverFirst(sender) => self.deliver(place, sender, told),
             Duty::CloseReceive => {
-                let step = Step::ReceiveNobody(self.id(place));
-                self.fail_receive(place, step, IpcError::ReceiveNobody, steps);
+                let step = Step::ReceiveNobody(self.known.id(place));
+                self.fail_receive(place, step, IpcError::ReceiveNobody, told);
             }
+            Duty::RefuseZero(sender) => self.refuse(sender, Refusal::TimedOut, told),
         }
+    }
+
+    // A processor is told that a thread is deleted.
+    fn tell_gone(&mut self, place: usize, cpu: u8, told: &mut Told)
+        requires own { IsOwnOf self.old place }
+        requires cpu { cpu < self.old.machine.cpus }
+        requires slots { 0 < told.old.slots }
+        ensures { Does (does_duty self.old.machine self.old.cpu place (TellsGone cpu)) self.old self.new told.old told.new }
+    {
+        self.note_told(place, cpu);
+        let letter = self.letter(Content::Gone(self.known.id(place)));
+        told.post(cpu, letter);
     }
 }

@@ -1,5 +1,5 @@
 //! How far a text has been read.
-ghost use Rattle.std.specs.Prelude.{◌≡◌, ◌<◌, ◌∷◌, [], ◌++◌, find, length, Ok, OnErr, OnOk};
+ghost use Rattle.std.specs.Prelude.{◌≡◌, ◌<◌, ◌≤◌, ◌∷◌, [], ◌++◌, find, length, Ok, OnErr, OnOk};
 ghost use Rattle.std.specs.Option.{option_copied};
 ghost use Rattle.l4_script.specs.Judged.{Gives};
 ghost use Rattle.l4_script.specs.Scripts.{instr_of};
@@ -66,7 +66,7 @@ pub(super) enum Stage {
 /// The machine with one more thread.
 #[tactic(auto, unfolding(crate::specs::Statements::declare))]
 fn declare(thread: Declaration, mut machine: Machine) -> Result<Machine, TextFaultKind>
-    requires { thread.cpu ≡ 0 }
+    requires { thread.cpu < machine.cpus }
     ensures { Gives (λ m. m) result (declare thread machine) }
 {
     if machine.threads().len() >= MOST_THREADS {
@@ -119,19 +119,21 @@ fn first_missed<'a>(machine: &Machine, targets: &'a [Target]) -> Option<&'a Targ
 }
 
 impl Reading {
-    /// No thread was read.
-    fn new(alloc: Global) -> Reading
-        ensures { result ≡ nothing_read 1 }
+    /// No thread was read, of a machine of so many processors.
+    fn new(alloc: Global, cpus: u8) -> Reading
+        requires some { 1 ≤ cpus }
+        requires limit { cpus ≤ 16 }
+        ensures { result ≡ nothing_read cpus }
     {
         Reading {
-            machine: Machine::new(alloc),
+            machine: Machine::new(alloc, cpus),
             targets: Vec::new(alloc),
         }
     }
 
     /// One more thread.
     fn declare(self, thread: Declaration) -> Result<Reading, TextFaultKind>
-        requires { thread.cpu ≡ 0 }
+        requires { thread.cpu < self.machine.cpus }
         ensures { Gives (λ r. r) result (declared_in self thread) }
     {
         Ok(Reading {
@@ -228,8 +230,8 @@ impl Stage {
                 Ok(Stage::Processors)
             }
             Stage::Processors => {
-                processors_line(words)?;
-                Ok(Stage::Threads(Reading::new(alloc)))
+                let cpus = processors_line(words)?;
+                Ok(Stage::Threads(Reading::new(alloc, cpus)))
             }
             Stage::Threads(reading) => {
                 Ok(Stage::Threads(reading.thread_line(line, alloc, words)?))

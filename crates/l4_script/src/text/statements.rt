@@ -1,5 +1,5 @@
 //! What the lines of a machine text say.
-ghost use Rattle.std.specs.Prelude.{◌≡◌, ◌<◌, IfOk};
+ghost use Rattle.std.specs.Prelude.{◌≡◌, ◌<◌, ◌≤◌, IfOk};
 ghost use Rattle.std.specs.Option.{option_map};
 ghost use Rattle.l4_types.specs.StepView.{what_of};
 ghost use Rattle.l4_script.specs.declared.text.fault.TextFaultKind.TheVariants.{BadId, BadLine};
@@ -15,7 +15,7 @@ use super::ids::id;
 use super::lines::after;
 use super::numbers::{number, number_from, time};
 use crate::instructions::{Instr, Ipc, Register, Source, To};
-use crate::machine::Declaration;
+use crate::machine::{Declaration, MOST_PROCESSORS};
 use l4_types::ids::ThreadId;
 use l4_types::steps::What;
 use l4_types::tags::MsgTag;
@@ -69,22 +69,25 @@ pub(super) fn format_line(words: Words<'_>) -> Result<(), TextFaultKind>
 
 /// The line `cpus N`.
 #[tactic(auto, unfolding(crate::specs::Statements::processors_line))]
-pub(super) fn processors_line(words: Words<'_>) -> Result<u64, TextFaultKind>
+pub(super) fn processors_line(words: Words<'_>) -> Result<u8, TextFaultKind>
     ensures value { result ≡ processors_line words.entry }
-    ensures one { IfOk result (λ cpus. cpus ≡ 1) }
+    ensures some { IfOk result (λ cpus. 1 ≤ cpus) }
+    ensures limit { IfOk result (λ cpus. cpus ≤ 16) }
 {
-    number_from(1, 1, only(after(b"cpus", words)?)?)
+    let number = only(after(b"cpus", words)?)?;
+    let cpus = number_from(1, u64::from(MOST_PROCESSORS), number)?;
+    Ok(cpus as u8)
 }
 
 /// A processor below their number.
 #[tactic(auto, unfolding(crate::specs::Statements::processor_of))]
-fn processor(cpus: u8, word: &[u8]) -> Result<u64, TextFaultKind>
+fn processor(cpus: u8, word: &[u8]) -> Result<u8, TextFaultKind>
     ensures value { result ≡ processor_of cpus word.now }
     ensures below { IfOk result (λ cpu. cpu < cpus) }
 {
     let cpu = number(word).ok_or(TextFaultKind::BadNumber)?;
     if cpu < u64::from(cpus) {
-        Ok(cpu)
+        Ok(cpu as u8)
     } else {
         Err(TextFaultKind::BadCpu)
     }
@@ -97,9 +100,8 @@ pub(super) fn declaration(
     cpus: u8,
     operands: Words<'_>,
 ) -> Result<Declaration, TextFaultKind>
-    requires { cpus ≡ 1 }
     ensures value { result ≡ declaration_of cpus operands.entry }
-    ensures home { IfOk result (λ thread. thread.cpu ≡ 0) }
+    ensures home { IfOk result (λ thread. thread.cpu < cpus) }
 {
     let (id, cpu_keyword, cpu, space_keyword, space) = operands
         .five()
@@ -108,10 +110,9 @@ pub(super) fn declaration(
         return Err(TextFaultKind::BadLine);
     }
     let id = thread(id).ok_or(TextFaultKind::BadId)?;
-    // With one processor it is 0, which a declaration does not store.
-    processor(cpus, cpu)?;
+    let cpu = processor(cpus, cpu)?;
     let space = number_from(0, u64::from(u32::MAX), space)?;
-    Ok(Declaration::new(alloc, id, space as u32))
+    Ok(Declaration::new(alloc, id, cpu, space as u32))
 }
 
 fn register(word: &[u8]) -> Result<Register, TextFaultKind>

@@ -9,9 +9,9 @@ use Rattle.l4_model.specs.History.{run}
 use Rattle.l4_core_model.specs.Local.{Local, declared, undeclared, comes_to, readied}
 use Rattle.l4_core_model.specs.Acts.{Work, ◌▷◌, tells, does}
 use Rattle.l4_core_model.specs.Runs.{IsMachine}
-use Rattle.l4_core_model.proofs.Knows.{run-last, get-changed, same_nat}
+use Rattle.l4_core_model.proofs.Changed.{run-last, get-changed, same_nat}
 use Rattle.l4_core_model.proofs.Fit.{IsGood}
-use Rattle.l4_core_model.proofs.Remembers.{same_or_apart}
+use Rattle.l4_core_model.proofs.Apart.{same_or_apart}
 use Rattle.l4_split.proofs.Lists.{other_is}
 use Rattle.l4_split.proofs.Frames.Locals.{come, comes_here}
 use Rattle.l4_split.proofs.Relation.Views.{Scene, Kept, View, kept, view, world_thread, home, put, amid, locators}

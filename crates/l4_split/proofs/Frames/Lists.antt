@@ -9,9 +9,9 @@ use Rattle.l4_model.specs.World.{World, unqueued, queued}
 use Rattle.l4_core_model.specs.Plain as plain
 use Rattle.l4_core_model.specs.Local.{Local, relists}
 use Rattle.l4_core_model.specs.Acts.{Work, ◌▷◌, does}
-use Rattle.l4_core_model.proofs.Knows.{blocks, length-changed, same_nat, filter-blocks}
-use Rattle.l4_core_model.proofs.Fit.{all-append, all-filter}
-use Rattle.l4_core_model.proofs.Remembers.{apart}
+use Rattle.l4_core_model.proofs.Changed.{blocks, length-changed, same_nat, filter-blocks}
+use Rattle.l4_core_model.proofs.Lists.{all-append, all-filter}
+use Rattle.l4_core_model.proofs.Apart.{apart}
 use Rattle.l4_split.proofs.Lists.{changed_cases}
 use Rattle.l4_split.proofs.Frames.Locals.{unqueued_other, unqueued_here, queued_other, list_queued, list_unqueued}
 use Rattle.l4_split.proofs.Relation.Views.{Scene, View, kept, view, home, put, amid, is_of}

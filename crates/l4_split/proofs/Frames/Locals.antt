@@ -6,9 +6,9 @@ use Rattle.l4_model.specs.Words.{Period}
 use Rattle.l4_model.specs.World.{Thread, Phase, Ready, Sending, Receiving, Ordering, Ended, Deleted, opening_thread}
 use Rattle.l4_core_model.specs.Plain as plain
 use Rattle.l4_core_model.specs.Local.{Local, thread, changes, relists, comes_to, readied, armed_for, armed_period}
-use Rattle.l4_core_model.proofs.Knows.{get-changed, same_nat}
+use Rattle.l4_core_model.proofs.Changed.{get-changed, same_nat}
 use Rattle.l4_core_model.proofs.Fit.{get_other}
-use Rattle.l4_core_model.proofs.Remembers.{of_other}
+use Rattle.l4_core_model.proofs.Apart.{of_other}
 use Rattle.l4_split.proofs.Lists.{other_is, filter_kept, filter_out, filter_last, filter_last_other, filter_put_other, filter_put, changed_cases}
 use Rattle.l4_split.proofs.Relation.Views.{Kept, kept, is_of}
 

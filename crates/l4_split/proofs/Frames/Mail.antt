@@ -10,9 +10,9 @@ use Rattle.l4_model.proofs.Chains.{some_is}
 use Rattle.l4_core_model.specs.Letters.{Content, Letter}
 use Rattle.l4_core_model.specs.Acts.{Work, ◌▷◌, posts, is_place}
 use Rattle.l4_core_model.specs.Runs.{Posted, posted, is_between, letters, without_first}
-use Rattle.l4_core_model.proofs.Knows.{same_nat}
+use Rattle.l4_core_model.proofs.Changed.{same_nat}
 use Rattle.l4_core_model.proofs.Fit.{NotIn}
-use Rattle.l4_core_model.proofs.Pieces.{both}
+use Rattle.l4_core_model.proofs.Choosing.{both}
 use Rattle.l4_split.proofs.Lists.{other_is, filter_last, filter_last_other}
 use Rattle.l4_split.proofs.Relation.Views.{Scene, View, view, amid, subject, is_locator, notices, is_about, locators}
 use Rattle.l4_split.proofs.Relation.Rows.{seats, Row}

@@ -7,7 +7,8 @@ use Rattle.l4_model.specs.World.{Thread, Send, Phase, Ready, Sending, Receiving,
 use Rattle.l4_core_model.specs.Letters.{Content, SendLetter, DoneLetter, WithdrawLetter, GoneLetter, OrderLetter, OrderDoneLetter, Cause}
 use Rattle.l4_core_model.specs.Local.{armed_for, armed_period}
 use Rattle.l4_core_model.specs.Runs.{Posted}
-use Rattle.l4_core_model.proofs.Fit.{IsGood, all-map}
+use Rattle.l4_core_model.proofs.Fit.{IsGood}
+use Rattle.l4_core_model.proofs.Lists.{all-map}
 use Rattle.l4_split.proofs.Frames.Locals.{come}
 use Rattle.l4_split.proofs.Relation.Views.{Kept, View, kept, home, notices, locators}
 use Rattle.l4_split.proofs.Relation.Rows.{seats, Agrees, learned, Row, RowOf, IsKept, IsUnplaced, IsKeptAtHome, IsKeptElsewhere, deadlines, IsCause, IsNotice, IsNoticeOf, Known}

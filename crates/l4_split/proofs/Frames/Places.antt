@@ -9,9 +9,10 @@ use Rattle.l4_model.specs.Reached.{list_at}
 use Rattle.l4_core_model.specs.Plain as plain
 use Rattle.l4_core_model.specs.Local.{Local, thread, changes, comes_to, readied, armed_for, armed_period}
 use Rattle.l4_core_model.specs.Acts.{Work, ◌▷◌, does}
-use Rattle.l4_core_model.proofs.Knows.{blocks, length-changed}
-use Rattle.l4_core_model.proofs.Fit.{NotIn, get_other, all-append, all-filter}
-use Rattle.l4_core_model.proofs.Remembers.{same_or_apart}
+use Rattle.l4_core_model.proofs.Changed.{blocks, length-changed}
+use Rattle.l4_core_model.proofs.Fit.{NotIn, get_other}
+use Rattle.l4_core_model.proofs.Lists.{all-append, all-filter}
+use Rattle.l4_core_model.proofs.Apart.{same_or_apart}
 use Rattle.l4_split.proofs.Frames.Locals.{changes_other, comes_other}
 use Rattle.l4_split.proofs.Relation.Views.{Scene, View, kept, view, home, put, amid}
 use Rattle.l4_split.proofs.Relation.Relates.{AreWithin, IsSized, RelatesExcept, senders}

@@ -14,8 +14,8 @@ use Rattle.l4_core_model.specs.Letters.{DoneLetter, Refusal, TimedOut, Nobody, R
 use Rattle.l4_core_model.specs.Local.{last_name, changes, declared, is_own, thread, held, destination_place, relists, comes_to}
 use Rattle.l4_core_model.specs.Acts.{Work, ◌▷◌, tells, does, posts, tells_send, ends, refuses, delivers, delivers_send, delivers_message, is_place, first_acceptable, zero_refusable, entry, queues_send, arrives, goes_to, begins_send, split_place, split_receiver, withdraws, asks, withdraws_for, obeys, order_goes_to, gives_order, acts}
 use Rattle.l4_core_model.specs.Runs.{IsMachine}
-use Rattle.l4_core_model.proofs.Fit.{all-append}
-use Rattle.l4_core_model.proofs.Beginning.{place_within, destination_within}
+use Rattle.l4_core_model.proofs.Lists.{all-append}
+use Rattle.l4_core_model.proofs.Standing.{place_within, destination_within}
 use Rattle.l4_split.proofs.Letters.Noticing.{split_cases}
 use Rattle.l4_split.proofs.Relation.Views.{subject}
 

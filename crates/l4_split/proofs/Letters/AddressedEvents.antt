@@ -15,7 +15,7 @@ use Rattle.l4_core_model.specs.Local.{Local, declared, thread, held, relists, ch
 use Rattle.l4_core_model.specs.Acts.{Work, ◌▷◌, does, first_of_list, first_acceptable, split_place, obeys}
 use Rattle.l4_core_model.specs.Turns.{Duty, DropsOwn, RefusesFirst, TellsGone, CancelsOwn, CancelsReceive, DeliversFirst, ClosesReceive, RefusesZero, does_duty, has_told, times_out, Choice, ByDuty, ByDue, ByReady, does_choice, opened, next_untold, turn}
 use Rattle.l4_core_model.specs.Runs.{IsMachine}
-use Rattle.l4_core_model.proofs.Duties.{all_find}
+use Rattle.l4_core_model.proofs.Lists.{all_find}
 use Rattle.std.proofs.lemmas.Bool.{ltb-true}
 use Rattle.l4_split.proofs.Turns.Choices.{IsDuty, StandsIn, entry_of_all, IsChoice, turn_then}
 use Rattle.l4_split.proofs.Relation.Relates.{IsSized}

@@ -12,9 +12,9 @@ use Rattle.l4_core_model.specs.Local.{Local, declared, thread, changes, readied,
 use Rattle.l4_core_model.specs.Acts.{Work, ◌▷◌, does, posts}
 use Rattle.l4_core_model.specs.Turns.{next_untold, has_told}
 use Rattle.l4_core_model.specs.Mail.{foreign_place, handled}
-use Rattle.l4_core_model.proofs.Beginning.{place_within}
-use Rattle.l4_core_model.proofs.Knows.{length-changed}
-use Rattle.l4_core_model.proofs.Remembers.{same_or_apart, apart}
+use Rattle.l4_core_model.proofs.Standing.{place_within}
+use Rattle.l4_core_model.proofs.Changed.{length-changed}
+use Rattle.l4_core_model.proofs.Apart.{same_or_apart, apart}
 use Rattle.l4_split.proofs.Lists.{get_other_place}
 use Rattle.l4_split.proofs.Relation.Views.{Scene, Kept, View, kept, view, home, put, amid, subject, is_locator, notices, locators}
 use Rattle.l4_split.proofs.Relation.Rows.{seats, Agrees, learned, Row, IsKeptAtHome, IsNotice, IsNoticeOf, Matches, Seats}

@@ -18,9 +18,9 @@ use Rattle.l4_core_model.specs.Local.{thread}
 use Rattle.l4_core_model.specs.Acts.{Work, refuses}
 use Rattle.l4_core_model.specs.Mail.{own_place, foreign_place, handled, waits_here}
 use Rattle.l4_core_model.specs.Runs.{Posted, without_first}
-use Rattle.l4_core_model.proofs.Beginning.{place_within}
-use Rattle.l4_core_model.proofs.Pieces.{both}
-use Rattle.l4_core_model.proofs.Knows.{same_nat}
+use Rattle.l4_core_model.proofs.Standing.{place_within}
+use Rattle.l4_core_model.proofs.Choosing.{both}
+use Rattle.l4_core_model.proofs.Changed.{same_nat}
 use Rattle.l4_split.proofs.Relation.Views.{Scene, Kept, View, view, home, amid, subject, is_locator, notices, is_about, locators}
 use Rattle.l4_split.proofs.Relation.Rows.{seats, Agrees, learned, Row, IsCause, IsWithdrawal, IsNotice, IsNoticeOf, Matches}
 use Rattle.l4_split.proofs.Relation.Relates.{RelatesExcept}

@@ -11,8 +11,8 @@ use Rattle.l4_core_model.specs.Local.{declared, undeclared, thread, Local}
 use Rattle.l4_core_model.specs.Acts.{Work, split_place}
 use Rattle.l4_core_model.specs.Mail.{own_place, foreign_place, is_ordering, handled, handle}
 use Rattle.l4_core_model.specs.Runs.{Posted, IsMachine, System, letters}
-use Rattle.l4_core_model.proofs.Knows.{same_nat, same_ids}
-use Rattle.l4_core_model.proofs.Beginning.{destination_within, place_within}
+use Rattle.l4_core_model.proofs.Changed.{same_nat, same_ids}
+use Rattle.l4_core_model.proofs.Standing.{destination_within, place_within}
 use Rattle.l4_split.proofs.Lists.{other_is, one_of}
 use Rattle.l4_split.proofs.Relation.Views.{Scene, view, world_thread, home, Kept, View, nowhere, scene, subject, is_locator, notices, is_about, locators}
 use Rattle.l4_split.proofs.Relation.Rows.{seats, IsSent, IsDecided, IsOrdered, IsObeyed, Matches, Agrees, learns, learned, Row, RowOf, IsNotice, IsNoticeOf}

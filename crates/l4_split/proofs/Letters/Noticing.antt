@@ -9,9 +9,10 @@ use Rattle.l4_core_model.specs.Letters.{Cause, Content, WithdrawLetter}
 use Rattle.l4_core_model.specs.Local.{declared, thread, destination_place, last_name}
 use Rattle.l4_core_model.specs.Acts.{Work, posts, withdraws, split_place, split_receiver}
 use Rattle.l4_core_model.specs.Runs.{Posted, posted}
-use Rattle.l4_core_model.proofs.Fit.{NotIn, all-append}
-use Rattle.l4_core_model.proofs.Beginning.{destination_within}
-use Rattle.l4_core_model.proofs.Remembers.{apart}
+use Rattle.l4_core_model.proofs.Fit.{NotIn}
+use Rattle.l4_core_model.proofs.Lists.{all-append}
+use Rattle.l4_core_model.proofs.Apart.{apart}
+use Rattle.l4_core_model.proofs.Standing.{destination_within}
 use Rattle.l4_split.proofs.Lists.{filter_last, filter_last_other}
 use Rattle.l4_split.proofs.Relation.Views.{Scene, View, kept, view, home, amid, subject, is_locator, notices, Kept, locators}
 use Rattle.l4_split.proofs.Relation.Rows.{seats, Agrees, learned, Row, IsCause, IsWithdrawal, IsNotice, Matches}

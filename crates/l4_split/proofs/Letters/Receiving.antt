@@ -13,8 +13,8 @@ use Rattle.l4_core_model.specs.Acts.{Work, split_place}
 use Rattle.l4_core_model.specs.Turns.{opened}
 use Rattle.l4_core_model.specs.Mail.{own_place, foreign_place, handled}
 use Rattle.l4_core_model.specs.Runs.{without_first, IsMachine}
-use Rattle.l4_core_model.proofs.Beginning.{place_within}
-use Rattle.l4_core_model.proofs.Remembers.{apart}
+use Rattle.l4_core_model.proofs.Standing.{place_within}
+use Rattle.l4_core_model.proofs.Apart.{apart}
 use Rattle.l4_split.proofs.Relation.Views.{Scene, kept, view, home, put, amid, subject, is_locator, notices, is_about, locators}
 use Rattle.l4_split.proofs.Relation.Rows.{Matches}
 use Rattle.l4_split.proofs.Relation.Relates.{RelatesExcept}

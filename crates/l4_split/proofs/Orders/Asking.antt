@@ -11,7 +11,9 @@ use Rattle.l4_model.specs.Reached.{Suits}
 use Rattle.l4_core_model.specs.Letters.{Cause, ByTimeout, ByCancel, ByDeletion}
 use Rattle.l4_core_model.specs.Local.{readied, Local, relists}
 use Rattle.l4_core_model.specs.Runs.{Posted}
-use Rattle.l4_core_model.proofs.Fit.{IsGood, all-filter}
+use Rattle.l4_core_model.proofs.Fit.{IsGood}
+use Rattle.l4_core_model.proofs.Lists.{all-filter}
+use Rattle.l4_core_model.proofs.Apart.{same_or_apart, of_other}
 use Rattle.l4_core_model.proofs.Good.{deletes_good}
 use Rattle.l4_split.proofs.Relation.Views.{Kept, View, Scene, kept, view, home, amid, notices, is_of, locators}
 use Rattle.l4_split.proofs.Relation.Rows.{seats, Agrees, learns, learned, IsOrdering, IsCause, IsKeptAtHome, Known, Row, Matches, Seats}
@@ -22,8 +24,7 @@ use Rattle.l4_split.proofs.Orders.Asked.{agrees_order, asked_agrees, asked_while
 use Rattle.l4_model.proofs.Keeping.{order-asked}
 use Rattle.l4_core_model.specs.Plain as plain
 use Rattle.l4_core_model.specs.Acts.{Work, ◌▷◌, does, asks}
-use Rattle.l4_core_model.proofs.Knows.{get-changed}
-use Rattle.l4_core_model.proofs.Remembers.{same_or_apart, of_other}
+use Rattle.l4_core_model.proofs.Changed.{get-changed}
 use Rattle.l4_split.proofs.Lists.{filter_kept, filter_out}
 use Rattle.l4_split.proofs.Frames.Locals.{changes_here, changes_other, comes_here, comes_other}
 use Rattle.l4_split.proofs.Relation.Relates.{IsSized, RelatesExcept}

@@ -16,11 +16,12 @@ use Rattle.l4_core_model.specs.Letters.{Cause, OrderLetter, cause_of}
 use Rattle.l4_core_model.specs.Local.{declared, is_own, thread, held, comes_to}
 use Rattle.l4_core_model.specs.Acts.{Work, ◌▷◌, tells, does, posts, asks, withdraws, withdraws_for, split_receiver, obeys, order_goes_to, gives_order}
 use Rattle.l4_core_model.specs.Runs.{Posted, posted}
-use Rattle.l4_core_model.proofs.Knows.{same_nat, same_ids, get-changed}
-use Rattle.l4_core_model.proofs.Beginning.{place_within}
+use Rattle.l4_core_model.proofs.Changed.{same_nat, same_ids, get-changed}
+use Rattle.l4_core_model.proofs.Standing.{place_within}
 use Rattle.l4_core_model.proofs.Fit.{get_other}
+use Rattle.l4_core_model.proofs.Apart.{apart, same_or_apart}
+use Rattle.l4_core_model.proofs.Orders.{target_declared}
 use Rattle.l4_core_model.proofs.Good.{orders_good}
-use Rattle.l4_core_model.proofs.Remembers.{apart, same_or_apart}
 use Rattle.l4_split.proofs.Lists.{filter_last, filter_last_other}
 use Rattle.l4_split.proofs.Relation.Views.{Scene, Kept, View, kept, view, world_thread, home, amid, is_locator, notices, locators}
 use Rattle.l4_split.proofs.Relation.Rows.{seats, Agrees, IsOrdered, IsKeptAtHome, Matches}
@@ -37,7 +38,6 @@ use Rattle.l4_split.proofs.Orders.Obeyed.{caller_unready, IsCalling, obeyed_here
 use Rattle.l4_split.proofs.Orders.Asking.{asks_other, asked_kept, asked_thread, asked_at_home, asked_stays_true, asks_here, asks_sized, asks_clock, asks_lists, kept_lists}
 use Rattle.l4_split.proofs.Orders.Obeying.{obeys_relates, obeys_steps}
 use Rattle.l4_split.proofs.Orders.Ordered.{obeys_local, obeys_mail}
-use Rattle.l4_core_model.proofs.Orders.{target_declared}
 
 abbrev given : Machine → ℕ → Asked → Work → Work
 given m i order x = x ▷ does (comes_to i (orders order)) ▷ tells (Order (declared m i).id order.target order.what)

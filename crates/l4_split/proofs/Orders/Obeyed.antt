@@ -12,7 +12,7 @@ use Rattle.l4_core_model.specs.Local.{thread, comes_to, readied}
 use Rattle.l4_core_model.specs.Acts.{Work, ◌▷◌, does}
 use Rattle.l4_core_model.specs.Mail.{own_place, is_ordering, handled}
 use Rattle.l4_core_model.specs.Runs.{Posted}
-use Rattle.l4_core_model.proofs.Beginning.{place_within}
+use Rattle.l4_core_model.proofs.Standing.{place_within}
 use Rattle.l4_core_model.proofs.Fit.{IsGood}
 use Rattle.l4_core_model.proofs.Good.{obeyed_good}
 use Rattle.l4_split.proofs.Relation.Views.{Scene, Kept, View, kept, view, home, amid, subject, is_locator, locators}

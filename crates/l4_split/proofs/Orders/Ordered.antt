@@ -14,8 +14,8 @@ use Rattle.l4_core_model.specs.Local.{declared, thread, last_name, readied}
 use Rattle.l4_core_model.specs.Acts.{Work, ◌▷◌, tells, does, posts, asks, withdraws, withdraws_for, split_place, obeys}
 use Rattle.l4_core_model.specs.Mail.{own_place, foreign_place, handled}
 use Rattle.l4_core_model.specs.Runs.{Posted, posted}
-use Rattle.l4_core_model.proofs.Knows.{get-changed}
-use Rattle.l4_core_model.proofs.Beginning.{place_within}
+use Rattle.l4_core_model.proofs.Changed.{get-changed}
+use Rattle.l4_core_model.proofs.Standing.{place_within}
 use Rattle.l4_core_model.proofs.Fit.{get_other}
 use Rattle.l4_split.proofs.Lists.{other_is, filter_last, filter_last_other}
 use Rattle.l4_split.proofs.Relation.Views.{Scene, Kept, View, kept, view, world_thread, home, amid, subject, is_locator, notices, is_about, locators}

@@ -16,7 +16,7 @@ use Rattle.l4_core_model.specs.Letters.{Refusal, TimedOut, Nobody, Result, Deliv
 use Rattle.l4_core_model.specs.Local.{Local, declared, is_own, thread, held, destination_place, last_name, relists, changes, comes_to, ended}
 use Rattle.l4_core_model.specs.Acts.{Work, ◌▷◌, tells, does, posts, tells_send, ends, refuses, delivers_send, delivers, first_of_list, first_acceptable, is_place, entry, zero_refusable, queues_send, arrives, posts_send, goes_to, begins_send, fails_receive, runs_alone_at, waits_at}
 use Rattle.l4_core_model.specs.Runs.{Posted}
-use Rattle.l4_core_model.proofs.Remembers.{apart}
+use Rattle.l4_core_model.proofs.Apart.{apart}
 use Rattle.l4_split.proofs.Relation.Views.{Scene, home, amid}
 use Rattle.l4_split.proofs.Promises.Promised.{MayFollow, IsNotWithdrawalOf, Promised}
 use Rattle.l4_split.proofs.Promises.Frames.{leaves_one, posts_keeps}

@@ -7,7 +7,7 @@ use Rattle.std.proofs.Common.{◌≡◌, ℕ, true, [], ap, sym, ◌∙◌, subs
 use Rattle.l4_model.specs.Machine.{Machine, place_of}
 use Rattle.l4_model.specs.World.{World, Send, Name, is_ready}
 use Rattle.l4_core_model.specs.Plain as plain
-use Rattle.l4_core_model.proofs.Remembers.{same_or_apart}
+use Rattle.l4_core_model.proofs.Apart.{same_or_apart}
 use Rattle.l4_split.proofs.Relation.Views.{Scene, View, view, home, is_of, Kept, kept, subject, is_locator, is_about}
 use Rattle.l4_split.proofs.Relation.Rows.{seats, IsSplit, Matches, IsWaiting, IsNotice, IsNoticeOf}
 use Rattle.l4_split.proofs.Promises.Promised.{IsSplitSend, IsNotWithdrawalOf, Promised}
@@ -22,7 +22,7 @@ use Rattle.l4_core_model.specs.Letters.{Content, SendLetter, DoneLetter, Withdra
 use Rattle.l4_core_model.specs.Acts.{Work, ◌▷◌, does, is_place, acts}
 use Rattle.l4_core_model.specs.Turns.{Choice, ByDuty, ByDue, ByReady, does_choice, turn, opened}
 use Rattle.l4_core_model.specs.Runs.{Posted, IsMachine}
-use Rattle.l4_core_model.proofs.Knows.{same_nat}
+use Rattle.l4_core_model.proofs.Changed.{same_nat}
 use Rattle.l4_split.proofs.Turns.Choices.{IsChoice, turn_then}
 use Rattle.l4_split.proofs.Relation.Relates.{RelatesExcept}
 use Rattle.l4_split.proofs.Frames.Locals.{comes_here}

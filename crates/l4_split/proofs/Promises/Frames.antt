@@ -6,7 +6,7 @@ use Rattle.l4_core_model.specs.Letters.{Content}
 use Rattle.l4_core_model.specs.Local.{declared}
 use Rattle.l4_core_model.specs.Acts.{Work, ◌▷◌, posts}
 use Rattle.l4_core_model.specs.Runs.{Posted, posted}
-use Rattle.l4_core_model.proofs.Remembers.{same_or_apart}
+use Rattle.l4_core_model.proofs.Apart.{same_or_apart}
 use Rattle.l4_split.proofs.Relation.Views.{Scene, home, amid}
 use Rattle.l4_split.proofs.Frames.Mail.{mail_posted}
 use Rattle.l4_split.proofs.Promises.Promised.{AnyOf, MayFollow, InOrder, IsGone, IsArmedUnlessSplit, IsAnswered, kept_at, phases, Promised, HasHeard, HasAnswer}

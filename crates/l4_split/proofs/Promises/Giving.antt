@@ -13,7 +13,7 @@ use Rattle.l4_core_model.specs.Letters.{Cause, OrderLetter, cause_of}
 use Rattle.l4_core_model.specs.Local.{Local, declared, is_own, thread, relists, comes_to}
 use Rattle.l4_core_model.specs.Acts.{Work, ◌▷◌, tells, does, asks, split_place, withdraws, withdraws_for, obeys, order_goes_to, gives_order}
 use Rattle.l4_core_model.specs.Runs.{Posted}
-use Rattle.l4_core_model.proofs.Remembers.{same_or_apart}
+use Rattle.l4_core_model.proofs.Apart.{same_or_apart}
 use Rattle.l4_split.proofs.Relation.Views.{Kept, Scene, home, amid}
 use Rattle.l4_split.proofs.Frames.Locals.{comes_here, comes_other, changes_here, changes_other}
 use Rattle.l4_split.proofs.Promises.Promised.{MayFollow}

@@ -2,7 +2,7 @@
 use Rattle.std.proofs.Common.{◌≡◌, Bool, true, false, cond, List, [], ◌∷◌, ◌++◌, filter, inl, inr}
 use Rattle.std.specs.List.{AllByRecursion}
 use Rattle.l4_core_model.specs.Runs.{Posted}
-use Rattle.l4_core_model.proofs.Fit.{all-append, all-filter}
+use Rattle.l4_core_model.proofs.Lists.{all-append, all-filter}
 use Rattle.l4_split.proofs.Promises.Promised.{AnyOf, MayFollow, InOrder}
 
 pub any_append : (P : Posted → Type 0) (xs : List Posted) (y : Posted) → AnyOf P xs → AnyOf P (xs ++ y ∷ [])

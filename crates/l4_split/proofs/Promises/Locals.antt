@@ -8,9 +8,9 @@ use Rattle.l4_core_model.specs.Plain as plain
 use Rattle.l4_core_model.specs.Acts.{Work, ◌▷◌, does}
 use Rattle.l4_core_model.specs.Runs.{Posted}
 use Rattle.l4_model.specs.Words.{Period}
-use Rattle.l4_core_model.proofs.Knows.{same_nat, length-changed}
+use Rattle.l4_core_model.proofs.Changed.{same_nat, length-changed}
 use Rattle.l4_core_model.proofs.Fit.{NotIn}
-use Rattle.l4_core_model.proofs.Remembers.{same_or_apart}
+use Rattle.l4_core_model.proofs.Apart.{same_or_apart}
 use Rattle.l4_split.proofs.Relation.Views.{Kept, Scene, kept, home, put, amid}
 use Rattle.l4_split.proofs.Frames.Locals.{come, comes_here, comes_other, changes_here, changes_other}
 use Rattle.l4_split.proofs.Frames.Places.{put_keeps}

@@ -11,8 +11,8 @@ use Rattle.l4_core_model.specs.Local.{Local, declared, thread}
 use Rattle.l4_core_model.specs.Acts.{Work, ◌▷◌, does, posts}
 use Rattle.l4_core_model.specs.Turns.{next_untold, has_told}
 use Rattle.l4_core_model.specs.Runs.{Posted, posted}
-use Rattle.l4_core_model.proofs.Knows.{get-changed, length-changed}
-use Rattle.l4_core_model.proofs.Remembers.{same_or_apart}
+use Rattle.l4_core_model.proofs.Changed.{get-changed, length-changed}
+use Rattle.l4_core_model.proofs.Apart.{same_or_apart}
 use Rattle.l4_split.proofs.Relation.Views.{Scene, kept, home, amid}
 use Rattle.l4_split.proofs.Frames.Places.{put_keeps, put_same}
 use Rattle.l4_split.proofs.Frames.Mail.{mail_posted}

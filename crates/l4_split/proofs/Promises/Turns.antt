@@ -10,8 +10,8 @@ use Rattle.l4_core_model.specs.Letters.{TimedOut, Nobody, Cancelled, Dropped, Re
 use Rattle.l4_core_model.specs.Local.{Local, is_own, thread, relists, armed_period}
 use Rattle.l4_core_model.specs.Acts.{Work, ◌▷◌, tells_send, does, is_place}
 use Rattle.l4_core_model.specs.Turns.{Duty, DropsOwn, RefusesFirst, TellsGone, CancelsOwn, CancelsReceive, DeliversFirst, ClosesReceive, RefusesZero, does_duty, times_out, opened, clock_is}
-use Rattle.l4_core_model.proofs.Knows.{same_nat}
-use Rattle.l4_core_model.proofs.Remembers.{apart}
+use Rattle.l4_core_model.proofs.Changed.{same_nat}
+use Rattle.l4_core_model.proofs.Apart.{apart}
 use Rattle.l4_split.proofs.Turns.Choices.{IsDuty, in_some_receive}
 use Rattle.l4_split.proofs.Relation.Views.{Scene, kept, home, amid}
 use Rattle.l4_split.proofs.Frames.Going.{opened_scene}

@@ -16,8 +16,8 @@ use Rattle.l4_model.specs.Effects.{decided}
 use Rattle.l4_core_model.specs.Acts.{Work, ◌▷◌, does, posts, tells_send, refuses}
 use Rattle.l4_core_model.specs.Mail.{own_place, foreign_place, waits_here, withdraws_here, handled}
 use Rattle.l4_core_model.specs.Runs.{Posted, is_between, letters}
-use Rattle.l4_core_model.proofs.Knows.{same_nat}
-use Rattle.l4_core_model.proofs.Pieces.{both}
+use Rattle.l4_core_model.proofs.Changed.{same_nat}
+use Rattle.l4_core_model.proofs.Choosing.{both}
 use Rattle.l4_split.proofs.Relation.Views.{Kept, Scene, View, view, home, amid, is_locator, is_about, is_of, locators}
 use Rattle.l4_split.proofs.Relation.Rows.{seats, name_of, IsDecided, IsSent, IsWaiting}
 use Rattle.l4_split.proofs.Frames.Mail.{mail_posted}

@@ -2,8 +2,8 @@
 use Rattle.l4_split.proofs.Turns.Choices.{own_entry}
 use Rattle.l4_core_model.specs.Runs.{processors}
 use Rattle.std.proofs.lemmas.List.FromFn.{get_or-map-range_with_len, length-map-range_with_len}
-use Rattle.l4_core_model.proofs.Single.{range_below}
-use Rattle.l4_core_model.proofs.Law.{get-same}
+use Rattle.l4_core_model.proofs.Lists.{range_below, get-same, all-map, all-filter}
+use Rattle.l4_core_model.proofs.Apart.{same_or_apart}
 use Rattle.std.proofs.Common.{◌≡◌, ℕ, ◌+◌, ◌<◌, ◌≤◌, false, List, [], ◌∷◌, map, filter, length, refl, ap, sym, ◌∙◌, subst, arith, inl, inr, ◌⊎◌, Some, None}
 use Rattle.std.specs.Prelude.{◌==◌}
 use Rattle.std.specs.List.{range_with_len, AllByRecursion}
@@ -15,9 +15,7 @@ use Rattle.l4_model.specs.Reached.{list_at}
 use Rattle.l4_core_model.specs.Plain as plain
 use Rattle.l4_core_model.specs.Local.{Local, is_own, own_places, opening_local}
 use Rattle.l4_core_model.specs.Runs.{opening_system, IsMachine}
-use Rattle.l4_core_model.proofs.Knows.{blocks}
-use Rattle.l4_core_model.proofs.Fit.{all-map, all-filter}
-use Rattle.l4_core_model.proofs.Remembers.{same_or_apart}
+use Rattle.l4_core_model.proofs.Changed.{blocks}
 use Rattle.l4_split.proofs.Lists.{filter_out, other_is}
 use Rattle.l4_split.proofs.Relation.Views.{Kept, View, kept, view, home, nowhere, scene}
 use Rattle.l4_split.proofs.Relation.Rows.{Matches}

@@ -7,7 +7,7 @@ use Rattle.l4_model.specs.Reached.{list_at}
 use Rattle.l4_core_model.specs.Plain as plain
 use Rattle.l4_core_model.specs.Local.{Local}
 use Rattle.l4_core_model.specs.Runs.{System}
-use Rattle.l4_core_model.proofs.Knows.{blocks}
+use Rattle.l4_core_model.proofs.Changed.{blocks}
 use Rattle.l4_core_model.proofs.Fit.{NotIn}
 use Rattle.l4_split.proofs.Relation.Views.{Scene, View, view, home, scene}
 use Rattle.l4_split.proofs.Relation.Rows.{Matches}

@@ -1,7 +1,9 @@
 -- What is known of a thread where its processor has nothing to do.
 use Rattle.std.proofs.lemmas.Option.{slice_get-get_or}
 use Rattle.l4_split.proofs.Turns.Choices.{has_no_duty}
-use Rattle.l4_core_model.proofs.Resting.{none_of, guarded, found_none}
+use Rattle.l4_core_model.proofs.Choosing.{none_of, guarded, both, accepts_none}
+use Rattle.l4_core_model.proofs.Lists.{found_none}
+use Rattle.l4_core_model.proofs.Apart.{apart}
 use Rattle.std.proofs.Common.{◌≡◌, ℕ, zero, suc, ◌+◌, ◌<◌, ◌≤◌, Bool, true, false, Option, Some, None, List, [], ◌∷◌, length, refl, ap, ◌∙◌, arith}
 use Rattle.std.specs.Prelude.{◌==◌, ◌&&◌, not, is_some, slice_get, slice_index_or}
 use Rattle.std.specs.Option.{option_map}
@@ -16,9 +18,6 @@ use Rattle.l4_core_model.specs.Local.{Local, own_places, thread, held, held_by}
 use Rattle.l4_core_model.specs.Acts.{first_acceptable, zero_refusable}
 use Rattle.l4_core_model.specs.Turns.{DropsOwn, RefusesFirst, TellsGone, CancelsOwn, CancelsReceive, ClosesReceive, RefusesZero, next_untold, duty_drops_own, duty_refuses_waiting, duty_tells_gone, duty_cancels_own, duty_cancels_receive, duty_delivers_first, duty_closes_receive, duty_refuses_zero, duty_of, first_duty, Choice, ByDue, ByReady, choice, is_busy}
 use Rattle.l4_core_model.specs.Runs.{System, Posted, processors, is_empty, local_at_rest, at_rest, IsMachine}
-use Rattle.l4_core_model.proofs.Pieces.{both}
-use Rattle.l4_core_model.proofs.Remembers.{apart}
-use Rattle.l4_core_model.proofs.Duties.{accepts_none}
 use Rattle.l4_split.proofs.Relation.Views.{home, nowhere}
 
 -- A thread of a processor that is idle and has nothing armed: none of its duties is one.

@@ -14,8 +14,9 @@ use Rattle.l4_model.proofs.Chains.{some_is}
 use Rattle.l4_core_model.specs.Plain as plain
 use Rattle.l4_core_model.specs.Local.{Local, declared, thread, held, armed_period, destination_place, held_by}
 use Rattle.l4_core_model.specs.Acts.{entry, zero_refusable, first_acceptable}
-use Rattle.l4_core_model.proofs.Beginning.{any_in, destination_within, place_within}
-use Rattle.l4_core_model.proofs.Remembers.{same_or_apart}
+use Rattle.l4_core_model.proofs.Standing.{any_in, destination_within, place_within}
+use Rattle.l4_core_model.proofs.Apart.{same_or_apart}
+use Rattle.l4_core_model.proofs.Choosing.{receiving_is}
 use Rattle.l4_split.proofs.Relation.Views.{Scene, view, world_thread, home, is_of, scene}
 use Rattle.l4_split.proofs.Relation.Rows.{seats, IsWaiting}
 use Rattle.l4_split.proofs.Promises.Promised.{IsSplitSend, Promised}
@@ -28,7 +29,6 @@ use Rattle.std.specs.Option.{option_map}
 use Rattle.l4_model.specs.Words.{Id, NilThread, AnyThread, AnyLocalThread, LocalThread, GlobalThread}
 use Rattle.l4_model.specs.Still.{IsStill}
 use Rattle.l4_core_model.specs.Runs.{System, at_rest, IsMachine}
-use Rattle.l4_core_model.proofs.Duties.{receiving_is}
 use Rattle.l4_core_model.proofs.Good.{receiving_has_none}
 use Rattle.l4_split.proofs.Sends.Waiting.{first_accepted_is}
 

@@ -10,7 +10,7 @@ use Rattle.l4_model.specs.World.{Thread, World, Send, Phase, Ready, Sending, Rec
 use Rattle.l4_core_model.specs.Local.{declared, thread, readied, armed_period, destination_place}
 use Rattle.l4_core_model.specs.Turns.{next_untold}
 use Rattle.l4_core_model.specs.Runs.{System, at_rest, IsMachine}
-use Rattle.l4_core_model.proofs.Remembers.{same_or_apart}
+use Rattle.l4_core_model.proofs.Apart.{same_or_apart}
 use Rattle.l4_split.proofs.Relation.Views.{Scene, view, world_thread, home, scene, is_about, locators}
 use Rattle.l4_split.proofs.Relation.Rows.{seats, Agrees, learned, Row, IsWaiting, Matches, name_of}
 use Rattle.l4_split.proofs.Promises.Promised.{AnyOf, IsAnswer, IsGone, IsSplitSend, IsLate, IsWished, kept_at, phases, Promised, HasHeard}

@@ -1,5 +1,6 @@
 -- A world in which no thread has anything to do is still.
-use Rattle.l4_core_model.proofs.Still.{passed_is_finite}
+use Rattle.l4_core_model.proofs.Fit.{passed_is_finite}
+use Rattle.l4_core_model.proofs.Choosing.{both}
 use Rattle.std.proofs.Common.{◌≡◌, ℕ, ◌<◌, Bool, true, false, cond, Option, Some, None, List, length, refl, ap, sym, ◌∙◌, arith, [], ◌∷◌, subst}
 use Rattle.std.specs.Prelude.{◌==◌, not, slice_index, slice_set}
 use Rattle.std.specs.Option.{option_map}
@@ -11,8 +12,7 @@ use Rattle.l4_model.specs.Steps.{receive_passed, Step, Local as RanLocal, Begin,
 use Rattle.l4_model.specs.Conditions.{Found, Pending, found, found_at, found_by, undecided, receiver_of, is_waiting, first_accepted, is_nobody, is_no_destination, is_zero, is_timed_out, is_refusable, has_passed}
 use Rattle.l4_model.proofs.Chains.{bind_then, guard_then, some_is}
 use Rattle.l4_core_model.specs.Local.{declared, undeclared, destination_place}
-use Rattle.l4_core_model.proofs.Pieces.{both}
-use Rattle.l4_core_model.proofs.Beginning.{place_within, destination_within}
+use Rattle.l4_core_model.proofs.Standing.{place_within, destination_within}
 use Rattle.l4_split.proofs.Relation.Views.{world_thread}
 use Rattle.std.specs.List.{AllByRecursion}
 use Rattle.l4_model.specs.History.{run}

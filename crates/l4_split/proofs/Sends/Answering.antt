@@ -10,8 +10,8 @@ use Rattle.l4_core_model.specs.Letters.{Result, DoneLetter}
 use Rattle.l4_core_model.specs.Local.{declared, thread, last_name, changes, relists, readied, ended}
 use Rattle.l4_core_model.specs.Acts.{Work, ◌▷◌, does, posts}
 use Rattle.l4_core_model.specs.Runs.{Posted, posted, IsMachine}
-use Rattle.l4_core_model.proofs.Knows.{get-changed}
-use Rattle.l4_core_model.proofs.Remembers.{same_or_apart}
+use Rattle.l4_core_model.proofs.Changed.{get-changed}
+use Rattle.l4_core_model.proofs.Apart.{same_or_apart}
 use Rattle.l4_split.proofs.Lists.{filter_last, filter_last_other}
 use Rattle.l4_split.proofs.Frames.Locals.{changes_here, unqueued_here}
 use Rattle.l4_split.proofs.Relation.Views.{Scene, Kept, View, kept, view, world_thread, home, amid, is_locator, notices, locators}

@@ -13,10 +13,10 @@ use Rattle.l4_core_model.specs.Letters.{SendLetter}
 use Rattle.l4_core_model.specs.Local.{declared, thread, held, is_own, destination_place, last_name, comes_to}
 use Rattle.l4_core_model.specs.Acts.{Work, ◌▷◌, tells, does, posts_send, arrives, goes_to, begins_send}
 use Rattle.l4_core_model.specs.Runs.{Posted, posted}
-use Rattle.l4_core_model.proofs.Knows.{same_nat, get-changed}
+use Rattle.l4_core_model.proofs.Changed.{same_nat, get-changed}
 use Rattle.l4_core_model.proofs.Good.{begins_good}
-use Rattle.l4_core_model.proofs.Beginning.{destination_within}
-use Rattle.l4_core_model.proofs.Remembers.{apart}
+use Rattle.l4_core_model.proofs.Standing.{destination_within}
+use Rattle.l4_core_model.proofs.Apart.{apart}
 use Rattle.l4_split.proofs.Lists.{filter_last, filter_last_other}
 use Rattle.l4_split.proofs.Relation.Views.{Scene, Kept, View, kept, view, home, amid, is_locator, notices, locators}
 use Rattle.l4_split.proofs.Relation.Rows.{seats, Agrees, IsKeptAtHome, IsSent}

@@ -10,9 +10,9 @@ use Rattle.l4_core_model.specs.Letters.{Result, SendLetter, DoneLetter}
 use Rattle.l4_core_model.specs.Local.{declared, thread, changes, comes_to, readied, ended, stand_in, stands_in}
 use Rattle.l4_core_model.specs.Acts.{Work, ◌▷◌, does, arrives}
 use Rattle.l4_core_model.specs.Runs.{Posted}
-use Rattle.l4_core_model.proofs.Beginning.{destination_within}
+use Rattle.l4_core_model.proofs.Standing.{destination_within}
 use Rattle.l4_core_model.proofs.Fit.{IsGood}
-use Rattle.l4_core_model.proofs.Remembers.{same_or_apart}
+use Rattle.l4_core_model.proofs.Apart.{same_or_apart}
 use Rattle.l4_split.proofs.Frames.Locals.{changes_here}
 use Rattle.l4_split.proofs.Relation.Views.{Scene, Kept, View, kept, view, home, amid, notices, locators}
 use Rattle.l4_split.proofs.Relation.Rows.{seats, Agrees, learns, learned, Row, RowOf, name_of, IsSent, IsDecided, IsKept, IsKeptAtHome, Matches}

@@ -12,8 +12,10 @@ use Rattle.l4_core_model.specs.Plain as plain
 use Rattle.l4_core_model.specs.Letters.{Delivered, TimedOut, Nobody}
 use Rattle.l4_core_model.specs.Local.{Local, declared, thread, destination_place, last_name, comes_to, readied, ended, was_delivered, held, relists}
 use Rattle.l4_core_model.specs.Acts.{Work, ◌▷◌, tells, does, delivers, delivers_send, delivers_message, refuses, entry, first_acceptable, is_place, delivers_if_first, zero_refusable, queues_send, arrives}
-use Rattle.l4_core_model.proofs.Knows.{same_nat, same_ids, same_bytes, part-changed_at}
+use Rattle.l4_core_model.proofs.Changed.{same_nat, same_ids, same_bytes, part-changed_at}
 use Rattle.l4_core_model.proofs.Fit.{IsGood}
+use Rattle.l4_core_model.proofs.Choosing.{accepts_is}
+use Rattle.l4_core_model.proofs.Apart.{same_or_apart}
 use Rattle.l4_core_model.proofs.Good.{receiving_has_none, receives_good}
 use Rattle.l4_split.proofs.Relation.Views.{Scene, Kept, View, kept, view, world_thread, home, amid}
 use Rattle.l4_split.proofs.Relation.Rows.{Agrees, IsEarlier, Matches}
@@ -27,8 +29,6 @@ use Rattle.l4_split.proofs.Sends.Deciding.{IsSendAt}
 use Rattle.l4_split.proofs.Sends.Waiting.{entry_at, entries_here, first_accepted_is, IsFirstSender, first_entry, agrees_send}
 use Rattle.l4_split.proofs.Sends.Finding.{place_found, receiver_is, held_is, pending_is, ends_relates, ends_steps}
 use Rattle.l4_model.proofs.Chains.{cond_keeps}
-use Rattle.l4_core_model.proofs.Pieces.{accepts_is}
-use Rattle.l4_core_model.proofs.Remembers.{same_or_apart}
 use Rattle.l4_split.proofs.Sends.Refusing.{HasSend, IsSeen, IsReceiver, deleted_goes, zero_goes}
 use Rattle.l4_split.proofs.Sends.Queueing.{IsInHand, queue_goes}
 

@@ -13,8 +13,8 @@ use Rattle.l4_core_model.specs.Plain as plain
 use Rattle.l4_core_model.specs.Local.{declared, undeclared, thread, destination_place, is_own, last_name, relists, comes_to, ended}
 use Rattle.l4_core_model.specs.Acts.{Work, ◌▷◌, does, ends}
 use Rattle.l4_core_model.specs.Runs.{IsMachine}
-use Rattle.l4_core_model.proofs.Knows.{same_nat}
-use Rattle.l4_core_model.proofs.Remembers.{apart}
+use Rattle.l4_core_model.proofs.Changed.{same_nat}
+use Rattle.l4_core_model.proofs.Apart.{apart}
 use Rattle.l4_split.proofs.Relation.Views.{Scene, Kept, View, kept, view, world_thread, home, amid}
 use Rattle.l4_split.proofs.Relation.Rows.{Matches}
 use Rattle.l4_split.proofs.Relation.Relates.{RelatesExcept}

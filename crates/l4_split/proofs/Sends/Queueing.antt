@@ -14,7 +14,7 @@ use Rattle.l4_core_model.specs.Letters.{Result, Delivered, Refused, TimedOut, No
 use Rattle.l4_core_model.specs.Local.{Local, thread, destination_place, last_name, relists, readied, ended, was_delivered}
 use Rattle.l4_core_model.specs.Acts.{Work, ◌▷◌, tells, does, entry}
 use Rattle.l4_core_model.specs.Runs.{Posted}
-use Rattle.l4_core_model.proofs.Remembers.{same_or_apart}
+use Rattle.l4_core_model.proofs.Apart.{same_or_apart}
 use Rattle.l4_split.proofs.Frames.Locals.{queued_listed, queued_other_list}
 use Rattle.l4_split.proofs.Relation.Views.{Scene, Kept, View, kept, view, home, put, amid, is_of, locators}
 use Rattle.l4_split.proofs.Relation.Rows.{seats, AgreesIn, Agrees, learns, learned, Row, IsStandIn, IsWaiting, IsKept, Known, Matches}

@@ -13,8 +13,8 @@ use Rattle.l4_model.specs.Effects.{refused, obeyed, goes_on}
 use Rattle.l4_model.specs.Reached.{Suits}
 use Rattle.l4_core_model.specs.Letters.{Result, Delivered, Refused, TimedOut, Nobody, Cancelled, Dropped}
 use Rattle.l4_core_model.specs.Local.{declared, undeclared, destination_place, ended, was_dropped}
-use Rattle.l4_core_model.proofs.Beginning.{place_within}
-use Rattle.l4_core_model.proofs.Pieces.{both}
+use Rattle.l4_core_model.proofs.Standing.{place_within}
+use Rattle.l4_core_model.proofs.Choosing.{both}
 use Rattle.l4_split.proofs.Lists.{other_is}
 use Rattle.l4_split.proofs.Relation.Views.{View, home}
 use Rattle.l4_split.proofs.Relation.Rows.{AgreesIn, Agrees, Known}

@@ -1,6 +1,8 @@
 -- A send on its receiver's processor is refused.
 use Rattle.l4_split.proofs.Relation.Whereabouts.{where_then}
-use Rattle.l4_core_model.proofs.Sending.{nowhere_is, zero_passed}
+use Rattle.l4_core_model.proofs.Sending.{nowhere_is}
+use Rattle.l4_core_model.proofs.Fit.{zero_passed, SendIsSince}
+use Rattle.l4_core_model.proofs.Choosing.{both}
 use Rattle.std.proofs.Common.{◌≡◌, ℕ, ◌<◌, ◌≤◌, true, Some, None, [], ◌∷◌, length, refl, ap, sym, ◌∙◌, subst, inl, inr, ◌⊎◌}
 use Rattle.std.specs.Prelude.{◌&&◌, not}
 use Rattle.l4_model.specs.Words.{Id, NilThread, AnyThread, AnyLocalThread, LocalThread, GlobalThread}
@@ -14,8 +16,6 @@ use Rattle.l4_core_model.specs.Letters.{Refusal, TimedOut, Nobody, Refused, refu
 use Rattle.l4_core_model.specs.Local.{declared, thread, held, destination_place, last_name, ended}
 use Rattle.l4_core_model.specs.Acts.{Work, ◌▷◌, tells, refuses, zero_refusable}
 use Rattle.l4_core_model.specs.Runs.{IsMachine}
-use Rattle.l4_core_model.proofs.Fit.{SendIsSince}
-use Rattle.l4_core_model.proofs.Pieces.{both}
 use Rattle.l4_split.proofs.Relation.Views.{Scene, Kept, View, view, world_thread, home, amid}
 use Rattle.l4_split.proofs.Relation.Rows.{AgreesIn, Agrees, Known}
 use Rattle.l4_split.proofs.Relation.Agreement.{ended_deleted}

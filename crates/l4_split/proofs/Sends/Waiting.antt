@@ -16,9 +16,9 @@ use Rattle.l4_core_model.specs.Plain as plain
 use Rattle.l4_core_model.specs.Local.{declared}
 use Rattle.l4_core_model.specs.Acts.{entry}
 use Rattle.l4_core_model.specs.Runs.{IsMachine}
-use Rattle.l4_core_model.proofs.Knows.{blocks}
-use Rattle.l4_core_model.proofs.Fit.{all-map}
-use Rattle.l4_core_model.proofs.Remembers.{same_or_apart}
+use Rattle.l4_core_model.proofs.Changed.{blocks}
+use Rattle.l4_core_model.proofs.Lists.{all-map}
+use Rattle.l4_core_model.proofs.Apart.{same_or_apart}
 use Rattle.l4_split.proofs.Lists.{other_is, all_by_place}
 use Rattle.l4_split.proofs.Relation.Views.{Scene, View, view, world_thread, home, is_of, locators}
 use Rattle.l4_split.proofs.Relation.Rows.{seats, AgreesIn, Agrees, IsUnplaced, IsWaiting, IsStandIn, Known, Matches}

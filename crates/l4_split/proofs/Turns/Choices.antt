@@ -12,12 +12,11 @@ use Rattle.l4_core_model.specs.Plain as plain
 use Rattle.l4_core_model.specs.Local.{Local, is_own, own_places, thread, held, held_by}
 use Rattle.l4_core_model.specs.Acts.{Work, first_acceptable, zero_refusable}
 use Rattle.l4_core_model.specs.Turns.{Duty, DropsOwn, RefusesFirst, TellsGone, CancelsOwn, CancelsReceive, DeliversFirst, ClosesReceive, RefusesZero, duty_drops_own, duty_refuses_waiting, next_untold, duty_tells_gone, duty_cancels_own, duty_cancels_receive, duty_delivers_first, duty_closes_receive, duty_refuses_zero, first_some, duty_of, Choice, ByDuty, ByDue, ByReady, first_duty, choice, does_choice, turn, opened}
-use Rattle.l4_core_model.proofs.Fit.{all-map, all-filter}
-use Rattle.l4_core_model.proofs.Duties.{receiving_is, first_then, accepts_none, receives_some}
-use Rattle.l4_core_model.proofs.Knows.{same_nat}
+use Rattle.l4_core_model.proofs.Lists.{all-map, all-filter, range_below}
+use Rattle.l4_core_model.proofs.Choosing.{receiving_is, first_then, accepts_none, receives_some}
+use Rattle.l4_core_model.proofs.Changed.{same_nat}
 use Rattle.l4_split.proofs.Lists.{filter_kept, filter_range}
 use Rattle.l4_split.proofs.Relation.Views.{home}
-use Rattle.l4_core_model.proofs.Single.{range_below}
 
 -- One of the entries of a list.
 pub record StandsIn (e : plain.Waiting) (es : List plain.Waiting) : Type 0 where

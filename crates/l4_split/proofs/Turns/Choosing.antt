@@ -21,20 +21,20 @@ use Rattle.l4_model.specs.Rules.{Act, RunsAlone, Sends, Receives, Orders}
 use Rattle.l4_model.specs.Steps.{runs_alone, receive_of, send_of}
 use Rattle.l4_model.specs.Conditions.{Found, act_of}
 use Rattle.l4_core_model.specs.Runs.{IsMachine}
-use Rattle.l4_core_model.proofs.Knows.{same_nat}
-use Rattle.l4_core_model.proofs.Fit.{all-drop}
+use Rattle.l4_core_model.proofs.Changed.{same_nat}
+use Rattle.l4_core_model.proofs.Lists.{all-drop}
+use Rattle.l4_core_model.proofs.Apart.{same_or_apart}
+use Rattle.l4_core_model.proofs.Choosing.{accepts_none}
 use Rattle.l4_split.proofs.Lists.{other_is}
-use Rattle.l4_core_model.proofs.Remembers.{same_or_apart}
 use Rattle.l4_split.proofs.Relation.Rows.{Known, Matches}
 use Rattle.l4_split.proofs.Turns.Timing.{due_goes, times_out_goes}
 use Rattle.l4_split.proofs.Relation.Relates.{IsSized, RelatesExcept}
 use Rattle.l4_split.proofs.Frames.Places.{leaves_out, Spares, local_changes}
 use Rattle.l4_split.proofs.Frames.Lists.{put_here}
 use Rattle.l4_split.proofs.Frames.Locals.{popped_other}
-use Rattle.l4_core_model.proofs.Duties.{accepts_none}
 use Rattle.l4_split.proofs.Turns.Instructions.{IsPicked, runs_alone_goes, waits_goes}
 use Rattle.l4_split.proofs.Sends.Beginning.{begins_send_goes}
-use Rattle.l4_core_model.proofs.Beginning.{act_sends}
+use Rattle.l4_core_model.proofs.Standing.{act_sends}
 use Rattle.l4_split.proofs.Orders.Giving.{gives_goes}
 
 -- A duty

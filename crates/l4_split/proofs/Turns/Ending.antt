@@ -13,8 +13,8 @@ use Rattle.l4_core_model.specs.Letters.{TimedOut, Nobody, Cancelled, Dropped}
 use Rattle.l4_core_model.specs.Local.{thread, held}
 use Rattle.l4_core_model.specs.Acts.{Work, entry, refuses, zero_refusable}
 use Rattle.l4_core_model.specs.Runs.{IsMachine}
-use Rattle.l4_core_model.proofs.Beginning.{destination_within, any_at}
-use Rattle.l4_core_model.proofs.Remembers.{same_or_apart}
+use Rattle.l4_core_model.proofs.Standing.{destination_within, any_at}
+use Rattle.l4_core_model.proofs.Apart.{same_or_apart}
 use Rattle.l4_split.proofs.Relation.Views.{Scene, Kept, View, kept, view, world_thread, home, amid, is_of}
 use Rattle.l4_split.proofs.Relation.Rows.{AgreesIn, Agrees, Known}
 use Rattle.l4_split.proofs.Relation.Relates.{senders}

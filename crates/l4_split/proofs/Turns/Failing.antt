@@ -13,8 +13,8 @@ use Rattle.l4_core_model.specs.Local.{Local, declared, thread, held_by}
 use Rattle.l4_core_model.specs.Acts.{Work, fails_receive, first_of_list, first_acceptable}
 use Rattle.l4_core_model.specs.Runs.{IsMachine}
 use Rattle.l4_core_model.proofs.Good.{fails_receiving}
-use Rattle.l4_core_model.proofs.Beginning.{place_within}
-use Rattle.l4_core_model.proofs.Remembers.{same_or_apart}
+use Rattle.l4_core_model.proofs.Standing.{place_within}
+use Rattle.l4_core_model.proofs.Apart.{same_or_apart}
 use Rattle.l4_split.proofs.Relation.Views.{Scene, Kept, View, kept, view, world_thread, home, put, amid}
 use Rattle.l4_split.proofs.Relation.Rows.{IsEarlier, Matches}
 use Rattle.l4_split.proofs.Relation.Agreement.{fails_agrees}

@@ -1,6 +1,8 @@
 -- The clock of a processor goes on.
 use Rattle.l4_model.proofs.Clocks.{passed_later}
-use Rattle.l4_core_model.proofs.Law.{send_later, phase_later}
+use Rattle.l4_core_model.proofs.Fit.{send_later, phase_later}
+use Rattle.l4_core_model.proofs.Lists.{all-map}
+use Rattle.l4_core_model.proofs.Apart.{same_or_apart}
 use Rattle.std.proofs.Common.{◌≡◌, ℕ, ◌<◌, ◌≤◌, ◌^◌, Bool, true, false, cond, Option, Some, None, [], length, refl, ap, sym, ◌∙◌, subst, arith}
 use Rattle.std.specs.Prelude.{◌==◌, nat_lt, slice_get, slice_set, slice_index_or, IfSome}
 use Rattle.std.proofs.lemmas.List.{length-set, get_or-set_same, get_or-set_other}
@@ -14,9 +16,7 @@ use Rattle.l4_core_model.specs.Local.{Local}
 use Rattle.l4_core_model.specs.Acts.{Work, ◌▷◌, tells, does}
 use Rattle.l4_core_model.specs.Turns.{clock_is}
 use Rattle.l4_core_model.specs.Runs.{Posted}
-use Rattle.l4_core_model.proofs.Fit.{all-map}
-use Rattle.l4_core_model.proofs.Remembers.{same_or_apart}
-use Rattle.l4_core_model.proofs.Knows.{blocks}
+use Rattle.l4_core_model.proofs.Changed.{blocks}
 use Rattle.l4_split.proofs.Lists.{other_is}
 use Rattle.l4_split.proofs.Relation.Views.{Scene, Kept, View, kept, view, home, put, amid, notices, locators}
 use Rattle.l4_split.proofs.Relation.Rows.{IsCause, IsNotice, IsNoticeOf, Matches, IsNoticeAt}

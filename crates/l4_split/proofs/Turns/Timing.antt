@@ -15,9 +15,10 @@ use Rattle.l4_core_model.specs.Local.{Local, thread, relists, armed_for}
 use Rattle.l4_core_model.specs.Acts.{Work, ◌▷◌, does, refuses, fails_receive, first_acceptable, withdraws, split_place}
 use Rattle.l4_core_model.specs.Turns.{times_out}
 use Rattle.l4_core_model.specs.Runs.{IsMachine}
-use Rattle.l4_core_model.proofs.Knows.{same_nat}
-use Rattle.l4_core_model.proofs.Fit.{Justifies, all-drop}
-use Rattle.l4_core_model.proofs.Remembers.{same_or_apart}
+use Rattle.l4_core_model.proofs.Changed.{same_nat}
+use Rattle.l4_core_model.proofs.Fit.{Justifies}
+use Rattle.l4_core_model.proofs.Lists.{all-drop}
+use Rattle.l4_core_model.proofs.Apart.{same_or_apart}
 use Rattle.l4_split.proofs.Lists.{other_is}
 use Rattle.l4_split.proofs.Relation.Views.{Scene, Kept, View, kept, view, home, put, amid}
 use Rattle.l4_split.proofs.Relation.Rows.{deadlines, IsArmed, IsCause, Matches}

@@ -1,5 +1,5 @@
 //! What happens to a thread.
-ghost use Rattle.std.specs.Prelude.{◌≡◌, ◌<◌, ◌^◌, ◌+◌, ℕ, true, false, IfSome};
+ghost use Rattle.std.specs.Prelude.{◌≡◌, ◌<◌, ◌^◌, ◌+◌, ℕ, true, false, None, IfSome, length};
 ghost use Rattle.std.specs.Option.{option_map};
 ghost use Rattle.l4_model.specs.Words.{word_of_tag};
 ghost use Rattle.l4_model.specs.Machine.{Machine};
@@ -13,6 +13,7 @@ ghost use Rattle.l4_types.specs.LetterView.{decision_of};
 ghost use Rattle.l4_script.specs.Scripts.{instr_of};
 ghost use Rattle.l4_thread.specs.Changes.{change_of, may_advance};
 ghost use Rattle.l4_thread.specs.Ipcs.{may_show, starts, began_of};
+ghost use Rattle.l4_thread.specs.Messages.{unlabelled};
 ghost use Rattle.l4_thread.specs.Requests.{asks_to_send, is_end, receive_from};
 
 use crate::changes::Change;
@@ -119,7 +120,15 @@ impl Tcb {
     pub fn receive(&mut self, message: &Message, tag: MsgTag)
         ensures { self.new ≡ record self.old { thread = receives message.now (word_of_tag tag) self.old.thread } }
     {
-        self.thread.received(message, tag);
+        self.receive_words(message.words(), message.shown(), message.actual(), tag);
+    }
+
+    /// It receives a message of these words, at most 63, with this tag. The message shows one sender, and another one may have sent it.
+    pub fn receive_words(&mut self, words: &[u64], shown: GlobalId, actual: GlobalId, tag: MsgTag)
+        requires { length words.now < 64 }
+        ensures { self.new ≡ record self.old { thread = receives (unlabelled words.now shown actual) (word_of_tag tag) self.old.thread } }
+    {
+        self.thread.received(words, shown, actual, tag);
         self.phase = Phase::Ready;
         self.cancel_receive = false;
     }
@@ -250,6 +259,13 @@ impl Tcb {
     {
         self.phase = Phase::Ordering;
         self.order = Some(order);
+    }
+
+    /// What it asked for is no longer awaited, and nothing else changes: so a deleted thread obeys.
+    pub fn forget_order(&mut self)
+        ensures { self.new ≡ record self.old { thread = record self.old.thread { order = None } } }
+    {
+        self.order = None;
     }
 
     /// What it asked for is done. A deleted thread keeps its registers.

@@ -3,23 +3,23 @@ use Rattle.l4_audit.proofs.Replaying.{opened, is_of, one_more, refused_here}
 use Rattle.l4_audit.proofs.audit.replayed.Goals as goal
 
 pub take-requires-clause-of : goal.take-requires-clause-of
-take-requires-clause-of c = is_of c.args.machine.now c.args.steps.now c.loop-place.place c.loop-place.world c.loop-place.invariant
+take-requires-clause-of c = is_of c.args.machine.now c.args.history.now.steps c.loop-place.place c.loop-place.world c.loop-place.invariant
 
 pub take-requires-clause-placed : goal.take-requires-clause-placed
 take-requires-clause-placed c i d t declared now has =
     placed_at c.args.machine.now c.loop-place.world.world i d t c.loop-place.invariant.placed declared now has
 
 pub loop-place-init : goal.loop-place-init
-loop-place-init c = opened c.args.machine.now c.args.steps.now c.in_ok-world.world c.in_ok-world.ensures
+loop-place-init c = opened c.args.machine.now c.args.history.now.steps c.in_ok-world.world c.in_ok-world.ensures
 
-pub returns-then-not-branch-clause-refused : goal.returns-then-not-branch-clause-refused
-returns-then-not-branch-clause-refused c =
+pub returns-then-not-take-clause-refused : goal.returns-then-not-take-clause-refused
+returns-then-not-take-clause-refused c =
     let l = c.loop-place in
-    refused_here c.args.machine.now c.args.steps.now l.place l.world c.index-steps-place.result l.invariant c.loop-place-test.true c.index-steps-place.is
-    (rw c.if-not-branch.true at c.in_ok-take.ensures.step)
+    refused_here c.args.machine.now c.args.history.now.steps l.place l.world _ l.invariant c.step-step.ensures
+    (rw c.if-not-take.true at c.take.ensures.step)
 
 pub loop-place-preserved : goal.loop-place-preserved
 loop-place-preserved c =
     let l = c.loop-place in
-    one_more c.args.machine.now c.args.steps.now l.place l.world c.take.new.self c.index-steps-place.result l.invariant c.loop-place-test.true c.index-steps-place.is
-    (rw c.if-not-branch.false at c.in_ok-take.ensures.step) c.in_ok-take.ensures.ids
+    one_more c.args.machine.now c.args.history.now.steps l.place l.world c.take.new.self _ l.invariant c.step-step.ensures
+    (rw c.if-not-take.false at c.take.ensures.step) c.take.ensures.ids

@@ -1,5 +1,5 @@
 use Rattle.std.specs.Prelude.{slice_get, Some, Option}
-use Rattle.std.proofs.Common.{◌≡◌, ◌∙◌, ℕ, List, [], true, false, get_or, sym, subst}
+use Rattle.std.proofs.Common.{◌≡◌, ℕ, List, [], true, false, get_or, sym, subst}
 use Rattle.tcb_arena.specs.RingSets.{has}
 use Rattle.tcb_arena.specs.Due.{IsBest, IsLeast, at_most}
 use Rattle.tcb_arena.proofs.Entries.{E}

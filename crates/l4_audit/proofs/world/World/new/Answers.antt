@@ -1,5 +1,11 @@
+use Rattle.std.proofs.Common.{ap, ◌∙◌}
+use Rattle.std.specs.Prelude.{length, replicate, []}
+use Rattle.l4_core_model.specs.Plain.{Plain}
 use Rattle.l4_audit.proofs.Reporting.{opened_is}
 use Rattle.l4_audit.proofs.world.World.new.Goals as goal
 
 pub returns : goal.returns
-returns c = opened_is c.args.machine.now _ _ _ c.in_ok-blocks.ensures c.in_ok-queues.ensures c.in_ok-clocks.ensures
+returns c =
+    opened_is c.args.machine.now _ _ _ c.in_ok-blocks.ensures
+    (ap (λ (p : Plain). p.waiting) c.in_ok-new.ensures ∙ ap (λ ds. replicate (length ds) []) c.threads.ensures.value)
+    c.in_ok-clocks.ensures

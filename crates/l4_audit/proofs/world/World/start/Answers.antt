@@ -1,9 +1,10 @@
 use Rattle.l4_script.specs.Scripts.{instr_of}
+use Rattle.l4_audit.specs.Audited.{senders_of}
 use Rattle.l4_audit.proofs.Starting.{started}
 use Rattle.l4_audit.proofs.world.World.start.Goals as goal
 
 pub returns : goal.returns
 returns c =
     let i = c.self.inside in
-    started c.args.machine.now i.threads.items i.waiting.items i.clocks.items c.args.self.now c.args.place (instr_of c.args.instr.now) c.args.permitted c.args.now _ _ c.self.view_is c.requires
+    started c.args.machine.now i.threads.items (senders_of i.lists.waiting) i.clocks.items c.args.self.now c.args.place (instr_of c.args.instr.now) c.args.permitted c.args.now _ _ c.self.view_is c.requires
     c.index_mut.ensures.value c.ipc.ensures.thread

@@ -1,5 +1,6 @@
 use Rattle.std.proofs.Common.{arith}
 use Rattle.std.proofs.lemmas.Grind.{common_steps}
+use Rattle.l4_audit.specs.Audited.{senders_of}
 use Rattle.l4_audit.proofs.Stilling.{stopped}
 use Rattle.l4_audit.proofs.world.World.stop_clocks.Goals as goal
 
@@ -8,4 +9,4 @@ returns c =
     let i = c.self.inside in
     let items = c.in_ok-resize.ensures.items in
     let empty = c.clear.ensures.items in
-    stopped i.threads.items i.waiting.items i.clocks.items c.resize.new.self.items c.args.self.now c.self.view_is (grind (arith, common_steps))
+    stopped i.threads.items (senders_of i.lists.waiting) i.clocks.items c.resize.new.self.items c.args.self.now c.self.view_is (grind (arith, common_steps))

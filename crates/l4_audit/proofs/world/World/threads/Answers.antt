@@ -1,6 +1,7 @@
 use Rattle.std.proofs.Common.{map, ap, ◌∙◌, arith}
 use Rattle.l4_model.specs.History.{report_of}
 use Rattle.l4_thread.specs.Parts.{Block}
+use Rattle.l4_audit.specs.Audited.{senders_of}
 use Rattle.l4_audit.proofs.Replaying.{take_whole}
 use Rattle.l4_audit.proofs.Reporting.{reports-all}
 use Rattle.l4_audit.proofs.world.World.threads.Goals as goal
@@ -11,4 +12,4 @@ returns c =
     let items = c.deref-tcb-items.result.now in
     c.loop-tcb.invariant
     ∙ ap (map (λ (b : Block). report_of b.id b.thread)) (take_whole items c.loop-tcb.tcb-index (omega arith) ∙ c.deref-tcb-items.ensures.value)
-    ∙ reports-all c.args.machine.now i.threads.items i.waiting.items i.clocks.items c.args.self.now c.self.view_is c.requires
+    ∙ reports-all c.args.machine.now i.threads.items (senders_of i.lists.waiting) i.clocks.items c.args.self.now c.self.view_is c.requires

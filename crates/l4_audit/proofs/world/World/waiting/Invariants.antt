@@ -1,8 +1,7 @@
-use Rattle.std.proofs.Common.{◌≡◌}
-use Rattle.l4_model.specs.History.{waiting_name}
-use Rattle.l4_types.specs.StepView.{step_of}
-use Rattle.l4_audit.proofs.Reporting.{kept}
+use Rattle.std.proofs.Common.{◌≡◌, ◌++◌}
+use Rattle.std.specs.Prelude.{filter_map}
+use Rattle.l4_model.specs.History.{waiting, waiting_name}
 use Rattle.l4_audit.proofs.world.World.waiting.Given as goal
 
 abbrev pub invariant-loop-step : goal.invariant-loop-step
-invariant-loop-step l = l.sends.items ≡ kept (waiting_name l.machine l.self.world) step_of l.steps l.step-index
+invariant-loop-step l = l.sends.items ++ filter_map (waiting_name l.machine l.self.world) l.step-iterator ≡ waiting l.machine l.self.world l.history.steps

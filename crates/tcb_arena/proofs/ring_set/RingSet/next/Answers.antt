@@ -1,8 +1,7 @@
-use Rattle.std.specs.Prelude.{◌≡◌}
-use Rattle.std.proofs.Common.{◌<◌, ◌^◌, ap, subst, sym, ℕ, w64, arith}
-use Rattle.std.specs.Int.{rotate_right, trailing_zeros}
+use Rattle.std.proofs.Common.{◌<◌, ◌^◌, subst, sym, ℕ, w64, arith}
+use Rattle.std.specs.Int.{trailing_zeros}
 use Rattle.tcb_arena.specs.RingSets.{IsNext}
-use Rattle.tcb_arena.proofs.RingBits.{next-some, next-none}
+use Rattle.tcb_arena.proofs.RingBits.{next-some}
 use Rattle.tcb_arena.proofs.ring_set.RingSet.next.Goals as goal
 
 pub returns : goal.returns

@@ -1,5 +1,4 @@
-use Rattle.std.specs.Prelude.{None}
-use Rattle.std.proofs.Common.{◌≡◌, ◌∙◌, ap, sym}
+use Rattle.std.proofs.Common.{◌∙◌, ap, sym}
 use Rattle.l4_core_model.specs.Plain.{due_block}
 use Rattle.tcb_arena.specs.Due.{Due, armed_of}
 use Rattle.tcb_arena.proofs.Floors.{floor-armed_in, none-due}

@@ -1,8 +1,4 @@
-use Rattle.std.specs.Prelude.{Some, Option}
-use Rattle.std.proofs.Common.{◌≡◌, ◌∙◌, ap, sym, subst}
-use Rattle.tcb_arena.specs.Due.{IsLeast}
-use Rattle.tcb_arena.proofs.Entries.{E}
-use Rattle.tcb_arena.proofs.Floors.{floor-found, floor-none}
+use Rattle.std.proofs.Common.{sym}
 use Rattle.tcb_arena.proofs.Wheels.{wheel-found, wheel-unfound}
 use Rattle.tcb_arena.proofs.wheel.Wheel.look.Goals as goal
 

@@ -1,0 +1,241 @@
+-- A letter does what was found that it asks for.
+use Rattle.std.proofs.Common.{◌≡◌, ℕ, Bool, true, false, cond, is_some, is_none, Option, Some, None, ◌||◌, length, List, [], ◌∷◌, zero, suc, ◌<◌, refl, ap, sym, ◌∙◌, subst, arith}
+use Rattle.std.specs.Prelude.{◌==◌, slice_index_or}
+use Rattle.std.specs.Option.{option_map}
+use Rattle.l4_model.specs.Words.{GlobalId, same_id}
+use Rattle.l4_model.specs.Machine.{Machine, is_declared}
+use Rattle.l4_model.specs.World.{Message, Phase, Ready, Sending, Receiving, Ordering, Ended, Deleted, Thread, changed, is_deleted, opening_thread}
+use Rattle.l4_model.specs.Effects.{obeyed}
+use Rattle.l4_model.specs.Conditions.{◌>>=◌, ◌>>◌}
+use Rattle.l4_core_model.specs.Local.{Local, changes, comes_to, entered, settles, stand_in, stands_in, thread}
+use Rattle.l4_core_model.specs.Plain.{is_queued}
+use Rattle.l4_core_model.specs.Acts.{Work, refuses, split_place, split_receiver}
+use Rattle.l4_core_model.specs.Mail.{handle, handled, own_place, foreign_place, is_ordering, waits_here, withdraws_here}
+use Rattle.l4_core_model.specs.Turns.{next_stamp, opened}
+use Rattle.l4_types.specs.declared.letters.Cause.{Cause}
+use Rattle.l4_types.specs.declared.letters.Cause.TheVariants.{ByTimeout, ByCancel, ByDeletion}
+use Rattle.l4_types.specs.declared.letters.Content.{Content}
+use Rattle.l4_types.specs.declared.letters.Content.TheVariants.{Send, Done, Withdraw, Gone, Order, OrderDone}
+use Rattle.l4_types.specs.declared.letters.Letter.{Letter}
+use Rattle.l4_types.specs.LetterView.{content_of, letter_of, cause_of_withdrawal, refusal_of_send}
+use Rattle.l4_core_model.specs.Letters.{refusal_of}
+use Rattle.l4_core.specs.declared.known.tasks.Task.{Task}
+use Rattle.l4_core.specs.declared.known.tasks.Task.TheVariants.{Arrive, End, Refuse, Leave, NoteGone, Obey, FinishOrder}
+use Rattle.l4_core.specs.Processor.{Processor, with_local}
+use Rattle.l4_core.specs.Tasks.{does_task, refusal_for, refused_if, task_of, IsArrival, IsCaller, IsSplit, IsTask}
+use Rattle.l4_core.specs.Tellings.{Told, nothing}
+use Rattle.l4_core.specs.Turning.{Does, IsEvent, IsFree, IsNewSender, work}
+use Rattle.l4_core_model.proofs.Changed.{get-changed}
+use Rattle.l4_thread.specs.declared.changes.Change.TheVariants as change
+use Rattle.tcb_arena.specs.Blocks.{is_ready as is_ready_in}
+use Rattle.l4_core.specs.Changing.{forgets_order, IsFitting}
+use Rattle.l4_core.specs.Parts.{AreCore}
+use Rattle.l4_core.specs.Settled.{MaySend}
+use Rattle.l4_core.proofs.Fitting.{no_send_unqueued, sends_not_ready, unqueued, unready}
+use Rattle.l4_core.proofs.Settling.{comes}
+
+-- Letters
+
+refusal_is : (cause : Cause) → refusal_of (cause_of_withdrawal cause) ≡ refusal_of_send (refusal_for cause)
+refusal_is ByTimeout = refl
+refusal_is ByCancel = refl
+refusal_is ByDeletion = refl
+
+withdrawn_is : (m : Machine) (cpu i k : ℕ) (cause : Cause) (x : Work) → withdraws_here m cpu i k (cause_of_withdrawal cause) x ≡ does_task m cpu (refused_if (waits_here x.local i k) i (refusal_for cause)) x
+withdrawn_is m cpu i k cause x = by (waits_here x.local i k)
+  where
+    by : (b : Bool) → cond b (refuses m cpu (refusal_of (cause_of_withdrawal cause)) i x) x ≡ does_task m cpu (refused_if b i (refusal_for cause)) x
+    by true = ap (λ refusal. refuses m cpu refusal i x) (refusal_is cause)
+    by false = refl
+
+-- What is asked for, once all is found and true.
+found : (f : Task → Work) (o : Option ℕ) (t : ℕ → Task) → (o >>= λ i. Some (f (t i))) ≡ option_map f (o >>= λ i. Some (t i))
+found f None t = refl
+found f (Some i) t = refl
+
+found_both : (f : Task → Work) (o q : Option ℕ) (t : ℕ → ℕ → Task) → (o >>= λ r. q >>= λ i. Some (f (t r i))) ≡ option_map f (o >>= λ r. q >>= λ i. Some (t r i))
+found_both f None q t = refl
+found_both f (Some r) None t = refl
+found_both f (Some r) (Some i) t = refl
+
+found_and : (f : Task → Work) (o : Option ℕ) (a b : ℕ → Bool) (t : ℕ → Task) → (o >>= λ i. a i >> (b i >> Some (f (t i)))) ≡ option_map f (o >>= λ i. a i >> (b i >> Some (t i)))
+found_and f None a b t = refl
+found_and f (Some i) a b t = by (a i) (b i)
+  where
+    by : (a b : Bool) → (a >> (b >> Some (f (t i)))) ≡ option_map f (a >> (b >> Some (t i)))
+    by true true = refl
+    by true false = refl
+    by false b = refl
+
+found_if : (f : Task → Work) (o : Option ℕ) (a : ℕ → Bool) (t : ℕ → Task) → (o >>= λ i. a i >> Some (f (t i))) ≡ option_map f (o >>= λ i. a i >> Some (t i))
+found_if f None a t = refl
+found_if f (Some i) a t = by (a i)
+  where
+    by : (a : Bool) → (a >> Some (f (t i))) ≡ option_map f (a >> Some (t i))
+    by true = refl
+    by false = refl
+
+found_all : (f : Task → Work) (o q : Option ℕ) (a : ℕ → Bool) (b c : Bool) (t : ℕ → ℕ → Task) →
+    (o >>= λ r. q >>= λ i. a i >> (b >> (c >> Some (f (t r i))))) ≡ option_map f (o >>= λ r. q >>= λ i. a i >> (b >> (c >> Some (t r i))))
+found_all f None q a b c t = refl
+found_all f (Some r) None a b c t = refl
+found_all f (Some r) (Some i) a b c t = by (a i) b c
+  where
+    by : (a b c : Bool) → (a >> (b >> (c >> Some (f (t r i))))) ≡ option_map f (a >> (b >> (c >> Some (t r i))))
+    by true true true = refl
+    by true true false = refl
+    by true false c = refl
+    by false b c = refl
+
+withdrawn_both : (m : Machine) (cpu k : ℕ) (cause : Cause) (x : Work) (o q : Option ℕ) →
+    (o >>= λ r. q >>= λ i. Some (withdraws_here m cpu i k (cause_of_withdrawal cause) x)) ≡ (o >>= λ r. q >>= λ i. Some (does_task m cpu (refused_if (waits_here x.local i k) i (refusal_for cause)) x))
+withdrawn_both m cpu k cause x None q = refl
+withdrawn_both m cpu k cause x (Some r) None = refl
+withdrawn_both m cpu k cause x (Some r) (Some i) = ap Some (withdrawn_is m cpu i k cause x)
+
+handled_is : (m : Machine) (cpu : ℕ) (c : Content) (x : Work) → handled m cpu (content_of c) x ≡ option_map (λ t. does_task m cpu t x) (task_of m cpu x.local c)
+handled_is m cpu (Send name to message zero_timeout) x =
+    found_all (λ t. does_task m cpu t x) (own_place m cpu to) (foreign_place m cpu name.thread) (λ i. is_none (thread x.local i).send) (same_id message.actual name.thread) (is_declared m message.shown)
+    (λ r i. Arrive r i name to message zero_timeout)
+handled_is m cpu (Done name decision) x =
+    found_and (λ t. does_task m cpu t x) (own_place m cpu name.thread) (λ i. is_some (split_place m cpu x.local i)) (λ i. (thread x.local i).context.begun == name.k) (λ i. End i decision)
+handled_is m cpu (Withdraw name to cause) x =
+    withdrawn_both m cpu name.k cause x (own_place m cpu to) (foreign_place m cpu name.thread)
+    ∙ found_both (λ t. does_task m cpu t x) (own_place m cpu to) (foreign_place m cpu name.thread) (λ r i. refused_if (waits_here x.local i name.k) i (refusal_for cause))
+handled_is m cpu (Gone id) x = found (λ t. does_task m cpu t x) (foreign_place m cpu id) (λ i. NoteGone i)
+handled_is m cpu (Order caller target what) x = found_both (λ t. does_task m cpu t x) (own_place m cpu target) (foreign_place m cpu caller) (λ j i. Obey j i caller what)
+handled_is m cpu (OrderDone caller) x =
+    found_if (λ t. does_task m cpu t x) (own_place m cpu caller) (λ i. is_deleted (thread x.local i).phase || is_ordering (thread x.local i).phase) (λ i. FinishOrder i)
+
+-- The stamp is of no matter for what a letter asks for.
+task_stamped : (m : Machine) (cpu : ℕ) (l : Local) (stamp : ℕ) (c : Content) → task_of m cpu (record l { stamp = stamp }) c ≡ task_of m cpu l c
+task_stamped m cpu l stamp (Send name to message zero_timeout) = refl
+task_stamped m cpu l stamp (Done name decision) = refl
+task_stamped m cpu l stamp (Withdraw name to cause) = refl
+task_stamped m cpu l stamp (Gone id) = refl
+task_stamped m cpu l stamp (Order caller target what) = refl
+task_stamped m cpu l stamp (OrderDone caller) = refl
+
+handle_is : (m : Machine) (cpu : ℕ) (l : Local) (letter : Letter) → handle m cpu l (letter_of letter) ≡ option_map (λ t. does_task m cpu t (opened letter.stamp l)) (task_of m cpu l letter.content)
+handle_is m cpu l letter =
+    handled_is m cpu letter.content (opened letter.stamp l) ∙ ap (option_map (λ t. does_task m cpu t (opened letter.stamp l))) (task_stamped m cpu l (next_stamp letter.stamp l) letter.content)
+
+-- What a letter asks for is found exactly where it is lawful.
+pub unlawful : (p : Processor) (letter : Letter) → None ≡ task_of p.machine p.cpu p.local letter.content → handle p.machine p.cpu p.local (letter_of letter) ≡ None
+unlawful p letter e = handle_is p.machine p.cpu p.local letter ∙ ap (option_map (λ t. does_task p.machine p.cpu t (opened letter.stamp p.local))) (sym e)
+
+pub lawful : (p : Processor) (letter : Letter) (task : Task) → Some task ≡ task_of p.machine p.cpu p.local letter.content →
+    handle p.machine p.cpu p.local (letter_of letter) ≡ Some (does_task p.machine p.cpu task (opened letter.stamp p.local))
+lawful p letter task e = handle_is p.machine p.cpu p.local letter ∙ ap (option_map (λ t. does_task p.machine p.cpu t (opened letter.stamp p.local))) (sym e)
+
+pub task_kept : (p q : Processor) (task : Task) (stamp : ℕ) → IsTask task p → q ≡ with_local p (record p.local { stamp = stamp }) → IsTask task q
+task_kept p q task stamp t is = subst (IsTask task) (sym is) (by task t)
+  where
+    by : (task : Task) → IsTask task p → IsTask task (with_local p (record p.local { stamp = stamp }))
+    by (Arrive r i name to message zero_timeout) t = record { receiver = t.receiver; sender = record { within = t.sender.within; foreign = t.sender.foreign }; free = t.free; actual = t.actual }
+    by (End i decision) t = record { own = t.own; split = t.split }
+    by (Refuse i refusal) t = record { within = t.within; sends = t.sends }
+    by Leave t = tt
+    by (NoteGone i) t = record { within = t.within; foreign = t.foreign }
+    by (Obey j i caller what) t = record { own = t.own; caller = record { within = t.caller.within; foreign = t.caller.foreign } }
+    by (FinishOrder i) t = record { own = t.own; waits = t.waits }
+
+pub handled_event : (p q r : Processor) (letter : Letter) (task : Task) (told : Told) (stamp : ℕ) → Some task ≡ task_of p.machine p.cpu p.local letter.content →
+    q ≡ with_local p (record p.local { stamp = next_stamp letter.stamp p.local }) → stamp ≡ next_stamp letter.stamp p.local → Does (does_task q.machine q.cpu task) q r nothing told →
+    IsEvent (handle p.machine p.cpu p.local (letter_of letter)) p r told stamp
+handled_event p q r letter task told stamp e is stamped d = record {
+  machine = d.machine ∙ ap (λ (x : Processor). x.machine) is;
+  cpu = d.cpu ∙ ap (λ (x : Processor). x.cpu) is;
+  is = lawful p letter task e ∙ ap Some (sym (d.work ∙ ap (λ (x : Processor). does_task x.machine x.cpu task (work x.local nothing)) is));
+  stamped = stamped ∙ sym (d.stamp ∙ ap (λ (x : Processor). x.local.stamp) is);
+}
+
+-- A send of another processor's thread, which stands in its block now, is in no list yet.
+pub taken_in : (p q : Processor) (r i k : ℕ) (to : GlobalId) (message : Message) (zero_timeout : Bool) → AreCore p → IsArrival p r i message → q ≡ with_local p (changes i (stands_in k (stand_in to message zero_timeout)) p.local) → IsNewSender q i
+taken_in p q r i k to message zero_timeout core a is = subst (λ (x : Processor). IsNewSender x i) (sym is) (record {
+  sender = record {
+    within = a.sender.within;
+    sends = ap (λ (t : Thread). is_some t.send) (get-changed (stands_in k (stand_in to message zero_timeout)) p.local.threads i opening_thread (omega (arith, a.sender.within, core.settled.threads)));
+  };
+  unqueued = no_send_unqueued p.machine p.cpu p.local i core.settled a.free;
+})
+
+-- A thread whose send is split waits for it in no list of this processor.
+pub split_free : (p : Processor) (i : ℕ) → AreCore p → IsSplit p i → IsFree p i
+split_free p i core split = record {
+  own = split.own;
+  unready = unready p.machine p.cpu p.local i core.settled (sends_not_ready _ (core.settled.sending i split.own.own (has_send (thread p.local i).send split.split)));
+  unqueued = by (is_queued p.local.lists i) (λ q. (core.settled.queued i q).here split.own.own);
+}
+  where
+    has_send : (o : _) → is_some (split_receiver p.machine p.cpu o) ≡ true → is_some o ≡ true
+    has_send None e = cc
+    has_send (Some send) e = refl
+
+    by : (b : Bool) → (b ≡ true → split_place p.machine p.cpu p.local i ≡ None) → b ≡ false
+    by true f = let none = ap is_some (f refl) in let wrong : true ≡ false = sym split.split ∙ none in cc
+    by false f = refl
+
+-- A thread that awaits what it asked for
+
+caller_not_ready : (ph : Phase) → (is_deleted ph || is_ordering ph) ≡ true → ph ≡ Ready → ⊥
+caller_not_ready Ready e f = cc
+caller_not_ready Sending e f = cc
+caller_not_ready (Receiving receive since) e f = cc
+caller_not_ready Ordering e f = cc
+caller_not_ready Ended e f = cc
+caller_not_ready Deleted e f = cc
+
+caller_orders : (ph : Phase) → (is_deleted ph || is_ordering ph) ≡ true → is_deleted ph ≡ false → is_ordering ph ≡ true
+caller_orders Ready e f = cc
+caller_orders Sending e f = cc
+caller_orders (Receiving receive since) e f = cc
+caller_orders Ordering e f = refl
+caller_orders Ended e f = cc
+caller_orders Deleted e f = cc
+
+orders_not_sends : (ph : Phase) → is_ordering ph ≡ true → MaySend ph → ⊥
+orders_not_sends Ready e h = h
+orders_not_sends Sending e h = cc
+orders_not_sends (Receiving receive since) e h = h
+orders_not_sends Ordering e h = h
+orders_not_sends Ended e h = h
+orders_not_sends Deleted e h = cc
+
+pub caller_unready : (p : Processor) (i : ℕ) → AreCore p → IsCaller p i → is_ready_in p.local.lists i ≡ false
+caller_unready p i core caller = unready p.machine p.cpu p.local i core.settled (caller_not_ready _ caller.waits)
+
+pub caller_free : (p : Processor) (i : ℕ) → AreCore p → IsCaller p i → is_deleted (thread p.local i).phase ≡ false → IsFree p i
+caller_free p i core caller alive = record {
+  own = caller.own;
+  unready = caller_unready p i core caller;
+  unqueued = unqueued p.machine p.cpu p.local i core.settled caller.own.own (orders_not_sends _ (caller_orders _ caller.waits alive));
+}
+
+pub caller_fits : (p : Processor) (i : ℕ) → AreCore p → IsCaller p i → is_deleted (thread p.local i).phase ≡ false → IsFitting change.Obey (thread p.local i)
+caller_fits p i core caller alive =
+    let orders = caller_orders _ caller.waits alive in
+    record {
+      living = λ e. cc;
+      idle = λ e sends. absurd (orders_not_sends _ orders (core.settled.sending i caller.own.own sends));
+      room = λ e. core.settled.ordering i caller.own.own orders;
+      next = λ e. cc;
+    }
+
+-- A deleted thread obeys: what it asked for is no longer awaited.
+
+changed-as : (f g : Thread → Thread) (ts : List Thread) (i : ℕ) → f (slice_index_or ts i opening_thread) ≡ g (slice_index_or ts i opening_thread) → changed f ts i ≡ changed g ts i
+changed-as f g [] i e = refl
+changed-as f g (t ∷ ts) zero e = ap (λ u. u ∷ ts) e
+changed-as f g (t ∷ ts) (suc i) e = ap (λ us. t ∷ us) (changed-as f g ts i e)
+
+dead_obeys : (t : Thread) → is_deleted t.phase ≡ true → forgets_order t ≡ obeyed t
+dead_obeys t e = rw e
+
+pub deleted_obeys : (p q r : Processor) (i : ℕ) → AreCore p → i < length p.machine.threads → is_deleted (thread p.local i).phase ≡ true → q ≡ with_local p (changes i forgets_order p.local) → r ≡ with_local q (settles i q.local) →
+    r ≡ with_local p (comes_to i obeyed p.local)
+deleted_obeys p q r i core lt dead first then_is =
+    then_is ∙ ap (λ (x : Processor). with_local x (settles i x.local)) first
+    ∙ ap (with_local p) (comes i forgets_order p.local (omega (arith, lt, core.settled.threads)))
+    ∙ ap (λ ts. with_local p (record (comes_to i forgets_order p.local) { threads = ts })) (changed-as forgets_order obeyed p.local.threads i (dead_obeys (thread p.local i) dead))
+    ∙ ap (λ (t : Thread). with_local p (record (comes_to i obeyed p.local) { lists = entered t p.local.clock i p.local.lists })) (dead_obeys (thread p.local i) dead)

@@ -1,0 +1,135 @@
+-- The two sets of a processor leave no place out, after each effect.
+use Rattle.std.proofs.Common.{◌≡◌, ℕ, ◌<◌, ◌+◌, Bool, true, false, None, List, [], ◌||◌, length, refl, ap, sym, ◌∙◌, subst, inl, inr, ◌⊎◌, arith}
+use Rattle.std.specs.Prelude.{◌==◌}
+use Rattle.std.proofs.lemmas.Bool.{cases_eq, eq-eqb}
+use Rattle.l4_model.specs.Machine.{Machine, What, CancelSend, CancelReceive, CancelBoth, Delete}
+use Rattle.l4_model.specs.World.{Thread, is_deleted, opening_thread}
+use Rattle.l4_core_model.specs.Plain as plain
+use Rattle.l4_core_model.specs.Local.{is_own, thread, changes, comes_to, relists}
+use Rattle.l4_model.specs.Rules.{Act, RunsAlone, Sends, Receives, Orders}
+use Rattle.l4_model.specs.Effects.{asked, begins, waits}
+use Rattle.l4_core_model.specs.Local.{opening_local}
+use Rattle.l4_core_model.specs.Acts.{asks}
+use Rattle.l4_core_model.specs.Turns.{has_told}
+use Rattle.l4_core.specs.Parts.{AreCore}
+use Rattle.l4_core.specs.Turning.{IsAtHand, begun_by}
+use Rattle.l4_core.proofs.Fitting.{unqueued, ready_not_sends}
+use Rattle.l4_core.proofs.Opening.{get-map, none_queued}
+use Rattle.l4_core.specs.Places.{has}
+use Rattle.l4_core.specs.Processor.{Processor, with_local}
+use Rattle.l4_core.specs.Covered.{CoversZeros, IsCovered, duty_at, first_zero, is_zero_send}
+use Rattle.l4_core.specs.Settled.{IsOwn}
+use Rattle.l4_core.proofs.Covering.{covers-filled, covers-put, covers-relisted, covers-changed, covers-comes, covers-queued, covers-stamped, covers-told, covers-unqueued}
+use Rattle.l4_core.proofs.Zeros.{zeros-relisted, zeros-changed, zeros-comes, zeros-queued, zeros-stamped, zeros-told, zeros-unqueued}
+
+or_true : (b : Bool) → (b || true) ≡ true
+or_true true = refl
+or_true false = refl
+
+-- A place that was put in is in.
+pub put_there : (d e : List ℕ) (i : ℕ) → ((o : ℕ) → has e o ≡ (has d o || o == i)) → has e i ≡ true
+put_there d e i puts = puts i ∙ ap (λ b. has d i || b) (eq-eqb i i refl) ∙ or_true (has d i)
+
+-- What was in stays in.
+pub still_there : (d e : List ℕ) (i o : ℕ) → ((o : ℕ) → has e o ≡ (has d o || o == i)) → has d o ≡ true → has e o ≡ true
+still_there d e i o puts h = puts o ∙ ap (λ b. b || o == i) h
+
+pub covered-put : (d e z : List ℕ) (p : Processor) (i : ℕ) → IsCovered d z p → IsOwn p.machine p.cpu i → ((o : ℕ) → has e o ≡ (has d o || o == i)) → IsCovered e z p
+covered-put d e z p i c own puts = record { covers = covers-put d e p.machine p.cpu p.local i c.covers own puts; waiting = c.waiting }
+
+pub covered-relisted : (d z : List ℕ) (p q : Processor) (k : plain.Plain) → IsCovered d z p → k.waiting ≡ p.local.lists.waiting → q ≡ with_local p (record p.local { lists = k }) → IsCovered d z q
+covered-relisted d z p q k c e is = subst (IsCovered d z) (sym is) (record { covers = covers-relisted d p.machine p.cpu p.local k e c.covers; waiting = zeros-relisted z p.local k e c.waiting })
+
+pub covered-comes : (d z : List ℕ) (p q : Processor) (i : ℕ) (f : Thread → Thread) → IsCovered d z p → i < length p.local.threads → has d i ≡ true → is_deleted (f (thread p.local i)).phase ≡ is_deleted (thread p.local i).phase → plain.is_queued p.local.lists i ≡ false →
+    q ≡ with_local p (comes_to i f p.local) → IsCovered d z q
+covered-comes d z p q i f c lt there dead free is = subst (IsCovered d z) (sym is) (record {
+  covers = covers-comes d p.machine p.cpu p.local i f c.covers lt (λ own. there) dead (inl free);
+  waiting = zeros-comes z p.local i f c.waiting lt (inl free);
+})
+
+pub covered-changed : (d z : List ℕ) (p q : Processor) (i : ℕ) (f : Thread → Thread) → IsCovered d z p → i < length p.local.threads → (is_own p.machine p.cpu i ≡ true → has d i ≡ true) → is_deleted (f (thread p.local i)).phase ≡ is_deleted (thread p.local i).phase →
+    (plain.is_queued p.local.lists i ≡ false) ⊎ ((f (thread p.local i)).send ≡ (thread p.local i).send) → q ≡ with_local p (changes i f p.local) → IsCovered d z q
+covered-changed d z p q i f c lt there dead kept is = subst (IsCovered d z) (sym is) (record {
+  covers = covers-changed d p.machine p.cpu p.local i f c.covers lt there dead kept;
+  waiting = zeros-changed z p.local i f c.waiting lt kept;
+})
+
+pub covered-unqueued : (d z : List ℕ) (p q : Processor) (i : ℕ) → IsCovered d z p → q ≡ with_local p (relists (plain.unqueued i) p.local) → IsCovered d z q
+covered-unqueued d z p q i c is = subst (IsCovered d z) (sym is) (record { covers = covers-unqueued d p.machine p.cpu p.local i c.covers; waiting = zeros-unqueued z p.local i c.waiting })
+
+pub covered-queued : (d z : List ℕ) (p q : Processor) (r : ℕ) (w : plain.Waiting) → IsCovered d z p → has d r ≡ true → (IsOwn p.machine p.cpu w.block → has d w.block ≡ true) → (is_zero_send (thread p.local w.block).send ≡ true → has z r ≡ true) →
+    q ≡ with_local p (relists (plain.queued r w) p.local) → IsCovered d z q
+covered-queued d z p q r w c at_r at_w zero_there is = subst (IsCovered d z) (sym is) (record {
+  covers = covers-queued d p.machine p.cpu p.local r w c.covers (λ own. at_r) at_w;
+  waiting = zeros-queued z p.local r w c.waiting zero_there;
+})
+
+-- What an ipc begins is begun by a thread that was ready, and stood in no list of sends.
+pub covered-begun : (d z : List ℕ) (p q : Processor) (i : ℕ) (a : Act) → IsCovered d z p → AreCore p → IsAtHand p i → has d i ≡ true → q ≡ with_local p (begun_by a i p.local) → IsCovered d z q
+covered-begun d z p q i a c core hand there is = by a is
+  where
+    free : plain.is_queued p.local.lists i ≡ false
+    free = unqueued p.machine p.cpu p.local i core.settled hand.own.own (ready_not_sends _ hand.ready)
+
+    lt : i < length p.local.threads
+    lt = omega (arith, hand.own.within, core.settled.threads)
+
+    alive : is_deleted (thread p.local i).phase ≡ false
+    alive = ap is_deleted hand.ready
+
+    by : (a : Act) → q ≡ with_local p (begun_by a i p.local) → IsCovered d z q
+    by (Sends send) e = covered-comes d z p q i (begins send) c lt there (sym alive) free e
+    by (Receives receive) e = covered-comes d z p q i (waits receive p.local.clock) c lt there (sym alive) free e
+    by RunsAlone e = subst (IsCovered d z) (sym e) c
+    by (Orders order) e = subst (IsCovered d z) (sym e) c
+
+-- Nothing has a duty at the beginning, and nothing waits.
+pub covered-opening : (d z : List ℕ) (m : Machine) (cpu : ℕ) (p : Processor) → ((o : ℕ) → has d o ≡ false) → p ≡ record { machine = m; cpu = cpu; local = opening_local m cpu } → IsCovered d z p
+covered-opening d z m cpu p none is = subst (IsCovered d z) (sym is) (record {
+  covers = record {
+    within = λ o h. let empty = none o in let wrong : true ≡ false = sym h ∙ empty in cc;
+    others = λ o own h. no_duty o;
+  };
+  waiting = λ o h. ap (first_zero (opening_local m cpu)) (get-map {B = List plain.Waiting} [] m.threads o);
+})
+  where
+    no_duty : (o : ℕ) → duty_at m cpu (opening_local m cpu) o ≡ None
+    no_duty o =
+        let t = get-map opening_thread m.threads o in
+        let ws = get-map {B = List plain.Waiting} [] m.threads o in
+        let q = none_queued m.threads o in
+        rw (t, ws, q) refl
+
+pub covered-stamped : (d z : List ℕ) (p q : Processor) (stamp : ℕ) → IsCovered d z p → q ≡ with_local p (record p.local { stamp = stamp }) → IsCovered d z q
+covered-stamped d z p q stamp c is = subst (IsCovered d z) (sym is) (record { covers = covers-stamped d p.machine p.cpu p.local stamp c.covers; waiting = zeros-stamped z stamp p.local c.waiting })
+
+pub covered-told : (d z : List ℕ) (p q : Processor) (i to : ℕ) → IsCovered d z p → has d i ≡ true → q ≡ with_local p (has_told to i p.local) → IsCovered d z q
+covered-told d z p q i to c there is = subst (IsCovered d z) (sym is) (record { covers = covers-told d p.machine p.cpu p.local to i there c.covers; waiting = zeros-told z to i p.local c.waiting })
+
+-- All places of this processor below one that is noted too are in.
+pub noted_below : (d e : List ℕ) (m : Machine) (cpu n : ℕ) → ((o : ℕ) → has d o ≡ true → has e o ≡ true) → (is_own m cpu n ≡ true → has e n ≡ true) → ((o : ℕ) → o < n → IsOwn m cpu o → has d o ≡ true) →
+    (o : ℕ) → o < n + 1 → IsOwn m cpu o → has e o ≡ true
+noted_below d e m cpu n still there below o lt own = by (cases_eq o n)
+  where
+    by : (o ≡ n) ⊎ (o ≡ n → ⊥) → has e o ≡ true
+    by (inl same) = subst (λ k. has e k ≡ true) (sym same) (there (subst (λ k. is_own m cpu k ≡ true) same own.own))
+    by (inr ne) = still o (below o (omega (arith, lt, ne)) own)
+
+-- All places of this processor are in, and a thread is deleted.
+pub covered-deleted : (e z : List ℕ) (p q : Processor) (i : ℕ) → CoversZeros z p.local → i < length p.local.threads → ((o : ℕ) → IsOwn p.machine p.cpu o → has e o ≡ true) → ((o : ℕ) → has e o ≡ true → IsOwn p.machine p.cpu o) →
+    q ≡ with_local p (asks Delete i p.local) → IsCovered e z q
+covered-deleted e z p q i waiting lt all own is = subst (IsCovered e z) (sym is) (record {
+  covers = covers-filled e p.machine p.cpu (asks Delete i p.local) all own;
+  waiting = zeros-comes z (relists (plain.dropped i) p.local) i (asked Delete) waiting lt (inr refl);
+})
+
+-- A thread is asked for a cancellation.
+pub covered-asked : (d z : List ℕ) (p q : Processor) (i : ℕ) (what : What) → (what ≡ Delete → ⊥) → IsCovered d z p → i < length p.local.threads → has d i ≡ true → q ≡ with_local p (asks what i p.local) → IsCovered d z q
+covered-asked d z p q i CancelSend other c lt there is = covered-changed d z p q i (asked CancelSend) c lt (λ own. there) refl (inr refl) is
+covered-asked d z p q i CancelReceive other c lt there is = covered-changed d z p q i (asked CancelReceive) c lt (λ own. there) refl (inr refl) is
+covered-asked d z p q i CancelBoth other c lt there is = covered-changed d z p q i (asked CancelBoth) c lt (λ own. there) refl (inr refl) is
+covered-asked d z p q i Delete other c lt there is = absurd (other refl)
+
+-- The same sets.
+pub covered-same : (d e z y : List ℕ) (p : Processor) → d ≡ e → z ≡ y → IsCovered e y p → IsCovered d z p
+covered-same d e z y p duties zeros c = subst (λ x. IsCovered x z p) (sym duties) (subst (λ x. IsCovered e x p) (sym zeros) c)

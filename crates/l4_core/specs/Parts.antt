@@ -1,0 +1,36 @@
+-- What a processor is made of, and what is kept of it.
+use Rattle.std.specs.Prelude.{◌≡◌, ℕ, ◌<◌, ◌≤◌, List, map, length}
+use Rattle.l4_model.specs.Words.{GlobalId}
+use Rattle.l4_model.specs.Machine.{Machine}
+use Rattle.l4_model.specs.World.{Thread}
+use Rattle.l4_core_model.specs.Plain.{Plain}
+use Rattle.l4_core_model.specs.Local.{Local}
+use Rattle.l4_core_model.specs.Runs.{IsMachine}
+use Rattle.l4_thread.specs.Parts.{Block}
+use Rattle.l4_core.specs.Processor.{Processor}
+use Rattle.l4_core.specs.Settled.{IsSettled}
+
+abbrev pub threads_of : List Block → List Thread
+threads_of blocks = map (λ b. b.thread) blocks
+
+abbrev pub ids_of : List Block → List GlobalId
+ids_of blocks = map (λ b. b.id) blocks
+
+-- The blocks of all threads, their lists, and for each the first processor that may not yet know of its deletion.
+abbrev pub local_of : List Block → Plain → (told : List ℕ) → (clock stamp : ℕ) → Local
+local_of blocks lists told clock stamp = record { threads = threads_of blocks; lists = lists; told = told; clock = clock; stamp = stamp }
+
+-- A processor of a machine, in a settled state.
+pub record IsCore (m : Machine) (cpu : ℕ) (l : Local) : Type 0 where
+  pub machine : IsMachine m
+  pub processor : cpu < m.cpus
+  pub few : length m.threads ≤ 1024
+  pub settled : IsSettled m cpu l
+
+abbrev pub AreCore : Processor → Type 0
+AreCore p = IsCore p.machine p.cpu p.local
+
+-- Each block has the id of its thread.
+pub record IsKept (m : Machine) (cpu : ℕ) (blocks : List Block) (lists : Plain) (told : List ℕ) (clock stamp : ℕ) : Type 0 where
+  pub core : IsCore m cpu (local_of blocks lists told clock stamp)
+  pub ids : ids_of blocks ≡ map (λ d. d.id) m.threads

@@ -1,0 +1,393 @@
+//! What one processor knows: its threads, their lists, its clock, and of other processors' threads what it was told.
+ghost use Rattle.std.specs.Prelude.{◌≡◌, ◌<◌, ◌≤◌, ◌+◌, ◌^◌, Some, length, false, is_some, map, replicate, IfOk, IfSome, slice_get};
+ghost use Rattle.std.specs.Option.{option_map, option_copied};
+ghost use Rattle.l4_model.specs.Machine.{place_of};
+ghost use Rattle.l4_model.specs.World.{Send, is_deleted, opening_thread, receive_now};
+ghost use Rattle.l4_model.specs.Conditions.{instruction};
+ghost use Rattle.l4_model.specs.Rules.{accepts, ask_act};
+ghost use Rattle.l4_types.specs.StepView.{what_of};
+ghost use Rattle.l4_script.specs.Scripts.{instr_of};
+ghost use Rattle.l4_thread.specs.Requests.{is_end};
+ghost use Rattle.l4_core.specs.Asking.{admitted_act};
+ghost use Rattle.l4_core_model.specs.Plain.{due_block, is_queued};
+ghost use Rattle.l4_core_model.specs.Local.{declared, destination_place, held, is_own, last_name, opening_local, thread};
+ghost use Rattle.l4_core_model.specs.Acts.{entry, first_acceptable, is_place, split_place};
+ghost use Rattle.l4_core_model.specs.Turns.{can_stamp};
+ghost use Rattle.l4_core.specs.Covered.{is_zero_send};
+ghost use Rattle.l4_core.specs.Opening.{lists_below, opening_lists};
+ghost use Rattle.l4_core.specs.Parts.{threads_of, ids_of, AreCore};
+ghost use Rattle.l4_core.specs.Turning.{IsSender};
+
+use l4_script::instructions::Instr;
+use l4_script::machine::{Declaration, Machine};
+use l4_thread::sends::{Receive, Send};
+use l4_thread::tcb::Tcb;
+use l4_types::errors::NoMemory;
+use l4_types::ids::{GlobalId, ThreadId};
+use l4_types::messages::Message;
+use l4_types::steps::{CLOCKS, Name, What};
+use l4_types::times::Period;
+use std::alloc::Global;
+use std::marker::Model;
+use tcb_arena::{Arena, Waiting};
+
+pub(crate) mod duties;
+mod effects;
+mod settling;
+pub(crate) mod tasks;
+
+/// What one processor knows. Places are those of all threads of the machine, in order of declaration. A block of another processor's thread has
+/// only what is known here: whether it is deleted, and a send of it that waits here.
+#[derive(Drop)]
+pub(crate) struct Known<'m> {
+    machine: &'m Machine,
+    cpu: u8,
+    threads: Vec<Tcb>,
+    lists: Arena,
+    // For each thread the first processor that may not yet know of its deletion.
+    told: Vec<u8>,
+    clock: u64,
+    stamp: u64,
+}
+
+impl<'m> Model for Known<'m> {
+    ghost use Rattle.l4_core.specs.Processor.{Processor};
+    ghost use Rattle.l4_core.specs.Parts.{local_of, IsKept};
+
+    ghost Value = { Processor };
+
+    ghost view = { λ c. record { machine = c.machine.now; cpu = c.cpu; local = local_of c.threads.items c.lists c.told.items c.clock c.stamp } };
+
+    ghost invariant = { λ c. IsKept c.machine.now c.cpu c.threads.items c.lists c.told.items c.clock c.stamp };
+}
+
+impl<'m> Known<'m> {
+    /// What a processor knows at the beginning.
+    pub(crate) fn new(alloc: Global, machine: &'m Machine, cpu: u8) -> Result<Known<'m>, NoMemory>
+        requires { cpu < machine.now.cpus }
+        ensures { IfOk result (λ known. known ≡ record { machine = machine.now; cpu = cpu; local = opening_local machine.now cpu }) }
+    {
+        let _few = machine.threads();
+        let threads = opening_threads(alloc, machine)?;
+        let lists = opening_lists(alloc, machine, cpu)?;
+        let told = untold(alloc, machine)?;
+        Ok(Known {
+            machine,
+            cpu,
+            threads,
+            lists,
+            told,
+            clock: 0,
+            stamp: 0,
+        })
+    }
+
+    /// The clock, in ticks.
+    pub(crate) fn clock(&self) -> u64
+        ensures value { result ≡ self.now.local.clock }
+        ensures fits { result < 2 ^ 62 }
+    {
+        self.clock
+    }
+
+    /// The last stamp.
+    pub(crate) fn stamp(&self) -> u64
+        ensures { result ≡ self.now.local.stamp }
+    {
+        self.stamp
+    }
+
+    /// The number of this processor.
+    pub(crate) fn cpu(&self) -> u8
+        ensures value { result ≡ self.now.cpu }
+        ensures fits { result < 16 }
+        ensures core { AreCore self.now }
+    {
+        let cpus = self.machine.cpus();
+        prove!(self.cpu < cpus);
+        self.cpu
+    }
+
+    /// Whether the next event can have a stamp.
+    pub(crate) fn can_stamp(&self, letter_stamp: u64) -> bool
+        ensures { result ≡ can_stamp self.now.local letter_stamp }
+    {
+        self.stamp.max(letter_stamp) < CLOCKS - 1
+    }
+
+    /// The least deadline that a thread is armed for, in ticks.
+    pub(crate) fn least_deadline(&self) -> Option<u64>
+        ensures { result ≡ option_map (λ e. e.0) (slice_get self.now.local.lists.armed 0) }
+    {
+        self.lists.least_deadline()
+    }
+
+    /// Whether the deadline of a thread is past.
+    pub(crate) fn has_due(&self) -> bool
+        ensures { result ≡ is_some (due_block self.now.local.clock self.now.local.lists.armed) }
+    {
+        match self.least_deadline() {
+            Some(deadline) => deadline <= self.clock,
+            None => false,
+        }
+    }
+
+    /// The first ready thread.
+    pub(crate) fn first_ready(&self) -> Option<usize>
+        ensures { result ≡ slice_get self.now.local.lists.ready 0 }
+    {
+        self.lists.first_ready()
+    }
+
+    /// How many threads the machine has, at most 1,024.
+    pub(crate) fn len(&self) -> usize
+        ensures value { result ≡ length self.now.machine.threads }
+        ensures few { result ≤ 1024 }
+        ensures core { AreCore self.now }
+    {
+        self.machine.threads().len()
+    }
+
+    /// What is declared of a thread.
+    fn declared(&self, place: usize) -> &Declaration
+        requires { place < length self.now.machine.threads }
+        ensures { result.now ≡ declared self.now.machine place }
+    {
+        &self.machine.threads()[place]
+    }
+
+    /// The id of a thread.
+    pub(crate) fn id(&self, place: usize) -> GlobalId
+        requires { place < length self.now.machine.threads }
+        ensures { result ≡ (declared self.now.machine place).id }
+    {
+        self.declared(place).id()
+    }
+
+    /// The processor of a thread.
+    pub(crate) fn cpu_of(&self, place: usize) -> u8
+        requires { place < length self.now.machine.threads }
+        ensures { result ≡ (declared self.now.machine place).cpu }
+    {
+        self.declared(place).cpu()
+    }
+
+    /// Whether a thread is of this processor.
+    pub(crate) fn is_own(&self, place: usize) -> bool
+        requires { place < length self.now.machine.threads }
+        ensures value { result ≡ is_own self.now.machine self.now.cpu place }
+        ensures core { AreCore self.now }
+    {
+        self.cpu_of(place) == self.cpu
+    }
+
+    /// The place of a thread.
+    pub(crate) fn place_of(&self, id: GlobalId) -> Option<usize>
+        ensures value { result ≡ place_of self.now.machine id }
+        ensures within { IfSome result (λ place. place < length self.now.machine.threads) }
+    {
+        self.machine.place_of(id)
+    }
+
+    /// What is known of a thread.
+    fn tcb(&self, place: usize) -> &Tcb
+        requires { place < length self.now.machine.threads }
+        ensures thread { result.now.thread ≡ thread self.now.local place }
+        ensures id { result.now.id ≡ (declared self.now.machine place).id }
+    {
+        let _ = &self.machine;
+        &self.threads[place]
+    }
+
+    /// Whether a thread was deleted, as far as is known here.
+    pub(crate) fn is_deleted(&self, place: usize) -> bool
+        requires { place < length self.now.machine.threads }
+        ensures { result ≡ is_deleted (thread self.now.local place).phase }
+    {
+        self.tcb(place).is_deleted()
+    }
+
+    /// The receive phase that a thread is in.
+    pub(crate) fn receiving(&self, place: usize) -> Option<Receive>
+        requires { place < length self.now.machine.threads }
+        ensures { result ≡ receive_now (thread self.now.local place).phase }
+    {
+        self.tcb(place).receiving().copied()
+    }
+
+    /// The undecided send of a thread, as far as it is known here.
+    pub(crate) fn send_of(&self, place: usize) -> Option<&Send>
+        requires { place < length self.now.machine.threads }
+        ensures { option_copied result ≡ (thread self.now.local place).send }
+    {
+        self.tcb(place).send()
+    }
+
+    /// Whether the send of a thread stands in a list.
+    pub(crate) fn is_queued(&self, place: usize) -> bool
+        requires { place < length self.now.machine.threads }
+        ensures { result ≡ is_queued self.now.local.lists place }
+    {
+        let _ = &self.machine;
+        self.lists.is_queued(place)
+    }
+
+    /// The last send that a thread began.
+    pub(crate) fn last_name(&self, place: usize) -> Name
+        requires { IsSender self.now place }
+        ensures { result ≡ last_name self.now.machine self.now.local place }
+    {
+        let _ = &self.machine;
+        Name::new(self.id(place), self.tcb(place).thread().begun()).unwrap()
+    }
+
+    /// The message that a thread sends.
+    pub(crate) fn message(&self, sender: usize) -> &Message
+        requires { IsSender self.now sender }
+        ensures message { option_map (λ send. send.message) (thread self.now.local sender).send ≡ Some result.now }
+        ensures actual { result.now.actual ≡ (declared self.now.machine sender).id }
+    {
+        let _ = &self.machine;
+        self.send_of(sender).unwrap().message()
+    }
+
+    /// Whether a send may not wait at all.
+    pub(crate) fn is_zero(&self, sender: usize) -> bool
+        requires { sender < length self.now.machine.threads }
+        ensures { result ≡ is_zero_send (thread self.now.local sender).send }
+    {
+        match self.send_of(sender) {
+            Some(send) => matches!(send.period(), Period::Zero),
+            None => false,
+        }
+    }
+
+    /// The place of the thread that a send goes to.
+    pub(crate) fn destination(&self, sender: usize) -> Option<usize>
+        requires { IsSender self.now sender }
+        ensures value { (send : Send) → (thread self.now.local sender).send ≡ Some send → result ≡ destination_place self.now.machine send.to }
+        ensures within { IfSome result (λ place. place < length self.now.machine.threads) }
+    {
+        let to = self.send_of(sender).unwrap().to();
+        self.place_of(to.as_global()?)
+    }
+
+    /// The place of the thread that a send goes to, where this is of another processor.
+    pub(crate) fn split_place(&self, sender: usize) -> Option<usize>
+        requires { sender < length self.now.machine.threads }
+        ensures value { result ≡ split_place self.now.machine self.now.cpu self.now.local sender }
+        ensures within { IfSome result (λ place. place < length self.now.machine.threads) }
+    {
+        let to = self.send_of(sender)?.to();
+        let place = self.place_of(to.as_global()?)?;
+        if self.is_own(place) {
+            None
+        } else {
+            Some(place)
+        }
+    }
+
+    /// The entry of a thread's send in the list of its receiver.
+    pub(crate) fn entry(&self, receiver: usize, sender: usize) -> Waiting
+        requires receiver { receiver < length self.now.machine.threads }
+        requires sender { IsSender self.now sender }
+        ensures { (send : Send) → (thread self.now.local sender).send ≡ Some send → result ≡ entry self.now.machine receiver sender send }
+    {
+        let shown = self.message(sender).shown();
+        Waiting {
+            block: sender,
+            shown,
+            local: self.machine.same_space(shown, self.id(receiver)),
+        }
+    }
+
+    /// Whether a receiver waits, and takes this sender first.
+    pub(crate) fn is_first(&self, receiver: usize, sender: usize) -> bool
+        requires { receiver < length self.now.machine.threads }
+        ensures { result ≡ is_place (first_acceptable self.now.local receiver) sender }
+    {
+        match self.receiving(receiver) {
+            Some(receive) => self.lists.first_accepted(receiver, &receive.from()) == Some(sender),
+            None => false,
+        }
+    }
+
+    /// The thread that is asked, where the order is admitted: it is declared, and for a cancellation of the caller's space.
+    pub(crate) fn admitted(&self, place: usize, target: ThreadId, what: What) -> Option<GlobalId>
+        requires { place < length self.now.machine.threads }
+        ensures { ask_act self.now.machine (declared self.now.machine place).id target (what_of what) ≡ admitted_act (what_of what) result }
+    {
+        let target = target.as_global()?;
+        let is_admitted = self.machine.admits(self.id(place), target, what);
+        is_admitted.then_some(target)
+    }
+
+    /// The instruction that a thread is at.
+    pub(crate) fn instruction(&self, place: usize) -> Instr
+        requires { place < length self.now.machine.threads }
+        ensures value { instr_of result ≡ instruction (held self.now.machine self.now.local place) }
+        ensures within { is_end (instr_of result) ≡ false → (thread self.now.local place).context.place < 1024 }
+    {
+        self.declared(place)
+            .instruction(self.tcb(place).thread().place())
+            .unwrap_or(Instr::End)
+    }
+
+    // Whether this receive specifier accepts a sender that is shown so to a thread.
+    fn accepts(&self, from: ThreadId, shown: GlobalId, receiver: usize) -> bool
+        requires { receiver < length self.now.machine.threads }
+        ensures { result ≡ accepts self.now.machine from shown (declared self.now.machine receiver).id }
+    {
+        from.takes(shown, self.machine.same_space(shown, self.id(receiver)))
+    }
+}
+
+// The blocks of threads that have run nothing.
+fn opening_threads(alloc: Global, machine: &Machine) -> Result<Vec<Tcb>, NoMemory>
+    ensures threads { IfOk result (λ blocks. threads_of blocks.items ≡ replicate (length machine.now.threads) opening_thread) }
+    ensures ids { IfOk result (λ blocks. ids_of blocks.items ≡ map (λ d. d.id) machine.now.threads) }
+{
+    let declared = machine.threads();
+    let count = declared.len();
+    let mut threads = Vec::with_capacity(alloc, count)?;
+    for place in 0..count {
+        threads.push(Tcb::new(declared[place].id()))?;
+    }
+    Ok(threads)
+}
+
+// The lists of a processor's threads, each ready, in order of declaration.
+fn opening_lists(alloc: Global, machine: &Machine, cpu: u8) -> Result<Arena, NoMemory>
+    ensures { IfOk result (λ lists. lists ≡ opening_lists machine.now cpu) }
+{
+    let count = machine.threads().len();
+    let mut lists = Arena::new(alloc, count)?;
+    for place in 0..count {
+        open_place(&mut lists, machine, cpu, place);
+    }
+    Ok(lists)
+}
+
+// A thread is ready at the beginning, where it is of this processor.
+fn open_place(lists: &mut Arena, machine: &Machine, cpu: u8, place: usize)
+    requires within { place < length machine.now.threads }
+    requires below { lists.old ≡ lists_below machine.now cpu place }
+    ensures { lists.new ≡ lists_below machine.now cpu (place + 1) }
+{
+    if machine.threads()[place].cpu() == cpu {
+        lists.push_ready(place);
+    }
+}
+
+// Nobody was told of a deletion.
+fn untold(alloc: Global, machine: &Machine) -> Result<Vec<u8>, NoMemory>
+    ensures { IfOk result (λ told. told.items ≡ map (λ d. 0) machine.now.threads) }
+{
+    let declared = machine.threads();
+    let mut told = Vec::with_capacity(alloc, declared.len())?;
+    for place in 0..declared.len() {
+        let _ = place;
+        told.push(0)?;
+    }
+    Ok(told)
+}

@@ -1,0 +1,237 @@
+//! What an event does to one thread and to the lists.
+ghost use Rattle.std.specs.Prelude.{◌≡◌, ◌<◌, ◌≤◌, ◌+◌, ◌^◌, Some, None, IsSome, true, false, length, slice_get, is_none, ℕ};
+ghost use Rattle.l4_model.specs.Words.{word_of_tag};
+ghost use Rattle.l4_model.specs.Machine.{Delete as DeleteThread};
+ghost use Rattle.l4_model.specs.Conditions.{act_of, instruction};
+ghost use Rattle.l4_model.specs.Effects.{receives, decided};
+ghost use Rattle.l4_types.specs.StepView.{what_of};
+ghost use Rattle.l4_script.specs.Scripts.{instr_of};
+ghost use Rattle.l4_thread.specs.Changes.{change_of, may_advance};
+ghost use Rattle.l4_thread.specs.Requests.{is_end};
+ghost use Rattle.l4_thread.specs.Ipcs.{began_of, may_show, starts};
+ghost use Rattle.l4_core_model.specs.Plain.{is_queued, queued, unqueued, popped, popped_due, dropped, due_block};
+ghost use Rattle.l4_core_model.specs.Local.{thread, declared, held, is_own, changes, comes_to, relists, stands_in, stand_in, is_gone_now};
+ghost use Rattle.l4_core_model.specs.Acts.{asks};
+ghost use Rattle.l4_core_model.specs.Turns.{clock_is, has_told};
+ghost use Rattle.tcb_arena.specs.Blocks.{is_ready as is_ready_in};
+ghost use Rattle.l4_core.specs.Changing.{forgets_order, IsFitting};
+ghost use Rattle.l4_core.specs.Processor.{with_local};
+ghost use Rattle.l4_core.specs.Turning.{begun_by, IsAtHand, IsFree, IsNotSplit, IsOwnOf, IsReceiver, IsSender};
+
+use crate::known::Known;
+use l4_script::instructions::Instr;
+use l4_thread::changes::Change;
+use l4_thread::phases::Began;
+use l4_types::ids::GlobalId;
+use l4_types::messages::Message;
+use l4_types::steps::{Name, What};
+use l4_types::tags::MsgTag;
+use tcb_arena::Waiting;
+
+impl Known<'_> {
+    /// The clock goes on to this value, in ticks.
+    pub(crate) fn set_clock(&mut self, to: u64)
+        requires { to < 2 ^ 62 }
+        ensures { self.new ≡ with_local self.old (clock_is to self.old.local) }
+    {
+        self.clock = to;
+    }
+
+    /// An event begins, with this stamp.
+    pub(crate) fn set_stamp(&mut self, stamp: u64)
+        requires { self.old.local.stamp ≤ stamp }
+        ensures { self.new ≡ with_local self.old (record self.old.local { stamp = stamp }) }
+    {
+        self.stamp = stamp;
+    }
+
+    /// This happens to a thread of this processor that stands in no list, and it comes to its next phase.
+    pub(crate) fn come_to(&mut self, place: usize, change: &Change)
+        requires free { IsFree self.old place }
+        requires fits { IsFitting change.now (thread self.old.local place) }
+        ensures { self.new ≡ with_local self.old (comes_to place (change_of change.now self.old.local.clock) self.old.local) }
+    {
+        self.threads[place].change(change, self.clock);
+        self.settle(place);
+    }
+
+    /// A thread receives a message, with this tag.
+    pub(crate) fn receive(&mut self, place: usize, message: &Message, tag: MsgTag)
+        requires { IsReceiver self.old place }
+        ensures { self.new ≡ with_local self.old (comes_to place (receives message.now (word_of_tag tag)) self.old.local) }
+    {
+        self.threads[place].receive(message, tag);
+        self.settle(place);
+    }
+
+    /// A thread begins the first phase of an Ipc, where it has one.
+    pub(crate) fn begin(&mut self, place: usize, instr: &Instr) -> Began
+        requires hand { IsAtHand self.old place }
+        requires room { is_end (instr_of instr.now) ≡ false → (thread self.old.local place).context.place + 1 < 2 ^ 64 }
+        requires count { (thread self.old.local place).context.begun < self.old.local.stamp }
+        requires instr { instr_of instr.now ≡ instruction (held self.old.machine self.old.local place) }
+        ensures began { result ≡ began_of (act_of self.old.machine (held self.old.machine self.old.local place)) }
+        ensures state { self.new ≡ with_local self.old (begun_by (act_of self.old.machine (held self.old.machine self.old.local place)) place self.old.local) }
+    {
+        let _ = &self.machine;
+        match self.start(place, instr) {
+            Began::Nothing => Began::Nothing,
+            began => {
+                self.settle(place);
+                began
+            }
+        }
+    }
+
+    // The phase of an Ipc begins in the thread alone.
+    fn start(&mut self, place: usize, instr: &Instr) -> Began
+        requires hand { IsAtHand self.old place }
+        requires room { is_end (instr_of instr.now) ≡ false → (thread self.old.local place).context.place + 1 < 2 ^ 64 }
+        requires count { (thread self.old.local place).context.begun < self.old.local.stamp }
+        requires instr { instr_of instr.now ≡ instruction (held self.old.machine self.old.local place) }
+        ensures began { result ≡ began_of (act_of self.old.machine (held self.old.machine self.old.local place)) }
+        ensures state { self.new ≡ with_local self.old
+            (changes place (starts (act_of self.old.machine (held self.old.machine self.old.local place)) self.old.local.clock) self.old.local) }
+    {
+        let permitted = self.may_show_originator(place);
+        self.threads[place].ipc(instr, permitted, self.clock)
+    }
+
+    // Whether a thread may show the originator that its VirtualSender names.
+    fn may_show_originator(&self, place: usize) -> bool
+        requires { place < length self.now.machine.threads }
+        ensures { result ≡ may_show self.now.machine (declared self.now.machine place).id (thread self.now.local place).context.actual }
+    {
+        let originator = self.tcb(place).thread().regs().actual;
+        self.machine.may_show(self.id(place), originator)
+    }
+
+    /// A thread of this processor is asked for a cancellation, or it is deleted.
+    pub(crate) fn ask(&mut self, place: usize, what: What)
+        requires { IsOwnOf self.old place }
+        ensures { self.new ≡ with_local self.old (asks (what_of what) place self.old.local) }
+    {
+        match what {
+            What::Delete => self.delete(place),
+            _ => self.threads[place].ask(what),
+        }
+    }
+
+    // A thread is deleted.
+    fn delete(&mut self, place: usize)
+        requires { IsOwnOf self.old place }
+        ensures { self.new ≡ with_local self.old (asks DeleteThread place self.old.local) }
+    {
+        self.drop_ready(place);
+        self.threads[place].ask(What::Delete);
+        self.settle(place);
+    }
+
+    // A thread leaves the ready ones, if it is among them.
+    fn drop_ready(&mut self, place: usize)
+        requires { place < length self.old.machine.threads }
+        ensures rest { self.new ≡ with_local self.old (relists (dropped place) self.old.local) }
+        ensures gone { is_ready_in self.new.local.lists place ≡ false }
+    {
+        self.lists.drop_ready(place);
+    }
+
+    /// A send is put at the end of the list of its receiver.
+    pub(crate) fn queue(&mut self, receiver: usize, waiting: Waiting)
+        requires receiver { receiver < length self.old.machine.threads }
+        requires sender { IsSender self.old waiting.block }
+        requires here { IsNotSplit self.old waiting.block }
+        requires free { is_queued self.old.local.lists waiting.block ≡ false }
+        ensures { self.new ≡ with_local self.old (relists (queued receiver waiting) self.old.local) }
+    {
+        self.lists.queue_send(receiver, waiting);
+    }
+
+    /// A send is taken out of the list that it waits in, if it waits in one.
+    pub(crate) fn unqueue(&mut self, place: usize)
+        requires { place < length self.old.machine.threads }
+        ensures { self.new ≡ with_local self.old (relists (unqueued place) self.old.local) }
+    {
+        self.lists.unqueue_send(place);
+    }
+
+    /// The first ready thread is taken out of the list.
+    pub(crate) fn pop_ready(&mut self)
+        ensures rest { self.new ≡ with_local self.old (relists popped self.old.local) }
+        ensures gone { (place : ℕ) → slice_get self.old.local.lists.ready 0 ≡ Some place → is_ready_in self.new.local.lists place ≡ false }
+    {
+        self.lists.pop_ready();
+    }
+
+    /// The first armed thread, whose deadline is past, is disarmed.
+    pub(crate) fn pop_due(&mut self)
+        requires { IsSome (due_block self.old.local.clock self.old.local.lists.armed) }
+        ensures { self.new ≡ with_local self.old (relists popped_due self.old.local) }
+    {
+        self.lists.pop_due(self.clock);
+    }
+
+    /// The first thread whose deadline is past. It is found at once that there is none, as long as the least deadline that was seen is
+    /// not past.
+    pub(crate) fn first_due(&mut self) -> Option<usize>
+        ensures due { result ≡ due_block self.old.local.clock self.old.local.lists.armed }
+        ensures same { self.new ≡ self.old }
+    {
+        self.lists.first_due(self.clock)
+    }
+
+    /// The processors below this one and up to it, but this processor, know of a thread's deletion.
+    pub(crate) fn note_told(&mut self, place: usize, cpu: u8)
+        requires within { place < length self.old.machine.threads }
+        requires cpu { cpu < self.old.machine.cpus }
+        ensures { self.new ≡ with_local self.old (has_told cpu place self.old.local) }
+    {
+        let cpus = self.machine.cpus();
+        prove!(cpu < cpus);
+        self.told[place] = cpu + 1;
+    }
+
+    /// The send of another processor's thread, which stands in no list, is decided.
+    pub(crate) fn forget_send(&mut self, place: usize)
+        requires within { place < length self.old.machine.threads }
+        requires unqueued { is_queued self.old.local.lists place ≡ false }
+        ensures { self.new ≡ with_local self.old (changes place decided self.old.local) }
+    {
+        self.threads[place].decide();
+    }
+
+    /// A send of another processor's thread has come here, and stands in its block.
+    pub(crate) fn stand_in(
+        &mut self,
+        place: usize,
+        name: Name,
+        receiver: GlobalId,
+        message: Message,
+        zero_timeout: bool,
+    )
+        requires within { place < length self.old.machine.threads }
+        requires foreign { is_own self.old.machine self.old.cpu place ≡ false }
+        requires free { is_none (thread self.old.local place).send ≡ true }
+        requires actual { message.actual ≡ (declared self.old.machine place).id }
+        ensures { self.new ≡ with_local self.old (changes place (stands_in name.k (stand_in receiver message zero_timeout)) self.old.local) }
+    {
+        self.threads[place].stand_in(name.k(), receiver, message, zero_timeout);
+    }
+
+    /// What a thread of this processor asked for is no longer awaited.
+    pub(crate) fn forget_order(&mut self, place: usize)
+        requires { IsOwnOf self.old place }
+        ensures { self.new ≡ with_local self.old (changes place forgets_order self.old.local) }
+    {
+        self.threads[place].forget_order();
+    }
+
+    /// A thread of another processor is known as deleted.
+    pub(crate) fn note_gone(&mut self, place: usize)
+        requires within { place < length self.old.machine.threads }
+        requires foreign { is_own self.old.machine self.old.cpu place ≡ false }
+        ensures { self.new ≡ with_local self.old (changes place is_gone_now self.old.local) }
+    {
+        self.threads[place].note_gone();
+    }
+}

@@ -1,0 +1,59 @@
+//! A thread that has come to a phase stands among the ready ones, or its deadline is armed.
+ghost use Rattle.std.specs.Prelude.{◌≡◌, ◌<◌, ◌+◌, ◌^◌, false, length};
+ghost use Rattle.std.specs.Option.{option_map};
+ghost use Rattle.l4_types.specs.PeriodView.{period_of, IsTimely};
+ghost use Rattle.l4_core_model.specs.Local.{thread, relists, settles};
+ghost use Rattle.l4_core.specs.Processor.{with_local};
+ghost use Rattle.l4_core.specs.Settling.{rearms, readies};
+ghost use Rattle.l4_core.specs.Turning.{IsOwnOf};
+ghost use Rattle.tcb_arena.specs.Blocks.{is_ready as is_ready_in};
+
+use crate::known::Known;
+use l4_types::times::Period;
+
+// When a period is over that begins at this clock. None where it never is.
+fn deadline(period: Period, clock: u64) -> Option<u64>
+    requires period { IsTimely period }
+    requires clock { clock < 2 ^ 62 }
+    ensures { result ≡ option_map (λ n. clock + n) (period_of period) }
+{
+    match period {
+        Period::Never => None,
+        Period::Zero => Some(clock),
+        Period::Ticks(ticks) => Some(clock + ticks),
+    }
+}
+
+impl Known<'_> {
+    // A thread of this processor has come to the phase that it is in. It is not among the ready ones.
+    pub(crate) fn settle(&mut self, place: usize)
+        requires own { IsOwnOf self.old place }
+        requires unready { is_ready_in self.old.local.lists place ≡ false }
+        ensures { self.new ≡ with_local self.old (settles place self.old.local) }
+    {
+        self.rearm(place);
+        self.make_ready(place);
+    }
+
+    // The old deadline of a thread goes, and that of its phase is armed.
+    fn rearm(&mut self, place: usize)
+        requires { IsOwnOf self.old place }
+        ensures { self.new ≡ with_local self.old (relists (rearms (thread self.old.local place) self.old.local.clock place) self.old.local) }
+    {
+        self.lists.disarm(place);
+        if let Some(deadline) = deadline(self.threads[place].waiting_period(), self.clock) {
+            self.lists.arm(place, deadline);
+        }
+    }
+
+    // A thread that can run goes to the end of the ready ones.
+    fn make_ready(&mut self, place: usize)
+        requires own { IsOwnOf self.old place }
+        requires unready { is_ready_in self.old.local.lists place ≡ false }
+        ensures { self.new ≡ with_local self.old (relists (readies (thread self.old.local place) place) self.old.local) }
+    {
+        if self.threads[place].is_ready() {
+            self.lists.push_ready(place);
+        }
+    }
+}

@@ -1,0 +1,224 @@
+//! What a letter from another processor asks for, found before anything changes.
+ghost use Rattle.std.specs.Prelude.{◌≡◌, ◌<◌, ◌||◌, IfSome, length, true};
+ghost use Rattle.l4_model.specs.World.{is_deleted};
+ghost use Rattle.l4_types.specs.declared.letters.Content.TheVariants.{Send as SendContent, Done as DoneContent, Withdraw as WithdrawContent, Order as OrderContent, OrderDone as OrderDoneContent, Gone as GoneContent};
+ghost use Rattle.l4_core_model.specs.Local.{declared, thread};
+ghost use Rattle.l4_core_model.specs.Mail.{foreign_place, is_ordering, own_place, waits_here};
+ghost use Rattle.l4_core.specs.Tasks.{refusal_for, task_of, IsForeign, IsTask};
+ghost use Rattle.l4_core.specs.Turning.{IsOwnOf, IsSender};
+
+use crate::known::Known;
+use l4_types::ids::GlobalId;
+use l4_types::letters::{Cause, Content, Decision, Refusal};
+use l4_types::messages::Message;
+use l4_types::steps::{Name, What};
+
+/// What a lawful letter asks for. Places are those of the threads.
+#[derive(Drop)]
+pub(crate) enum Task {
+    /// A send has come to its receiver, which is of this processor.
+    Arrive {
+        receiver: usize,
+        sender: usize,
+        name: Name,
+        to: GlobalId,
+        message: Message,
+        zero_timeout: bool,
+    },
+    /// The send of this thread of this processor is decided.
+    End(usize, Decision),
+    /// The send of this thread, which waits here, is refused.
+    Refuse(usize, Refusal),
+    /// A withdrawn send waits here no more: nothing is to be done.
+    Leave,
+    /// This thread of another processor is deleted.
+    NoteGone(usize),
+    /// What a thread of another processor asks for is done to one of this processor.
+    Obey {
+        target: usize,
+        from: usize,
+        caller: GlobalId,
+        what: What,
+    },
+    /// What this thread asked for was done.
+    FinishOrder(usize),
+}
+
+// How a withdrawn send is refused.
+fn refusal_for(cause: Cause) -> Refusal
+    ensures { result ≡ refusal_for cause }
+{
+    match cause {
+        Cause::ByTimeout => Refusal::TimedOut,
+        Cause::ByCancel => Refusal::Cancelled,
+        Cause::ByDeletion => Refusal::Dropped,
+    }
+}
+
+impl Known<'_> {
+    // The place of a declared thread of this processor.
+    fn own_place(&self, id: GlobalId) -> Option<usize>
+        ensures value { result ≡ own_place self.now.machine self.now.cpu id }
+        ensures own { IfSome result (λ place. IsOwnOf self.now place) }
+    {
+        let place = self.place_of(id)?;
+        if self.is_own(place) {
+            Some(place)
+        } else {
+            None
+        }
+    }
+
+    // The place of a declared thread of another processor.
+    #[tactic(auto, using(crate::proofs::Arriving::placed_id))]
+    fn foreign_place(&self, id: GlobalId) -> Option<usize>
+        ensures value { result ≡ foreign_place self.now.machine self.now.cpu id }
+        ensures foreign { IfSome result (λ place. IsForeign self.now place) }
+        ensures id { IfSome result (λ place. (declared self.now.machine place).id ≡ id) }
+    {
+        let place = self.place_of(id)?;
+        if self.is_own(place) {
+            None
+        } else {
+            Some(place)
+        }
+    }
+
+    // Whether this send of a thread waits here.
+    fn waits_here(&self, place: usize, name: &Name) -> bool
+        requires { place < length self.now.machine.threads }
+        ensures value { result ≡ waits_here self.now.local place name.now.k }
+        ensures sender { result ≡ true → IsSender self.now place }
+    {
+        let _few = self.len();
+        self.is_queued(place) && self.tcb(place).thread().begun() == name.k()
+    }
+
+    // Whether a thread waits for what it asked for, or was deleted.
+    fn awaits_order(&self, place: usize) -> bool
+        requires { place < length self.now.machine.threads }
+        ensures { result ≡ (is_deleted (thread self.now.local place).phase || is_ordering (thread self.now.local place).phase) }
+    {
+        let tcb = self.tcb(place);
+        tcb.is_deleted() || tcb.is_ordering()
+    }
+
+    // What a send that has come here asks for.
+    fn arrival(
+        &self,
+        name: &Name,
+        to: GlobalId,
+        message: &Message,
+        zero_timeout: bool,
+    ) -> Option<Task>
+        ensures value { result ≡ task_of self.now.machine self.now.cpu self.now.local (SendContent name.now to message.now zero_timeout) }
+        ensures possible { IfSome result (λ task. IsTask task self.now) }
+    {
+        let receiver = self.own_place(to)?;
+        let sender = self.foreign_place(name.thread())?;
+        if self.send_of(sender).is_some() || message.actual() != name.thread() {
+            return None;
+        }
+        let _shown = self.place_of(message.shown())?;
+        Some(Task::Arrive {
+            receiver,
+            sender,
+            name: *name,
+            to,
+            message: message.copy(),
+            zero_timeout,
+        })
+    }
+
+    // What the decision of a send asks for.
+    fn end(&self, name: &Name, decision: Decision) -> Option<Task>
+        ensures value { result ≡ task_of self.now.machine self.now.cpu self.now.local (DoneContent name.now decision) }
+        ensures possible { IfSome result (λ task. IsTask task self.now) }
+    {
+        let place = self.own_place(name.thread())?;
+        let _receiver = self.split_place(place)?;
+        if self.tcb(place).thread().begun() != name.k() {
+            return None;
+        }
+        Some(Task::End(place, decision))
+    }
+
+    // What the withdrawal of a send asks for.
+    fn withdrawal(&self, name: &Name, to: GlobalId, cause: Cause) -> Option<Task>
+        ensures value { result ≡ task_of self.now.machine self.now.cpu self.now.local (WithdrawContent name.now to cause) }
+        ensures possible { IfSome result (λ task. IsTask task self.now) }
+    {
+        let _receiver = self.own_place(to)?;
+        let sender = self.foreign_place(name.thread())?;
+        if self.waits_here(sender, name) {
+            Some(Task::Refuse(sender, refusal_for(cause)))
+        } else {
+            Some(Task::Leave)
+        }
+    }
+
+    // What an order asks for.
+    fn obedience(&self, caller: GlobalId, target: GlobalId, what: What) -> Option<Task>
+        ensures value { result ≡ task_of self.now.machine self.now.cpu self.now.local (OrderContent caller target what) }
+        ensures possible { IfSome result (λ task. IsTask task self.now) }
+    {
+        let target = self.own_place(target)?;
+        let from = self.foreign_place(caller)?;
+        Some(Task::Obey {
+            target,
+            from,
+            caller,
+            what,
+        })
+    }
+
+    // What the end of an order asks for.
+    fn end_of_order(&self, caller: GlobalId) -> Option<Task>
+        ensures value { result ≡ task_of self.now.machine self.now.cpu self.now.local (OrderDoneContent caller) }
+        ensures possible { IfSome result (λ task. IsTask task self.now) }
+    {
+        let place = self.own_place(caller)?;
+        if self.awaits_order(place) {
+            Some(Task::FinishOrder(place))
+        } else {
+            None
+        }
+    }
+
+    // What a deletion asks for.
+    fn deletion(&self, id: GlobalId) -> Option<Task>
+        ensures value { result ≡ task_of self.now.machine self.now.cpu self.now.local (GoneContent id) }
+        ensures possible { IfSome result (λ task. IsTask task self.now) }
+    {
+        let place = self.foreign_place(id)?;
+        Some(Task::NoteGone(place))
+    }
+
+    /// What a letter of this content asks for, or None where it is not lawful here.
+    pub(crate) fn task(&self, content: &Content) -> Option<Task>
+        ensures value { result ≡ task_of self.now.machine self.now.cpu self.now.local content.now }
+        ensures possible { IfSome result (λ task. IsTask task self.now) }
+    {
+        match content {
+            Content::Send {
+                name,
+                receiver,
+                message,
+                zero_timeout,
+            } => self.arrival(name, *receiver, message, *zero_timeout),
+            Content::Done { name, decision } => self.end(name, *decision),
+            Content::Withdraw {
+                name,
+                receiver,
+                cause,
+            } => self.withdrawal(name, *receiver, *cause),
+            Content::Gone(id) => self.deletion(*id),
+            Content::Order {
+                caller,
+                target,
+                what,
+            } => self.obedience(*caller, *target, *what),
+            Content::OrderDone(caller) => self.end_of_order(*caller),
+        }
+    }
+}

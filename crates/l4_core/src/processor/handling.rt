@@ -1,0 +1,142 @@
+//! What a processor does with a letter from another one.
+ghost use Rattle.std.specs.Prelude.{◌≡◌, ◌<◌, ◌≤◌, ◌↔◌, ◌⊎◌, IfErr, IfOk, IsErrOf, IsSome, None, OnErr, false};
+ghost use Rattle.l4_model.specs.Effects.{obeyed};
+ghost use Rattle.l4_core_model.specs.Local.{comes_to, ended};
+ghost use Rattle.l4_core_model.specs.Mail.{handle};
+ghost use Rattle.l4_core_model.specs.Turns.{can_stamp};
+ghost use Rattle.l4_types.specs.LetterView.{decision_of, letter_of};
+ghost use Rattle.l4_core.specs.Tasks.{does_task, IsArrival, IsCaller, IsObedience, IsSplit, IsTask};
+ghost use Rattle.l4_core.specs.declared.known.tasks.Task.TheVariants.{Arrive, Obey};
+ghost use Rattle.l4_core.specs.Processor.{with_local};
+ghost use Rattle.l4_core.specs.Tellings.{nothing};
+ghost use Rattle.l4_core.specs.Turning.{Does, IsEvent};
+
+use crate::known::tasks::Task;
+use crate::processor::{Core, Fault};
+use crate::told::Told;
+use l4_thread::changes::Change;
+use l4_types::ids::GlobalId;
+use l4_types::letters::{Content, Decision, Letter};
+use l4_types::messages::Message;
+use l4_types::steps::{Name, What};
+
+impl Core<'_> {
+    /// Handles a letter from another processor. Answers the stamp of the event. A withdrawal of a send that waits here no more is lawful and
+    /// does nothing, and so is the end of an order of a deleted caller.
+    ///
+    /// `Mail`: the letter is not lawful here. `Stamp`: else, where the next stamp would reach 2^62. Nothing is changed then. Condition: nothing
+    /// is told yet.
+    pub fn handle_into(&mut self, letter: &Letter, told: &mut Told) -> Result<u64, Fault>
+        requires untold { told.old ≡ nothing }
+        ensures ok { IfOk result (λ stamp. IsEvent (handle self.old.machine self.old.cpu self.old.local (letter_of letter.now)) self.old self.new told.new stamp) }
+        ensures err { OnErr result ((self.new ≡ self.old) × (told.new ≡ told.old)) }
+        ensures faults { IfErr result (λ fault. (fault ≡ Fault.Mail) ⊎ (fault ≡ Fault.Stamp)) }
+        ensures mail { IsErrOf result Fault.Mail ↔ (handle self.old.machine self.old.cpu self.old.local (letter_of letter.now) ≡ None) }
+        ensures stamp { IsErrOf result Fault.Stamp ↔
+            (IsSome (handle self.old.machine self.old.cpu self.old.local (letter_of letter.now)) × (can_stamp self.old.local letter.now.stamp ≡ false)) }
+    {
+        let Some(task) = self.known.task(&letter.content) else {
+            return Err(Fault::Mail);
+        };
+        if !self.can_stamp(letter.stamp) {
+            return Err(Fault::Stamp);
+        }
+        let stamp = self.open(letter.stamp);
+        self.do_task(task, told);
+        Ok(stamp)
+    }
+
+    // What a letter asks for is done.
+    fn do_task(&mut self, task: Task, told: &mut Told)
+        requires possible { IsTask task self.old }
+        requires room { 3 ≤ told.old.room }
+        requires slots { 2 ≤ told.old.slots }
+        ensures { Does (does_task self.old.machine self.old.cpu task) self.old self.new told.old told.new }
+    {
+        match task {
+            Task::Arrive {
+                receiver,
+                sender,
+                name,
+                to,
+                message,
+                zero_timeout,
+            } => self.take_in(receiver, sender, name, to, message, zero_timeout, told),
+            Task::End(place, decision) => self.end_split(place, decision),
+            Task::Refuse(place, refusal) => self.refuse(place, refusal, told),
+            Task::Leave => {}
+            Task::NoteGone(place) => self.note_gone(place),
+            Task::Obey {
+                target,
+                from,
+                caller,
+                what,
+            } => self.obey_for(target, from, caller, what, told),
+            Task::FinishOrder(place) => self.finish_order(place),
+        }
+    }
+
+    // A send of another processor's thread has come to its receiver.
+    fn take_in(
+        &mut self,
+        receiver: usize,
+        sender: usize,
+        name: Name,
+        to: GlobalId,
+        message: Message,
+        zero_timeout: bool,
+        told: &mut Told,
+    )
+        requires possible { IsArrival self.old receiver sender message }
+        requires room { 2 ≤ told.old.room }
+        requires slots { 0 < told.old.slots }
+        ensures { Does (does_task self.old.machine self.old.cpu (Arrive receiver sender name to message zero_timeout)) self.old self.new told.old told.new }
+    {
+        let _few = self.known.len();
+        self.stand_in(sender, name, to, message, zero_timeout);
+        self.arrive(receiver, sender, told);
+    }
+
+    // The send of a thread of this processor was decided at its receiver's.
+    fn end_split(&mut self, place: usize, decision: Decision)
+        requires { IsSplit self.old place }
+        ensures { self.new ≡ with_local self.old (comes_to place (ended (decision_of decision) self.old.local.clock) self.old.local) }
+    {
+        let _few = self.known.len();
+        self.come_to(place, &Change::EndSend(decision));
+    }
+
+    // What a thread of another processor asks for is done, and its processor is told so.
+    fn obey_for(
+        &mut self,
+        target: usize,
+        from: usize,
+        caller: GlobalId,
+        what: What,
+        told: &mut Told,
+    )
+        requires possible { IsObedience self.old target from }
+        requires room { 3 ≤ told.old.room }
+        requires slots { 2 ≤ told.old.slots }
+        ensures { Does (does_task self.old.machine self.old.cpu (Obey target from caller what)) self.old self.new told.old told.new }
+    {
+        let _few = self.known.len();
+        self.obey_order(caller, what, target, told);
+        let letter = self.letter(Content::OrderDone(caller));
+        told.post(self.known.cpu_of(from), letter);
+    }
+
+    // What a thread of this processor asked for was done.
+    fn finish_order(&mut self, place: usize)
+        requires { IsCaller self.old place }
+        ensures { self.new ≡ with_local self.old (comes_to place obeyed self.old.local) }
+    {
+        let _few = self.known.len();
+        if self.known.is_deleted(place) {
+            self.forget_order(place);
+            self.settle(place);
+        } else {
+            self.come_to(place, &Change::Obey);
+        }
+    }
+}

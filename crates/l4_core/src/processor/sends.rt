@@ -1,0 +1,176 @@
+//! What becomes of a send: it is refused, queued or delivered here, or goes to its receiver's processor.
+ghost use Rattle.std.specs.Prelude.{◌≡◌, ◌<◌, ◌≤◌, ◌+◌, Some, None, length, false};
+ghost use Rattle.l4_model.specs.World.{Send};
+ghost use Rattle.l4_core_model.specs.Letters.{refusal_step};
+ghost use Rattle.l4_core_model.specs.Local.{thread, is_own};
+ghost use Rattle.l4_core_model.specs.Acts.{arrives, delivers, ends, goes_to, posts_send, queues_send, refuses, split_place, withdraws};
+ghost use Rattle.l4_core_model.specs.Local.{destination_place};
+ghost use Rattle.l4_types.specs.LetterView.{refusal_of_send, decision_of, cause_of_withdrawal};
+ghost use Rattle.l4_types.specs.StepView.{step_of};
+ghost use Rattle.l4_core.specs.Turning.{Does, IsNewSender, IsNotSplit, IsOwnOf, IsReceiver, IsSender};
+
+use crate::processor::Core;
+use crate::told::Told;
+use l4_thread::changes::Change;
+use l4_types::letters::{Cause, Content, Decision, Letter, Refusal};
+use l4_types::steps::{Delivery, Name, Step};
+
+// The step that tells a refusal.
+fn refusal_step(refusal: Refusal, name: Name) -> Step
+    ensures { step_of result ≡ refusal_step (refusal_of_send refusal) name }
+{
+    match refusal {
+        Refusal::TimedOut => Step::SendTimeout(name),
+        Refusal::Nobody => Step::SendNobody(name),
+        Refusal::Cancelled => Step::SendCancel(name),
+        Refusal::Dropped => Step::Drop(name),
+    }
+}
+
+impl Core<'_> {
+    /// A letter with the stamp of this event.
+    pub(super) fn letter(&self, content: Content) -> Letter
+        ensures { result ≡ record { stamp = self.now.local.stamp; content = content } }
+    {
+        Letter {
+            stamp: self.known.stamp(),
+            content,
+        }
+    }
+
+    /// The send of a thread is refused.
+    pub(super) fn refuse(&mut self, place: usize, refusal: Refusal, told: &mut Told)
+        requires sender { IsSender self.old place }
+        requires room { 0 < told.old.room }
+        requires slots { 0 < told.old.slots }
+        ensures { Does (refuses self.old.machine self.old.cpu (refusal_of_send refusal) place) self.old self.new told.old told.new }
+    {
+        told.tell(refusal_step(refusal, self.known.last_name(place)));
+        self.end_send(place, Decision::Refused(refusal), told);
+    }
+
+    /// The message of a sender is delivered to a receiver.
+    pub(super) fn deliver(&mut self, receiver: usize, sender: usize, told: &mut Told)
+        requires receiver { IsReceiver self.old receiver }
+        requires sender { IsSender self.old sender }
+        requires room { 0 < told.old.room }
+        requires slots { 0 < told.old.slots }
+        ensures { Does (delivers self.old.machine self.old.cpu receiver sender) self.old self.new told.old told.new }
+    {
+        let delivery = Delivery {
+            name: self.known.last_name(sender),
+            receiver: self.known.id(receiver),
+            message: self.known.message(sender).copy(),
+            cross: !self.known.is_own(sender),
+        };
+        self.receive(receiver, &delivery.message, delivery.tag());
+        told.tell(Step::Deliver(delivery));
+        self.end_send(sender, Decision::Delivered, told);
+    }
+
+    // The send of a thread is decided here. Its sender goes on, at once where it is of this processor, else by a letter.
+    fn end_send(&mut self, place: usize, decision: Decision, told: &mut Told)
+        requires sender { IsSender self.old place }
+        requires slots { 0 < told.old.slots }
+        ensures { Does (ends self.old.machine self.old.cpu (decision_of decision) place) self.old self.new told.old told.new }
+    {
+        if self.known.is_own(place) {
+            self.unqueue_send(place);
+            self.come_to(place, &Change::EndSend(decision));
+        } else {
+            let name = self.known.last_name(place);
+            self.unqueue_send(place);
+            self.forget_send(place);
+            let letter = self.letter(Content::Done { name, decision });
+            told.post(self.known.cpu_of(place), letter);
+        }
+    }
+
+    /// A begun send goes to its destination.
+    pub(super) fn send(&mut self, sender: usize, told: &mut Told)
+        requires sender { IsNewSender self.old sender }
+        requires room { 2 ≤ told.old.room }
+        requires slots { 0 < told.old.slots }
+        ensures { (send : Send) → (thread self.old.local sender).send ≡ Some send →
+            Does (goes_to self.old.machine self.old.cpu sender send (destination_place self.old.machine send.to)) self.old self.new told.old told.new }
+    {
+        match self.known.destination(sender) {
+            Some(receiver) if self.known.is_own(receiver) => self.arrive(receiver, sender, told),
+            Some(receiver) => self.post_send(receiver, sender, told),
+            None => self.refuse(sender, Refusal::Nobody, told),
+        }
+    }
+
+    // A begun send goes to its receiver's processor.
+    fn post_send(&mut self, receiver: usize, sender: usize, told: &mut Told)
+        requires receiver { receiver < length self.old.machine.threads }
+        requires sender { IsSender self.old sender }
+        requires slots { 0 < told.old.slots }
+        ensures { (send : Send) → (thread self.old.local sender).send ≡ Some send →
+            Does (posts_send self.old.machine receiver sender send) self.old self.new told.old told.new }
+    {
+        let content = Content::Send {
+            name: self.known.last_name(sender),
+            receiver: self.known.id(receiver),
+            message: self.known.message(sender).copy(),
+            zero_timeout: self.known.is_zero(sender),
+        };
+        let letter = self.letter(content);
+        told.post(self.known.cpu_of(receiver), letter);
+    }
+
+    /// A send has come to its receiver's processor, which is this one: it is refused, or queued, and delivered where the receiver waits
+    /// for it.
+    pub(super) fn arrive(&mut self, receiver: usize, sender: usize, told: &mut Told)
+        requires receiver { IsOwnOf self.old receiver }
+        requires sender { IsNewSender self.old sender }
+        requires here { IsNotSplit self.old sender }
+        requires room { 2 ≤ told.old.room }
+        requires slots { 0 < told.old.slots }
+        ensures { Does (arrives self.old.machine self.old.cpu receiver sender) self.old self.new told.old told.new }
+    {
+        if self.known.is_deleted(receiver) {
+            self.refuse(sender, Refusal::Nobody, told);
+        } else if self.known.zero_refusable(receiver, sender) {
+            self.refuse(sender, Refusal::TimedOut, told);
+        } else {
+            self.queue(receiver, sender, told);
+        }
+    }
+
+    // A send is queued, and delivered where its receiver waits and takes it first.
+    fn queue(&mut self, receiver: usize, sender: usize, told: &mut Told)
+        requires receiver { IsOwnOf self.old receiver }
+        requires sender { IsNewSender self.old sender }
+        requires here { IsNotSplit self.old sender }
+        requires room { 2 ≤ told.old.room }
+        requires slots { 0 < told.old.slots }
+        ensures { (send : Send) → (thread self.old.local sender).send ≡ Some send →
+            Does (queues_send self.old.machine self.old.cpu receiver sender (Some send)) self.old self.new told.old told.new }
+    {
+        told.tell(Step::Queue(self.known.last_name(sender)));
+        let waiting = self.known.entry(receiver, sender);
+        self.queue_send(receiver, waiting);
+        if self.known.is_first(receiver, sender) {
+            self.deliver(receiver, sender, told);
+        }
+    }
+
+    /// The send of a thread of this processor is withdrawn, where it is split.
+    pub(super) fn withdraw(&mut self, place: usize, cause: Cause, told: &mut Told)
+        requires own { IsOwnOf self.old place }
+        requires slots { 0 < told.old.slots }
+        ensures does { Does (withdraws self.old.machine (cause_of_withdrawal cause) place (split_place self.old.machine self.old.cpu self.old.local place)) self.old self.new told.old told.new }
+        ensures slots { told.old.slots ≤ told.new.slots + 1 }
+    {
+        if let Some(receiver) = self.known.split_place(place) {
+            let content = Content::Withdraw {
+                name: self.known.last_name(place),
+                receiver: self.known.id(receiver),
+                cause,
+            };
+            let letter = self.letter(content);
+            told.post(self.known.cpu_of(receiver), letter);
+        }
+    }
+}

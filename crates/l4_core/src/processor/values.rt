@@ -1,0 +1,68 @@
+//! Turns, ticks and letters handled, with what is told as a value.
+ghost use Rattle.std.specs.Prelude.{◌≡◌, ◌↔◌, ◌⊎◌, IfErr, IfOk, IsErrOf, IsSome, None, OnErr, [], false, true};
+ghost use Rattle.l4_core_model.specs.Mail.{handle};
+ghost use Rattle.l4_core_model.specs.Turns.{advance, can_stamp};
+ghost use Rattle.l4_types.specs.LetterView.{letter_of};
+ghost use Rattle.l4_core.specs.Values.{IsToldEvent, Turned};
+
+use crate::processor::{Core, Fault};
+use crate::told::{Letters, Told};
+use l4_types::letters::Letter;
+use l4_types::steps::Event;
+
+/// What a turn of a processor did.
+#[derive(Drop)]
+pub enum Turn {
+    /// An event, and the letters that it posts, each with the processor that it goes to.
+    Did { event: Event, letters: Letters },
+    /// There is nothing to do.
+    Idle,
+}
+
+impl Core<'_> {
+    /// The core's turn, as `turn_into` takes it. Condition: `can_stamp(0)`.
+    pub fn turn(&mut self) -> Turn
+        requires { can_stamp self.old.local 0 ≡ true }
+        ensures { Turned self.old self.new result }
+    {
+        let mut told = Told::new();
+        let Some(stamp) = self.turn_into(&mut told) else {
+            return Turn::Idle;
+        };
+        let (event, letters) = told.into_event(stamp);
+        Turn::Did { event, letters }
+    }
+
+    /// Handles a letter from another processor, as `handle_into` does.
+    ///
+    /// `Mail`: the letter is not lawful here. `Stamp`: else, where the next stamp would reach 2^62. Nothing is changed then.
+    pub fn handle(&mut self, letter: &Letter) -> Result<(Event, Letters), Fault>
+        ensures ok { IfOk result (λ r. IsToldEvent (handle self.old.machine self.old.cpu self.old.local (letter_of letter.now)) self.old self.new r.0 r.1.items) }
+        ensures err { OnErr result (self.new ≡ self.old) }
+        ensures faults { IfErr result (λ fault. (fault ≡ Fault.Mail) ⊎ (fault ≡ Fault.Stamp)) }
+        ensures mail { IsErrOf result Fault.Mail ↔ (handle self.old.machine self.old.cpu self.old.local (letter_of letter.now) ≡ None) }
+        ensures stamp { IsErrOf result Fault.Stamp ↔
+            (IsSome (handle self.old.machine self.old.cpu self.old.local (letter_of letter.now)) × (can_stamp self.old.local letter.now.stamp ≡ false)) }
+    {
+        let mut told = Told::new();
+        let stamp = self.handle_into(letter, &mut told)?;
+        Ok(told.into_event(stamp))
+    }
+
+    /// The clock goes on to this value, in ticks, as `advance_into` has it. A tick posts no letters.
+    ///
+    /// `Clock`: the value is not above the clock, or not below 2^62. `Stamp`: else, where the next stamp would reach 2^62. Nothing is changed
+    /// then.
+    pub fn advance(&mut self, to: u64) -> Result<Event, Fault>
+        ensures ok { IfOk result (λ event. IsToldEvent (advance self.old.machine self.old.cpu to self.old.local) self.old self.new event []) }
+        ensures err { OnErr result (self.new ≡ self.old) }
+        ensures faults { IfErr result (λ fault. (fault ≡ Fault.Clock) ⊎ (fault ≡ Fault.Stamp)) }
+        ensures clock { IsErrOf result Fault.Clock ↔ (advance self.old.machine self.old.cpu to self.old.local ≡ None) }
+        ensures stamp { IsErrOf result Fault.Stamp ↔ (IsSome (advance self.old.machine self.old.cpu to self.old.local) × (can_stamp self.old.local 0 ≡ false)) }
+    {
+        let mut told = Told::new();
+        let stamp = self.advance_into(to, &mut told)?;
+        let (event, _letters) = told.into_event(stamp);
+        Ok(event)
+    }
+}

@@ -1,0 +1,114 @@
+-- A run is at rest exactly where each of its stations is.
+use Rattle.std.proofs.Common.{◌≡◌, ◌↔◌, ℕ, ◌+◌, ◌<◌, Bool, true, false, cond, ◌&&◌, Option, Some, None, List, [], ◌∷◌, map, length, min, suc, refl, ap, sym, ◌∙◌, subst, arith}
+use Rattle.std.specs.Prelude.{slice_get, filter, not, ◌==◌}
+use Rattle.std.specs.List.{list_all, range_with_len}
+use Rattle.std.specs.Option.{option_map}
+use Rattle.std.proofs.lemmas.Bool.{eq-eqb, and_from, and_parts}
+use Rattle.std.proofs.lemmas.Option.{slice_get_within, slice_get-map}
+use Rattle.l4_model.specs.Machine.{Machine}
+use Rattle.l4_core_model.specs.Letters.{Letter}
+use Rattle.l4_core_model.specs.Turns.{is_busy}
+use Rattle.l4_core_model.specs.Runs.{Posted, System, processors, letters, is_between, is_empty, local_at_rest, at_rest}
+use Rattle.l4_core_model.specs.Schedules.{earliest, earliest_of, earliest_deadline, least_deadline}
+use Rattle.l4_merge.proofs.Lists.{slice_get_none}
+use Rattle.l4_merge.proofs.Processors.{all_processors, each_processor}
+use Rattle.l4_machine.specs.Stations.{Station, deadline_of, letters_from, IsResting}
+use Rattle.l4_machine.specs.UnderWay.{letters_at, deadline_at, first_deadline, AreResting, IsSystem}
+use Rattle.l4_machine.proofs.Happening.{local_at, letters_here}
+
+-- Where no pair has letters, none is under way.
+
+no_mail : (mail : List Posted) → ((from to : ℕ) → letters mail from to ≡ []) → is_empty mail ≡ true
+no_mail [] none = refl
+no_mail (p ∷ ps) none = by (p.from == p.from) (p.to == p.to) (eq-eqb p.from p.from refl) (eq-eqb p.to p.to refl) (none p.from p.to)
+  where
+    others : List Posted
+    others = filter (is_between p.from p.to) ps
+
+    by : (b c : Bool) → b ≡ true → c ≡ true → map (λ (p : Posted). p.letter) (cond (b && c) (p ∷ others) others) ≡ [] → is_empty (p ∷ ps) ≡ true
+    by true true s t h = cc
+    by true false s t h = cc
+    by false c s t h = cc
+
+no_letters_then : (mail : List Posted) → is_empty mail ≡ true → (from to : ℕ) → letters mail from to ≡ []
+no_letters_then [] none from to = refl
+no_letters_then (p ∷ ps) none from to = cc
+
+unarmed_is : {A : Type 0} (f : A → ℕ) (xs : List A) → option_map f (slice_get xs 0) ≡ None → is_empty xs ≡ true
+unarmed_is f [] h = refl
+unarmed_is f (x ∷ xs) h = cc
+
+is_unarmed : {A : Type 0} (f : A → ℕ) (xs : List A) → is_empty xs ≡ true → option_map f (slice_get xs 0) ≡ None
+is_unarmed f [] h = refl
+is_unarmed f (x ∷ xs) h = cc
+
+not_true : (b : Bool) → not b ≡ true → b ≡ false
+not_true true h = cc
+not_true false h = refl
+
+local_rest : (m : Machine) (g : System) (ss : List Station) (cpu : ℕ) (s : Station) → IsSystem m g ss → slice_get ss cpu ≡ Some s →
+    local_at_rest m g cpu ≡ (not (is_busy s.core.machine s.core.cpu s.core.local) && is_empty s.core.local.lists.armed)
+local_rest m g ss cpu s i at =
+    let here = local_at m g ss cpu s i at in
+    let it = i.each cpu s at in
+    rw (here, it.machine, it.cpu_is) refl
+
+pub rests : (m : Machine) (g : System) (ss : List Station) → IsSystem m g ss → AreResting ss → at_rest m g ≡ true
+rests m g ss i rest =
+    and_from (list_all (local_at_rest m g) (processors m)) (is_empty g.mail)
+    (all_processors m (local_at_rest m g) (λ cpu lt. by cpu lt (slice_get ss cpu) refl))
+    (no_mail g.mail (λ from to. i.mail from to ∙ none from to (slice_get ss to) refl))
+  where
+    by : (cpu : ℕ) → cpu < m.cpus → (o : Option Station) → slice_get ss cpu ≡ o → local_at_rest m g cpu ≡ true
+    by cpu lt None at = let past = slice_get_none ss cpu at in let size = i.for_each in absurd (omega arith)
+    by cpu lt (Some s) at =
+        let r = rest cpu s at in
+        local_rest m g ss cpu s i at ∙ and_from _ _ (ap not r.idle) (unarmed_is (λ e. e.0) s.core.local.lists.armed r.unarmed)
+
+    none : (from to : ℕ) (o : Option Station) → slice_get ss to ≡ o → letters_at from o ≡ []
+    none from to None at = refl
+    none from to (Some s) at = (rest to s at).no_mail from
+
+pub are_resting : (m : Machine) (g : System) (ss : List Station) → IsSystem m g ss → at_rest m g ≡ true → AreResting ss
+are_resting m g ss i rest cpu s at =
+    let parts = and_parts (list_all (local_at_rest m g) (processors m)) (is_empty g.mail) rest in
+    let within = slice_get_within ss cpu s at in
+    let size = i.for_each in
+    let lt : cpu < m.cpus = omega arith in
+    let own = and_parts (not (is_busy s.core.machine s.core.cpu s.core.local)) (is_empty s.core.local.lists.armed) (sym (local_rest m g ss cpu s i at) ∙ each_processor m (local_at_rest m g) parts.0 cpu lt) in
+    record {
+      idle = not_true _ own.0;
+      unarmed = is_unarmed (λ e. e.0) s.core.local.lists.armed own.1;
+      no_mail = λ from. sym (letters_here m g ss from cpu s i at) ∙ no_letters_then g.mail parts.1 from cpu;
+    }
+
+-- Deadlines
+
+pub earliest_assoc : (a b c : Option ℕ) → earliest (earliest a b) c ≡ earliest a (earliest b c)
+earliest_assoc None b c = refl
+earliest_assoc (Some a) None c = refl
+earliest_assoc (Some a) (Some b) None = refl
+earliest_assoc (Some a) (Some b) (Some c) = let e : min (min a b) c ≡ min a (min b c) = omega arith in ap Some e
+
+pub deadline_here : (m : Machine) (g : System) (ss : List Station) (cpu : ℕ) → IsSystem m g ss → least_deadline g cpu ≡ deadline_at (slice_get ss cpu)
+deadline_here m g ss cpu i = by (slice_get ss cpu) refl
+  where
+    locals : slice_get g.locals cpu ≡ option_map (λ (s : Station). s.core.local) (slice_get ss cpu)
+    locals = ap (λ ls. slice_get ls cpu) i.locals ∙ slice_get-map (λ (s : Station). s.core.local) ss cpu
+
+    by : (o : Option Station) → slice_get ss cpu ≡ o → least_deadline g cpu ≡ deadline_at o
+    by None at = let here = locals ∙ ap (option_map (λ (s : Station). s.core.local)) at in rw here refl
+    by (Some s) at = let here = locals ∙ ap (option_map (λ (s : Station). s.core.local)) at in rw here refl
+
+deadlines_are : (g : System) (ss : List Station) (start : ℕ) → ((k : ℕ) → least_deadline g (start + k) ≡ deadline_at (slice_get ss k)) →
+    map (least_deadline g) (range_with_len start (length ss)) ≡ map deadline_of ss
+deadlines_are g [] start each = refl
+deadlines_are g (s ∷ ss) start each =
+    let here : start + 0 ≡ start = omega arith in
+    ap (λ d. d ∷ map (least_deadline g) (range_with_len (start + 1) (length ss))) (ap (least_deadline g) (sym here) ∙ each 0)
+    ∙ ap (λ ds. deadline_of s ∷ ds) (deadlines_are g ss (start + 1) (λ k. let next : start + 1 + k ≡ start + suc k = omega arith in ap (least_deadline g) next ∙ each (suc k)))
+
+pub earliest_here : (m : Machine) (g : System) (ss : List Station) → IsSystem m g ss → earliest_deadline m g ≡ first_deadline ss
+earliest_here m g ss i =
+    ap (λ n. earliest_of (map (least_deadline g) (range_with_len 0 n))) (sym i.for_each)
+    ∙ ap earliest_of (deadlines_are g ss 0 (λ k. let same : 0 + k ≡ k = omega arith in ap (least_deadline g) same ∙ deadline_here m g ss k i))

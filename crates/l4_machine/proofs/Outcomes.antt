@@ -1,0 +1,66 @@
+-- The outcome of a core run, and what the laws say of it.
+use Rattle.std.proofs.Common.{◌≡◌, ◌↔◌, ℕ, ◌+◌, ◌≤◌, true, Some, List, map, length, take, refl, ap, sym, subst, ◌∙◌, arith}
+use Rattle.std.proofs.lemmas.List.{take_all}
+use Rattle.l4_model.specs.Machine.{Machine}
+use Rattle.l4_model.specs.World.{World}
+use Rattle.l4_model.specs.History.{IsHistory, IsFirstFault, reached, view, waiting as undecided_sends}
+use Rattle.l4_model.specs.Steps.{Step}
+use Rattle.l4_model.specs.Laws.{IsLawful}
+use Rattle.l4_model.specs.Still.{IsStill}
+use Rattle.l4_model.proofs.Chains.{some_is}
+use Rattle.l4_core_model.specs.Runs.{Run, IsMachine, merged, told, at_rest}
+use Rattle.l4_core_model.specs.Laws.{IsCoreRun}
+use Rattle.l4_split.specs.Laws.{IsLawfulRun}
+use Rattle.l4_types.specs.declared.reports.Ending.TheVariants.{Quiet}
+use Rattle.l4_types.specs.StepView.{step_of}
+use Rattle.l4_types.specs.ReportView.{report_of_view}
+use Rattle.l4_audit.specs.declared.audit.Audit.{Audit}
+use Rattle.l4_audit.specs.Audits.{Passes}
+use Rattle.l4_machine.specs.declared.outcome.Outcome.{Outcome}
+use Rattle.l4_machine.specs.Outcomes.{IsOutcomeOf, IsSound, in_order}
+use Rattle.l4_machine.specs.CoreRuns.{HasLawfulMergedRun}
+
+-- A history has no first fault.
+pub no_fault : (m : Machine) (h : List Step) (place : ℕ) → IsHistory m h → IsFirstFault m h place → ⊥
+no_fault m h place is f =
+    let all : take (length h) h ≡ h = take_all (length h) h (omega arith) in
+    let least = f.is_longest (length h) (omega arith) (subst (IsHistory m) (sym all) is) in
+    let within = f.within in
+    omega arith
+
+pub is_outcome : (m : Machine) (h : List Step) (o : Outcome) (audit : Audit) (r : Run) → IsSound m r → h ≡ told r.events → map step_of o.history.items ≡ h → Passes m h audit →
+    o.waiting.items ≡ audit.waiting.items → o.threads.items ≡ audit.threads.items → o.turns ≡ length r.events → (o.ending ≡ Quiet) ↔ (at_rest m r.system ≡ true) → IsOutcomeOf m r o
+is_outcome m h o audit r sound told_is steps passes waiting threads turns quiet = record {
+  history = same;
+  possible = subst (IsHistory m) (sym same) sound.possible;
+  lawful = subst (IsLawful m) (sym same) sound.lawful;
+  waiting = λ w is. waiting ∙ p.waiting_are ∙ ap (λ v. undecided_sends m v (map step_of o.history.items)) (world w is);
+  threads = λ w is. ap (map report_of_view) threads ∙ p.threads ∙ ap (view m) (world w is);
+  turns = turns;
+  quiet = quiet;
+  still = λ e w is. sound.still (quiet.0 e) w (ap (λ xs. reached m xs) (sym same) ∙ is);
+}
+  where
+    same : map step_of o.history.items ≡ told r.events
+    same = steps ∙ told_is
+
+    p : Passes m (map step_of o.history.items) audit
+    p = subst (λ xs. Passes m xs audit) (sym steps) passes
+
+    world : (w : World) → reached m (map step_of o.history.items) ≡ Some w → p.world ≡ w
+    world w is = some_is p.world w (sym p.reached_by ∙ is)
+
+-- A core run in the order told, and in order of stamp.
+pub sound : (m : Machine) (r : Run) → IsLawfulRun m r → IsSound m r
+sound m r l = record { possible = l.history; lawful = l.lawful; still = l.still }
+
+pub sound_in_order : (m : Machine) (r : Run) → HasLawfulMergedRun m r → IsSound m (in_order r)
+sound_in_order m r has =
+    let other = has.0 in
+    let l = has.1.lawful in
+    let events : other.events ≡ merged r.events = has.1.reordered.events in
+    record {
+      possible = subst (λ es. IsHistory m (told es)) events l.history;
+      lawful = subst (λ es. IsLawful m (told es)) events l.lawful;
+      still = λ rest w is. l.still (has.1.reordered.rest ∙ rest) w (ap (λ es. reached m (told es)) events ∙ is);
+    }

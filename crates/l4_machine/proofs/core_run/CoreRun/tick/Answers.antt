@@ -1,0 +1,39 @@
+use Rattle.std.proofs.Common.{◌≡◌, ◌<◌, ◌++◌, refl, ap, sym, ◌∙◌, subst}
+use Rattle.l4_core_model.specs.Runs.{Ticks}
+use Rattle.l4_core_model.specs.Schedules.{next_turn}
+use Rattle.l4_machine.specs.UnderWay.{UnderWay, IsRun}
+use Rattle.l4_machine.proofs.Happening.{can_go_on, few_events, here, same_station, can_post_event, event_told, nothing_told, turn_happens, no_turn_happens, tick_happens, no_tick_happens}
+use Rattle.l4_machine.proofs.core_run.CoreRun.tick.Goals as goal
+
+pub tick-requires-clause-stamp : goal.tick-requires-clause-stamp
+tick-requires-clause-stamp c =
+    let m = c.requires.run.0 in
+    let r = c.requires.run.1.0 in
+    let i = subst (IsRun m r) (sym c.self.view_is) c.requires.run.1.1 in
+    let lt = subst (λ (u : UnderWay). c.args.cpu < u.machine.cpus) (sym c.self.view_is) c.requires.cpu in
+    let at = here m r _ c.args.cpu c.from.result c.index_mut.result.now i c.from.ensures lt c.index_mut.ensures.value in
+    (can_go_on c.law_core_run.ensures.lawful m r _ c.args.cpu c.index_mut.result.now i (few_events m r c.args.self.now c.requires.run.1.1 c.requires.few) at).own
+
+pub returns-in-None : goal.returns-in-None
+returns-in-None c = λ m r i.
+    let i = subst (IsRun m r) (sym c.self.view_is) i in
+    let lt = subst (λ (u : UnderWay). c.args.cpu < u.machine.cpus) (sym c.self.view_is) c.requires.cpu in
+    let at = here m r _ c.args.cpu c.from.result c.index_mut.result.now i c.from.ensures lt c.index_mut.ensures.value in
+    nothing_told m r _ i (Ticks c.args.cpu c.args.clock) c.from.result _ _ c.index_mut.ensures.value (c.in-None.ensures.same) (no_tick_happens m r.system _ c.args.cpu c.args.clock c.index_mut.result.now c.tick.new.self i.system at c.in-None.ensures)
+
+pub post-requires : goal.post-requires
+post-requires c =
+    let m = c.requires.run.0 in
+    let r = c.requires.run.1.0 in
+    let i = subst (IsRun m r) (sym c.self.view_is) c.requires.run.1.1 in
+    let lt = subst (λ (u : UnderWay). c.args.cpu < u.machine.cpus) (sym c.self.view_is) c.requires.cpu in
+    let at = here m r _ c.args.cpu c.from.result c.index_mut.result.now i c.from.ensures lt c.index_mut.ensures.value in
+    can_post_event c.law_core_run.ensures.lawful m r _ i (Ticks c.args.cpu c.args.clock) c.args.cpu c.from.result c.in-Some.stamp _ _ c.from.ensures lt (tick_happens m r.system _ c.args.cpu c.args.clock c.index_mut.result.now c.tick.new.self c.tick.new.told c.in-Some.stamp i.system at c.in-Some.ensures)
+
+pub returns : goal.returns
+returns c = λ m r i.
+    let i = subst (IsRun m r) (sym c.self.view_is) i in
+    let lt = subst (λ (u : UnderWay). c.args.cpu < u.machine.cpus) (sym c.self.view_is) c.requires.cpu in
+    let at = here m r _ c.args.cpu c.from.result c.index_mut.result.now i c.from.ensures lt c.index_mut.ensures.value in
+    event_told c.law_core_run.ensures.lawful m r _ _ i (Ticks c.args.cpu c.args.clock) c.args.cpu c.from.result c.in-Some.stamp _ _ c.from.ensures lt (tick_happens m r.system _ c.args.cpu c.args.clock c.index_mut.result.now c.tick.new.self c.tick.new.told c.in-Some.stamp i.system at c.in-Some.ensures)
+    refl c.in_ok-post.ensures.stations (c.in_ok-tell_event.ensures.steps ∙ ap (λ xs. c.self.inside.history.steps ++ xs) (c.steps.ensures ∙ c.in_ok-post.ensures.steps)) c.in_ok-tell_event.ensures.part

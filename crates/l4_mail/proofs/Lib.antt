@@ -1,0 +1,9 @@
+pub mod Delivering
+pub mod Taken
+pub mod Rows
+pub mod Taking
+pub mod Whole
+pub mod Fabrics
+pub mod Making
+pub mod Admitting
+pub mod Numbers

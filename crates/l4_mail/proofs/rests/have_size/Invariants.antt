@@ -1,0 +1,7 @@
+use Rattle.std.proofs.Common.{◌≡◌, ℕ, ◌<◌, get_or}
+use Rattle.l4_mail.specs.declared.ports.Port.{Port}
+use Rattle.l4_mail.specs.Ports.{fabric_size}
+use Rattle.l4_mail.proofs.rests.have_size.Given as goal
+
+abbrev pub invariant-loop-port : goal.invariant-loop-port
+invariant-loop-port l = (i : ℕ) → i < l.port-index → (d : Port) → fabric_size (get_or l.fn.ports i d) ≡ l.fn.cpus

@@ -1,6 +1,0 @@
-use Rattle.std.proofs.Common.{◌≡◌}
-use Rattle.l4_processor.specs.Opening.{lists_below}
-use Rattle.l4_processor.proofs.known.opening_lists.Given as goal
-
-abbrev pub invariant-loop-place : goal.invariant-loop-place
-invariant-loop-place l = l.lists ≡ lists_below l.machine l.cpu l.place

@@ -1,8 +1,0 @@
-use Rattle.std.proofs.Common.{◌≡◌, map, take}
-use Rattle.std.specs.Prelude.{replicate}
-use Rattle.l4_model.specs.World.{opening_thread}
-use Rattle.l4_processor.specs.Parts.{threads_of, ids_of}
-use Rattle.l4_processor.proofs.known.opening_threads.Given as goal
-
-abbrev pub invariant-loop-place : goal.invariant-loop-place
-invariant-loop-place l = (threads_of l.threads.items ≡ replicate l.place opening_thread) × (ids_of l.threads.items ≡ take l.place (map (λ d. d.id) l.machine.threads))

@@ -1,8 +1,9 @@
 #!/bin/sh
-# Times the program: the reading of machine texts (text), the turns of runs (turns), or the audit of traces (audits). It is proved and
-# built as it stands, its files are made in a folder that goes away, and all is measured from outside.
+# Measures the program: the reading of machine texts (text), the turns of runs (turns), those of one processor and of several by their instructions
+# (several), or the audit of traces (audits). It is proved and built as it stands, its files are made in a folder that goes away, and all is measured
+# from outside.
 set -eu
-what=${1:?text, turns or audits}
+what=${1:?text, turns, several or audits}
 here=$(cd "$(dirname "$0")" && pwd)
 work=$(mktemp -d)
 trap 'rm -rf "$work"' EXIT

@@ -20,12 +20,20 @@ class Bench:
         self.program = program
         self.folder = pathlib.Path(folder)
 
-    def words(self, name, text, turns, report=True):
-        """The words that run this text, which is written into a file of this name."""
+    def file(self, name, text):
+        """The file of this name, which is written with this text."""
         file = self.folder / name
         file.write_text(text)
-        words = [self.program, "run", str(file), "--turns", str(turns)]
+        return str(file)
+
+    def words(self, name, text, turns, report=True):
+        """The words that run this text, which is written into a file of this name."""
+        words = [self.program, "run", self.file(name, text), "--turns", str(turns)]
         return words + ["--report"] if report else words
+
+    def replay(self, name, text, processors):
+        """The words that replay a turn of each of these processors in order, with the trace."""
+        return [self.program, "replay", self.file(name, text), "--schedule", ",".join(map(str, processors))]
 
     def audit(self, name, lines):
         """The words that audit a trace of these lines against the text in the file of this name."""

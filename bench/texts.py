@@ -4,6 +4,8 @@ MOST_BYTES = 1_048_576
 MOST_THREADS = 1_024
 MOST_INSTRUCTIONS = 1_024
 
+MOST_CPUS = 16
+
 HEAD = "l4 1 64\ncpus 1\n"
 
 # The last line of a text that is to be measured: its target is instruction 0, or one that no script has. Both have
@@ -12,12 +14,12 @@ LAWFUL_END = "jump 0x0000\n"
 FAULTY_END = "jump 0xffff\n"
 
 
-def thread(number, script=()):
-    return "".join([f"thread {number}.1 cpu 0 space 1\n"] + [line + "\n" for line in script])
+def thread(number, script=(), cpu=0):
+    return "".join([f"thread {number}.1 cpu {cpu} space 1\n"] + [line + "\n" for line in script])
 
 
-def machine(threads):
-    return HEAD + "".join(threads)
+def machine(threads, cpus=1):
+    return HEAD.replace("cpus 1", f"cpus {cpus}") + "".join(threads)
 
 
 def filled(text, size):
@@ -94,18 +96,23 @@ def waiting(count):
     return [thread(10_000 + number, ["ipc nil any never never"]) for number in range(count)]
 
 
-def calling(client, server, words=0):
-    """Two threads of which one calls the other for ever with so many long words, and the other answers with the same."""
+def calling(client, server, words=0, cpus=(0, 0)):
+    """Two threads of which one calls the other for ever with so many long words, and the other answers with the same. They are of these processors."""
     message = [f"tag {words}"] + [f"set {place} {0x123456789abcdef0 + place}" for place in range(1, words + 1)] if words else []
     return [
-        thread(client, message + [f"ipc {server}.1 {server}.1 never never", f"jump {len(message)}"]),
-        thread(server, ["ipc nil any never never", "ipc last any never never", "jump 1"]),
+        thread(client, message + [f"ipc {server}.1 {server}.1 never never", f"jump {len(message)}"], cpus[0]),
+        thread(server, ["ipc nil any never never", "ipc last any never never", "jump 1"], cpus[1]),
     ]
 
 
 def pairs(count):
     """So many such pairs of threads."""
     return [each for client in range(1, 2 * count, 2) for each in calling(client, client + 1)]
+
+
+def across(count, cpus):
+    """So many pairs of which one calls with one word. The two of a pair are of neighbouring processors."""
+    return [each for pair in range(count) for each in calling(2 * pair + 1, 2 * pair + 2, 1, (pair % cpus, (pair + 1) % cpus))]
 
 
 def crowd(count):
@@ -137,3 +144,18 @@ def times_of_one_remainder(count):
 def armed(count):
     """Threads that wait, each for a time of its own that does not come while others are busy."""
     return [thread(10_000 + number, [f"ipc nil any never {31 * 1_024 + 1 + number}"]) for number in range(count)]
+
+
+def turning():
+    """The machines of one processor whose turns are measured, by their names."""
+    most = MOST_THREADS - 1
+    return {
+        "two that call each other": machine(calling(1, 2)),
+        "the same behind 1,022 that wait": machine(waiting(most - 1) + calling(1, 2)),
+        "the same behind 1,022 that are armed": machine(armed(most - 1) + calling(1, 2)),
+        "512 such pairs": machine(pairs(MOST_THREADS // 2)),
+        "1,023 senders to one receiver": machine(crowd(most)),
+        "1,023 that wait, each for a time of its own": machine(sleepers(own_times(most))),
+        "1,023 that wait, by the hundred for one time": machine(sleepers(shared_times(most))),
+        "1,023 whose deadlines have one remainder": machine(sleepers(times_of_one_remainder(most))),
+    }

@@ -27,22 +27,6 @@ def placed(busy):
     }
 
 
-def machines():
-    """The machines of the second table."""
-    most = texts.MOST_THREADS - 1
-    pairs = [thread for first in range(1, texts.MOST_THREADS, 2) for thread in texts.calling(first, first + 1)]
-    return {
-        "two that call each other": texts.machine(texts.calling(1, 2)),
-        "the same behind 1,022 that wait": texts.machine(texts.waiting(most - 1) + texts.calling(1, 2)),
-        "the same behind 1,022 that are armed": texts.machine(texts.armed(most - 1) + texts.calling(1, 2)),
-        "512 such pairs": texts.machine(pairs),
-        "1,023 senders to one receiver": texts.machine(texts.crowd(most)),
-        "1,023 that wait, each for a time of its own": texts.machine(texts.sleepers(texts.own_times(most))),
-        "1,023 that wait, by the hundred for one time": texts.machine(texts.sleepers(texts.shared_times(most))),
-        "1,023 whose deadlines have one remainder": texts.machine(texts.sleepers(texts.times_of_one_remainder(most))),
-    }
-
-
 class Turns:
     """What a turn takes on each of several machines, on the average of those after the first ones."""
 
@@ -78,7 +62,7 @@ def show_machines(bench):
     """Of each machine what a turn takes with the report, and with the trace."""
     table("Machine", "turns a second, report", "trace", "ratio: time", "instructions a turn, report", "trace",
           "peak MiB of 1,000,000 turns, report", "trace")
-    compared = machines()
+    compared = texts.turning()
     report, trace = (Turns(bench, compared.values(), kind) for kind in (True, False))
     for name, *cells in zip(compared, report.seconds, trace.seconds, report.instructions, trace.instructions, report.peaks(), trace.peaks()):
         told, shown, counted, spelled, low, high = cells

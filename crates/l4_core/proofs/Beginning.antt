@@ -52,6 +52,7 @@ act_sends p q u i a before middle after core hand began is adds goes =
       machine = doing.machine ∙ ap (λ (x : Processor). x.machine) at;
       cpu = doing.cpu ∙ ap (λ (x : Processor). x.cpu) at;
       stamp = doing.stamp ∙ ap (λ (x : Processor). x.local.stamp) at;
+      kept = doing.kept ∙ ap (λ (t : Told). t.before) adds;
       work = doing.work ∙ ap (λ (x : Processor). goes_to x.machine x.cpu i s.0 (destination_place x.machine s.0.to) (work q.local middle)) at
           ∙ ap (goes_to p.machine p.cpu i s.0 (destination_place p.machine s.0.to)) begun ∙ ap (λ (b : Act). acts p.machine p.cpu i b (work p.local before)) (sym s.1);
     }

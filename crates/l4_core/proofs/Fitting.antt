@@ -19,7 +19,7 @@ use Rattle.l4_thread.specs.Changes.{change_of}
 use Rattle.l4_thread.specs.declared.changes.Change.{Change}
 use Rattle.l4_thread.specs.declared.changes.Change.TheVariants.{Run, Fail, EndSend, GiveOrder, Obey}
 use Rattle.tcb_arena.specs.Blocks.{is_ready as is_ready_in}
-use Rattle.l4_core.specs.Changing.{asks_for_life, ends_send, forgets_order, IsFitting}
+use Rattle.l4_core.specs.Changing.{asks_for_life, ends_send, forgets_order, receives_from, IsFitting}
 use Rattle.l4_core.specs.Settled.{IsSent, MaySend, IsOwn, IsSettled}
 use Rattle.l4_core.proofs.Settling.{Fits}
 
@@ -141,6 +141,10 @@ keeps-waits receive now t e = record { sends = inl refl; begun = refl; dead = sy
 
 pub keeps-receives : (message : Message) (tag : ℕ) (t : Thread) → is_deleted t.phase ≡ false → Keeps t (receives message tag t)
 keeps-receives message tag t e = record { sends = inl refl; begun = refl; dead = sym e }
+
+pub keeps-receives_from : (o : Option Send) (tag : ℕ) (t : Thread) → is_deleted t.phase ≡ false → Keeps t (receives_from o tag t)
+keeps-receives_from None tag t e = record { sends = inl refl; begun = refl; dead = refl }
+keeps-receives_from (Some send) tag t e = keeps-receives send.message tag t e
 
 pub keeps-orders : (order : Asked) (t : Thread) → is_deleted t.phase ≡ false → Keeps t (orders order t)
 keeps-orders order t e = record { sends = inl refl; begun = refl; dead = sym e }

@@ -12,5 +12,6 @@ goes_away p u r i send before after o e away doing = record {
   machine = doing.machine;
   cpu = doing.cpu;
   stamp = doing.stamp;
+  kept = doing.kept;
   work = doing.work ∙ sym (ap (λ q. goes_to p.machine p.cpu i send q (work p.local before)) e ∙ ap (λ b. cond b (arrives p.machine p.cpu r i (work p.local before)) (posts_send p.machine r i send (work p.local before))) away);
 }

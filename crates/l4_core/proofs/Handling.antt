@@ -23,9 +23,10 @@ use Rattle.l4_core.specs.declared.known.tasks.Task.{Task}
 use Rattle.l4_core.specs.declared.known.tasks.Task.TheVariants.{Arrive, End, Refuse, Leave, NoteGone, Obey, FinishOrder}
 use Rattle.l4_core.specs.Processor.{Processor, with_local}
 use Rattle.l4_core.specs.Tasks.{does_task, refusal_for, refused_if, task_of, IsArrival, IsCaller, IsSplit, IsTask}
-use Rattle.l4_core.specs.Tellings.{Told, nothing}
+use Rattle.l4_core.specs.Tellings.{Told, IsOpen}
 use Rattle.l4_core.specs.Turning.{Does, IsEvent, IsFree, IsNewSender, work}
 use Rattle.l4_core_model.proofs.Changed.{get-changed}
+use Rattle.l4_core.proofs.Turning.{opened_work}
 use Rattle.l4_thread.specs.declared.changes.Change.TheVariants as change
 use Rattle.tcb_arena.specs.Blocks.{is_ready as is_ready_in}
 use Rattle.l4_core.specs.Changing.{forgets_order, IsFitting}
@@ -140,13 +141,14 @@ task_kept p q task stamp t is = subst (IsTask task) (sym is) (by task t)
     by (Obey j i caller what) t = record { own = t.own; caller = record { within = t.caller.within; foreign = t.caller.foreign } }
     by (FinishOrder i) t = record { own = t.own; waits = t.waits }
 
-pub handled_event : (p q r : Processor) (letter : Letter) (task : Task) (told : Told) (stamp : ℕ) → Some task ≡ task_of p.machine p.cpu p.local letter.content →
-    q ≡ with_local p (record p.local { stamp = next_stamp letter.stamp p.local }) → stamp ≡ next_stamp letter.stamp p.local → Does (does_task q.machine q.cpu task) q r nothing told →
-    IsEvent (handle p.machine p.cpu p.local (letter_of letter)) p r told stamp
-handled_event p q r letter task told stamp e is stamped d = record {
+pub handled_event : (p q r : Processor) (letter : Letter) (task : Task) (before after : Told) (stamp : ℕ) → Some task ≡ task_of p.machine p.cpu p.local letter.content →
+    q ≡ with_local p (record p.local { stamp = next_stamp letter.stamp p.local }) → stamp ≡ next_stamp letter.stamp p.local → IsOpen before → Does (does_task q.machine q.cpu task) q r before after →
+    IsEvent (handle p.machine p.cpu p.local (letter_of letter)) p r before after stamp
+handled_event p q r letter task before after stamp e is stamped untold d = record {
   machine = d.machine ∙ ap (λ (x : Processor). x.machine) is;
   cpu = d.cpu ∙ ap (λ (x : Processor). x.cpu) is;
-  is = lawful p letter task e ∙ ap Some (sym (d.work ∙ ap (λ (x : Processor). does_task x.machine x.cpu task (work x.local nothing)) is));
+  kept = d.kept;
+  is = lawful p letter task e ∙ ap Some (sym (d.work ∙ ap (λ (x : Processor). does_task x.machine x.cpu task (work x.local before)) is ∙ ap (does_task p.machine p.cpu task) (opened_work _ before untold)));
   stamped = stamped ∙ sym (d.stamp ∙ ap (λ (x : Processor). x.local.stamp) is);
 }
 

@@ -16,6 +16,7 @@ mod Noting
 mod Opening
 mod Ordering
 mod Parting
+mod Passing
 mod PlaceSets
 mod Queueing
 mod Sending

@@ -135,6 +135,7 @@ gives_here p q v u i j order caller before middle after named is adds at own doi
       machine = ap (λ (y : Processor). y.machine) last ∙ doing.machine ∙ ap (λ (y : Processor). y.machine) is;
       cpu = ap (λ (y : Processor). y.cpu) last ∙ doing.cpu ∙ ap (λ (y : Processor). y.cpu) is;
       stamp = ap (λ (y : Processor). y.local.stamp) last ∙ doing.stamp ∙ ap (λ (y : Processor). y.local.stamp) is;
+      kept = doing.kept ∙ ap (λ (t : Told). t.before) adds;
       work = ap (λ (y : Processor). work y.local after) last ∙ ap (does (comes_to i obeyed)) done ∙ sym goes;
     }
 
@@ -151,6 +152,7 @@ gives_away p q i j order caller before middle after cpu letter named is adds at 
       machine = ap (λ (y : Processor). y.machine) is;
       cpu = ap (λ (y : Processor). y.cpu) is;
       stamp = ap (λ (y : Processor). y.local.stamp) is;
+      kept = ap (λ (t : Told). t.before) posted ∙ ap (λ (t : Told). t.before) adds;
       work = sent ∙ ap (λ n. posts n (OrderLetter caller order.target order.what) (work q.local middle)) there
           ∙ ap (λ (id : GlobalId). posts (declared p.machine j).cpu (OrderLetter id order.target order.what) (work q.local middle)) named
           ∙ ap (posts (declared p.machine j).cpu (OrderLetter (declared p.machine i).id order.target order.what)) (given_is p q i order caller before middle named is adds) ∙ sym goes;
@@ -162,5 +164,6 @@ gives_nobody p q i order caller before middle named is adds at = record {
   machine = ap (λ (y : Processor). y.machine) is;
   cpu = ap (λ (y : Processor). y.cpu) is;
   stamp = ap (λ (y : Processor). y.local.stamp) is;
+  kept = ap (λ (t : Told). t.before) adds;
   work = given_is p q i order caller before middle named is adds ∙ sym (ap (λ o. order_goes_to p.machine p.cpu i order o (given p i order before)) at);
 }

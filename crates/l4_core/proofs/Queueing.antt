@@ -32,6 +32,7 @@ queue_delivers p q u r i before middle after w send tells listed is first doing 
       machine = doing.machine ∙ ap (λ (x : Processor). x.machine) is;
       cpu = doing.cpu ∙ ap (λ (x : Processor). x.cpu) is;
       stamp = doing.stamp ∙ ap (λ (x : Processor). x.local.stamp) is;
+      kept = doing.kept ∙ ap (λ (t : Told). t.before) tells;
       work = doing.work ∙ ap (λ (x : Processor). delivers x.machine x.cpu r i (work q.local middle)) is ∙ sym (if_first p r i (work q.local middle) _ here first);
     }
 
@@ -43,5 +44,6 @@ queue_waits p q r i before after w send tells listed is first =
       machine = ap (λ (x : Processor). x.machine) is;
       cpu = ap (λ (x : Processor). x.cpu) is;
       stamp = ap (λ (x : Processor). x.local.stamp) is;
+      kept = ap (λ (t : Told). t.before) tells;
       work = sym (if_not_first p r i (work q.local after) _ here first);
     }

@@ -7,6 +7,7 @@ use Rattle.l4_core_model.specs.Plain.{Plain}
 use Rattle.l4_core_model.specs.Local.{Local}
 use Rattle.l4_core_model.specs.Runs.{IsMachine}
 use Rattle.l4_thread.specs.Parts.{Block}
+use Rattle.l4_core.specs.Changing.{receives_from}
 use Rattle.l4_core.specs.Processor.{Processor}
 use Rattle.l4_core.specs.Settled.{IsSettled}
 
@@ -19,6 +20,10 @@ ids_of blocks = map (λ b. b.id) blocks
 -- The blocks of all threads, their lists, and for each the first processor that may not yet know of its deletion.
 abbrev pub local_of : List Block → Plain → (told : List ℕ) → (clock stamp : ℕ) → Local
 local_of blocks lists told clock stamp = record { threads = threads_of blocks; lists = lists; told = told; clock = clock; stamp = stamp }
+
+-- What the message of one block's send makes of another block, which receives it with this tag.
+abbrev pub passed : (tag : ℕ) → (sender receiver : Block) → Block
+passed tag sender receiver = record receiver { thread = receives_from sender.thread.send tag receiver.thread }
 
 -- A processor of a machine, in a settled state.
 pub record IsCore (m : Machine) (cpu : ℕ) (l : Local) : Type 0 where

@@ -1,12 +1,14 @@
 -- What an event of a processor tells and posts.
-use Rattle.std.specs.Prelude.{ℕ, List, [], ◌∷◌, ◌++◌, ◌-◌}
+use Rattle.std.specs.Prelude.{◌≡◌, ℕ, ◌≤◌, List, [], ◌∷◌, ◌++◌, ◌-◌}
 use Rattle.l4_model.specs.Steps.{Step}
 use Rattle.l4_core_model.specs.Letters as letters
 use Rattle.l4_types.specs.declared.letters.Letter.{Letter}
 use Rattle.l4_types.specs.LetterView.{letter_of}
 
--- The steps told, the letters posted, each with the processor that it goes to, and how many more of both have room.
+-- The steps told before the event under way, those of this event, the letters that it posted, each with the processor that it goes to, and how
+-- many more of both have room.
 pub record Told : Type 0 where
+  pub before : List Step
   pub steps : List Step
   pub letters : List (ℕ × letters.Letter)
   pub room : ℕ
@@ -15,9 +17,17 @@ pub record Told : Type 0 where
 abbrev pub posted_of : ℕ × Letter → ℕ × letters.Letter
 posted_of p = (p.0, letter_of p.1)
 
--- Nothing is told and nothing posted.
-abbrev pub nothing : Told
-nothing = record { steps = []; letters = []; room = 3; slots = 2 }
+-- The event under way has told and posted nothing yet, and there is room for all that one may tell and post.
+pub record IsOpen (t : Told) : Type 0 where
+  pub steps : t.steps ≡ []
+  pub letters : t.letters ≡ []
+  pub room : 3 ≤ t.room
+  pub slots : 2 ≤ t.slots
+
+-- An event begins behind what was told.
+pub record IsBegun (old new : Told) : Type 0 where
+  pub before : new.before ≡ old.before ++ old.steps
+  pub opened : IsOpen new
 
 abbrev pub with_step : Step → Told → Told
 with_step step t = record t { steps = t.steps ++ step ∷ []; room = t.room - 1 }

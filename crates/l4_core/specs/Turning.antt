@@ -11,7 +11,7 @@ use Rattle.l4_core_model.specs.Turns as turns
 use Rattle.tcb_arena.specs.Blocks.{is_ready as is_ready_in}
 use Rattle.l4_core.specs.Processor.{Processor}
 use Rattle.l4_core.specs.Settled.{IsOwn, HasSend}
-use Rattle.l4_core.specs.Tellings.{Told, nothing}
+use Rattle.l4_core.specs.Tellings.{Told}
 
 -- An event under way.
 abbrev pub work : Local → Told → Work
@@ -22,6 +22,7 @@ pub record Does (piece : Work → Work) (old new : Processor) (before after : To
   pub machine : new.machine ≡ old.machine
   pub cpu : new.cpu ≡ old.cpu
   pub stamp : new.local.stamp ≡ old.local.stamp
+  pub kept : after.before ≡ before.before
   pub work : work new.local after ≡ piece (work old.local before)
 
 -- A step is told, and the phase of a thread fails with a code.
@@ -66,19 +67,20 @@ pub record IsReceiver (p : Processor) (i : ℕ) : Type 0 where
   pub own : IsOwn p.machine p.cpu i
   pub waits : is_some (receive_now (thread p.local i).phase) ≡ true
 
--- An event was told, with this stamp.
-pub record IsEvent (event : Option Work) (old new : Processor) (told : Told) (stamp : ℕ) : Type 0 where
+-- An event was told behind what was told before, with this stamp.
+pub record IsEvent (event : Option Work) (old new : Processor) (before after : Told) (stamp : ℕ) : Type 0 where
   pub machine : new.machine ≡ old.machine
   pub cpu : new.cpu ≡ old.cpu
-  pub is : event ≡ Some (work new.local told)
+  pub kept : after.before ≡ before.before
+  pub is : event ≡ Some (work new.local after)
   pub stamped : stamp ≡ new.local.stamp
 
 -- There is no such event, and nothing has changed.
-pub record IsNoEvent (event : Option Work) (old new : Processor) (told : Told) : Type 0 where
+pub record IsNoEvent (event : Option Work) (old new : Processor) (before after : Told) : Type 0 where
   pub none : event ≡ None
   pub same : new ≡ old
-  pub untold : told ≡ nothing
+  pub untold : after ≡ before
 
-abbrev pub IsTurn : (old new : Processor) → Told → Option ℕ → Type 0
-IsTurn old new told (Some stamp) = IsEvent (turns.turn old.machine old.cpu old.local) old new told stamp
-IsTurn old new told None = IsNoEvent (turns.turn old.machine old.cpu old.local) old new told
+abbrev pub IsTurn : (old new : Processor) → (before after : Told) → Option ℕ → Type 0
+IsTurn old new before after (Some stamp) = IsEvent (turns.turn old.machine old.cpu old.local) old new before after stamp
+IsTurn old new before after None = IsNoEvent (turns.turn old.machine old.cpu old.local) old new before after

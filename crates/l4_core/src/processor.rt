@@ -6,7 +6,7 @@ ghost use Rattle.l4_core_model.specs.Plain.{due_block};
 ghost use Rattle.l4_core_model.specs.Turns.{advance, can_stamp, choice, is_busy, next_stamp};
 ghost use Rattle.l4_core.specs.Choosing.{choice_of, IsFound, IsPossible};
 ghost use Rattle.l4_core.specs.Processor.{with_local};
-ghost use Rattle.l4_core.specs.Tellings.{nothing};
+ghost use Rattle.l4_core.specs.Tellings.{IsOpen};
 ghost use Rattle.l4_core.specs.Covered.{Covers, CoversZeros, is_zero_send};
 ghost use Rattle.l4_core.specs.Parts.{AreCore};
 ghost use Rattle.l4_core.specs.Places.{has};
@@ -16,6 +16,7 @@ use crate::known::Known;
 use crate::known::duties::{Duty, first_duty};
 use crate::places::Places;
 use crate::told::Told;
+use l4_history::sink::Sink;
 use l4_script::machine::Machine;
 use l4_types::errors::NoMemory;
 use std::alloc::Global;
@@ -85,13 +86,13 @@ impl<'m> Core<'m> {
         })
     }
 
-    /// The core's turn: the first duty of a thread, else the first due timeout, else one instruction of the first ready thread. It is told behind
-    /// nothing. Answers its stamp, or None where there is nothing to do, and then nothing is changed. Conditions: `can_stamp(0)`, and nothing is
-    /// told yet.
-    pub fn turn_into(&mut self, told: &mut Told) -> Option<u64>
+    /// The core's turn: the first duty of a thread, else the first due timeout, else one instruction of the first ready thread. Its steps are told
+    /// behind those of the caller. Answers its stamp, or None where there is nothing to do, and then nothing is changed. Conditions:
+    /// `can_stamp(0)`, and the event that `told` has begun has told nothing yet.
+    pub fn turn_into<S: Sink>(&mut self, told: &mut Told<S>) -> Option<u64>
         requires stamp { can_stamp self.old.local 0 ≡ true }
-        requires untold { told.old ≡ nothing }
-        ensures { IsTurn self.old self.new told.new result }
+        requires untold { IsOpen told.old }
+        ensures { IsTurn self.old self.new told.old told.new result }
     {
         let _few = self.known.len();
         let choice = self.choice()?;

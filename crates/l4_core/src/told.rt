@@ -1,17 +1,19 @@
 //! What an event of a processor tells and posts.
-ghost use Rattle.std.specs.Prelude.{◌≡◌, ◌<◌, [], ◌++◌, IfNone, map};
+ghost use Rattle.std.specs.Prelude.{◌≡◌, ◌<◌, [], ◌++◌, IfNone, OnOk, OnErr, length, map};
 ghost use Rattle.std.specs.Option.{option_map, option_to_list};
 ghost use Rattle.l4_types.specs.LetterView.{letter_of};
 ghost use Rattle.l4_types.specs.StepView.{step_of};
-ghost use Rattle.l4_core.specs.Tellings.{nothing, posted_of, with_step, with_letter};
+ghost use Rattle.l4_history.specs.Seen.{seen};
+ghost use Rattle.l4_core.specs.Tellings.{IsBegun, posted_of, with_step, with_letter};
 
 use arrayvec::ArrayVec;
+use l4_history::history::EVENT_STEPS;
+use l4_history::sink::Sink;
+use l4_history::step_ref::StepRef;
+use l4_types::errors::NoMemory;
 use l4_types::letters::Letter;
 use l4_types::steps::{Event, Step};
 use std::marker::Model;
-
-/// An event has at most this many steps.
-pub const MOST_STEPS: usize = 3;
 
 /// An event posts at most this many letters.
 pub const MOST_LETTERS: usize = 2;
@@ -19,46 +21,66 @@ pub const MOST_LETTERS: usize = 2;
 /// The letters of an event, each with the processor that it goes to.
 pub type Letters = ArrayVec<(u8, Letter), MOST_LETTERS>;
 
-/// What an event tells and posts: its steps in order, and its letters, each with the processor that it goes to. It takes no memory, and can be
-/// used again for the next event once it is cleared.
+/// The steps of one event.
+pub type EventSteps = ArrayVec<Step, EVENT_STEPS>;
+
+/// What events tell and post: their steps, one after another, where the caller keeps them, and the letters of the event under way, each with
+/// the processor that it goes to.
 #[derive(Drop)]
-pub struct Told {
-    steps: ArrayVec<Step, MOST_STEPS>,
+pub struct Told<S: Sink> {
+    sink: S,
+    // Where the steps of the event under way begin.
+    start: usize,
     letters: Letters,
 }
 
-impl Model for Told {
-    ghost use Rattle.std.specs.Prelude.{◌-◌, map, length};
-    ghost use Rattle.l4_core.specs.Tellings.{Told as ToldOfEvent, posted_of};
-    ghost use Rattle.l4_types.specs.StepView.{step_of};
+impl<S: Sink> Model for Told<S> {
+    ghost use Rattle.std.specs.Prelude.{◌≤◌, ◌-◌, map, length, take, drop};
+    ghost use Rattle.l4_core.specs.Tellings.{Told as Tellings, posted_of};
 
-    ghost Value = { ToldOfEvent };
+    ghost Value = { Tellings };
 
     ghost view = { λ t. record {
-      steps = map step_of t.steps.items;
+      before = take t.start (S.told t.sink);
+      steps = drop t.start (S.told t.sink);
       letters = map posted_of t.letters.items;
-      room = 3 - length t.steps.items;
+      room = S.room t.sink;
       slots = 2 - length t.letters.items;
     } };
+
+    ghost invariant = { λ t. t.start ≤ length (S.told t.sink) };
 }
 
-impl Told {
-    /// Nothing.
-    pub fn new() -> Told
-        ensures { result ≡ nothing }
+impl<S: Sink> Told<S> {
+    /// An event that has told nothing yet begins behind the steps that `sink` has been told.
+    pub fn new(sink: S) -> Told<S>
+        ensures { result ≡ record { before = S.told sink; steps = []; letters = []; room = S.room sink; slots = 2 } }
     {
         Told {
-            steps: ArrayVec::new(),
+            start: sink.len(),
+            sink,
             letters: ArrayVec::new(),
         }
     }
 
-    /// One more step is told.
-    pub(crate) fn tell(&mut self, step: Step)
-        requires { 0 < self.old.room }
-        ensures { self.new ≡ with_step (step_of step) self.old }
+    /// Makes room for the steps of an event, and begins it behind those that were told. The letters of the event before are forgotten.
+    /// Where memory is refused, nothing is changed.
+    pub fn begin(&mut self) -> Result<(), NoMemory>
+        ensures ok { OnOk result (IsBegun self.old self.new) }
+        ensures err { OnErr result (self.new ≡ self.old) }
     {
-        self.steps.push(step);
+        self.sink.reserve()?;
+        self.start = self.sink.len();
+        self.letters.clear();
+        Ok(())
+    }
+
+    /// One more step is told.
+    pub(crate) fn tell(&mut self, step: StepRef<'_>)
+        requires { 0 < self.old.room }
+        ensures { self.new ≡ with_step (seen step.entry) self.old }
+    {
+        self.sink.push(step);
     }
 
     /// One more letter is posted to a processor.
@@ -69,11 +91,18 @@ impl Told {
         self.letters.push((cpu, letter));
     }
 
-    /// The steps, in order.
-    pub fn steps(&self) -> &[Step]
-        ensures { map step_of result.now ≡ self.now.steps }
+    /// How many steps were told before the event under way.
+    pub fn start(&self) -> usize
+        ensures { result ≡ length self.now.before }
     {
-        self.steps.as_slice()
+        self.start
+    }
+
+    /// All that was told: the steps of the event under way behind those before.
+    pub fn sink(&self) -> &S
+        ensures { S.told result.now ≡ self.now.before ++ self.now.steps }
+    {
+        &self.sink
     }
 
     /// The letters, each with the processor that it goes to.
@@ -83,30 +112,34 @@ impl Told {
         self.letters.as_slice()
     }
 
-    /// The event that told this, with this stamp, and the letters that it posts.
-    pub fn into_event(self, stamp: u64) -> (Event, Letters)
-        ensures stamp { result.0.stamp ≡ stamp }
-        ensures steps { map step_of result.0.steps.items ≡ self.steps }
-        ensures letters { map posted_of result.1.items ≡ self.letters }
-    {
-        let steps = self.steps;
-        (Event { stamp, steps }, self.letters)
-    }
-
     /// Takes out the first of the letters, with the processor that it goes to. None where there is none.
     pub fn take_letter(&mut self) -> Option<(u8, Letter)>
         ensures letters { self.old.letters ≡ option_to_list (option_map posted_of result) ++ self.new.letters }
         ensures none { IfNone result (self.new.letters ≡ []) }
+        ensures before { self.new.before ≡ self.old.before }
         ensures steps { self.new.steps ≡ self.old.steps }
+        ensures room { self.new.room ≡ self.old.room }
     {
         self.letters.pop_at(0)
     }
 
-    /// Nothing is told any more.
-    pub fn clear(&mut self)
-        ensures { self.new ≡ nothing }
+    /// All that was told.
+    pub fn into_sink(self) -> S
+        ensures { S.told result ≡ self.before ++ self.steps }
     {
-        self.steps.clear();
-        self.letters.clear();
+        self.sink
+    }
+}
+
+impl Told<EventSteps> {
+    /// The event that told this, with this stamp, and the letters that it posts. Condition: no other told anything before it.
+    pub(crate) fn into_event(self, stamp: u64) -> (Event, Letters)
+        requires { self.before ≡ [] }
+        ensures stamp { result.0.stamp ≡ stamp }
+        ensures steps { map step_of result.0.steps.items ≡ self.steps }
+        ensures letters { map posted_of result.1.items ≡ self.letters }
+    {
+        let steps = self.sink;
+        (Event { stamp, steps }, self.letters)
     }
 }

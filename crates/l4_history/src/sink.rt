@@ -1,5 +1,5 @@
 //! Where the steps of a machine are told.
-ghost use Rattle.std.specs.Prelude.{◌≡◌, ◌<◌, ◌≤◌, ◌+◌, ◌-◌, ℕ, List, [], ◌∷◌, ◌++◌, OnOk, OnErr, map, vec_len};
+ghost use Rattle.std.specs.Prelude.{◌≡◌, ◌<◌, ◌≤◌, ◌+◌, ◌-◌, ℕ, List, [], ◌∷◌, ◌++◌, OnOk, OnErr, length, map, vec_len};
 ghost use Rattle.std.specs.Vec.{vec_capacity};
 ghost use Rattle.arrayvec.specs.ArrayVec.{array_vec_len};
 ghost use Rattle.l4_model.specs.Steps.{Step as ModelStep};
@@ -20,6 +20,10 @@ pub trait Sink {
     /// How many more steps it can be told, each of which may be a delivery of 63 words, and take no memory.
     ghost room: { Self → ℕ };
 
+    /// How many steps it was told.
+    fn len(&self) -> usize
+        ensures { result ≡ length (told self.now) };
+
     /// Makes room for the steps of an event. `NoMemory` where there is no such room.
     fn reserve(&mut self) -> Result<(), NoMemory>
         ensures told { told self.new ≡ told self.old }
@@ -39,6 +43,10 @@ impl Sink for History {
 
     ghost room = { λ history. history.room };
 
+    fn len(&self) -> usize {
+        History::len(self)
+    }
+
     fn reserve(&mut self) -> Result<(), NoMemory> {
         History::reserve(self)
     }
@@ -52,6 +60,10 @@ impl Sink for Vec<Step> {
     ghost told = { λ steps. map step_of steps.items };
 
     ghost room = { λ steps. vec_capacity steps - vec_len steps };
+
+    fn len(&self) -> usize {
+        Vec::len(self)
+    }
 
     fn reserve(&mut self) -> Result<(), NoMemory> {
         Vec::reserve(self, EVENT_STEPS)?;
@@ -67,6 +79,10 @@ impl<const CAP: usize> Sink for ArrayVec<Step, CAP> {
     ghost told = { λ steps. map step_of steps.items };
 
     ghost room = { λ steps. CAP - array_vec_len steps };
+
+    fn len(&self) -> usize {
+        ArrayVec::len(self)
+    }
 
     fn reserve(&mut self) -> Result<(), NoMemory> {
         if CAP - self.len() < EVENT_STEPS {

@@ -1,5 +1,5 @@
 -- What a job asks for, and what is shown for it.
-use Rattle.std.specs.Prelude.{◌≡◌, ◌↔◌, ◌⊎◌, ℕ, Bool, true, false, Option, Some, None, IsSomeAnd, Result, Ok, Err, List, length, map}
+use Rattle.std.specs.Prelude.{◌≡◌, ◌↔◌, ◌⊎◌, ℕ, Bool, true, false, Option, Some, None, IsSomeAnd, Result, Ok, Err, List, length}
 use Rattle.std.specs.Option.{option_map}
 use Rattle.std.specs.declared.io.ErrorKind.{ErrorKind}
 use Rattle.std.specs.declared.io.ErrorKind.TheVariants.{OutOfMemory}
@@ -16,14 +16,11 @@ use Rattle.l4_script.specs.declared.text.fault.TextFaultKind.{TextFaultKind}
 use Rattle.l4_script.specs.declared.text.fault.TextFaultKind.TheVariants.{NoMemory as NoMemoryKind}
 use Rattle.l4_types.specs.declared.reports.Ending.{Ending}
 use Rattle.l4_types.specs.declared.reports.Ending.TheVariants.{Quiet, Spent}
-use Rattle.l4_types.specs.StepView.{step_of}
-use Rattle.l4_types.specs.ReportView.{report_of_view}
 use Rattle.l4_audit.specs.Audits.{is_quiet}
 use Rattle.l4_audit.specs.declared.audit.AuditFault.{AuditFault}
 use Rattle.l4_audit.specs.declared.audit.AuditFault.TheVariants as audit_fault
-use Rattle.l4_machine.specs.Outcomes.{in_order}
+use Rattle.l4_machine.specs.Outcomes.{Findings, in_order}
 use Rattle.l4_machine.specs.Entries.{turns_fault}
-use Rattle.l4_machine.specs.declared.outcome.Outcome.{Outcome}
 use Rattle.l4_machine.specs.declared.outcome.RunFault.{RunFault}
 use Rattle.l4_machine.specs.declared.outcome.RunFault.TheVariants as run_fault
 use Rattle.l4_trace.specs.Lines.{trace_of}
@@ -222,9 +219,9 @@ IsNotDone job machine trace is_fault out keeps_out faults =
     × IsShown job text told lines status × out lines false × IsReported faults fault.Write)
 
 -- What is written of an outcome.
-abbrev pub lines_of_outcome : (report : Bool) → Outcome → List ℕ
-lines_of_outcome true o = report_text (map report_of_view o.threads.items) o.waiting.items o.ending
-lines_of_outcome false o = trace_of (map step_of o.history.items)
+abbrev pub lines_of_outcome : (report : Bool) → Findings → List ℕ
+lines_of_outcome true o = report_text o.threads o.waiting o.ending
+lines_of_outcome false o = trace_of o.history
 
 abbrev pub status_of_ending : Ending → ℕ
 status_of_ending Quiet = 0

@@ -1,7 +1,7 @@
 //! Doing a job over two readers and two writers.
 ghost use Rattle.std.specs.Prelude.{◌≡◌, ◌≢◌, ◌⊎◌, ℕ, List, IfOk, IfErr, Ok, Err, None, Some};
 ghost use Rattle.std.specs.declared.io.ErrorKind.{ErrorKind as Kind};
-ghost use Rattle.l4_machine.specs.Outcomes.{IsReplayed};
+ghost use Rattle.l4_machine.specs.Outcomes.{IsCompactReplay, compact_findings_of};
 ghost use Rattle.l4_machine.specs.declared.outcome.RunFault.TheVariants.{NoMemory as RunOutOfMemory};
 ghost use Rattle.l4_script.specs.Texts.{machine_of_text};
 ghost use Rattle.l4_jobs.specs.Items.{schedule_of};
@@ -14,10 +14,10 @@ use crate::items::schedule_of;
 use crate::job::Job;
 use crate::report_lines::write_report;
 use crate::streams::{Sink, Source};
-use l4_machine::{Outcome, RunFault, replay, run};
+use l4_machine::{CompactOutcome, RunFault, replay_compact, run_compact};
 use l4_script::machine::Machine;
 use l4_script::text::MOST_BYTES;
-use l4_trace::traces::trace;
+use l4_trace::traces::trace_history;
 use l4_types::errors::NoMemory;
 use l4_types::reports::Ending;
 use std::alloc::Global;
@@ -45,20 +45,20 @@ fn read_text<'a, M: Source>(
 }
 
 // The outcome of the replay of a list.
-fn replayed(alloc: Global, machine: &Machine, list: &str) -> Result<Outcome, RunFault>
-    ensures ok { IfOk result (λ o. (entries : List ℕ) × (schedule_of machine.now list.now ≡ Ok entries) × IsReplayed machine.now entries o) }
+fn replayed(alloc: Global, machine: &Machine, list: &str) -> Result<CompactOutcome, RunFault>
+    ensures ok { IfOk result (λ o. (entries : List ℕ) × (schedule_of machine.now list.now ≡ Ok entries) × IsCompactReplay machine.now entries o) }
     ensures err { IfErr result (λ fault. (fault ≡ RunOutOfMemory) ⊎ (schedule_of machine.now list.now ≡ Err fault)) }
 {
     let schedule = schedule_of(alloc, machine, list)?;
-    replay(alloc, machine, schedule.as_slice())
+    replay_compact(alloc, machine, schedule.as_slice())
 }
 
 // What is written of an outcome: its report, or its trace.
-fn lines_of(alloc: Global, report: bool, outcome: &Outcome) -> Result<Vec<u8>, NoMemory>
-    ensures { IfOk result (λ lines. lines.items ≡ lines_of_outcome report outcome.now) }
+fn lines_of(alloc: Global, report: bool, outcome: &CompactOutcome) -> Result<Vec<u8>, NoMemory>
+    ensures { IfOk result (λ lines. lines.items ≡ lines_of_outcome report (compact_findings_of outcome.now)) }
 {
     if !report {
-        return trace(alloc, outcome.history.as_slice());
+        return trace_history(alloc, &outcome.history);
     }
     let mut lines = Vec::new(alloc);
     write_report(
@@ -80,8 +80,8 @@ fn status(ending: Ending) -> u8
 }
 
 // What is printed of an outcome.
-fn output_of_run(alloc: Global, report: bool, outcome: &Outcome) -> Result<Output, NoMemory>
-    ensures lines { IfOk result (λ output. output.lines.items ≡ lines_of_outcome report outcome.now) }
+fn output_of_run(alloc: Global, report: bool, outcome: &CompactOutcome) -> Result<Output, NoMemory>
+    ensures lines { IfOk result (λ output. output.lines.items ≡ lines_of_outcome report (compact_findings_of outcome.now)) }
     ensures status { IfOk result (λ output. output.status ≡ status_of_ending outcome.now.ending) }
 {
     Ok(Output {
@@ -100,7 +100,7 @@ fn run_output<'a>(
     ensures ok { IfOk result (λ output. IsRunShown report machine.now (run_in_rounds machine.now turns) output.lines.items output.status) }
     ensures err { IfErr result (λ fault. (fault ≡ OutOfMemory) ⊎ (fault_of_result (run_in_rounds machine.now turns) ≡ Some fault)) }
 {
-    let outcome = run(alloc, machine, turns)?;
+    let outcome = run_compact(alloc, machine, turns)?;
     Ok(output_of_run(alloc, report, &outcome)?)
 }
 

@@ -24,7 +24,7 @@ use Rattle.l4_split.specs.Laws.{IsLawfulLetter, IsLawfulRun}
 use Rattle.l4_merge.proofs.CoreRuns.{core_run-append}
 use Rattle.l4_merge.proofs.Lists.{all-append}
 use Rattle.l4_core.specs.Processor.{Processor}
-use Rattle.l4_core.specs.Tellings.{Told}
+use Rattle.l4_core.specs.Tellings.{Told, IsBegun}
 use Rattle.l4_core.specs.Turning.{IsEvent, work}
 use Rattle.l4_machine.specs.declared.events.Part.{Part}
 use Rattle.l4_machine.specs.Parts.{event_of, events_of}
@@ -119,9 +119,9 @@ changed_twice f y [] i = refl
 changed_twice f y (x ∷ xs) zero = refl
 changed_twice f y (x ∷ xs) (suc i) = ap (λ ys. x ∷ ys) (changed_twice f y xs i)
 
-own_happens : (m : Machine) (g : System) (ss : List Station) (cpu : ℕ) (old new : Station) (told : Told) (stamp : ℕ) → IsSystem m g ss → slice_get ss cpu ≡ Some old →
-    IsOwnTurn old new told (Some stamp) → Happens m g (next_turn m g cpu) cpu ss new told stamp
-own_happens m g ss cpu old new told stamp i at t =
+own_happens : (m : Machine) (g : System) (ss : List Station) (cpu : ℕ) (old new : Station) (before told : Told) (stamp : ℕ) → IsSystem m g ss → slice_get ss cpu ≡ Some old →
+    IsOwnTurn old new before told (Some stamp) → Happens m g (next_turn m g cpu) cpu ss new told stamp
+own_happens m g ss cpu old new before told stamp i at t =
     let it = i.each cpu old at in
     let here = local_at m g ss cpu old i at in
     let does : turn m cpu old.core.local ≡ Some (work new.core.local told) = rw (← it.machine, ← it.cpu_is) t.turn.is in
@@ -137,9 +137,9 @@ own_happens m g ss cpu old new told stamp i at t =
       stamped = t.turn.stamped;
     }
 
-mail_happens : (m : Machine) (g : System) (ss : List Station) (cpu : ℕ) (old new : Station) (told : Told) (stamp : ℕ) → IsSystem m g ss → slice_get ss cpu ≡ Some old →
-    IsHandling old new told stamp → Happens m g (next_turn m g cpu) cpu ss new told stamp
-mail_happens m g ss cpu old new told stamp i at t =
+mail_happens : (m : Machine) (g : System) (ss : List Station) (cpu : ℕ) (old new : Station) (before told : Told) (stamp : ℕ) → IsSystem m g ss → slice_get ss cpu ≡ Some old →
+    IsHandling old new before told stamp → Happens m g (next_turn m g cpu) cpu ss new told stamp
+mail_happens m g ss cpu old new before told stamp i at t =
     let it = i.each cpu old at in
     let here = local_at m g ss cpu old i at in
     let first = ap (λ ls. slice_get ls 0) (letters_here m g ss t.from cpu old i at) ∙ t.first in
@@ -156,22 +156,22 @@ mail_happens m g ss cpu old new told stamp i at t =
       stamped = t.event.stamped;
     }
 
-pub turn_happens : (m : Machine) (g : System) (ss : List Station) (cpu : ℕ) (old new : Station) (told : Told) (stamp : ℕ) → IsSystem m g ss → slice_get ss cpu ≡ Some old →
-    TakesTurn old new told (Some stamp) → Happens m g (next_turn m g cpu) cpu ss new told stamp
-turn_happens m g ss cpu old new told stamp i at (inl t) = mail_happens m g ss cpu old new told stamp i at t
-turn_happens m g ss cpu old new told stamp i at (inr t) = own_happens m g ss cpu old new told stamp i at t
+pub turn_happens : (m : Machine) (g : System) (ss : List Station) (cpu : ℕ) (old new : Station) (before told : Told) (stamp : ℕ) → IsSystem m g ss → slice_get ss cpu ≡ Some old →
+    TakesTurn old new before told (Some stamp) → Happens m g (next_turn m g cpu) cpu ss new told stamp
+turn_happens m g ss cpu old new before told stamp i at (inl t) = mail_happens m g ss cpu old new before told stamp i at t
+turn_happens m g ss cpu old new before told stamp i at (inr t) = own_happens m g ss cpu old new before told stamp i at t
 
-pub no_turn_happens : (m : Machine) (g : System) (ss : List Station) (cpu : ℕ) (old new : Station) (told : Told) → IsSystem m g ss → slice_get ss cpu ≡ Some old →
-    TakesTurn old new told None → happens m g (next_turn m g cpu) ≡ None
-no_turn_happens m g ss cpu old new told i at t =
+pub no_turn_happens : (m : Machine) (g : System) (ss : List Station) (cpu : ℕ) (old new : Station) (before told : Told) → IsSystem m g ss → slice_get ss cpu ≡ Some old →
+    TakesTurn old new before told None → happens m g (next_turn m g cpu) ≡ None
+no_turn_happens m g ss cpu old new before told i at t =
     let it = i.each cpu old at in
     let here = local_at m g ss cpu old i at in
     let none : turn m cpu old.core.local ≡ None = rw (← it.machine, ← it.cpu_is) t.turn.none in
     ap (happens m g) (next_is_own m g ss cpu old i at t.no_mail) ∙ rw (here, none) refl
 
-pub tick_happens : (m : Machine) (g : System) (ss : List Station) (cpu clock : ℕ) (old new : Station) (told : Told) (stamp : ℕ) → IsSystem m g ss → slice_get ss cpu ≡ Some old →
-    IsTick clock old new told stamp → Happens m g (Ticks cpu clock) cpu ss new told stamp
-tick_happens m g ss cpu clock old new told stamp i at t =
+pub tick_happens : (m : Machine) (g : System) (ss : List Station) (cpu clock : ℕ) (old new : Station) (before told : Told) (stamp : ℕ) → IsSystem m g ss → slice_get ss cpu ≡ Some old →
+    IsTick clock old new before told stamp → Happens m g (Ticks cpu clock) cpu ss new told stamp
+tick_happens m g ss cpu clock old new before told stamp i at t =
     let it = i.each cpu old at in
     let here = local_at m g ss cpu old i at in
     let does : advance m cpu clock old.core.local ≡ Some (work new.core.local told) = ap (λ c. advance m c clock old.core.local) (sym it.cpu_is) ∙ t.event.is in
@@ -187,9 +187,9 @@ tick_happens m g ss cpu clock old new told stamp i at t =
       stamped = t.event.stamped;
     }
 
-pub no_tick_happens : (m : Machine) (g : System) (ss : List Station) (cpu clock : ℕ) (old new : Station) → IsSystem m g ss → slice_get ss cpu ≡ Some old →
-    IsNoTick clock old new → happens m g (Ticks cpu clock) ≡ None
-no_tick_happens m g ss cpu clock old new i at t =
+pub no_tick_happens : (m : Machine) (g : System) (ss : List Station) (cpu clock : ℕ) (old new : Station) (before told : Told) → IsSystem m g ss → slice_get ss cpu ≡ Some old →
+    IsNoTick clock old new before told → happens m g (Ticks cpu clock) ≡ None
+no_tick_happens m g ss cpu clock old new before told i at t =
     let it = i.each cpu old at in
     let here = local_at m g ss cpu old i at in
     let none : advance m cpu clock old.core.local ≡ None = ap (λ c. advance m c clock old.core.local) (sym it.cpu_is) ∙ t.none in
@@ -320,7 +320,7 @@ can_post_event law m r v is e cpu i stamp new told same lt h =
     let w = within m r v cpu is lt in
     subst (CanPost cpu told.letters) (sym (written v cpu i new same w.0)) (can_post_all law m r v e cpu new told stamp is w.1 h)
 
-pub event_told : AllLawful → (m : Machine) (r : Run) (v w : UnderWay) → IsRun m r v → (e : Happening) (cpu i stamp : ℕ) (new : Station) (told : Told) → i ≡ cpu → cpu < v.machine.cpus →
+event_told : AllLawful → (m : Machine) (r : Run) (v w : UnderWay) → IsRun m r v → (e : Happening) (cpu i stamp : ℕ) (new : Station) (told : Told) → i ≡ cpu → cpu < v.machine.cpus →
     Happens m r.system e cpu v.stations new told stamp → w.machine ≡ v.machine → w.stations ≡ with_letters cpu told.letters (set v.stations i new) → w.steps ≡ v.steps ++ told.steps →
     w.parts ≡ v.parts ++ record { stamp = stamp; cpu = cpu; start = length v.steps; end = length w.steps } ∷ [] → IsRun m (attempts m r e) w
 event_told law m r v w is e cpu i stamp new told same lt h machine stations steps parts =
@@ -333,11 +333,37 @@ set_same [] i x at = refl
 set_same (s ∷ ss) zero x at = ap (λ y. y ∷ ss) at
 set_same (s ∷ ss) (suc i) x at = ap (λ ys. s ∷ ys) (set_same ss i x at)
 
-pub nothing_told : (m : Machine) (r : Run) (v : UnderWay) → IsRun m r v → (e : Happening) (i : ℕ) (old new : Station) → old ≡ get_or v.stations i old → new ≡ old → happens m r.system e ≡ None →
-    IsRun m (attempts m r e) (record v { stations = set v.stations i new })
-nothing_told m r v is e i old new at same none =
-    run_stays m r v (record v { stations = set v.stations i new }) e is none
-    (ap (λ ss. record v { stations = ss }) (ap (set v.stations i) same ∙ set_same v.stations i old at))
+same_run : (a b : UnderWay) → a.machine ≡ b.machine → a.stations ≡ b.stations → a.steps ≡ b.steps → a.parts ≡ b.parts → a ≡ b
+same_run a b machine stations steps parts =
+    let run : Machine → List Station → List Step → List Part → UnderWay = λ m ss xs ps. record { machine = m; stations = ss; steps = xs; parts = ps } in
+    ap (λ m. run m a.stations a.steps a.parts) machine ∙ ap (λ ss. run b.machine ss a.steps a.parts) stations ∙ ap (λ xs. run b.machine b.stations xs a.parts) steps ∙ ap (run b.machine b.stations b.steps) parts
+
+-- Where an event begins, nothing is told yet.
+begun_steps : (old begun : Told) → IsBegun old begun → begun.before ++ begun.steps ≡ old.before ++ old.steps
+begun_steps old begun b = ap (λ xs. begun.before ++ xs) b.opened.steps ∙ append-nil begun.before ∙ b.before
+
+pub nothing_told : (m : Machine) (r : Run) (v w : UnderWay) → IsRun m r v → (e : Happening) (i : ℕ) (old new : Station) (told begun after : Told) → old ≡ get_or v.stations i old → new ≡ old → happens m r.system e ≡ None →
+    v.steps ≡ told.before ++ told.steps → IsBegun told begun → after ≡ begun → w.machine ≡ v.machine → w.stations ≡ set v.stations i new → w.steps ≡ after.before ++ after.steps → w.parts ≡ v.parts → IsRun m (attempts m r e) w
+nothing_told m r v w is e i old new told begun after at same none steps begins stays machine stations now parts =
+    run_stays m r v w e is none
+    (same_run w v machine (stations ∙ ap (set v.stations i) same ∙ set_same v.stations i old at) (now ∙ ap (λ (t : Told). t.before ++ t.steps) stays ∙ begun_steps told begun begins ∙ sym steps) parts)
+
+-- The event was told behind what was told before, and noted.
+pub event_ended : AllLawful → (m : Machine) (r : Run) (v w : UnderWay) → IsRun m r v → (e : Happening) (cpu i stamp : ℕ) (new : Station) (old begun told posted : Told) (parts : List Part) → i ≡ cpu → cpu < v.machine.cpus →
+    Happens m r.system e cpu v.stations new told stamp → v.steps ≡ old.before ++ old.steps → IsBegun old begun → told.before ≡ begun.before → posted.before ≡ told.before → posted.steps ≡ told.steps → parts ≡ v.parts →
+    w.machine ≡ v.machine → w.stations ≡ with_letters cpu told.letters (set v.stations i new) → w.steps ≡ posted.before ++ posted.steps →
+    w.parts ≡ parts ++ record { stamp = stamp; cpu = cpu; start = length posted.before; end = length (posted.before ++ posted.steps) } ∷ [] → IsRun m (attempts m r e) w
+event_ended law m r v w is e cpu i stamp new old begun told posted parts same lt h steps begins kept before after first machine stations now noted =
+    let part : ℕ → ℕ → Part = λ start end. record { stamp = stamp; cpu = cpu; start = start; end = end } in
+    let start : posted.before ≡ v.steps = before ∙ kept ∙ begins.before ∙ sym steps in
+    event_told law m r v w is e cpu i stamp new told same lt h machine stations
+    (now ∙ ap (λ xs. xs ++ posted.steps) start ∙ ap (λ xs. v.steps ++ xs) after)
+    (noted ∙ ap (λ ps. ps ++ part (length posted.before) (length (posted.before ++ posted.steps)) ∷ []) first ∙ ap (λ xs. v.parts ++ part (length xs) (length (posted.before ++ posted.steps)) ∷ []) start
+    ∙ ap (λ xs. v.parts ++ part (length v.steps) (length xs) ∷ []) (sym now))
+
+pub turn_kept : (old new : Station) (before after : Told) (stamp : ℕ) → TakesTurn old new before after (Some stamp) → after.before ≡ before.before
+turn_kept old new before after stamp (inl t) = t.event.kept
+turn_kept old new before after stamp (inr t) = t.turn.kept
 
 pub same_station : (a b : Station) → a.core ≡ b.core → a.inbox ≡ b.inbox → a ≡ b
 same_station a b core inbox = ap (λ c. record { core = c; inbox = a.inbox }) core ∙ ap (λ i. record { core = b.core; inbox = i }) inbox

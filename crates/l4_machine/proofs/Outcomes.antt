@@ -12,12 +12,11 @@ use Rattle.l4_core_model.specs.Runs.{Run, IsMachine, merged, told, at_rest}
 use Rattle.l4_core_model.specs.Laws.{IsCoreRun}
 use Rattle.l4_split.specs.Laws.{IsLawfulRun}
 use Rattle.l4_types.specs.declared.reports.Ending.TheVariants.{Quiet}
-use Rattle.l4_types.specs.StepView.{step_of}
 use Rattle.l4_types.specs.ReportView.{report_of_view}
 use Rattle.l4_audit.specs.declared.audit.Audit.{Audit}
 use Rattle.l4_audit.specs.Audits.{Passes}
-use Rattle.l4_machine.specs.declared.outcome.Outcome.{Outcome}
-use Rattle.l4_machine.specs.Outcomes.{IsOutcomeOf, IsSound, in_order}
+use Rattle.l4_machine.specs.declared.outcome.CompactOutcome.{CompactOutcome}
+use Rattle.l4_machine.specs.Outcomes.{IsOutcomeOf, IsSound, compact_findings_of, in_order}
 use Rattle.l4_machine.specs.CoreRuns.{HasLawfulMergedRun}
 
 -- A history has no first fault.
@@ -28,26 +27,27 @@ no_fault m h place is f =
     let within = f.within in
     omega arith
 
-pub is_outcome : (m : Machine) (h : List Step) (o : Outcome) (audit : Audit) (r : Run) → IsSound m r → h ≡ told r.events → map step_of o.history.items ≡ h → Passes m h audit →
-    o.waiting.items ≡ audit.waiting.items → o.threads.items ≡ audit.threads.items → o.turns ≡ length r.events → (o.ending ≡ Quiet) ↔ (at_rest m r.system ≡ true) → IsOutcomeOf m r o
+pub is_outcome : (m : Machine) (h : List Step) (o : CompactOutcome) (audit : Audit) (r : Run) → IsSound m r → h ≡ told r.events → o.history.steps ≡ h →
+    Passes m h audit → o.waiting.items ≡ audit.waiting.items → o.threads.items ≡ audit.threads.items → o.turns ≡ length r.events →
+    (o.ending ≡ Quiet) ↔ (at_rest m r.system ≡ true) → IsOutcomeOf m r (compact_findings_of o)
 is_outcome m h o audit r sound told_is steps passes waiting threads turns quiet = record {
   history = same;
   possible = subst (IsHistory m) (sym same) sound.possible;
   lawful = subst (IsLawful m) (sym same) sound.lawful;
-  waiting = λ w is. waiting ∙ p.waiting_are ∙ ap (λ v. undecided_sends m v (map step_of o.history.items)) (world w is);
+  waiting = λ w is. waiting ∙ p.waiting_are ∙ ap (λ v. undecided_sends m v o.history.steps) (world w is);
   threads = λ w is. ap (map report_of_view) threads ∙ p.threads ∙ ap (view m) (world w is);
   turns = turns;
   quiet = quiet;
   still = λ e w is. sound.still (quiet.0 e) w (ap (λ xs. reached m xs) (sym same) ∙ is);
 }
   where
-    same : map step_of o.history.items ≡ told r.events
+    same : o.history.steps ≡ told r.events
     same = steps ∙ told_is
 
-    p : Passes m (map step_of o.history.items) audit
+    p : Passes m o.history.steps audit
     p = subst (λ xs. Passes m xs audit) (sym steps) passes
 
-    world : (w : World) → reached m (map step_of o.history.items) ≡ Some w → p.world ≡ w
+    world : (w : World) → reached m o.history.steps ≡ Some w → p.world ≡ w
     world w is = some_is p.world w (sym p.reached_by ∙ is)
 
 -- A core run in the order told, and in order of stamp.

@@ -1,36 +1,66 @@
 -- What the outcome of a run says.
 use Rattle.std.specs.Prelude.{◌≡◌, ◌↔◌, ℕ, true, Some, List, map, length}
+use Rattle.l4_model.specs.Words.{Id}
 use Rattle.l4_model.specs.Machine.{Machine}
-use Rattle.l4_model.specs.World.{World}
-use Rattle.l4_model.specs.History.{IsHistory, reached, view, waiting as undecided_sends}
+use Rattle.l4_model.specs.Steps.{Step}
+use Rattle.l4_model.specs.World.{Name, World}
+use Rattle.l4_model.specs.History.{IsHistory, Report, reached, view, waiting as undecided_sends}
 use Rattle.l4_model.specs.Laws.{IsLawful}
 use Rattle.l4_model.specs.Still.{IsStill}
 use Rattle.l4_core_model.specs.Runs.{Run, merged, told, at_rest}
 use Rattle.l4_core_model.specs.Schedules.{run, replay}
+use Rattle.l4_types.specs.declared.reports.Ending.{Ending}
 use Rattle.l4_types.specs.declared.reports.Ending.TheVariants.{Quiet}
 use Rattle.l4_types.specs.StepView.{step_of}
 use Rattle.l4_types.specs.ReportView.{report_of_view}
+use Rattle.l4_machine.specs.declared.outcome.CompactOutcome.{CompactOutcome}
 use Rattle.l4_machine.specs.declared.outcome.Outcome.{Outcome}
 
--- The outcome of this core run of the machine.
-pub record IsOutcomeOf (m : Machine) (r : Run) (o : Outcome) : Type 0 where
+-- What an outcome tells of a run, however it keeps the history.
+pub record Findings : Type 0 where
+  pub history : List Step
+  pub waiting : List (Name × Id)
+  pub threads : List Report
+  pub ending : Ending
+  pub turns : ℕ
+
+abbrev pub findings_of : Outcome → Findings
+findings_of o = record {
+  history = map step_of o.history.items;
+  waiting = o.waiting.items;
+  threads = map report_of_view o.threads.items;
+  ending = o.ending;
+  turns = o.turns;
+}
+
+abbrev pub compact_findings_of : CompactOutcome → Findings
+compact_findings_of o = record {
+  history = o.history.steps;
+  waiting = o.waiting.items;
+  threads = map report_of_view o.threads.items;
+  ending = o.ending;
+  turns = o.turns;
+}
+
+-- These are the findings of this core run of the machine.
+pub record IsOutcomeOf (m : Machine) (r : Run) (o : Findings) : Type 0 where
   -- the history is what the events of the run tell, in order
-  pub history : map step_of o.history.items ≡ told r.events
+  pub history : o.history ≡ told r.events
   -- each of its steps is possible at the world that the earlier ones reach from the opening world
-  pub possible : IsHistory m (map step_of o.history.items)
+  pub possible : IsHistory m o.history
   -- each send is delivered at most once and unaltered, one sender's messages reach one receiver in sending order, a receive takes its
   -- first acceptable waiting sender, a deleted thread receives nothing, and every other begun send is refused, dropped or waiting
-  pub lawful : IsLawful m (map step_of o.history.items)
+  pub lawful : IsLawful m o.history
   -- the undecided sends are those of the world that the history reaches, in order of beginning
-  pub waiting : (w : World) → reached m (map step_of o.history.items) ≡ Some w → o.waiting.items ≡ undecided_sends m w (map step_of o.history.items)
+  pub waiting : (w : World) → reached m o.history ≡ Some w → o.waiting ≡ undecided_sends m w o.history
   -- the threads are those of that world, in order of declaration
-  pub threads : (w : World) → reached m (map step_of o.history.items) ≡ Some w → map report_of_view o.threads.items ≡ view m w
+  pub threads : (w : World) → reached m o.history ≡ Some w → o.threads ≡ view m w
   -- the turns are the events of the run
   pub turns : o.turns ≡ length r.events
   -- it is quiet exactly where the run ends at rest, and else spent
   pub quiet : (o.ending ≡ Quiet) ↔ (at_rest m r.system ≡ true)
   -- and then nothing but clocks can go on in that world
-  pub still : o.ending ≡ Quiet → (w : World) → reached m (map step_of o.history.items) ≡ Some w → IsStill m w
+  pub still : o.ending ≡ Quiet → (w : World) → reached m o.history ≡ Some w → IsStill m w
 
 -- A core run with its events in order of stamp, and of equal ones by processor.
 abbrev pub in_order : Run → Run
@@ -38,11 +68,17 @@ in_order r = record r { events = merged r.events }
 
 -- The outcome of a run in rounds of this machine for at most so many turns. Its history is in order of stamp.
 abbrev pub IsOutcome : Machine → (most : ℕ) → Outcome → Type 0
-IsOutcome m most o = IsOutcomeOf m (in_order (run m most)) o
+IsOutcome m most o = IsOutcomeOf m (in_order (run m most)) (findings_of o)
+
+abbrev pub IsCompactOutcome : Machine → (most : ℕ) → CompactOutcome → Type 0
+IsCompactOutcome m most o = IsOutcomeOf m (in_order (run m most)) (compact_findings_of o)
 
 -- The outcome of a run of this machine by a schedule. Its history is in the order told.
 abbrev pub IsReplayed : Machine → (schedule : List ℕ) → Outcome → Type 0
-IsReplayed m schedule o = IsOutcomeOf m (replay m schedule) o
+IsReplayed m schedule o = IsOutcomeOf m (replay m schedule) (findings_of o)
+
+abbrev pub IsCompactReplay : Machine → (schedule : List ℕ) → CompactOutcome → Type 0
+IsCompactReplay m schedule o = IsOutcomeOf m (replay m schedule) (compact_findings_of o)
 
 -- What the laws say of a core run in any order.
 pub record IsSound (m : Machine) (r : Run) : Type 0 where

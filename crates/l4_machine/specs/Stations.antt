@@ -67,37 +67,38 @@ pub record CanGoOn (s : Station) : Type 0 where
   pub letters : (from : ℕ) (letter : Letter) → slice_get (letters_from from s) 0 ≡ Some letter → CanHandle s.core letter
 
 -- The first letter of the lowest poster was handled.
-pub record IsHandling (old new : Station) (told : Told) (stamp : ℕ) : Type 0 where
+pub record IsHandling (old new : Station) (before after : Told) (stamp : ℕ) : Type 0 where
   pub letter : Letter
   pub from : ℕ
   pub poster : IsFirstPoster old from
   pub first : slice_get (letters_from from old) 0 ≡ Some letter
-  pub event : IsEvent (handle old.core.machine old.core.cpu old.core.local letter) old.core new.core told stamp
+  pub event : IsEvent (handle old.core.machine old.core.cpu old.core.local letter) old.core new.core before after stamp
   pub rest : new.inbox ≡ (without_letter from old).inbox
 
 -- There was no letter, and it was the core's turn.
-pub record IsOwnTurn (old new : Station) (told : Told) (stamp : Option ℕ) : Type 0 where
+pub record IsOwnTurn (old new : Station) (before after : Told) (stamp : Option ℕ) : Type 0 where
   pub no_mail : HasNoMail old
-  pub turn : IsTurn old.core new.core told stamp
+  pub turn : IsTurn old.core new.core before after stamp
   pub rest : new.inbox ≡ old.inbox
 
 -- A turn: mail first, and of it that of the lowest poster, else the core's turn.
-abbrev pub TakesTurn : (old new : Station) → Told → Option ℕ → Type 0
-TakesTurn old new told None = IsOwnTurn old new told None
-TakesTurn old new told (Some stamp) = IsHandling old new told stamp ⊎ IsOwnTurn old new told (Some stamp)
+abbrev pub TakesTurn : (old new : Station) → (before after : Told) → Option ℕ → Type 0
+TakesTurn old new before after None = IsOwnTurn old new before after None
+TakesTurn old new before after (Some stamp) = IsHandling old new before after stamp ⊎ IsOwnTurn old new before after (Some stamp)
 
 -- The clock went on, or it could not.
-pub record IsTick (clock : ℕ) (old new : Station) (told : Told) (stamp : ℕ) : Type 0 where
-  pub event : IsEvent (advance old.core.machine old.core.cpu clock old.core.local) old.core new.core told stamp
+pub record IsTick (clock : ℕ) (old new : Station) (before after : Told) (stamp : ℕ) : Type 0 where
+  pub event : IsEvent (advance old.core.machine old.core.cpu clock old.core.local) old.core new.core before after stamp
   pub rest : new.inbox ≡ old.inbox
 
-pub record IsNoTick (clock : ℕ) (old new : Station) : Type 0 where
+pub record IsNoTick (clock : ℕ) (old new : Station) (before after : Told) : Type 0 where
   pub none : advance old.core.machine old.core.cpu clock old.core.local ≡ None
   pub same : new ≡ old
+  pub untold : after ≡ before
 
-abbrev pub GoesOnTo : (clock : ℕ) → (old new : Station) → Told → Option ℕ → Type 0
-GoesOnTo clock old new told None = IsNoTick clock old new
-GoesOnTo clock old new told (Some stamp) = IsTick clock old new told stamp
+abbrev pub GoesOnTo : (clock : ℕ) → (old new : Station) → (before after : Told) → Option ℕ → Type 0
+GoesOnTo clock old new before after None = IsNoTick clock old new before after
+GoesOnTo clock old new before after (Some stamp) = IsTick clock old new before after stamp
 
 -- The least deadline that a thread is armed for.
 abbrev pub deadline_of : Station → Option ℕ

@@ -6,7 +6,7 @@ ghost use Rattle.l4_types.specs.declared.reports.Ending.TheVariants.{Quiet};
 ghost use Rattle.l4_machine.specs.Parts.{events_of};
 ghost use Rattle.l4_machine.specs.UnderWay.{with_letters, first_deadline, deadline_at, AreResting, CanPost, GoesOn, HasRun, IsRun, IsSystem};
 
-use crate::events::{Part, in_order, tell_event};
+use crate::events::{Part, begin_event, end_event, in_order};
 use crate::laws::law_core_run;
 use crate::station::Station;
 use l4_core::told::Told;
@@ -22,18 +22,18 @@ use std::marker::Model;
 pub(crate) struct CoreRun<'m> {
     machine: &'m Machine,
     stations: Vec<Station<'m>>,
-    history: History,
     parts: Vec<Part>,
-    // What the event under way tells and posts.
-    told: Told,
+    // The history, and the letters that the event under way posts.
+    told: Told<History>,
 }
 
 impl<'m> Model for CoreRun<'m> {
+    ghost use Rattle.std.specs.Prelude.{◌++◌};
     ghost use Rattle.l4_machine.specs.UnderWay.{UnderWay};
 
     ghost Value = { UnderWay };
 
-    ghost view = { λ r. record { machine = r.machine.now; stations = r.stations.items; steps = r.history.steps; parts = r.parts.items } };
+    ghost view = { λ r. record { machine = r.machine.now; stations = r.stations.items; steps = r.told.before ++ r.told.steps; parts = r.parts.items } };
 }
 
 impl<'m> CoreRun<'m> {
@@ -44,9 +44,8 @@ impl<'m> CoreRun<'m> {
         Ok(CoreRun {
             machine,
             stations: opening_stations(alloc, machine)?,
-            history: History::new(alloc),
             parts: Vec::new(alloc),
-            told: Told::new(),
+            told: Told::new(History::new(alloc)),
         })
     }
 
@@ -75,19 +74,13 @@ impl<'m> CoreRun<'m> {
         ensures { OnOk result (GoesOn (λ m r. attempts m r (next_turn m r.system cpu)) self.old self.new) }
     {
         law_core_run();
-        self.told.clear();
+        begin_event(&mut self.parts, &mut self.told)?;
         let stamp = match self.stations[usize::from(cpu)].take_turn(&mut self.told) {
             Some(stamp) => stamp,
             None => return Ok(()),
         };
         post(&mut self.stations, cpu, &mut self.told)?;
-        tell_event(
-            &mut self.history,
-            &mut self.parts,
-            cpu,
-            stamp,
-            self.told.steps(),
-        )?;
+        end_event(&mut self.parts, &self.told, cpu, stamp);
         Ok(())
     }
 
@@ -99,19 +92,13 @@ impl<'m> CoreRun<'m> {
         ensures { OnOk result (GoesOn (λ m r. attempts m r (Ticks cpu clock)) self.old self.new) }
     {
         law_core_run();
-        self.told.clear();
+        begin_event(&mut self.parts, &mut self.told)?;
         let stamp = match self.stations[usize::from(cpu)].tick(clock, &mut self.told) {
             Some(stamp) => stamp,
             None => return Ok(()),
         };
         post(&mut self.stations, cpu, &mut self.told)?;
-        tell_event(
-            &mut self.history,
-            &mut self.parts,
-            cpu,
-            stamp,
-            self.told.steps(),
-        )?;
+        end_event(&mut self.parts, &self.told, cpu, stamp);
         Ok(())
     }
 
@@ -148,7 +135,7 @@ impl<'m> CoreRun<'m> {
     pub(crate) fn into_history(self) -> History
         ensures { result.steps ≡ self.entry.steps }
     {
-        self.history
+        self.told.into_sink()
     }
 
     /// The history in order of stamp, and of equal ones by processor.
@@ -157,7 +144,7 @@ impl<'m> CoreRun<'m> {
         ensures { IfOk result (λ h. h.steps ≡ told (merged (events_of self.entry.steps self.entry.parts))) }
     {
         law_core_run();
-        in_order(alloc, self.history, self.parts)
+        in_order(alloc, self.told.into_sink(), self.parts)
     }
 }
 
@@ -174,9 +161,10 @@ fn opening_stations<'m>(alloc: Global, machine: &'m Machine) -> Result<Vec<Stati
 }
 
 // What an event of a processor posts comes to the others.
-fn post(stations: &mut Vec<Station<'_>>, from: u8, told: &mut Told) -> Result<(), NoMemory>
+fn post(stations: &mut Vec<Station<'_>>, from: u8, told: &mut Told<History>) -> Result<(), NoMemory>
     requires { CanPost from told.old.letters stations.old.items }
     ensures stations { OnOk result (stations.new.items ≡ with_letters from told.old.letters stations.old.items) }
+    ensures before { told.new.before ≡ told.old.before }
     ensures steps { told.new.steps ≡ told.old.steps }
 {
     'letters: while let Some((to, letter)) = told.take_letter() {

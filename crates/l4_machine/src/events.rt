@@ -1,17 +1,20 @@
 //! The events of all processors, in the order told and in order of stamp.
-ghost use Rattle.std.specs.Prelude.{◌≡◌, ◌≤◌, ◌++◌, ◌∷◌, [], IfOk, IsTrue, OnOk, length, map};
+ghost use Rattle.std.specs.Prelude.{◌≡◌, ◌<◌, ◌≤◌, ◌++◌, ◌∷◌, [], IfOk, IsTrue, OnOk, OnErr, length, vec_len};
+ghost use Rattle.std.specs.Vec.{vec_capacity};
 ghost use Rattle.std.specs.List.{AllByRecursion};
 ghost use Rattle.std.specs.List.Sorted.{IsPermutation};
 ghost use Rattle.l4_core_model.specs.Runs.{merged, told};
 ghost use Rattle.l4_merge.specs.Merges.{SortAsMerged};
-ghost use Rattle.l4_types.specs.StepView.{step_of};
+ghost use Rattle.l4_core.specs.Tellings.{IsBegun};
 ghost use Rattle.l4_machine.specs.Parts.{event_of, events_of, part_is_earlier, AreSorted};
 
+use l4_core::told::Told;
 use l4_history::history::History;
-use l4_history::sink::tell;
 use l4_types::errors::NoMemory;
-use l4_types::steps::Step;
 use std::alloc::Global;
+
+// Room is made for so many events at once, since to ask each time costs more than a push.
+const CHUNK_PARTS: usize = 64;
 
 /// An event: its steps are a part of those of a history.
 #[derive(Clone, Copy)]
@@ -22,32 +25,35 @@ pub(crate) struct Part {
     end: usize,
 }
 
-/// Tells an event of a processor with its stamp.
-pub(crate) fn tell_event(
-    history: &mut History,
-    parts: &mut Vec<Part>,
-    cpu: u8,
-    stamp: u64,
-    steps: &[Step],
-) -> Result<(), NoMemory>
-    ensures steps { OnOk result (history.new.steps ≡ history.old.steps ++ map step_of steps.now) }
-    ensures part { OnOk result (parts.new.items ≡ parts.old.items ++ record {
+/// Makes room for one more event, and begins it behind what was told. Where memory is refused, the events and what was told are as before.
+pub(crate) fn begin_event(parts: &mut Vec<Part>, told: &mut Told<History>) -> Result<(), NoMemory>
+    ensures parts { parts.new.items ≡ parts.old.items }
+    ensures room { OnOk result (vec_len parts.new < vec_capacity parts.new) }
+    ensures begun { OnOk result (IsBegun told.old told.new) }
+    ensures err { OnErr result (told.new ≡ told.old) }
+{
+    if parts.len() == parts.capacity() {
+        parts.reserve(CHUNK_PARTS)?;
+    }
+    told.begin()
+}
+
+/// The event of a processor that was told has this stamp. It takes no memory, since there is room.
+pub(crate) fn end_event(parts: &mut Vec<Part>, told: &Told<History>, cpu: u8, stamp: u64)
+    requires { vec_len parts.old < vec_capacity parts.old }
+    ensures { parts.new.items ≡ parts.old.items ++ record {
       stamp = stamp;
       cpu = cpu;
-      start = length history.old.steps;
-      end = length history.new.steps;
-    } ∷ []) }
+      start = length told.now.before;
+      end = length (told.now.before ++ told.now.steps);
+    } ∷ [] }
 {
-    let start = history.len();
-    tell(history, steps)?;
-    let end = history.len();
-    parts.push(Part {
+    parts.push_reserved(Part {
         stamp,
         cpu,
-        start,
-        end,
-    })?;
-    Ok(())
+        start: told.start(),
+        end: told.sink().len(),
+    });
 }
 
 /// The history of these events in order of stamp, and of equal ones by processor. Where they stand in that order, nothing is moved.

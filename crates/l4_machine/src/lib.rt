@@ -10,6 +10,6 @@ mod schedules;
 mod station;
 
 pub use laws::law_core_run;
-pub use outcome::{Outcome, RunFault};
-pub use rounds::{MOST_TURNS, run};
-pub use schedules::{MOST_ENTRIES, replay};
+pub use outcome::{CompactOutcome, Outcome, RunFault};
+pub use rounds::{MOST_TURNS, run, run_compact};
+pub use schedules::{MOST_ENTRIES, replay, replay_compact};

@@ -3,7 +3,7 @@ ghost use Rattle.std.specs.Prelude.{◌≡◌, ◌↔◌, IfOk, length, true};
 ghost use Rattle.l4_model.specs.History.{IsHistory};
 ghost use Rattle.l4_core_model.specs.Runs.{Run, at_rest, told};
 ghost use Rattle.l4_types.specs.declared.reports.Ending.TheVariants.{Quiet};
-ghost use Rattle.l4_machine.specs.Outcomes.{IsOutcomeOf, IsSound};
+ghost use Rattle.l4_machine.specs.Outcomes.{IsOutcomeOf, IsSound, compact_findings_of, findings_of};
 ghost use Rattle.l4_machine.specs.declared.outcome.RunFault.TheVariants.{NoMemory as RunNoMemory};
 
 use l4_audit::audit::{AuditFault, check_history};
@@ -30,6 +30,36 @@ pub struct Outcome {
     pub turns: u64,
 }
 
+/// An outcome with its history in compact form, 24 bytes for a step.
+#[derive(Drop)]
+pub struct CompactOutcome {
+    /// The steps of all turns, in the order of those of an `Outcome`.
+    pub history: History,
+    /// The sends that were begun and are undecided, in order of beginning, each with its destination.
+    pub waiting: Vec<(Name, ThreadId)>,
+    /// What each thread has come to, in order of declaration.
+    pub threads: Vec<ThreadView>,
+    /// Whether anything is left to do.
+    pub ending: Ending,
+    /// How many turns were taken.
+    pub turns: u64,
+}
+
+impl CompactOutcome {
+    /// The same outcome, with its steps as values of their own.
+    pub(crate) fn into_outcome(self, alloc: Global) -> Result<Outcome, NoMemory>
+        ensures { IfOk result (λ o. findings_of o ≡ compact_findings_of self) }
+    {
+        Ok(Outcome {
+            history: self.history.to_steps(alloc)?,
+            waiting: self.waiting,
+            threads: self.threads,
+            ending: self.ending,
+            turns: self.turns,
+        })
+    }
+}
+
 /// Why there is no outcome.
 #[derive(Clone, Copy, PartialEq, Eq, Debug)]
 pub enum RunFault {
@@ -53,17 +83,17 @@ impl From<NoMemory> for RunFault {
 pub(crate) fn outcome_of(
     alloc: Global,
     machine: &Machine,
-    history: &History,
+    history: History,
     ending: Ending,
     turns: u64,
-) -> Result<Outcome, NoMemory>
-    requires { IsHistory machine.now history.now.steps }
-    ensures { IfOk result (λ o. (r : Run) → IsSound machine.now r → history.now.steps ≡ told r.events → turns ≡ length r.events →
-        (ending ≡ Quiet) ↔ (at_rest machine.now r.system ≡ true) → IsOutcomeOf machine.now r o) }
+) -> Result<CompactOutcome, NoMemory>
+    requires { IsHistory machine.now history.steps }
+    ensures { IfOk result (λ o. (r : Run) → IsSound machine.now r → history.steps ≡ told r.events → turns ≡ length r.events →
+        (ending ≡ Quiet) ↔ (at_rest machine.now r.system ≡ true) → IsOutcomeOf machine.now r (compact_findings_of o)) }
 {
-    match check_history(alloc, machine, history) {
-        Ok(audit) => Ok(Outcome {
-            history: history.to_steps(alloc)?,
+    match check_history(alloc, machine, &history) {
+        Ok(audit) => Ok(CompactOutcome {
+            history,
             waiting: audit.waiting,
             threads: audit.threads,
             ending,

@@ -3,12 +3,12 @@ ghost use Rattle.std.specs.Prelude.{◌≡◌, ◌<◌, ◌≤◌, ◌↔◌, �
 ghost use Rattle.l4_core_model.specs.Runs.{opening_run};
 ghost use Rattle.l4_core_model.specs.Schedules.{round, round_or_ticks, rounds as in_rounds, run as run_in_rounds, ticks};
 ghost use Rattle.l4_machine.specs.Entries.{turns_fault};
-ghost use Rattle.l4_machine.specs.Outcomes.{IsOutcome};
+ghost use Rattle.l4_machine.specs.Outcomes.{IsCompactOutcome, IsOutcome};
 ghost use Rattle.l4_machine.specs.UnderWay.{GoesOn, HasRun, IsRun};
 
 use crate::core_run::CoreRun;
 use crate::laws::law_core_run;
-use crate::outcome::{Outcome, RunFault, outcome_of};
+use crate::outcome::{CompactOutcome, Outcome, RunFault, outcome_of};
 use l4_script::machine::Machine;
 use l4_types::errors::NoMemory;
 use std::alloc::Global;
@@ -81,9 +81,13 @@ fn rounds(run: &mut CoreRun<'_>, turns: u64) -> Result<(), NoMemory>
     Ok(())
 }
 
-fn outcome_of_turns(alloc: Global, machine: &Machine, turns: u64) -> Result<Outcome, NoMemory>
+fn outcome_of_turns(
+    alloc: Global,
+    machine: &Machine,
+    turns: u64,
+) -> Result<CompactOutcome, NoMemory>
     requires { turns ≤ 1000000 }
-    ensures { IfOk result (IsOutcome machine.now turns) }
+    ensures { IfOk result (IsCompactOutcome machine.now turns) }
 {
     law_core_run();
     let mut run = CoreRun::new(alloc, machine)?;
@@ -91,7 +95,7 @@ fn outcome_of_turns(alloc: Global, machine: &Machine, turns: u64) -> Result<Outc
     let turns = run.events();
     let ending = run.ending();
     let history = run.into_ordered_history(alloc)?;
-    Ok(outcome_of(alloc, machine, &history, ending, turns as u64)?)
+    Ok(outcome_of(alloc, machine, history, ending, turns as u64)?)
 }
 
 /// Runs a machine for at most so many turns, 1 to 1,000,000, on one thread of the host. A round is one turn of each processor in rising order:
@@ -102,6 +106,16 @@ fn outcome_of_turns(alloc: Global, machine: &Machine, turns: u64) -> Result<Outc
 /// `Turns`: the number of turns is 0 or above 1,000,000.
 pub fn run(alloc: Global, machine: &Machine, turns: u64) -> Result<Outcome, RunFault>
     ensures ok { IfOk result (IsOutcome machine.now turns) }
+    ensures err { IfErr result (λ fault. (fault ≡ RunFault.NoMemory) ⊎ (turns_fault turns ≡ Some fault)) }
+    ensures range { IsErrOf result RunFault.Turns ↔ ((turns ≡ 0) ⊎ (1000000 < turns)) }
+{
+    let outcome = run_compact(alloc, machine, turns)?;
+    Ok(outcome.into_outcome(alloc)?)
+}
+
+/// Runs a machine as `run` does, with the same outcome and the same faults, and keeps the history in compact form.
+pub fn run_compact(alloc: Global, machine: &Machine, turns: u64) -> Result<CompactOutcome, RunFault>
+    ensures ok { IfOk result (IsCompactOutcome machine.now turns) }
     ensures err { IfErr result (λ fault. (fault ≡ RunFault.NoMemory) ⊎ (turns_fault turns ≡ Some fault)) }
     ensures range { IsErrOf result RunFault.Turns ↔ ((turns ≡ 0) ⊎ (1000000 < turns)) }
 {

@@ -2,12 +2,12 @@
 ghost use Rattle.std.specs.Prelude.{◌≡◌, ◌<◌, ◌≤◌, ◌↔◌, ◌⊎◌, ◌^◌, IfOk, IfErr, IfSome, IsErrOf, OnOk, None, Some, is_some, length};
 ghost use Rattle.l4_core_model.specs.Schedules.{replays};
 ghost use Rattle.l4_machine.specs.Entries.{after_entry, first_stranger, is_entry, number_of, processor_of, schedule_fault};
-ghost use Rattle.l4_machine.specs.Outcomes.{IsReplayed};
+ghost use Rattle.l4_machine.specs.Outcomes.{IsCompactReplay, IsReplayed};
 ghost use Rattle.l4_machine.specs.UnderWay.{GoesOn, HasRun};
 
 use crate::core_run::CoreRun;
 use crate::laws::law_core_run;
-use crate::outcome::{Outcome, RunFault, outcome_of};
+use crate::outcome::{CompactOutcome, Outcome, RunFault, outcome_of};
 use l4_script::machine::Machine;
 use l4_types::errors::NoMemory;
 use std::alloc::Global;
@@ -81,9 +81,9 @@ fn outcome_of_entries(
     alloc: Global,
     machine: &Machine,
     schedule: &[u8],
-) -> Result<Outcome, RunFault>
+) -> Result<CompactOutcome, RunFault>
     requires { length schedule.now ≤ 1000000 }
-    ensures ok { IfOk result (IsReplayed machine.now schedule.now) }
+    ensures ok { IfOk result (IsCompactReplay machine.now schedule.now) }
     ensures lawful { IfOk result (λ o. first_stranger machine.now 1 schedule.now ≡ None) }
     ensures err { IfErr result (λ fault. (fault ≡ RunFault.NoMemory) ⊎ (schedule_fault machine.now schedule.now ≡ Some fault)) }
 {
@@ -93,7 +93,7 @@ fn outcome_of_entries(
     let turns = run.events();
     let ending = run.ending();
     let history = run.into_history();
-    Ok(outcome_of(alloc, machine, &history, ending, turns as u64)?)
+    Ok(outcome_of(alloc, machine, history, ending, turns as u64)?)
 }
 
 /// Replays a schedule of at most 1,000,000 entries on a machine, on one thread of the host. The number of a processor, 0 to 15, is an entry for
@@ -104,6 +104,21 @@ fn outcome_of_entries(
 /// `Turns`: there are more entries. `Schedule`: this entry, counted from 1, is the first of no processor of the machine.
 pub fn replay(alloc: Global, machine: &Machine, schedule: &[u8]) -> Result<Outcome, RunFault>
     ensures ok { IfOk result (IsReplayed machine.now schedule.now) }
+    ensures lawful { IfOk result (λ o. schedule_fault machine.now schedule.now ≡ None) }
+    ensures err { IfErr result (λ fault. (fault ≡ RunFault.NoMemory) ⊎ (schedule_fault machine.now schedule.now ≡ Some fault)) }
+    ensures range { IsErrOf result RunFault.Turns ↔ (1000000 < length schedule.now) }
+{
+    let outcome = replay_compact(alloc, machine, schedule)?;
+    Ok(outcome.into_outcome(alloc)?)
+}
+
+/// Replays a schedule as `replay` does, with the same outcome and the same faults, and keeps the history in compact form.
+pub fn replay_compact(
+    alloc: Global,
+    machine: &Machine,
+    schedule: &[u8],
+) -> Result<CompactOutcome, RunFault>
+    ensures ok { IfOk result (IsCompactReplay machine.now schedule.now) }
     ensures lawful { IfOk result (λ o. schedule_fault machine.now schedule.now ≡ None) }
     ensures err { IfErr result (λ fault. (fault ≡ RunFault.NoMemory) ⊎ (schedule_fault machine.now schedule.now ≡ Some fault)) }
     ensures range { IsErrOf result RunFault.Turns ↔ (1000000 < length schedule.now) }

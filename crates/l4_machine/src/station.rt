@@ -4,11 +4,12 @@ ghost use Rattle.std.specs.Option.{option_map};
 ghost use Rattle.l4_core_model.specs.Local.{opening_local};
 ghost use Rattle.l4_core_model.specs.Turns.{can_stamp};
 ghost use Rattle.l4_types.specs.LetterView.{letter_of};
-ghost use Rattle.l4_core.specs.Tellings.{nothing};
+ghost use Rattle.l4_core.specs.Tellings.{IsOpen};
 ghost use Rattle.l4_machine.specs.Stations.{deadline_of, with_letter, CanGoOn, GoesOnTo, IsResting, PostsFirst, TakesLetter, TakesTurn};
 
 use l4_core::processor::Core;
 use l4_core::told::Told;
+use l4_history::history::History;
 use l4_script::machine::Machine;
 use l4_types::errors::NoMemory;
 use l4_types::letters::Letter;
@@ -50,10 +51,10 @@ impl<'m> Station<'m> {
 
     /// A turn: the first letter of the lowest poster is handled; where there is none, it is the core's turn. Answers the stamp of the event,
     /// or None where there is nothing to do, and then nothing is changed.
-    pub(crate) fn take_turn(&mut self, told: &mut Told) -> Option<u64>
+    pub(crate) fn take_turn(&mut self, told: &mut Told<History>) -> Option<u64>
         requires go_on { CanGoOn self.old }
-        requires untold { told.old ≡ nothing }
-        ensures { TakesTurn self.old self.new told.new result }
+        requires untold { IsOpen told.old }
+        ensures { TakesTurn self.old self.new told.old told.new result }
     {
         match self.take_letter() {
             Some(letter) => Some(self.core.handle_into(&letter, told).unwrap()),
@@ -63,10 +64,10 @@ impl<'m> Station<'m> {
 
     /// The clock goes on to this value, in ticks. Answers the stamp of the event, or None where the clock may not go on to there, and then
     /// nothing is changed.
-    pub(crate) fn tick(&mut self, clock: u64, told: &mut Told) -> Option<u64>
+    pub(crate) fn tick(&mut self, clock: u64, told: &mut Told<History>) -> Option<u64>
         requires stamp { can_stamp self.old.core.local 0 ≡ true }
-        requires untold { told.old ≡ nothing }
-        ensures { GoesOnTo clock self.old self.new told.new result }
+        requires untold { IsOpen told.old }
+        ensures { GoesOnTo clock self.old self.new told.old told.new result }
     {
         match self.core.advance_into(clock, told) {
             Ok(stamp) => Some(stamp),

@@ -1,9 +1,7 @@
-pub mod Delivering
 pub mod Taken
 pub mod Rows
-pub mod Taking
 pub mod Whole
-pub mod Fabrics
-pub mod Making
-pub mod Admitting
+pub mod Looking
+pub mod Growing
 pub mod Numbers
+pub mod Fabrics

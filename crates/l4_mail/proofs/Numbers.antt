@@ -1,9 +1,11 @@
 -- Whether the numbers of ports are all.
-use Rattle.std.proofs.Common.{◌≡◌, ◌≢◌, ℕ, zero, suc, ◌+◌, ◌<◌, ◌≤◌, Bool, true, false, ◌&&◌, ◌||◌, nat_eq, List, [], ◌∷◌, length, get_or, refl, sym, ap, ap₂, ◌∙◌, subst, arith, ⊎_elim, ◌⊎◌, inl, inr}
+use Rattle.std.proofs.Common.{◌≡◌, ◌≢◌, ℕ, zero, suc, ◌+◌, ◌<◌, ◌≤◌, Bool, true, false, ◌&&◌, ◌||◌, nat_eq, List, [], ◌∷◌, length, get_or, refl, sym, ap, ap₂, ◌∙◌, subst, arith, ⊎_elim, nat_lt, if◌then◌else◌, Vec, Global}
+use Rattle.std.specs.Prelude.{Result, Ok, Err, IfOk}
+use Rattle.l4_model.proofs.Places.{and_true}
 use Rattle.std.proofs.lemmas.Bool.Decides.{eqb_tells}
 use Rattle.l4_mail.specs.declared.ports.Port.{Port}
-use Rattle.l4_mail.specs.Ports.{fabric_size}
-use Rattle.l4_mail.specs.Rests.{has_number, have_numbers, have_size}
+use Rattle.l4_mail.specs.Ports.{fabric_size, kept_from}
+use Rattle.l4_mail.specs.Rests.{has_number, have_numbers, have_size, are_all, kept_between}
 
 same_number : (i j : ℕ) → i ≡ j → nat_eq i j ≡ true
 same_number i j e = ⊎_elim (λ t. t.0) (λ t. absurd (t.1 e)) (eqb_tells i j)
@@ -46,3 +48,34 @@ numbers_fail l (suc n) i lt e = ⊎_elim
 
 pub numbers_more : (l : List Port) (n : ℕ) → have_numbers n l ≡ true → has_number n l ≡ true → have_numbers (n + 1) l ≡ true
 numbers_more l n a b = let s : suc n ≡ n + 1 = omega arith in subst (λ k. have_numbers k l ≡ true) s (ap₂ (λ x y. x && y) a b)
+
+is_true : Bool → Type 0
+is_true true = Unit {0}
+is_true false = ⊥
+
+differ : true ≡ false → ⊥
+unfolding is_true
+differ e = subst is_true e tt
+
+-- A fabric has at most 16 processors.
+pub are_few : (l : List Port) → are_all l ≡ true → length l ≤ 16
+are_few [] h = omega arith
+are_few (p ∷ l) h =
+    let size = (and_true (nat_eq (fabric_size p) (length (p ∷ l))) (have_size (length (p ∷ l)) l) (and_true (have_size (length (p ∷ l)) (p ∷ l)) (have_numbers (length (p ∷ l)) (p ∷ l)) (and_true (nat_lt 0 (length (p ∷ l))) _ h).1).0).0 in
+    let same : fabric_size p ≡ length (p ∷ l) = ⊎_elim (λ t. t.1) (λ t. absurd (differ (sym size ∙ t.0))) (eqb_tells (fabric_size p) (length (p ∷ l))) in
+    let few = p.few.0 in let len = p.outlets.ok.0 in omega arith
+
+-- The port that keeps the letters is the first of that number.
+pub kept_here : (l : List Port) (i from to : ℕ) (d : Port) → i < length l → ((k : ℕ) → k < i → (d : Port) → (get_or l k d).cpu ≢ to) → (get_or l i d).cpu ≡ to → kept_from (get_or l i d) from ≡ kept_between from to l
+kept_here [] i from to d lt before e = absurd (omega arith)
+kept_here (p ∷ l) zero from to d lt before e = sym (ap (λ b. if b then kept_from p from else kept_between from to l) (same_number p.cpu to e))
+kept_here (p ∷ l) (suc i) from to d lt before e =
+    kept_here l i from to d (omega arith) (λ k below. before (suc k) (omega arith)) e ∙ sym (ap (λ b. if b then kept_from p from else kept_between from to l) (other_number p.cpu to (before zero (omega arith) p)))
+
+pub none_here : (l : List Port) (from to : ℕ) → ((k : ℕ) → k < length l → (d : Port) → (get_or l k d).cpu ≢ to) → kept_between from to l ≡ []
+none_here [] from to h = refl
+none_here (p ∷ l) from to h = ap (λ b. if b then kept_from p from else kept_between from to l) (other_number p.cpu to (h zero (omega arith) p)) ∙ none_here l from to (λ k lt. h (suc k) (omega arith))
+
+pub items_are : {E X : Type 0} (r : Result (Vec X Global) E) (l k : List X) → l ≡ k → IfOk r (λ v. v.items ≡ l) → IfOk r (λ v. v.items ≡ k)
+items_are (Ok v) l k e h = h ∙ e
+items_are (Err v) l k e h = h

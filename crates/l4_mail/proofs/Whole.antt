@@ -1,70 +1,111 @@
 -- A port of which nothing but one part has changed.
-use Rattle.std.proofs.Common.{◌≡◌, ℕ, ◌+◌, ◌<◌, ◌≤◌, List, [], ◌∷◌, ◌++◌, length, map, set, get_or, subst, refl, sym, ap, ◌∙◌, ◌⊎◌, arith}
-use Rattle.l4_types.specs.declared.letters.Letter.{Letter}
-use Rattle.l4_mail.specs.declared.mailbox.Item.{Item}
-use Rattle.l4_mail.specs.declared.inboxes.Inbox.{Inbox}
-use Rattle.l4_mail.specs.declared.ports.Port.{Port}
-use Rattle.l4_mail.specs.Delivery.{letters_of}
-use Rattle.l4_mail.specs.Ends.{posted, room, way, taken, kept, mailbox}
+use Rattle.std.proofs.Common.{◌≡◌, ℕ, ◌+◌, ◌<◌, ◌≤◌, List, [], ◌∷◌, ◌++◌, length, map, set, get_or, subst, sym, ap, ◌∙◌, ◌⊎◌, ⊎_elim, inl, inr, arith, Option, Some, None, IfSome, IfNone}
 use Rattle.std.specs.Vec.{with_item, with_items}
-use Rattle.std.proofs.lemmas.List.{with_items_is}
+use Rattle.std.proofs.lemmas.List.{with_items_is, length-map}
+use Rattle.std.proofs.lemmas.Option.{none-some}
 use Rattle.std.proofs.Math.Seq.{map-set_same}
+use Rattle.l4_types.specs.declared.letters.Letter.{Letter}
 use Rattle.l4_mail.specs.declared.outlets.Outlet.{Outlet}
-use Rattle.l4_mail.specs.Ports.{place, room_to, fabric_size, only, IsAsBefore, HasPosted, HasTaken}
-use Rattle.l4_mail.proofs.Rows.{AreAsBefore, posted_at, room_elsewhere, room_here, room_there, room_within}
-use Rattle.l4_mail.proofs.Taking.{taken_more, left}
+use Rattle.l4_mail.specs.declared.inlets.Inlet.{Inlet}
+use Rattle.l4_mail.specs.declared.ports.Port.{Port}
+use Rattle.l4_mail.specs.Ends.{RingId, ring_out, posted, room, ring_in, taken, kept}
+use Rattle.l4_mail.specs.Ports.{room_to, taken_from, kept_from, only, IsAsBefore, HasPosted, HasTaken}
+use Rattle.l4_mail.specs.Takes.{NoneIsKept, NoneIsTaken, IsTaken, IsFirst}
+use Rattle.l4_mail.proofs.Rows.{below_or, AreAsBefore, HaveRoom, grown_at, set_elsewhere, set_here, read_here, read_beyond, room_within}
 
-changed_items : (p : Port) (items : List Outlet) → AreAsBefore p.outlets.items items → (with_items p.outlets items).items ≡ items
-changed_items p items h = with_items_is p.outlets items (h.len ∙ sym p.outlets.ok.0)
-
-pub outlets_changed : (p : Port) (items : List Outlet) → AreAsBefore p.outlets.items items → IsAsBefore p (record { cpu = p.cpu; inbox = p.inbox; outlets = with_items p.outlets items })
-outlets_changed p items h =
-    let e = changed_items p items h in record {
-      place = λ i. record { cpu = p.cpu; mailbox = mailbox p.inbox; ways = (ap (map way) e ∙ h.ways) i };
+-- Only the outlets have changed.
+pub outlets_changed : (old new : Port) (items : List (Option Outlet)) → new.cpu ≡ old.cpu → new.inlets ≡ old.inlets → new.outlets ≡ with_items old.outlets items → AreAsBefore old.outlets.items items → IsAsBefore old new
+outlets_changed old new items c i o h =
+    let e : new.outlets.items ≡ items = ap (λ v. v.items) o ∙ with_items_is old.outlets items (h.len ∙ sym old.outlets.ok.0) in
+    record {
+      place = λ k. record { cpu = c k; outs = (ap (map ring_out) e ∙ h.rings) k; ins = map ring_in (i k).items };
       posted = λ to. ap (λ l. get_or l to []) (ap (map posted) e ∙ h.posted);
-      taken = λ from. refl;
-      kept = λ from. refl;
-      room = λ to. subst (λ l. get_or (map room p.outlets.items) to 0 ≤ get_or (map room l) to 0) (sym e) (h.room to);
+      taken = λ from. ap (λ v. get_or (map taken v.items) from []) i;
+      kept = λ from. ap (λ v. get_or (map kept v.items) from []) i;
+      room = λ to. subst (λ l. get_or (map room old.outlets.items) to 0 ≤ get_or (map room l) to 0) (sym e) (h.room to);
     }
 
-pub rooms_reserved : (p : Port) (items : List Outlet) (n i : ℕ) → AreAsBefore p.outlets.items items → ((k : ℕ) → k < i → n ≤ get_or (map room items) k 0) → length items ≤ i
-    → (to : ℕ) → to < fabric_size (record { cpu = p.cpu; inbox = p.inbox; outlets = with_items p.outlets items }) → n ≤ room_to (record { cpu = p.cpu; inbox = p.inbox; outlets = with_items p.outlets items }) to
-rooms_reserved p items n i h r le = subst (λ l. (to : ℕ) → to < length l → n ≤ get_or (map room l) to 0) (sym (changed_items p items h)) (λ to lt. r to (omega arith))
+rooms_there : (l : List (Option Outlet)) (n i : ℕ) → HaveRoom l i n → length l ≤ i → (to : ℕ) → (ring : RingId) × (get_or (map ring_out l) to None ≡ Some ring) → n ≤ get_or (map room l) to 0
+rooms_there l n i h le to w = ⊎_elim
+    (λ lt. h to (omega arith) w.0 w.1)
+    (λ ge. absurd (none-some w.0 (sym (read_beyond ring_out l to None ge) ∙ w.1)))
+    (below_or to (length l))
+
+pub rooms_reserved : (old : Port) (items : List (Option Outlet)) (n i : ℕ) → AreAsBefore old.outlets.items items → HaveRoom items i n → length items ≤ i
+    → (to : ℕ) → (ring : RingId) × (get_or (map ring_out (with_items old.outlets items).items) to None ≡ Some ring) → n ≤ get_or (map room (with_items old.outlets items).items) to 0
+rooms_reserved old items n i h r le =
+    subst (λ l. (to : ℕ) → (ring : RingId) × (get_or (map ring_out l) to None ≡ Some ring) → n ≤ get_or (map room l) to 0) (sym (with_items_is old.outlets items (h.len ∙ sym old.outlets.ok.0))) (rooms_there items n i r le)
 
 -- The letter is posted at the outlet that stands at the place of its destination.
-posted_here : (p : Port) (i : ℕ) (o y : Outlet) (letter : Letter) → 0 < room_to p i → o ≡ get_or p.outlets.items i o → way y ≡ way o → posted y ≡ posted o ++ letter ∷ [] → room y + 1 ≡ room o
-    → HasPosted p (record { cpu = p.cpu; inbox = p.inbox; outlets = with_item p.outlets i y }) i letter
-posted_here p i o y letter has is w q r =
-    let lt : i < length p.outlets.items = room_within p.outlets.items i has in
+pub one_posted : (old new : Port) (i to : ℕ) (o y : Option Outlet) (letter : Letter) → new.cpu ≡ old.cpu → new.inlets ≡ old.inlets → new.outlets ≡ with_item old.outlets i y → i ≡ to → 0 < room_to old to
+    → o ≡ get_or old.outlets.items i o → ring_out y ≡ ring_out o → posted y ≡ posted o ++ letter ∷ [] → room y + 1 ≡ room o → HasPosted old new to letter
+one_posted old new i to o y letter c n s e has is w q r =
+    let l = old.outlets.items in
+    let lt : to < length l = room_within l to has in
+    let here : o ≡ get_or l to o = is ∙ ap (λ j. get_or l j o) e in
+    let items : new.outlets.items ≡ set l to y = ap (λ v. v.items) s ∙ ap (λ j. set l j y) e in
     record {
-      place = λ k. record { cpu = p.cpu; mailbox = mailbox p.inbox; ways = map-set_same way p.outlets.items i y o (w ∙ ap way is) k };
-      posted = posted_at p.outlets.items i y o letter lt (q ∙ ap (λ u. posted u ++ letter ∷ []) is);
-      taken = λ from. refl;
-      kept = λ from. refl;
-      room = λ k n. room_elsewhere p.outlets.items i y k n;
-      used = ap (λ n. n + 1) (room_here p.outlets.items i y lt) ∙ r ∙ ap room is ∙ sym (room_there p.outlets.items i o lt);
+      place = λ k. record { cpu = c k; outs = (ap (map ring_out) items ∙ map-set_same ring_out l to y o (w ∙ ap ring_out here)) k; ins = map ring_in (n k).items };
+      posted = λ k. ap (λ v. get_or (map posted v) k []) items ∙ grown_at posted l to y o letter lt (q ∙ ap (λ u. posted u ++ letter ∷ []) here) k;
+      taken = λ from. ap (λ v. get_or (map taken v.items) from []) n;
+      kept = λ from. ap (λ v. get_or (map kept v.items) from []) n;
+      room = λ k ne. ap (λ v. get_or (map room v) k 0) items ∙ set_elsewhere room l to y k 0 ne;
+      used = ap (λ v. get_or (map room v) to 0 + 1) items ∙ ap (λ m. m + 1) (set_here room l to y 0 lt) ∙ r ∙ ap room here ∙ sym (read_here room l to o 0 lt);
     }
 
-pub one_posted : (p : Port) (i to : ℕ) (o y : Outlet) (letter : Letter) → i ≡ to → 0 < room_to p to → o ≡ get_or p.outlets.items i o → way y ≡ way o → posted y ≡ posted o ++ letter ∷ [] → room y + 1 ≡ room o
-    → HasPosted p (record { cpu = p.cpu; inbox = p.inbox; outlets = with_item p.outlets i y }) to letter
-one_posted p i to o y letter e has is w q r = subst (λ t. 0 < room_to p t → HasPosted p (record { cpu = p.cpu; inbox = p.inbox; outlets = with_item p.outlets i y }) t letter) e (λ h. posted_here p i o y letter h is w q r) has
+pub same_length : {A B : Type 0} (f : A → B) (l k : List A) → map f l ≡ map f k → length l ≡ length k
+same_length f l k e = sym (length-map l f) ∙ ap length e ∙ length-map k f
 
-pub inbox_changed : (old new : Port) → new.cpu ≡ old.cpu → new.outlets ≡ old.outlets → mailbox new.inbox ≡ mailbox old.inbox → taken new.inbox ≡ taken old.inbox
-    → kept old.inbox ≡ [] → kept new.inbox ≡ [] → IsAsBefore old new
-inbox_changed old new c o m t k k' = record {
-  place = λ i. record { cpu = c i; mailbox = m i; ways = map way (o i).items };
-  posted = λ to. ap (λ l. get_or (map posted l.items) to []) o;
-  taken = λ from. ap (letters_of from) t;
-  kept = λ from. ap (letters_of from) k' ∙ ap (letters_of from) (sym k);
-  room = λ to. let e = ap (λ l. get_or (map room l.items) to 0) o in omega arith;
+-- The inlets of a port that are written back.
+pub inlets_are : (old new : Port) (items : List (Option Inlet)) → new.inlets ≡ with_items old.inlets items → map ring_in items ≡ map ring_in old.inlets.items → new.inlets.items ≡ items
+inlets_are old new items i r = ap (λ v. v.items) i ∙ with_items_is old.inlets items (same_length ring_in items old.inlets.items r ∙ sym old.inlets.ok.0)
+
+one_taken : (old new : Port) (from : ℕ) (letter : Letter) → new.cpu ≡ old.cpu → new.outlets ≡ old.outlets → map ring_in new.inlets.items ≡ map ring_in old.inlets.items
+    → ((k : ℕ) → taken_from new k ≡ taken_from old k ++ only k from letter) → ((k : ℕ) → kept_from old k ≡ only k from letter ++ kept_from new k) ⊎ ((k : ℕ) → (kept_from old k ≡ []) × (kept_from new k ≡ [])) → HasTaken old new from letter
+one_taken old new from letter c o r t h = record {
+  place = λ k. record { cpu = c k; outs = map ring_out (o k).items; ins = r k };
+  posted = λ to. ap (λ v. get_or (map posted v.items) to []) o;
+  taken = t;
+  kept = h;
+  room = λ to. ap (λ v. get_or (map room v.items) to 0) o;
 }
 
-pub one_taken : (old new : Port) (x : Item) → new.cpu ≡ old.cpu → new.outlets ≡ old.outlets → mailbox new.inbox ≡ mailbox old.inbox
-    → taken new.inbox ≡ taken old.inbox ++ x ∷ [] → (kept old.inbox ≡ x ∷ kept new.inbox) ⊎ ((kept old.inbox ≡ []) × (kept new.inbox ≡ [])) → HasTaken old new x.poster x.letter
-one_taken old new x c o m t k = record {
-  place = λ i. record { cpu = c i; mailbox = m i; ways = map way (o i).items };
-  posted = λ to. ap (λ l. get_or (map posted l.items) to []) o;
-  taken = taken_more (taken old.inbox) (taken new.inbox) x t;
-  kept = left (kept old.inbox) (kept new.inbox) x k;
-  room = λ to. ap (λ l. get_or (map room l.items) to 0) o;
-}
+both_ways : {A B C D : Type 0} → A ⊎ B → (A → C) → (B → D) → C ⊎ D
+both_ways h f g = ⊎_elim (λ a. inl (f a)) (λ b. inr (g b)) h
+
+letter_taken : (old new : Port) (items : List (Option Inlet)) (from : ℕ) (letter : Letter) → new.cpu ≡ old.cpu → new.outlets ≡ old.outlets → new.inlets ≡ with_items old.inlets items
+    → IsTaken old.inlets.items items from letter × IsFirst old.inlets.items items from letter → HasTaken old new from letter
+letter_taken old new items from letter c o i h =
+    let e = inlets_are old new items i h.0.rings in
+    one_taken old new from letter c o (ap (map ring_in) e ∙ h.0.rings)
+    (λ k. ap (λ l. get_or (map taken l) k []) e ∙ h.0.taken k)
+    (both_ways h.1
+    (λ w k. w k ∙ ap (λ l. only k from letter ++ get_or (map kept l) k []) (sym e))
+    (λ w k. (w.0 k, ap (λ l. get_or (map kept l) k []) e ∙ w.1 k)))
+
+pub some_taken : (old new : Port) (olds items : List (Option Inlet)) (o : Option (ℕ × Letter)) → new.cpu ≡ old.cpu → new.outlets ≡ old.outlets → new.inlets ≡ with_items old.inlets items
+    → olds ≡ old.inlets.items → IfSome o (λ r. IsTaken olds items r.0 r.1 × IsFirst olds items r.0 r.1) → IfSome o (λ r. HasTaken old new r.0 r.1)
+some_taken old new olds items None c o i e h = h
+some_taken old new olds items (Some r) c o i e h = letter_taken old new items r.0 r.1 c o i (subst (λ l. IsTaken l items r.0 r.1 × IsFirst l items r.0 r.1) e h)
+
+nothing_taken : (old new : Port) (items : List (Option Inlet)) → new.cpu ≡ old.cpu → new.outlets ≡ old.outlets → new.inlets ≡ with_items old.inlets items
+    → NoneIsTaken old.inlets.items items × NoneIsKept old.inlets.items × NoneIsKept items → IsAsBefore old new
+nothing_taken old new items c o i h =
+    let e = inlets_are old new items i h.0.rings in
+    record {
+      place = λ k. record { cpu = c k; outs = map ring_out (o k).items; ins = (ap (map ring_in) e ∙ h.0.rings) k };
+      posted = λ to. ap (λ v. get_or (map posted v.items) to []) o;
+      taken = λ k. ap (λ l. get_or (map taken l) k []) e ∙ ap (λ l. get_or l k []) h.0.taken;
+      kept = λ k. ap (λ l. get_or (map kept l) k []) e ∙ h.2 k ∙ sym (h.1 k);
+      room = λ to. let e = ap (λ v. get_or (map room v.items) to 0) o in omega arith;
+    }
+
+pub none_taken : (old new : Port) (olds items : List (Option Inlet)) (o : Option (ℕ × Letter)) → new.cpu ≡ old.cpu → new.outlets ≡ old.outlets → new.inlets ≡ with_items old.inlets items
+    → olds ≡ old.inlets.items → IfNone o (NoneIsTaken olds items × NoneIsKept olds × NoneIsKept items) → IfNone o (IsAsBefore old new)
+none_taken old new olds items None c o i e h = nothing_taken old new items c o i (subst (λ l. NoneIsTaken l items × NoneIsKept l × NoneIsKept items) e h)
+none_taken old new olds items (Some r) c o i e h = h
+
+pub none_kept : (old : Port) (olds items : List (Option Inlet)) (o : Option (ℕ × Letter)) → olds ≡ old.inlets.items → IfNone o (NoneIsTaken olds items × NoneIsKept olds × NoneIsKept items)
+    → IfNone o ((from : ℕ) → kept_from old from ≡ [])
+none_kept old olds items None e h = λ from. ap (λ l. get_or (map kept l) from []) (sym e) ∙ h.1 from
+none_kept old olds items (Some r) e h = h

@@ -1,33 +1,65 @@
--- What the two ends of a way have carried: the outlet of a poster, and the inbox of the receiver.
-use Rattle.std.specs.Prelude.{ℕ, ◌-◌, List, ◌++◌}
+-- What the two ends of a way have carried: the outlet of the poster, and the inlet of the receiver.
+use Rattle.std.specs.Prelude.{ℕ, ◌-◌, List, [], ◌++◌, Option, Some, None}
 use Rattle.std.specs.VecDeque.{deque_len, deque_capacity}
-use Rattle.atomic_table.specs.Seated.{TableId}
-use Rattle.crossbeam_queue.specs.Passes.{view}
+use Rattle.std.specs.declared.alloc.Global.{Global}
+use denote.RawPtr.{Ptr}
+use Rattle.rtrb.specs.Shared.{Names}
+use Rattle.rtrb.specs.Ring.{sent}
 use Rattle.l4_types.specs.declared.letters.Letter.{Letter}
-use Rattle.l4_mail.specs.declared.mailbox.Item.{Item}
 use Rattle.l4_mail.specs.declared.outlets.Outlet.{Outlet}
-use Rattle.l4_mail.specs.declared.inboxes.Inbox.{Inbox}
-use Rattle.l4_mail.specs.Arrivals.{given}
+use Rattle.l4_mail.specs.declared.inlets.Inlet.{Inlet}
+use Rattle.l4_mail.specs.Ways.{given}
 
--- Every letter that was posted here, in order: those in the mailbox or taken from it, and those that wait for a place there.
-abbrev pub posted : Outlet → List Letter
-posted o = (view o.seat).pushed ++ o.outbox.items
+-- Which ring an end is of.
+pub record RingId : Type 0 where
+  pub words : Ptr
+  pub slots : Ptr
+  pub names : Names
+  pub heap : Global
+
+abbrev pub outlet_ring : Outlet → RingId
+outlet_ring o = record { words = o.ring.end.words; slots = o.ring.end.slots; names = o.ring.end.names; heap = o.ring.end.heap }
+
+abbrev pub inlet_ring : Inlet → RingId
+inlet_ring i = record { words = i.ring.end.words; slots = i.ring.end.slots; names = i.ring.end.names; heap = i.ring.end.heap }
+
+-- Every letter that was posted here, in order: those that went into the ring, and those that wait for a place there.
+abbrev pub outlet_posted : Outlet → List Letter
+outlet_posted o = sent o.ring ++ o.outbox.items
 
 -- How many letters more the outbox has room for.
-abbrev pub room : Outlet → ℕ
-room o = deque_capacity o.outbox - deque_len o.outbox
+abbrev pub outlet_room : Outlet → ℕ
+outlet_room o = deque_capacity o.outbox - deque_len o.outbox
 
--- Who posts here, and into which mailbox.
-abbrev pub way : Outlet → ℕ × TableId
-way o = (o.cpu, o.seat.table_id)
-
--- Every letter that was taken here, in order, with its poster.
-abbrev pub taken : Inbox → List Item
-taken b = given (view b.seat).popped b.kept.items
+-- Every letter that was taken here, in order.
+abbrev pub inlet_taken : Inlet → List Letter
+inlet_taken i = given i.ring i.kept.items
 
 -- The letters that a rest put by for the next takes.
-abbrev pub kept : Inbox → List Item
-kept b = b.kept.items
+abbrev pub inlet_kept : Inlet → List Letter
+inlet_kept i = i.kept.items
 
-abbrev pub mailbox : Inbox → TableId
-mailbox b = b.seat.table_id
+-- The same of an end that may be none.
+abbrev pub ring_out : Option Outlet → Option RingId
+ring_out None = None
+ring_out (Some o) = Some (outlet_ring o)
+
+abbrev pub posted : Option Outlet → List Letter
+posted None = []
+posted (Some o) = outlet_posted o
+
+abbrev pub room : Option Outlet → ℕ
+room None = 0
+room (Some o) = outlet_room o
+
+abbrev pub ring_in : Option Inlet → Option RingId
+ring_in None = None
+ring_in (Some i) = Some (inlet_ring i)
+
+abbrev pub taken : Option Inlet → List Letter
+taken None = []
+taken (Some i) = inlet_taken i
+
+abbrev pub kept : Option Inlet → List Letter
+kept None = []
+kept (Some i) = inlet_kept i

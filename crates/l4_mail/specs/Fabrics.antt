@@ -1,12 +1,8 @@
--- A fabric that is being made.
-use Rattle.std.specs.Prelude.{◌≡◌, ◌<◌, ℕ, List, [], length, map, slice_get, slice_index_or, Some}
-use Rattle.atomic_table.specs.Seated.{TableId}
-use Rattle.crossbeam_queue.specs.Passes.{view}
-use Rattle.l4_types.specs.declared.letters.Letter.{Letter}
-use Rattle.l4_mail.specs.declared.mailbox.Item.{Item}
+-- A fabric, and one that is being made.
+use Rattle.std.specs.Prelude.{◌≡◌, ◌≢◌, ◌<◌, ◌≤◌, ◌+◌, ℕ, List, [], ◌∷◌, ◌++◌, length, map, slice_get, Option, Some}
 use Rattle.l4_mail.specs.declared.ports.Port.{Port}
-use Rattle.l4_mail.specs.Ends.{posted, way, taken, kept, mailbox}
-use Rattle.l4_mail.specs.Ports.{posted_to, taken_from, kept_from, fabric_size, AreOneFabric}
+use Rattle.l4_mail.specs.Ends.{RingId, ring_out, posted, ring_in, taken, kept}
+use Rattle.l4_mail.specs.Ports.{place, posted_to, taken_from, kept_from, fabric_size, HasWayTo, IsWay, AreOneFabric}
 
 -- The ports of all processors of a new fabric, in the order of their numbers, of which none has carried a letter.
 pub record AreFresh (n : ℕ) (ports : List Port) : Type 0 where
@@ -14,41 +10,48 @@ pub record AreFresh (n : ℕ) (ports : List Port) : Type 0 where
   pub one : AreOneFabric ports
   pub cpu : (i : ℕ) (p : Port) → slice_get ports i ≡ Some p → p.cpu ≡ i
   pub size : (i : ℕ) (p : Port) → slice_get ports i ≡ Some p → fabric_size p ≡ n
+  pub ways : (i : ℕ) (p : Port) → slice_get ports i ≡ Some p → (to : ℕ) → to < n → to ≢ i → HasWayTo p to
   pub posted : (i : ℕ) (p : Port) → slice_get ports i ≡ Some p → (to : ℕ) → posted_to p to ≡ []
   pub taken : (i : ℕ) (p : Port) → slice_get ports i ≡ Some p → (from : ℕ) → taken_from p from ≡ []
   pub kept : (i : ℕ) (p : Port) → slice_get ports i ≡ Some p → (from : ℕ) → kept_from p from ≡ []
 
--- What a port is while its fabric is being made.
-pub record Shell : Type 0 where
-  pub cpu : ℕ
-  pub mailbox : TableId
-  pub ways : List (ℕ × TableId)
-  pub posted : List (List Letter)
-  pub taken : List Item
-  pub kept : List Item
+-- The port has got one outlet more, by which nothing was posted.
+pub record GainsOutlet (old new : Port) (ring : Option RingId) : Type 0 where
+  pub cpu : new.cpu ≡ old.cpu
+  pub rings : map ring_out new.outlets.items ≡ map ring_out old.outlets.items ++ ring ∷ []
+  pub posted : map posted new.outlets.items ≡ map posted old.outlets.items ++ [] ∷ []
+  pub inlets : new.inlets ≡ old.inlets
 
-abbrev pub shell : Port → Shell
-shell p = record { cpu = p.cpu; mailbox = mailbox p.inbox; ways = map way p.outlets.items; posted = map posted p.outlets.items; taken = taken p.inbox; kept = kept p.inbox }
+-- The port has got one inlet more, by which nothing was taken.
+pub record GainsInlet (old new : Port) (ring : Option RingId) : Type 0 where
+  pub cpu : new.cpu ≡ old.cpu
+  pub rings : map ring_in new.inlets.items ≡ map ring_in old.inlets.items ++ ring ∷ []
+  pub taken : map taken new.inlets.items ≡ map taken old.inlets.items ++ [] ∷ []
+  pub kept : map kept new.inlets.items ≡ map kept old.inlets.items ++ [] ∷ []
+  pub outlets : new.outlets ≡ old.outlets
 
--- For how many posters a port's mailbox has made passes.
-abbrev pub made : Port → ℕ
-made p = (view p.inbox.seat).made
+-- The port of processor `i` that has so many ends of each kind, and has carried no letter.
+pub record IsMember (n i : ℕ) (p : Port) : Type 0 where
+  pub cpu : p.cpu ≡ i
+  pub outlets : length p.outlets.items ≡ n
+  pub inlets : length p.inlets.items ≡ n
+  pub posted : (to : ℕ) → posted_to p to ≡ []
+  pub taken : (from : ℕ) → taken_from p from ≡ []
+  pub kept : (from : ℕ) → kept_from p from ≡ []
 
-abbrev pub ways_from : (from : ℕ) → List Shell → List (ℕ × TableId)
-ways_from from shells = map (λ (s : Shell). (from, s.mailbox)) shells
+abbrev pub AreWays : List Port → Type 0
+AreWays ports = (i j : ℕ) (p q : Port) → slice_get ports i ≡ Some p → slice_get ports j ≡ Some q → i ≢ j → IsWay (place p) (place q)
 
--- The port at a place, when the ports before another one have their ways to all ports.
-pub record IsLinked (shells : List Shell) (from i : ℕ) (s : Shell) : Type 0 where
-  pub cpu : s.cpu ≡ i
-  pub ways : i < from → s.ways ≡ ways_from i shells
-  pub posted : (k : ℕ) → slice_index_or s.posted k [] ≡ []
-  pub taken : s.taken ≡ []
-  pub kept : s.kept ≡ []
+-- The ports of the first processors.
+pub record AreMembers (n : ℕ) (ports : List Port) : Type 0 where
+  pub count : length ports ≡ n
+  pub each : (i : ℕ) (p : Port) → slice_get ports i ≡ Some p → IsMember n i p
+  pub ways : AreWays ports
 
-pub record AreLinkedTo (n from : ℕ) (shells : List Shell) : Type 0 where
-  pub count : length shells ≡ n
-  pub each : (i : ℕ) (s : Shell) → slice_get shells i ≡ Some s → IsLinked shells from i s
-
--- Each mailbox has made as many passes.
-abbrev pub HaveMade : (from : ℕ) → List Port → Type 0
-HaveMade from ports = (i : ℕ) → slice_index_or (map made ports) i from ≡ from
+-- The same, while the next port gets its ways to them and back.
+pub record AreJoined (n k : ℕ) (ports : List Port) (q : Port) : Type 0 where
+  pub count : length ports ≡ n
+  pub next : IsMember k n q
+  pub joined : (i : ℕ) (p : Port) → slice_get ports i ≡ Some p → i < k → IsMember (n + 1) i p × IsWay (place p) (place q) × IsWay (place q) (place p)
+  pub later : (i : ℕ) (p : Port) → slice_get ports i ≡ Some p → k ≤ i → IsMember n i p
+  pub ways : AreWays ports

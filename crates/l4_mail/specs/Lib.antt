@@ -1,6 +1,6 @@
-pub mod Delivery
-pub mod Arrivals
+pub mod Ways
 pub mod Ends
 pub mod Ports
+pub mod Takes
 pub mod Fabrics
 pub mod Rests

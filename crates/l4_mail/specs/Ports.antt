@@ -1,10 +1,8 @@
 -- What a port has carried, and what each of its calls does to that.
-use Rattle.std.specs.Prelude.{◌≡◌, ◌≢◌, ◌⊎◌, ℕ, ◌+◌, ◌≤◌, ◌<◌, List, [], ◌∷◌, ◌++◌, length, map, nat_eq, slice_get, slice_index_or, Some, if◌then◌else◌}
-use Rattle.atomic_table.specs.Seated.{TableId}
+use Rattle.std.specs.Prelude.{◌≡◌, ◌≢◌, ◌⊎◌, ℕ, ◌+◌, ◌≤◌, List, [], ◌∷◌, ◌++◌, length, map, nat_eq, slice_get, slice_index_or, Option, Some, None, if◌then◌else◌}
 use Rattle.l4_types.specs.declared.letters.Letter.{Letter}
 use Rattle.l4_mail.specs.declared.ports.Port.{Port}
-use Rattle.l4_mail.specs.Delivery.{letters_of}
-use Rattle.l4_mail.specs.Ends.{posted, room, way, taken, kept, mailbox}
+use Rattle.l4_mail.specs.Ends.{RingId, ring_out, posted, room, ring_in, taken, kept}
 
 -- Every letter that was given to `post` for a processor, in order.
 abbrev pub posted_to : Port → (to : ℕ) → List Letter
@@ -12,11 +10,11 @@ posted_to p to = slice_index_or (map posted p.outlets.items) to []
 
 -- Every letter of a processor that `take` gave, in order.
 abbrev pub taken_from : Port → (from : ℕ) → List Letter
-taken_from p from = letters_of from (taken p.inbox)
+taken_from p from = slice_index_or (map taken p.inlets.items) from []
 
 -- The letters of a processor that a rest put by here, and that `take` has not given since.
 abbrev pub kept_from : Port → (from : ℕ) → List Letter
-kept_from p from = letters_of from (kept p.inbox)
+kept_from p from = slice_index_or (map kept p.inlets.items) from []
 
 -- For how many letters more to a processor room is reserved.
 abbrev pub room_to : Port → (to : ℕ) → ℕ
@@ -26,21 +24,27 @@ room_to p to = slice_index_or (map room p.outlets.items) to 0
 abbrev pub fabric_size : Port → ℕ
 fabric_size p = length p.outlets.items
 
--- Where a port stands in its fabric: its number, its own mailbox, and the mailboxes that it posts to.
+-- Where a port stands in its fabric: its number, and the rings that it posts to and takes from, by the other processor.
 pub record Place : Type 0 where
   pub cpu : ℕ
-  pub mailbox : TableId
-  pub ways : List (ℕ × TableId)
+  pub outs : List (Option RingId)
+  pub ins : List (Option RingId)
 
 abbrev pub place : Port → Place
-place p = record { cpu = p.cpu; mailbox = mailbox p.inbox; ways = map way p.outlets.items }
+place p = record { cpu = p.cpu; outs = map ring_out p.outlets.items; ins = map ring_in p.inlets.items }
+
+-- There is a way to the processor.
+abbrev pub HasWayTo : Port → (to : ℕ) → Type 0
+HasWayTo p to = (ring : RingId) × (slice_index_or (place p).outs to None ≡ Some ring)
 
 -- What is posted at the one is taken at the other.
 abbrev pub IsWay : (from to : Place) → Type 0
-IsWay from to = slice_get from.ways to.cpu ≡ Some (from.cpu, to.mailbox)
+IsWay from to = (ring : RingId) × (slice_index_or from.outs to.cpu None ≡ Some ring) × (slice_index_or to.ins from.cpu None ≡ Some ring)
 
+-- Any two of them are different processors, with a way from the one to the other.
 abbrev pub AreLinked : List Place → Type 0
-AreLinked places = (i j : ℕ) (from to : Place) → slice_get places i ≡ Some from → slice_get places j ≡ Some to → IsWay from to
+AreLinked places = (i j : ℕ) (from to : Place) → slice_get places i ≡ Some from → slice_get places j ≡ Some to
+    → i ≢ j → (from.cpu ≢ to.cpu) × IsWay from to
 
 -- Ports of one fabric, in any order.
 abbrev pub AreOneFabric : List Port → Type 0
@@ -68,9 +72,9 @@ abbrev pub IsWhole : (from to : Carried) → Type 0
 IsWhole from to = from.account.posted to.account.place.cpu ≡ to.account.taken from.account.place.cpu ++ to.kept from.account.place.cpu
 
 abbrev pub IsWholeAt : List Carried → (i j : ℕ) → Type 0
-IsWholeAt ports i j = (from to : Carried) → slice_get ports i ≡ Some from → slice_get ports j ≡ Some to → IsWhole from to
+IsWholeAt ports i j = i ≢ j → (from to : Carried) → slice_get ports i ≡ Some from → slice_get ports j ≡ Some to → IsWhole from to
 
--- Nothing that was posted is missing, for each pair of ports.
+-- Nothing that was posted is missing, for each pair of different ports.
 abbrev pub AreWhole : List Port → Type 0
 AreWhole ports = (i j : ℕ) → IsWholeAt (map carried ports) i j
 

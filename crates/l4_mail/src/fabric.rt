@@ -1,70 +1,57 @@
 //! Making a fabric.
-ghost use Rattle.std.specs.Prelude.{ℕ, ◌≡◌, ◌<◌, ◌≤◌, ◌+◌, [], map, length, IfOk, OnOk, slice_index_or};
-ghost use Rattle.l4_mail.specs.Ends.{posted, way};
-ghost use Rattle.l4_mail.specs.Fabrics.{AreFresh, AreLinkedTo, HaveMade, shell, ways_from};
+ghost use Rattle.std.specs.Prelude.{◌≡◌, ◌<◌, ◌≤◌, ◌+◌, [], ◌∷◌, ◌++◌, IfOk, OnOk, Some, vec_len};
+ghost use Rattle.l4_mail.specs.Ends.{RingId};
+ghost use Rattle.l4_mail.specs.Fabrics.{AreFresh, GainsOutlet, GainsInlet, AreMembers};
 
-use crate::inboxes::Inbox;
-use crate::outlets::Outlet;
 use crate::ports::Port;
+use crate::ways;
 use l4_types::errors::NoMemory;
 use std::alloc::{AllocError, Global};
 
-/// The ports of a new fabric of 1 to 16 processors, in the order of their numbers. Each mailbox has room for so many letters, 1 to
-/// 65,536.
+/// The ports of a new fabric of 1 to 16 processors, in the order of their numbers. Between any two of them goes a ring each way, with
+/// room for so many letters, 1 to 65,536.
 pub fn fabric(alloc: Global, cpus: u8, room: usize) -> Result<Vec<Port>, NoMemory>
     requires cpus { (0 < cpus) × (cpus ≤ 16) }
     requires room { (0 < room) × (room ≤ 65536) }
     ensures { IfOk result (λ ports. AreFresh cpus ports.items) }
 {
-    let mut ports = unlinked(alloc, cpus, room)?;
-    for from in 0..cpus {
-        link(alloc, &mut ports, from)?;
-    }
-    Ok(ports)
-}
-
-// Ports that have no way to any other so far.
-fn unlinked(alloc: Global, cpus: u8, room: usize) -> Result<Vec<Port>, AllocError>
-    requires { 0 < room }
-    ensures { IfOk result (λ ports. AreLinkedTo cpus 0 (map shell ports.items) × HaveMade 0 ports.items) }
-{
     let mut ports = Vec::new(alloc);
     for cpu in 0..cpus {
-        let inbox = Inbox::open(alloc, room)?;
-        ports.push(Port {
-            cpu,
-            inbox,
-            outlets: Vec::new(alloc),
-        })?;
+        let next = join(alloc, &mut ports, cpu, room)?;
+        ports.push(next)?;
     }
     Ok(ports)
 }
 
-// Gives the next port its ways to all ports.
-fn link(alloc: Global, ports: &mut [Port], from: u8) -> Result<(), AllocError>
-    requires within { from < length ports.old }
-    requires linked { AreLinkedTo (length ports.old) from (map shell ports.old) }
-    requires made { HaveMade from ports.old }
-    ensures len { length ports.new ≡ length ports.old }
-    ensures linked { OnOk result (AreLinkedTo (length ports.old) (from + 1) (map shell ports.new)) }
-    ensures made { OnOk result (HaveMade (from + 1) ports.new) }
+// The port of the next processor, which has ways to those that are there and back.
+fn join(alloc: Global, ports: &mut [Port], cpu: u8, room: usize) -> Result<Port, AllocError>
+    requires few { cpu < 16 }
+    requires room { 0 < room }
+    requires members { AreMembers cpu ports.old }
+    ensures { IfOk result (λ next. AreMembers (cpu + 1) (ports.new ++ next ∷ [])) }
 {
-    let outlets = admit_everywhere(alloc, ports, from)?;
-    ports[usize::from(from)].outlets = outlets;
-    Ok(())
+    let mut next = Port {
+        cpu,
+        outlets: Vec::new(alloc),
+        inlets: Vec::new(alloc),
+    };
+    for port in ports.iter_mut() {
+        lay(alloc, room, port, &mut next)?;
+        lay(alloc, room, &mut next, port)?;
+    }
+    next.outlets.push(None)?;
+    next.inlets.push(None)?;
+    Ok(next)
 }
 
-// The outlets of a poster at all mailboxes.
-fn admit_everywhere(alloc: Global, ports: &mut [Port], from: u8) -> Result<Vec<Outlet>, AllocError>
-    requires made { HaveMade from ports.old }
-    ensures same { map shell ports.new ≡ map shell ports.old }
-    ensures made { OnOk result (HaveMade (from + 1) ports.new) }
-    ensures ways { IfOk result (λ outlets. map way outlets.items ≡ ways_from from (map shell ports.old)) }
-    ensures posted { IfOk result (λ outlets. (k : ℕ) → slice_index_or (map posted outlets.items) k [] ≡ []) }
+// A new way from the one to the other.
+fn lay(alloc: Global, room: usize, from: &mut Port, to: &mut Port) -> Result<(), AllocError>
+    requires room { 0 < room }
+    requires few { (vec_len from.old.outlets < 16) × (vec_len to.old.inlets < 16) }
+    ensures { OnOk result ((ring : RingId) × GainsOutlet from.old from.new (Some ring) × GainsInlet to.old to.new (Some ring)) }
 {
-    let mut outlets = Vec::new(alloc);
-    for port in ports.iter_mut() {
-        outlets.push(port.inbox.admit(alloc, from)?)?;
-    }
-    Ok(outlets)
+    let (outlet, inlet) = ways::open(alloc, room)?;
+    from.outlets.push(Some(outlet))?;
+    to.inlets.push(Some(inlet))?;
+    Ok(())
 }

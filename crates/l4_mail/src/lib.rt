@@ -1,12 +1,14 @@
 //! The mail between processors: for each processor a port, by which it posts letters to the others and takes theirs.
 #![tactic(auto)]
 
+mod ends;
 pub mod fabric;
-mod inboxes;
-mod mailbox;
+mod inlets;
+mod lists;
 mod outlets;
 pub mod ports;
-mod rests;
-mod seats;
+pub mod rests;
+mod takes;
 #[cfg(test)]
 mod tests;
+mod ways;

@@ -1,92 +1,88 @@
 //! What is under way, once all ports are in one hand.
-ghost use Rattle.std.specs.Prelude.{◌≡◌, ◌<◌, map, length, IsTrue, Ok, IfOk, OnOk, ℕ, slice_get, Some};
-ghost use Rattle.l4_mail.specs.Rests.{has_number, have_numbers, have_size, are_all};
-ghost use Rattle.l4_mail.specs.Ports.{Carried, AreOneFabric, AreWhole, IsWholeAt, account, carried};
+ghost use Rattle.std.specs.Prelude.{ℕ, ◌≡◌, ◌≢◌, ◌<◌, ◌≤◌, ◌↔◌, false, map, length, OnOk, IfOk, IsErrOf};
+ghost use Rattle.l4_mail.specs.Ports.{AreOneFabric, AreWhole, IsWay, IsWhole, place, account, carried, kept_from};
+ghost use Rattle.l4_mail.specs.declared.rests.RestFault.TheVariants.{NoMemory as OutOfMemory};
+ghost use Rattle.l4_mail.specs.declared.rests.RestFault.TheVariants as RestFault;
+ghost use Rattle.l4_mail.specs.Rests.{has_number, have_numbers, have_size, are_all, IsRested, IsRestedTo, under_way};
 
+use crate::lists::{Rest, list};
 use crate::ports::Port;
-use std::alloc::AllocError;
-use std::sync::Wait;
+use crate::ways;
+use std::alloc::{AllocError, Global};
 
-// Moves all letters on as far as there is room, and puts by what has come.
-fn move_on<R: Wait>(rt: &R, ports: &mut [Port]) -> Result<(), AllocError>
-    ensures { map account ports.new ≡ map account ports.old }
+/// Why a rest is refused.
+#[derive(Clone, Copy, PartialEq, Eq, Debug)]
+pub enum RestFault {
+    /// The ports are not those of all processors of their fabric, each once.
+    Numbers,
+    /// Memory ran out.
+    NoMemory,
+}
+
+impl From<AllocError> for RestFault {
+    ghost from_gives = { λ _ fault. fault ≡ OutOfMemory };
+
+    fn from(_: AllocError) -> RestFault {
+        RestFault::NoMemory
+    }
+}
+
+// Puts all letters of the way from the one to the other by.
+fn rest_between(from: &mut Port, to: &mut Port) -> Result<(), AllocError>
+    requires { IsWay (place from.old) (place to.old) }
+    ensures from { carried from.new ≡ carried from.old }
+    ensures account { account to.new ≡ account to.old }
+    ensures others { (k : ℕ) → k ≢ from.old.cpu → kept_from to.new k ≡ kept_from to.old k }
+    ensures whole { OnOk result (IsWhole (carried from.new) (carried to.new)) }
 {
-    flush_all(ports);
-    for port in ports.iter_mut() {
-        port.keep_all(rt)?;
+    ways::rest(
+        &mut from.outlets[usize::from(to.cpu)],
+        &mut to.inlets[usize::from(from.cpu)],
+    )
+}
+
+// The same of two ports of a list.
+fn rest_pair(ports: &mut [Port], from: usize, to: usize) -> Result<(), AllocError>
+    requires within { (from < length ports.old) × (to < length ports.old) }
+    requires apart { from ≢ to }
+    requires fabric { AreOneFabric ports.old }
+    ensures same { map account ports.new ≡ map account ports.old }
+    ensures rested { OnOk result (IsRested ports.old ports.new from to) }
+{
+    if from < to {
+        let (left, right) = ports.split_at_mut(to);
+        rest_between(&mut left[from], &mut right[0])
+    } else {
+        let (left, right) = ports.split_at_mut(from);
+        rest_between(&mut right[0], &mut left[to])
+    }
+}
+
+// The same of all ways to one port.
+fn rest_to(ports: &mut [Port], to: usize) -> Result<(), AllocError>
+    requires within { to < length ports.old }
+    requires fabric { AreOneFabric ports.old }
+    ensures same { map account ports.new ≡ map account ports.old }
+    ensures rested { OnOk result (IsRestedTo ports.old ports.new to) }
+{
+    for from in 0..ports.len() {
+        if from != to {
+            rest_pair(ports, from, to)?;
+        }
     }
     Ok(())
 }
 
-fn flush_all(ports: &mut [Port])
-    ensures { map account ports.new ≡ map account ports.old }
-{
-    for port in ports.iter_mut() {
-        port.flush();
-    }
-}
-
-// Whether all that the one posted for the other was taken or is kept there.
-fn is_whole_at(ports: &mut [Port], from: usize, to: usize) -> bool
-    requires within { (from < length ports.old) × (to < length ports.old) }
-    requires fabric { AreOneFabric ports.old }
-    ensures same { map carried ports.new ≡ map carried ports.old }
-    ensures whole { IsTrue result → IsWholeAt (map carried ports.old) from to }
-{
-    if from == to {
-        return ports[from].has_all_of_its_own();
-    }
-    if from < to {
-        let (left, right) = ports.split_at_mut(to);
-        right[0].has_all_of(&mut left[from])
-    } else {
-        let (left, right) = ports.split_at_mut(from);
-        left[to].has_all_of(&mut right[0])
-    }
-}
-
-// The same, of all ports that post to one.
-fn is_whole_to(ports: &mut [Port], to: usize) -> bool
-    requires within { to < length ports.old }
-    requires fabric { AreOneFabric ports.old }
-    ensures same { map carried ports.new ≡ map carried ports.old }
-    ensures whole { IsTrue result → (from : ℕ) → IsWholeAt (map carried ports.old) from to }
-{
-    for from in 0..ports.len() {
-        if !is_whole_at(ports, from, to) {
-            return false;
-        }
-    }
-    true
-}
-
-// The same, of all pairs.
-fn are_whole(ports: &mut [Port]) -> bool
-    requires fabric { AreOneFabric ports.old }
-    ensures same { map carried ports.new ≡ map carried ports.old }
-    ensures whole { IsTrue result → AreWhole ports.old }
-{
-    for to in 0..ports.len() {
-        if !is_whole_to(ports, to) {
-            return false;
-        }
-    }
-    true
-}
-
-// Moves all letters on until nothing is missing.
-fn settle<R: Wait>(rt: &R, ports: &mut [Port]) -> Result<(), AllocError>
+// The same of all ways.
+fn settle(ports: &mut [Port]) -> Result<(), AllocError>
     requires { AreOneFabric ports.old }
     ensures same { map account ports.new ≡ map account ports.old }
     ensures whole { OnOk result (AreWhole ports.new) }
 {
-    for _ in rt.forever() {
-        move_on(rt, ports)?;
-        if are_whole(ports) {
-            return Ok(());
-        }
+    for to in 0..ports.len() {
+        rest_to(ports, to)?;
     }
-    unreachable!()
+    Ok(())
 }
 
 fn has_number(ports: &[Port], cpu: usize) -> bool
@@ -127,4 +123,24 @@ fn are_all(ports: &[Port]) -> bool
     ensures { result ≡ are_all ports.now }
 {
     !ports.is_empty() && have_size(ports, ports.len()) && have_numbers(ports, ports.len())
+}
+
+/// Puts all letters that are under way by at the ports that they go to, and lists them. Each `take` gives one of them from then on, while
+/// its port keeps one. What was posted and what was taken stays; where memory is refused, some letters may have been put by, and none is
+/// lost. The ports are of one fabric, in any order.
+///
+/// `Numbers`: they are not the ports of all its processors. Nothing is changed then.
+pub fn rest(alloc: Global, ports: &mut [Port]) -> Result<Rest, RestFault>
+    requires { AreOneFabric ports.old }
+    ensures numbers { IsErrOf result RestFault.Numbers ↔ (are_all ports.old ≡ false) }
+    ensures unchanged { are_all ports.old ≡ false → ports.new ≡ ports.old }
+    ensures same { map account ports.new ≡ map account ports.old }
+    ensures whole { OnOk result (AreWhole ports.new) }
+    ensures list { IfOk result (λ list. map (λ r. (r.0, r.1, r.2.items)) list.items ≡ under_way ports.new) }
+{
+    if !are_all(ports) {
+        return Err(RestFault::Numbers);
+    }
+    settle(ports)?;
+    Ok(list(alloc, ports)?)
 }

@@ -68,6 +68,41 @@ ending quiet
 }
 
 #[test]
+fn a_send_without_time_waits_until_the_partner_of_its_receiver_is_found_deleted(rt: HostRuntime) {
+    // The call goes to a thread that is deleted, which is not known where the caller is.
+    let text = "l4 1 64
+cpus 3
+thread 1.1 cpu 0 space 1
+ipc 3.1 any never never
+thread 2.1 cpu 1 space 1
+ipc 1.1 nil zero never
+thread 4.1 cpu 2 space 1
+delete 3.1
+thread 3.1 cpu 2 space 1
+ipc nil any never never
+";
+    let trace = "order 4.1 3.1 delete
+obey 4.1
+begin 1.1#1
+begin 2.1#1
+queue 2.1#1
+snobody 1.1#1
+stimeout 2.1#1
+local 1.1
+local 2.1
+local 4.1
+";
+    let report = "thread 1.1 ended 4 nil nil 8000
+thread 2.1 ended 2 nil nil 8000
+thread 4.1 ended 0 nil nil 0
+thread 3.1 deleted 0 nil nil 0
+ending quiet
+";
+    let list = "2,0,1,0,2,0,0,1,0,1,2,2,2,0,1";
+    replays(&rt, text, list, (0, trace, report));
+}
+
+#[test]
 fn a_thread_orders_its_own_caller(rt: HostRuntime) {
     // The second order comes behind the answer to the first: the first caller is at nothing then, and waits later.
     let text = "l4 1 64
@@ -219,6 +254,43 @@ thread 3.1 ended 0 1.1 2.1 1000
 ending quiet
 ";
     let list = "1,1,1,1,1,1,0";
+    replays(&rt, text, list, (0, trace, report));
+}
+
+#[test]
+fn an_originator_gets_the_answer_where_three_are_of_three_processors(rt: HostRuntime) {
+    let text = "l4 1 64
+cpus 3
+thread 1.1 cpu 0 space 1
+ipc nil any never never
+thread 2.1 cpu 1 space 1
+vs 1.1
+tag 0x1000
+ipc 3.1 nil never never
+thread 3.1 cpu 2 space 2
+ipc nil 1.1 never never
+ipc last nil never never
+";
+    let trace = "wait 1.1
+local 2.1
+local 2.1
+begin 2.1#1
+queue 2.1#1
+wait 3.1
+deliver 2.1#1 3.1 1.1 2.1 5000
+begin 3.1#1
+queue 3.1#1
+deliver 3.1#1 1.1 3.1 3.1 4000
+local 1.1
+local 2.1
+local 3.1
+";
+    let report = "thread 1.1 ended 0 3.1 3.1 4000
+thread 2.1 ended 0 nil 1.1 0
+thread 3.1 ended 0 nil 2.1 0
+ending quiet
+";
+    let list = "0,1,1,1,2,2,2,2,0,0,1,1,2,2";
     replays(&rt, text, list, (0, trace, report));
 }
 

@@ -11,6 +11,8 @@ mod calls;
 #[cfg(test)]
 mod codes;
 #[cfg(test)]
+mod cores;
+#[cfg(test)]
 mod crossings;
 #[cfg(test)]
 mod deadlines;
@@ -18,6 +20,8 @@ mod deadlines;
 mod faults;
 #[cfg(test)]
 mod letters;
+#[cfg(test)]
+mod limits;
 #[cfg(test)]
 mod orders;
 #[cfg(test)]
@@ -42,6 +46,8 @@ mod ticks;
 mod times;
 #[cfg(test)]
 mod traces;
+#[cfg(test)]
+mod unlawful;
 #[cfg(test)]
 mod values;
 #[cfg(test)]

@@ -5,7 +5,7 @@ ghost use Rattle.l4_trace.specs.declared.fault.TraceFault.TheVariants.{Line};
 ghost use Rattle.l4_trace.specs.Reading.{Reads, IsReadBack, IsWritten, IsFirstFault, steps_of};
 
 use crate::fault::TraceFault;
-use crate::steps::tell_line;
+use crate::steps::{ReadWords, tell_line};
 use l4_history::history::History;
 use l4_types::steps::Step;
 use l4_words::lines::split_line;
@@ -27,10 +27,11 @@ pub fn read_history(alloc: Global, text: &[u8]) -> Result<History, TraceFault>
     ensures { Reads (λ history. history.steps) result (steps_of text.now) }
 {
     let mut history = History::new(alloc);
+    let mut words = ReadWords::new();
     let mut rest = text;
     'lines: while let Some((line, others)) = split_line(rest) {
         history.reserve()?;
-        match tell_line(line, &mut history) {
+        match tell_line(line, &mut words, &mut history) {
             Some(()) => {}
             None => return Err(fault_behind(&history)),
         }

@@ -1,8 +1,8 @@
 //! The steps that lines spell.
-ghost use Rattle.std.specs.Prelude.{◌≡◌, ◌<◌, [], length, is_some};
+ghost use Rattle.std.specs.Prelude.{◌≡◌, ◌<◌, [], length, is_some, MatchOption, None, Some};
 ghost use Rattle.std.specs.Option.{option_map};
 ghost use Rattle.l4_types.specs.StepView.{what_of};
-ghost use Rattle.l4_history.specs.Seen.{seen};
+ghost use Rattle.l4_history.specs.Seen.{seen, delivered as seen_delivery};
 ghost use Rattle.l4_words.specs.Words.{Finds};
 ghost use Rattle.l4_trace.specs.Reading.{message_words, delivered, delivery_of, what_of_word, order_of, tick_of, of_thread, of_name, step_behind, step_of_line};
 ghost use Rattle.l4_trace.specs.Telling.{told_onto};
@@ -10,7 +10,7 @@ ghost use Rattle.l4_trace.specs.Telling.{told_onto};
 use crate::kinds::{Kind, kind_of};
 use crate::names::name;
 use arrayvec::ArrayVec;
-use l4_history::history::History;
+use l4_history::history::{History, MESSAGE_WORDS};
 use l4_history::message_ref::MessageRef;
 use l4_history::step_ref::{DeliveryRef, StepRef};
 use l4_types::ids::GlobalId;
@@ -28,15 +28,20 @@ const CANCEL_BOTH: &[u8] = b"SR";
 
 const DELETE: &[u8] = b"delete";
 
-/// The words of a message that are spelled behind its tag, at most 63.
-fn message_words(mut spelled: Words<'_>) -> Option<ArrayVec<u64, 63>>
-    ensures { Finds (λ words. words.items) result (message_words [] spelled.entry) }
+/// The words of the last message that was read. One row serves all lines, since to make one costs more than to read a short line.
+pub(crate) type ReadWords = ArrayVec<u64, MESSAGE_WORDS>;
+
+/// Reads the words of a message that are spelled behind its tag, at most 63, in the place of those that were read before.
+fn read_words(mut spelled: Words<'_>, words: &mut ReadWords) -> Option<()>
+    ensures { MatchOption result
+        (message_words [] spelled.entry ≡ None)
+        (λ _. message_words [] spelled.entry ≡ Some words.new.items) }
 {
-    let mut words = ArrayVec::new();
-    while let Some(word) = spelled.next() {
-        words.try_push(hexadecimal(word)?).ok()?;
+    words.clear();
+    'spelled: while !spelled.is_done() {
+        words.try_push(spelled.next_hexadecimal()?).ok()?;
     }
-    Some(words)
+    Some(())
 }
 
 fn what(word: &[u8]) -> Option<What>
@@ -107,9 +112,9 @@ fn delivered(
     actual: GlobalId,
     tag: u64,
     words: &[u64],
-) -> Option<StepRef<'_>>
+) -> Option<DeliveryRef<'_>>
     requires { length words.now < 64 }
-    ensures { Finds seen result (delivered name receiver shown actual tag words.now) }
+    ensures { Finds seen_delivery result (delivered name receiver shown actual tag words.now) }
 {
     let tag = MsgTag::from_raw(tag).ok()?;
     let propagated = tag.propagate();
@@ -120,7 +125,7 @@ fn delivered(
         cross: tag != tag.received(false, propagated),
     };
     if delivery.tag() == tag {
-        Some(StepRef::Deliver(delivery))
+        Some(delivery)
     } else {
         None
     }
@@ -128,7 +133,7 @@ fn delivered(
 
 /// Tells what stands behind `deliver`.
 #[tactic(auto, unfolding(crate::specs::Reading::delivery_of))]
-fn tell_delivery(operands: Words<'_>, history: &mut History) -> Option<()>
+fn tell_delivery(operands: Words<'_>, words: &mut ReadWords, history: &mut History) -> Option<()>
     requires { 0 < history.old.room }
     ensures found { is_some result ≡ is_some (delivery_of operands.entry) }
     ensures told { history.new ≡ told_onto history.old (delivery_of operands.entry) }
@@ -139,13 +144,19 @@ fn tell_delivery(operands: Words<'_>, history: &mut History) -> Option<()>
     let shown = thread(third)?;
     let actual = thread(fourth)?;
     let tag = hexadecimal(fifth)?;
-    let words = message_words(others)?;
-    history.push(delivered(name, receiver, shown, actual, tag, &words)?);
+    read_words(others, words)?;
+    let delivery = delivered(name, receiver, shown, actual, tag, words.as_slice())?;
+    history.push_delivery(&delivery);
     Some(())
 }
 
 /// Tells the step of a line that begins with this word.
-fn tell_behind(word: &[u8], operands: Words<'_>, history: &mut History) -> Option<()>
+fn tell_behind(
+    word: &[u8],
+    operands: Words<'_>,
+    words: &mut ReadWords,
+    history: &mut History,
+) -> Option<()>
     requires { 0 < history.old.room }
     ensures found { is_some result ≡ is_some (step_behind word.now operands.entry) }
     ensures told { history.new ≡ told_onto history.old (step_behind word.now operands.entry) }
@@ -153,7 +164,7 @@ fn tell_behind(word: &[u8], operands: Words<'_>, history: &mut History) -> Optio
     let step = match kind_of(word)? {
         Kind::OfThread(kind) => kind.step(of_thread(operands)?),
         Kind::OfName(kind) => kind.step(of_name(operands)?),
-        Kind::Delivery => return tell_delivery(operands, history),
+        Kind::Delivery => return tell_delivery(operands, words, history),
         Kind::Order => order(operands)?,
         Kind::Tick => tick(operands)?,
     };
@@ -163,12 +174,12 @@ fn tell_behind(word: &[u8], operands: Words<'_>, history: &mut History) -> Optio
 
 /// Tells the step that a line without its end spells. None where it spells none, and then nothing is told.
 #[tactic(auto, unfolding(crate::specs::Reading::step_of_line))]
-pub(crate) fn tell_line(line: &[u8], history: &mut History) -> Option<()>
+pub(crate) fn tell_line(line: &[u8], words: &mut ReadWords, history: &mut History) -> Option<()>
     requires { 0 < history.old.room }
     ensures found { is_some result ≡ is_some (step_of_line line.now) }
     ensures told { history.new ≡ told_onto history.old (step_of_line line.now) }
 {
-    let mut words = Words::of(line);
-    let word = words.next()?;
-    tell_behind(word, words, history)
+    let mut operands = Words::of(line);
+    let word = operands.next()?;
+    tell_behind(word, operands, words, history)
 }

@@ -4,7 +4,8 @@ ghost use Rattle.std.specs.List.{list_all};
 ghost use Rattle.l4_types.specs.StepView.{step_of};
 ghost use Rattle.l4_trace.specs.Lines.{has_line, trace_of};
 
-use crate::lines::write_event;
+use crate::lines::{write_event, write_step};
+use l4_history::history::History;
 use l4_types::errors::NoMemory;
 use l4_types::steps::Step;
 use std::alloc::Global;
@@ -17,6 +18,18 @@ pub fn trace(alloc: Global, history: &[Step]) -> Result<Vec<u8>, NoMemory>
     let mut lines = Vec::new(alloc);
     for step in history {
         write_event(step, &mut lines)?;
+    }
+    Ok(lines)
+}
+
+/// The trace of a compact history.
+pub fn trace_history(alloc: Global, history: &History) -> Result<Vec<u8>, NoMemory>
+    ensures lines { IfOk result (λ lines. lines.items ≡ trace_of history.now.steps) }
+    ensures spelled { IfOk result (λ lines. list_all has_line history.now.steps ≡ true) }
+{
+    let mut lines = Vec::new(alloc);
+    for step in history.steps() {
+        write_step(&step, &mut lines)?;
     }
     Ok(lines)
 }

@@ -1,7 +1,13 @@
 pub mod Above
 pub mod Dots
+mod Faces
+mod Few
+mod FirstWord
 pub mod Found
+pub mod Front
 pub mod Numerals
 pub mod Parts
+pub mod Places
+pub mod Separators
 pub mod Spelled
 pub mod Splits

@@ -1,6 +1,8 @@
 -- The words of a line.
 use Rattle.std.specs.Prelude.{ℕ, ◌≡◌, ◌==◌, Option, Some, None, List, [], ◌∷◌}
 use Rattle.std.specs.List.{slice_split}
+use Rattle.l4_model.specs.Conditions.{◌>>=◌}
+use Rattle.l4_words.specs.Numbers.{number_of}
 
 -- What stands between the spaces of a line, byte 32.
 abbrev pub words_in : List ℕ → List (List ℕ)
@@ -36,6 +38,13 @@ five _ = None
 abbrev pub first_five : List (List ℕ) → Option (List ℕ × List ℕ × List ℕ × List ℕ × List ℕ × List (List ℕ))
 first_five (a ∷ b ∷ c ∷ d ∷ e ∷ others) = Some (a, b, c, d, e, others)
 first_five _ = None
+
+-- The first word as a hexadecimal number, and the words behind it.
+abbrev pub first_hexadecimal : List (List ℕ) → Option (ℕ × List (List ℕ))
+first_hexadecimal [] = None
+first_hexadecimal (word ∷ others) = do
+  number ← number_of 16 word
+  Some (number, others)
 
 -- What was found, seen by a view, is what the definition gives.
 abbrev pub Finds : {X Y : Type 0} → (X → Y) → Option X → Option Y → Type 0

@@ -3,11 +3,33 @@ ghost use Rattle.std.specs.Prelude.{◌≡◌, ◌==◌, ◌<◌, ◌∷◌, [],
 ghost use Rattle.std.specs.List.{slice_split};
 ghost use Rattle.l4_words.specs.Lines.{parts_of};
 
+use memchr::memchr;
+
 /// The place of the first such byte.
 pub fn find_byte(byte: u8, bytes: &[u8]) -> Option<usize>
     ensures { result ≡ position (λ other. other == byte) bytes.now }
 {
     bytes.iter().position(|other| *other == byte)
+}
+
+/// The same, and cheaper where the byte is some way off.
+fn find_far_byte(byte: u8, bytes: &[u8]) -> Option<usize>
+    ensures { result ≡ position (λ other. other == byte) bytes.now }
+{
+    memchr(byte, bytes)
+}
+
+// What stands before and behind the first such byte, which is at this place.
+#[inline(always)]
+fn split_at(byte: u8, bytes: &[u8], place: Option<usize>) -> Option<(&[u8], &[u8])>
+    requires { place ≡ position (λ other. other == byte) bytes.now }
+    ensures parts { MatchOption result
+        (slice_split (λ other. other == byte) bytes.now ≡ bytes.now ∷ [])
+        (λ split. slice_split (λ other. other == byte) bytes.now ≡ split.0.now ∷ slice_split (λ other. other == byte) split.1.now) }
+    ensures shorter { IfSome result (λ split. length split.1.now < length bytes.now) }
+{
+    let end = place?;
+    Some((&bytes[..end], &bytes[end + 1..]))
 }
 
 /// What stands before the first such byte, and what follows it. None where there is no such byte.
@@ -17,8 +39,7 @@ pub fn split_once(byte: u8, bytes: &[u8]) -> Option<(&[u8], &[u8])>
         (λ split. slice_split (λ other. other == byte) bytes.now ≡ split.0.now ∷ slice_split (λ other. other == byte) split.1.now) }
     ensures shorter { IfSome result (λ split. length split.1.now < length bytes.now) }
 {
-    let end = find_byte(byte, bytes)?;
-    Some((&bytes[..end], &bytes[end + 1..]))
+    split_at(byte, bytes, find_byte(byte, bytes))
 }
 
 /// The first line of a text, without its end, and what follows. None where no line is ended.
@@ -28,5 +49,5 @@ pub fn split_line(text: &[u8]) -> Option<(&[u8], &[u8])>
         (λ split. parts_of text.now ≡ split.0.now ∷ parts_of split.1.now) }
     ensures shorter { IfSome result (λ split. length split.1.now < length text.now) }
 {
-    split_once(b'\n', text)
+    split_at(b'\n', text, find_far_byte(b'\n', text))
 }

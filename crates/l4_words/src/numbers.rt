@@ -1,35 +1,80 @@
 //! Numbers below 2^64 as words spell them.
-ghost use Rattle.std.specs.Prelude.{◌≡◌};
+ghost use Rattle.std.specs.Prelude.{◌≡◌, ◌<◌, ◌≤◌, ◌+◌, ◌*◌, ◌^◌, IfSome, Some, None, is_some, length, slice_index, take, IfNone};
+ghost use Rattle.std.specs.List.{prefix_len};
 ghost use Rattle.l4_words.specs.Numbers.{digit_of, with_digit, number_onto, value_of, has_leading_zero, number_of, padded_of};
 
-/// The digit that a byte is, with no upper case.
+// So few digits are below 2^64, in base 10 and in base 16.
+const FEW_DIGITS: usize = 16;
+
+// The digit that each byte is, with no upper case. 255 is no digit.
+static DIGITS: [u8; 256] = [
+    255, 255, 255, 255, 255, 255, 255, 255, 255, 255, 255, 255, 255, 255, 255, 255, 255, 255, 255,
+    255, 255, 255, 255, 255, 255, 255, 255, 255, 255, 255, 255, 255, 255, 255, 255, 255, 255, 255,
+    255, 255, 255, 255, 255, 255, 255, 255, 255, 255, 0, 1, 2, 3, 4, 5, 6, 7, 8, 9, 255, 255, 255,
+    255, 255, 255, 255, 255, 255, 255, 255, 255, 255, 255, 255, 255, 255, 255, 255, 255, 255, 255,
+    255, 255, 255, 255, 255, 255, 255, 255, 255, 255, 255, 255, 255, 255, 255, 255, 255, 10, 11,
+    12, 13, 14, 15, 255, 255, 255, 255, 255, 255, 255, 255, 255, 255, 255, 255, 255, 255, 255, 255,
+    255, 255, 255, 255, 255, 255, 255, 255, 255, 255, 255, 255, 255, 255, 255, 255, 255, 255, 255,
+    255, 255, 255, 255, 255, 255, 255, 255, 255, 255, 255, 255, 255, 255, 255, 255, 255, 255, 255,
+    255, 255, 255, 255, 255, 255, 255, 255, 255, 255, 255, 255, 255, 255, 255, 255, 255, 255, 255,
+    255, 255, 255, 255, 255, 255, 255, 255, 255, 255, 255, 255, 255, 255, 255, 255, 255, 255, 255,
+    255, 255, 255, 255, 255, 255, 255, 255, 255, 255, 255, 255, 255, 255, 255, 255, 255, 255, 255,
+    255, 255, 255, 255, 255, 255, 255, 255, 255, 255, 255, 255, 255, 255, 255, 255, 255, 255, 255,
+    255, 255, 255, 255, 255, 255, 255, 255, 255, 255, 255, 255, 255, 255, 255, 255, 255, 255, 255,
+    255, 255, 255, 255,
+];
+
+/// The digit that a byte is.
+#[inline(always)]
 fn digit(byte: u8, radix: u64) -> Option<u64>
+    requires { radix ≤ 16 }
     ensures { result ≡ digit_of radix byte }
 {
-    let digit = match byte {
-        b'0'..=b'9' => byte - b'0',
-        b'a'..=b'f' => byte - b'a' + 10,
-        _ => return None,
-    };
-    let digit = u64::from(digit);
+    let digit = u64::from(DIGITS[usize::from(byte)]);
     if digit < radix { Some(digit) } else { None }
 }
 
 /// A number with one more digit behind it.
 fn with_digit(value: u64, byte: u8, radix: u64) -> Option<u64>
+    requires { radix ≤ 16 }
     ensures { result ≡ with_digit radix value byte }
 {
     let digit = digit(byte, radix)?;
     value.checked_mul(radix)?.checked_add(digit)
 }
 
-/// The number of one digit or more, 10 or 16 of them in the base.
-fn value(digits: &[u8], radix: u64) -> Option<u64>
-    ensures { result ≡ value_of radix digits.now }
+/// The same of a number that has room for one more digit.
+#[inline(always)]
+fn with_next_digit(value: u64, byte: u8, radix: u64) -> Option<u64>
+    requires room { (value + 1) * 16 ≤ 2 ^ 64 }
+    requires radix { radix ≤ 16 }
+    ensures value { result ≡ with_digit radix value byte }
+    ensures small { IfSome result (λ more. more < (value + 1) * 16) }
+    ensures none { IfNone result (digit_of radix byte ≡ None) }
 {
-    if digits.is_empty() {
-        return None;
+    let digit = digit(byte, radix)?;
+    Some(value * radix + digit)
+}
+
+/// The number of few digits, which none of them makes too large.
+#[inline(always)]
+fn value_of_few(digits: &[u8], radix: u64) -> Option<u64>
+    requires few { length digits.now ≤ 16 }
+    requires radix { radix ≤ 16 }
+    ensures { result ≡ number_onto radix 0 digits.now }
+{
+    let mut value = 0;
+    for byte in digits {
+        value = with_next_digit(value, *byte, radix)?;
     }
+    Some(value)
+}
+
+/// The number of any digits.
+fn value_of_many(digits: &[u8], radix: u64) -> Option<u64>
+    requires { radix ≤ 16 }
+    ensures { result ≡ number_onto radix 0 digits.now }
+{
     let mut value = 0;
     for byte in digits {
         value = with_digit(value, *byte, radix)?;
@@ -37,6 +82,22 @@ fn value(digits: &[u8], radix: u64) -> Option<u64>
     Some(value)
 }
 
+/// The number of one digit or more, 10 or 16 of them in the base.
+#[inline(always)]
+fn value(digits: &[u8], radix: u64) -> Option<u64>
+    requires { radix ≤ 16 }
+    ensures { result ≡ value_of radix digits.now }
+{
+    if digits.is_empty() {
+        None
+    } else if digits.len() <= FEW_DIGITS {
+        value_of_few(digits, radix)
+    } else {
+        value_of_many(digits, radix)
+    }
+}
+
+#[inline(always)]
 fn has_leading_zero(word: &[u8]) -> bool
     ensures { result ≡ has_leading_zero word.now }
 {
@@ -44,7 +105,9 @@ fn has_leading_zero(word: &[u8]) -> bool
 }
 
 /// The number of a word in its one spelling in a base.
+#[inline(always)]
 fn number(word: &[u8], radix: u64) -> Option<u64>
+    requires { radix ≤ 16 }
     ensures { result ≡ number_of radix word.now }
 {
     if has_leading_zero(word) {
@@ -52,6 +115,70 @@ fn number(word: &[u8], radix: u64) -> Option<u64>
     } else {
         value(word, radix)
     }
+}
+
+/// How many digits stand in front of a text.
+#[inline(always)]
+fn count_digits(text: &[u8], radix: u64) -> usize
+    requires { radix ≤ 16 }
+    ensures { result ≡ prefix_len (λ byte. is_some (digit_of radix byte)) text.now }
+{
+    let mut count = 0;
+    while count < text.len() && digit(text[count], radix).is_some() {
+        count += 1;
+    }
+    count
+}
+
+/// The value of the digits in front of a short text, and how many they are.
+#[inline(always)]
+fn few_in_front(text: &[u8], radix: u64) -> (u64, usize)
+    requires few { length text.now ≤ 16 }
+    requires radix { radix ≤ 16 }
+    ensures count { result.1 ≤ length text.now }
+    ensures value { number_onto radix 0 (take result.1 text.now) ≡ Some result.0 }
+    ensures end { result.1 < length text.now → digit_of radix (slice_index text.now result.1) ≡ None }
+{
+    let mut value = 0;
+    let mut count = 0;
+    while count < text.len() {
+        let Some(more) = with_next_digit(value, text[count], radix) else {
+            return (value, count);
+        };
+        value = more;
+        count += 1;
+    }
+    (value, count)
+}
+
+/// The number that the digits in front of a text spell in a base, and how many they are.
+#[inline(always)]
+fn number_in_front(text: &[u8], radix: u64) -> (Option<u64>, usize)
+    requires { radix ≤ 16 }
+    ensures count { result.1 ≡ prefix_len (λ byte. is_some (digit_of radix byte)) text.now }
+    ensures value { result.0 ≡ number_of radix (take result.1 text.now) }
+{
+    let few = text.len().min(FEW_DIGITS);
+    let (value, count) = few_in_front(&text[..few], radix);
+    if count_digits(&text[count..], radix) != 0 {
+        let count = count_digits(text, radix);
+        return (number(&text[..count], radix), count);
+    }
+    let digits = &text[..count];
+    if digits.is_empty() || has_leading_zero(digits) {
+        (None, count)
+    } else {
+        (Some(value), count)
+    }
+}
+
+/// The hexadecimal number in front of a text, and how many digits it has.
+pub(crate) fn hexadecimal_in_front(text: &[u8]) -> (Option<u64>, usize)
+    ensures count { result.1 ≡ prefix_len (λ byte. is_some (digit_of 16 byte)) text.now }
+    ensures within { result.1 ≤ length text.now }
+    ensures value { result.0 ≡ number_of 16 (take result.1 text.now) }
+{
+    number_in_front(text, 16)
 }
 
 /// The number of decimal digits without a leading zero. None where it is 2^64 or more.

@@ -1,8 +1,10 @@
 //! The words of a line.
-ghost use Rattle.std.specs.Prelude.{◌≡◌, ◌∷◌, [], MatchOption};
-ghost use Rattle.l4_words.specs.Words.{Finds, words_in, one, two, three, four, five, first_five};
+ghost use Rattle.std.specs.Prelude.{◌≡◌, ◌≢◌, ◌∷◌, [], None, Some, IsFalse, IsTrue, MatchOption};
+ghost use Rattle.std.specs.Option.{option_copied, option_map};
+ghost use Rattle.l4_words.specs.Words.{Finds, words_in, one, two, three, four, five, first_five, first_hexadecimal, words_left};
 
 use crate::lines::split_once;
+use crate::numbers::hexadecimal_in_front;
 use std::marker::Model;
 
 /// The words of a line that are still to be read.
@@ -55,6 +57,27 @@ impl<'a> Words<'a> {
                 Some(line)
             }
         }
+    }
+
+    /// Whether no word is left.
+    #[tactic(auto, using(crate::proofs::FirstWord::some_word))]
+    pub fn is_done(&self) -> bool
+        ensures done { IsTrue result → self.now ≡ [] }
+        ensures more { IsFalse result → self.now ≢ [] }
+    {
+        match self.rest {
+            Some(_) => false,
+            None => true,
+        }
+    }
+
+    /// The next word, as a hexadecimal number. None where no word is left, and where the next one spells none.
+    pub fn next_hexadecimal(&mut self) -> Option<u64>
+        ensures { MatchOption result (first_hexadecimal self.old ≡ None) (λ number. first_hexadecimal self.old ≡ Some (number, self.new)) }
+    {
+        let (number, rest) = split_hexadecimal(self.rest?);
+        self.rest = rest;
+        number
     }
 
     /// The one word that is left. None where there are more or fewer.
@@ -141,4 +164,18 @@ impl<'a> Words<'a> {
             _ => None,
         }
     }
+}
+
+// The first word as a hexadecimal number, where it spells one, and what follows the space behind it.
+fn split_hexadecimal(line: &[u8]) -> (Option<u64>, Option<&[u8]>)
+    ensures { first_hexadecimal (words_in line.now) ≡ option_map (λ number. (number, words_left (option_copied result.1))) result.0 }
+{
+    let (number, end) = hexadecimal_in_front(line);
+    if end == line.len() {
+        return (number, None);
+    }
+    if line[end] != b' ' {
+        return (None, None);
+    }
+    (number, Some(&line[end + 1..]))
 }

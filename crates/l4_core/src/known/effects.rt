@@ -1,9 +1,9 @@
 //! What an event does to one thread and to the lists.
-ghost use Rattle.std.specs.Prelude.{◌≡◌, ◌<◌, ◌≤◌, ◌+◌, ◌^◌, Some, None, IsSome, true, false, length, slice_get, is_none, ℕ};
+ghost use Rattle.std.specs.Prelude.{◌≡◌, ◌≢◌, ◌<◌, ◌≤◌, ◌+◌, ◌^◌, Some, None, IsSome, true, false, length, slice_get, get_or, set, is_none, ℕ};
 ghost use Rattle.l4_model.specs.Words.{word_of_tag};
 ghost use Rattle.l4_model.specs.Machine.{Delete as DeleteThread};
 ghost use Rattle.l4_model.specs.Conditions.{act_of, instruction};
-ghost use Rattle.l4_model.specs.Effects.{receives, decided};
+ghost use Rattle.l4_model.specs.Effects.{decided};
 ghost use Rattle.l4_types.specs.StepView.{what_of};
 ghost use Rattle.l4_script.specs.Scripts.{instr_of};
 ghost use Rattle.l4_thread.specs.Changes.{change_of, may_advance};
@@ -14,7 +14,9 @@ ghost use Rattle.l4_core_model.specs.Local.{thread, declared, held, is_own, chan
 ghost use Rattle.l4_core_model.specs.Acts.{asks};
 ghost use Rattle.l4_core_model.specs.Turns.{clock_is, has_told};
 ghost use Rattle.tcb_arena.specs.Blocks.{is_ready as is_ready_in};
-ghost use Rattle.l4_core.specs.Changing.{forgets_order, IsFitting};
+ghost use Rattle.l4_core.specs.Changing.{forgets_order, receives_from, IsFitting};
+ghost use Rattle.l4_thread.specs.Parts.{Block};
+ghost use Rattle.l4_core.specs.Parts.{passed};
 ghost use Rattle.l4_core.specs.Processor.{with_local};
 ghost use Rattle.l4_core.specs.Turning.{begun_by, IsAtHand, IsFree, IsNotSplit, IsOwnOf, IsReceiver, IsSender};
 
@@ -22,6 +24,7 @@ use crate::known::Known;
 use l4_script::instructions::Instr;
 use l4_thread::changes::Change;
 use l4_thread::phases::Began;
+use l4_thread::tcb::Tcb;
 use l4_types::ids::GlobalId;
 use l4_types::messages::Message;
 use l4_types::steps::{Name, What};
@@ -55,13 +58,14 @@ impl Known<'_> {
         self.settle(place);
     }
 
-    /// A thread receives a message, with this tag.
-    pub(crate) fn receive(&mut self, place: usize, message: &Message, tag: MsgTag)
-        requires { IsReceiver self.old place }
-        ensures { self.new ≡ with_local self.old (comes_to place (receives message.now (word_of_tag tag)) self.old.local) }
+    /// A thread receives the message that another one sends, with this tag. Its words go from block to block, and nowhere else.
+    pub(crate) fn receive_from(&mut self, receiver: usize, sender: usize, tag: MsgTag)
+        requires receiver { IsReceiver self.old receiver }
+        requires sender { IsSender self.old sender }
+        ensures { self.new ≡ with_local self.old (comes_to receiver (receives_from (thread self.old.local sender).send (word_of_tag tag)) self.old.local) }
     {
-        self.threads[place].receive(message, tag);
-        self.settle(place);
+        pass_message(self.threads.as_mut_slice(), receiver, sender, tag);
+        self.settle(receiver);
     }
 
     /// A thread begins the first phase of an Ipc, where it has one.
@@ -233,5 +237,30 @@ impl Known<'_> {
         ensures { self.new ≡ with_local self.old (changes place is_gone_now self.old.local) }
     {
         self.threads[place].note_gone();
+    }
+}
+
+// A block receives the message that another one sends, with this tag.
+fn pass_message(blocks: &mut [Tcb], receiver: usize, sender: usize, tag: MsgTag)
+    requires receiver { receiver < length blocks.old }
+    requires sender { sender < length blocks.old }
+    requires apart { receiver ≢ sender }
+    ensures { (d : Block) → blocks.new ≡ set blocks.old receiver (passed (word_of_tag tag) (get_or blocks.old sender d) (get_or blocks.old receiver d)) }
+{
+    if receiver < sender {
+        let (front, back) = blocks.split_at_mut(sender);
+        receive_from(&mut front[receiver], &back[0], tag);
+    } else {
+        let (front, back) = blocks.split_at_mut(receiver);
+        receive_from(&mut back[0], &front[sender], tag);
+    }
+}
+
+// A thread receives the message of another one's send, with this tag.
+fn receive_from(receiver: &mut Tcb, sender: &Tcb, tag: MsgTag)
+    ensures { receiver.new ≡ passed (word_of_tag tag) sender.now receiver.old }
+{
+    if let Some(send) = sender.send() {
+        receiver.receive(send.message(), tag);
     }
 }

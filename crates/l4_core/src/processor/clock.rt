@@ -1,20 +1,22 @@
 //! The clock of a processor goes on.
 ghost use Rattle.std.specs.Prelude.{◌≡◌, ◌↔◌, ◌⊎◌, IfErr, IfOk, IsErrOf, IsSome, None, OnErr, false};
 ghost use Rattle.l4_core_model.specs.Turns.{advance, can_stamp};
-ghost use Rattle.l4_core.specs.Tellings.{nothing};
+ghost use Rattle.l4_core.specs.Tellings.{IsOpen};
 ghost use Rattle.l4_core.specs.Turning.{IsEvent};
 
 use crate::processor::{Core, Fault};
 use crate::told::Told;
-use l4_types::steps::{CLOCKS, Step, Tick};
+use l4_history::sink::Sink;
+use l4_history::step_ref::StepRef;
+use l4_types::steps::{CLOCKS, Tick};
 
 impl Core<'_> {
     /// The clock goes on to this value, in ticks. Answers the stamp of the event.
     /// `Clock`: the value is not above the clock, or not below 2^62. `Stamp`: else, where the next stamp would reach 2^62. Nothing is changed
-    /// then. Condition: nothing is told yet.
-    pub fn advance_into(&mut self, to: u64, told: &mut Told) -> Result<u64, Fault>
-        requires untold { told.old ≡ nothing }
-        ensures ok { IfOk result (λ stamp. IsEvent (advance self.old.machine self.old.cpu to self.old.local) self.old self.new told.new stamp) }
+    /// then. Condition: the event that `told` has begun has told nothing yet.
+    pub fn advance_into<S: Sink>(&mut self, to: u64, told: &mut Told<S>) -> Result<u64, Fault>
+        requires untold { IsOpen told.old }
+        ensures ok { IfOk result (λ stamp. IsEvent (advance self.old.machine self.old.cpu to self.old.local) self.old self.new told.old told.new stamp) }
         ensures err { OnErr result ((self.new ≡ self.old) × (told.new ≡ told.old)) }
         ensures faults { IfErr result (λ fault. (fault ≡ Fault.Clock) ⊎ (fault ≡ Fault.Stamp)) }
         ensures clock { IsErrOf result Fault.Clock ↔ (advance self.old.machine self.old.cpu to self.old.local ≡ None) }
@@ -28,7 +30,7 @@ impl Core<'_> {
         }
         let stamp = self.open(0);
         let tick = Tick::new(self.known.cpu(), to).unwrap();
-        told.tell(Step::Tick(tick));
+        told.tell(StepRef::Tick(tick));
         self.known.set_clock(to);
         Ok(stamp)
     }

@@ -2,7 +2,7 @@
 ghost use Rattle.std.specs.Prelude.{◌≡◌, ◌<◌, ◌+◌, ◌^◌, Some, IsSome, false, true, length, slice_get, is_none, ℕ};
 ghost use Rattle.l4_model.specs.Words.{word_of_tag};
 ghost use Rattle.l4_model.specs.Conditions.{act_of, instruction};
-ghost use Rattle.l4_model.specs.Effects.{receives, decided};
+ghost use Rattle.l4_model.specs.Effects.{decided};
 ghost use Rattle.l4_types.specs.StepView.{what_of};
 ghost use Rattle.l4_script.specs.Scripts.{instr_of};
 ghost use Rattle.l4_thread.specs.Changes.{change_of};
@@ -13,7 +13,7 @@ ghost use Rattle.l4_core_model.specs.Local.{declared, thread, held, changes, com
 ghost use Rattle.l4_core_model.specs.Acts.{asks};
 ghost use Rattle.l4_core_model.specs.Turns.{has_told};
 ghost use Rattle.tcb_arena.specs.Blocks.{is_ready as is_ready_in};
-ghost use Rattle.l4_core.specs.Changing.{forgets_order, IsFitting};
+ghost use Rattle.l4_core.specs.Changing.{forgets_order, receives_from, IsFitting};
 ghost use Rattle.l4_core.specs.Covered.{is_zero_send};
 ghost use Rattle.l4_core.specs.Processor.{with_local};
 ghost use Rattle.l4_core.specs.Tasks.{IsForeign};
@@ -40,13 +40,14 @@ impl Core<'_> {
         self.known.come_to(place, change);
     }
 
-    /// A thread receives a message, with this tag.
-    pub(super) fn receive(&mut self, place: usize, message: &Message, tag: MsgTag)
-        requires { IsReceiver self.old place }
-        ensures { self.new ≡ with_local self.old (comes_to place (receives message.now (word_of_tag tag)) self.old.local) }
+    /// A thread receives the message that another one sends, with this tag.
+    pub(super) fn receive_from(&mut self, place: usize, sender: usize, tag: MsgTag)
+        requires receiver { IsReceiver self.old place }
+        requires sender { IsSender self.old sender }
+        ensures { self.new ≡ with_local self.old (comes_to place (receives_from (thread self.old.local sender).send (word_of_tag tag)) self.old.local) }
     {
         note(&self.known, &mut self.duties, place);
-        self.known.receive(place, message, tag);
+        self.known.receive_from(place, sender, tag);
     }
 
     /// A thread begins the first phase of an Ipc, where it has one.

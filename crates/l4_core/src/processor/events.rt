@@ -1,7 +1,7 @@
 //! What was chosen is done.
 ghost use Rattle.std.specs.Prelude.{◌≡◌, ◌<◌, ◌≤◌, Some, slice_get, ℕ, true};
 ghost use Rattle.l4_types.specs.Codes.{code_of};
-ghost use Rattle.l4_types.specs.StepView.{step_of};
+ghost use Rattle.l4_history.specs.Seen.{seen};
 ghost use Rattle.l4_core_model.specs.Plain.{due_block};
 ghost use Rattle.l4_core_model.specs.Local.{is_own, thread};
 ghost use Rattle.l4_core_model.specs.Turns.{does_choice, does_duty, times_out, TellsGone, ByDue as IsDue, ByReady as IsReady};
@@ -12,14 +12,15 @@ ghost use Rattle.l4_core.specs.Turning.{fails_with, Does, IsOwnOf, IsReceiver};
 use crate::known::duties::Duty;
 use crate::processor::{Choice, Core};
 use crate::told::Told;
+use l4_history::sink::Sink;
+use l4_history::step_ref::StepRef;
 use l4_thread::changes::Change;
 use l4_types::errors::IpcError;
 use l4_types::letters::{Cause, Content, Refusal};
-use l4_types::steps::Step;
 
 impl Core<'_> {
     /// What was chosen is done.
-    pub(super) fn carry_out(&mut self, choice: &Choice, told: &mut Told)
+    pub(super) fn carry_out<S: Sink>(&mut self, choice: &Choice, told: &mut Told<S>)
         requires possible { IsPossible choice.now self.old }
         requires count { (place : ℕ) → is_own self.old.machine self.old.cpu place ≡ true → (thread self.old.local place).context.begun < self.old.local.stamp }
         requires room { 3 ≤ told.old.room }
@@ -34,7 +35,7 @@ impl Core<'_> {
     }
 
     // The first ready thread runs its next instruction.
-    fn do_ready(&mut self, place: usize, told: &mut Told)
+    fn do_ready<S: Sink>(&mut self, place: usize, told: &mut Told<S>)
         requires first { slice_get self.old.local.lists.ready 0 ≡ Some place }
         requires count { is_own self.old.machine self.old.cpu place ≡ true → (thread self.old.local place).context.begun < self.old.local.stamp }
         requires room { 3 ≤ told.old.room }
@@ -47,7 +48,7 @@ impl Core<'_> {
     }
 
     // The deadline of a thread is past.
-    fn do_due(&mut self, place: usize, told: &mut Told)
+    fn do_due<S: Sink>(&mut self, place: usize, told: &mut Told<S>)
         requires due { due_block self.old.local.clock self.old.local.lists.armed ≡ Some place }
         requires room { 3 ≤ told.old.room }
         requires slots { 2 ≤ told.old.slots }
@@ -59,7 +60,7 @@ impl Core<'_> {
     }
 
     // The time of a thread's phase has passed.
-    fn time_out(&mut self, place: usize, told: &mut Told)
+    fn time_out<S: Sink>(&mut self, place: usize, told: &mut Told<S>)
         requires own { IsOwnOf self.old place }
         requires room { 3 ≤ told.old.room }
         requires slots { 2 ≤ told.old.slots }
@@ -67,7 +68,7 @@ impl Core<'_> {
     {
         let _few = self.known.len();
         if self.known.receiving(place).is_some() {
-            let step = Step::ReceiveTimeout(self.known.id(place));
+            let step = StepRef::ReceiveTimeout(self.known.id(place));
             self.fail_receive(place, step, IpcError::ReceiveTimeout, told);
         } else if self.known.is_queued(place) {
             self.refuse(place, Refusal::TimedOut, told);
@@ -77,10 +78,16 @@ impl Core<'_> {
     }
 
     // The receive phase of a thread fails, as this step tells.
-    fn fail_receive(&mut self, place: usize, step: Step, error: IpcError, told: &mut Told)
+    fn fail_receive<S: Sink>(
+        &mut self,
+        place: usize,
+        step: StepRef<'_>,
+        error: IpcError,
+        told: &mut Told<S>,
+    )
         requires receiver { IsReceiver self.old place }
         requires room { 0 < told.old.room }
-        ensures { Does (fails_with (step_of step) (code_of error) place) self.old self.new told.old told.new }
+        ensures { Does (fails_with (seen step.entry) (code_of error) place) self.old self.new told.old told.new }
     {
         let _few = self.known.len();
         told.tell(step);
@@ -88,7 +95,7 @@ impl Core<'_> {
     }
 
     // The duty of a thread is done.
-    fn do_duty(&mut self, place: usize, duty: Duty, told: &mut Told)
+    fn do_duty<S: Sink>(&mut self, place: usize, duty: Duty, told: &mut Told<S>)
         requires first { IsFirstDuty place (duty_of duty) self.old.machine self.old.cpu self.old.local }
         requires room { 3 ≤ told.old.room }
         requires slots { 2 ≤ told.old.slots }
@@ -101,12 +108,12 @@ impl Core<'_> {
             Duty::TellGone(cpu) => self.tell_gone(place, cpu, told),
             Duty::CancelOwn => self.refuse(place, Refusal::Cancelled, told),
             Duty::CancelReceive => {
-                let step = Step::ReceiveCancel(self.known.id(place));
+                let step = StepRef::ReceiveCancel(self.known.id(place));
                 self.fail_receive(place, step, IpcError::ReceiveCancelled, told);
             }
             Duty::DeliverFirst(sender) => self.deliver(place, sender, told),
             Duty::CloseReceive => {
-                let step = Step::ReceiveNobody(self.known.id(place));
+                let step = StepRef::ReceiveNobody(self.known.id(place));
                 self.fail_receive(place, step, IpcError::ReceiveNobody, told);
             }
             Duty::RefuseZero(sender) => self.refuse(sender, Refusal::TimedOut, told),
@@ -114,7 +121,7 @@ impl Core<'_> {
     }
 
     // A processor is told that a thread is deleted.
-    fn tell_gone(&mut self, place: usize, cpu: u8, told: &mut Told)
+    fn tell_gone<S: Sink>(&mut self, place: usize, cpu: u8, told: &mut Told<S>)
         requires own { IsOwnOf self.old place }
         requires cpu { cpu < self.old.machine.cpus }
         requires slots { 0 < told.old.slots }

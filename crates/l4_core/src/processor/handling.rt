@@ -8,12 +8,13 @@ ghost use Rattle.l4_types.specs.LetterView.{decision_of, letter_of};
 ghost use Rattle.l4_core.specs.Tasks.{does_task, IsArrival, IsCaller, IsObedience, IsSplit, IsTask};
 ghost use Rattle.l4_core.specs.declared.known.tasks.Task.TheVariants.{Arrive, Obey};
 ghost use Rattle.l4_core.specs.Processor.{with_local};
-ghost use Rattle.l4_core.specs.Tellings.{nothing};
+ghost use Rattle.l4_core.specs.Tellings.{IsOpen};
 ghost use Rattle.l4_core.specs.Turning.{Does, IsEvent};
 
 use crate::known::tasks::Task;
 use crate::processor::{Core, Fault};
 use crate::told::Told;
+use l4_history::sink::Sink;
 use l4_thread::changes::Change;
 use l4_types::ids::GlobalId;
 use l4_types::letters::{Content, Decision, Letter};
@@ -24,11 +25,15 @@ impl Core<'_> {
     /// Handles a letter from another processor. Answers the stamp of the event. A withdrawal of a send that waits here no more is lawful and
     /// does nothing, and so is the end of an order of a deleted caller.
     ///
-    /// `Mail`: the letter is not lawful here. `Stamp`: else, where the next stamp would reach 2^62. Nothing is changed then. Condition: nothing
-    /// is told yet.
-    pub fn handle_into(&mut self, letter: &Letter, told: &mut Told) -> Result<u64, Fault>
-        requires untold { told.old ≡ nothing }
-        ensures ok { IfOk result (λ stamp. IsEvent (handle self.old.machine self.old.cpu self.old.local (letter_of letter.now)) self.old self.new told.new stamp) }
+    /// `Mail`: the letter is not lawful here. `Stamp`: else, where the next stamp would reach 2^62. Nothing is changed then. Condition: the
+    /// event that `told` has begun has told nothing yet.
+    pub fn handle_into<S: Sink>(
+        &mut self,
+        letter: &Letter,
+        told: &mut Told<S>,
+    ) -> Result<u64, Fault>
+        requires untold { IsOpen told.old }
+        ensures ok { IfOk result (λ stamp. IsEvent (handle self.old.machine self.old.cpu self.old.local (letter_of letter.now)) self.old self.new told.old told.new stamp) }
         ensures err { OnErr result ((self.new ≡ self.old) × (told.new ≡ told.old)) }
         ensures faults { IfErr result (λ fault. (fault ≡ Fault.Mail) ⊎ (fault ≡ Fault.Stamp)) }
         ensures mail { IsErrOf result Fault.Mail ↔ (handle self.old.machine self.old.cpu self.old.local (letter_of letter.now) ≡ None) }
@@ -47,7 +52,7 @@ impl Core<'_> {
     }
 
     // What a letter asks for is done.
-    fn do_task(&mut self, task: Task, told: &mut Told)
+    fn do_task<S: Sink>(&mut self, task: Task, told: &mut Told<S>)
         requires possible { IsTask task self.old }
         requires room { 3 ≤ told.old.room }
         requires slots { 2 ≤ told.old.slots }
@@ -77,7 +82,7 @@ impl Core<'_> {
     }
 
     // A send of another processor's thread has come to its receiver.
-    fn take_in(
+    fn take_in<S: Sink>(
         &mut self,
         receiver: usize,
         sender: usize,
@@ -85,7 +90,7 @@ impl Core<'_> {
         to: GlobalId,
         message: Message,
         zero_timeout: bool,
-        told: &mut Told,
+        told: &mut Told<S>,
     )
         requires possible { IsArrival self.old receiver sender message }
         requires room { 2 ≤ told.old.room }
@@ -107,13 +112,13 @@ impl Core<'_> {
     }
 
     // What a thread of another processor asks for is done, and its processor is told so.
-    fn obey_for(
+    fn obey_for<S: Sink>(
         &mut self,
         target: usize,
         from: usize,
         caller: GlobalId,
         what: What,
-        told: &mut Told,
+        told: &mut Told<S>,
     )
         requires possible { IsObedience self.old target from }
         requires room { 3 ≤ told.old.room }

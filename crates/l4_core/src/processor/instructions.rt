@@ -16,13 +16,15 @@ ghost use Rattle.l4_core.specs.Turning.{Does, IsAtHand, IsOwnOf};
 
 use crate::processor::Core;
 use crate::told::Told;
+use l4_history::sink::Sink;
+use l4_history::step_ref::StepRef;
 use l4_script::instructions::Instr;
 use l4_thread::changes::Change;
 use l4_thread::orders::Asked;
 use l4_thread::phases::Began;
 use l4_types::ids::{GlobalId, ThreadId};
 use l4_types::letters::{Cause, Content};
-use l4_types::steps::{Step, What};
+use l4_types::steps::What;
 
 // Why an order withdraws a send of its target, where it does.
 fn cause_of(what: What) -> Option<Cause>
@@ -38,7 +40,13 @@ fn cause_of(what: What) -> Option<Cause>
 impl Core<'_> {
     /// What a caller asks for is done to a thread of this processor. The split send of one that was not deleted yet is withdrawn, where that is
     /// asked for.
-    pub(super) fn obey_order(&mut self, caller: GlobalId, what: What, place: usize, told: &mut Told)
+    pub(super) fn obey_order<S: Sink>(
+        &mut self,
+        caller: GlobalId,
+        what: What,
+        place: usize,
+        told: &mut Told<S>,
+    )
         requires own { IsOwnOf self.old place }
         requires room { 0 < told.old.room }
         requires slots { 2 ≤ told.old.slots }
@@ -46,7 +54,7 @@ impl Core<'_> {
         ensures slots { 1 ≤ told.new.slots }
     {
         let was_deleted = self.known.is_deleted(place);
-        told.tell(Step::Obey(caller));
+        told.tell(StepRef::Obey(caller));
         self.ask(place, what);
         if !was_deleted {
             if let Some(cause) = cause_of(what) {
@@ -56,7 +64,7 @@ impl Core<'_> {
     }
 
     /// A thread runs its next instruction.
-    pub(super) fn act(&mut self, place: usize, told: &mut Told)
+    pub(super) fn act<S: Sink>(&mut self, place: usize, told: &mut Told<S>)
         requires hand { IsAtHand self.old place }
         requires count { (thread self.old.local place).context.begun < self.old.local.stamp }
         requires room { 3 ≤ told.old.room }
@@ -72,7 +80,7 @@ impl Core<'_> {
     }
 
     // A thread runs an instruction that concerns nobody else.
-    fn run(&mut self, place: usize, instr: &Instr, told: &mut Told)
+    fn run<S: Sink>(&mut self, place: usize, instr: &Instr, told: &mut Told<S>)
         requires hand { IsAtHand self.old place }
         requires instr { instr_of instr.now ≡ instruction (held self.old.machine self.old.local place) }
         requires within { is_end (instr_of instr.now) ≡ false → (thread self.old.local place).context.place < 1024 }
@@ -80,12 +88,12 @@ impl Core<'_> {
         ensures { Does (runs_alone_at self.old.machine place) self.old self.new told.old told.new }
     {
         let _few = self.known.len();
-        told.tell(Step::Local(self.known.id(place)));
+        told.tell(StepRef::Local(self.known.id(place)));
         self.come_to(place, &Change::Run(*instr));
     }
 
     // A thread makes an Ipc.
-    fn ipc(&mut self, place: usize, instr: &Instr, told: &mut Told)
+    fn ipc<S: Sink>(&mut self, place: usize, instr: &Instr, told: &mut Told<S>)
         requires hand { IsAtHand self.old place }
         requires instr { instr_of instr.now ≡ instruction (held self.old.machine self.old.local place) }
         requires ipc { is_ipc (instr_of instr.now) ≡ true }
@@ -98,16 +106,23 @@ impl Core<'_> {
         let _few = self.known.len();
         match self.begin(place, instr) {
             Began::Nothing => self.run(place, instr, told),
-            Began::Receive => told.tell(Step::Wait(self.known.id(place))),
+            Began::Receive => told.tell(StepRef::Wait(self.known.id(place))),
             Began::Send => {
-                told.tell(Step::Begin(self.known.last_name(place)));
+                told.tell(StepRef::Begin(self.known.last_name(place)));
                 self.send(place, told);
             }
         }
     }
 
     // A thread asks for a cancellation or a deletion, which is refused where it is not admitted.
-    fn order(&mut self, place: usize, instr: &Instr, target: ThreadId, what: What, told: &mut Told)
+    fn order<S: Sink>(
+        &mut self,
+        place: usize,
+        instr: &Instr,
+        target: ThreadId,
+        what: What,
+        told: &mut Told<S>,
+    )
         requires hand { IsAtHand self.old place }
         requires instr { instr_of instr.now ≡ instruction (held self.old.machine self.old.local place) }
         requires ask { instr_of instr.now ≡ Ask target (what_of what) }
@@ -123,7 +138,7 @@ impl Core<'_> {
     }
 
     // An admitted order is given, and done where its target is of this processor.
-    fn give(&mut self, place: usize, target: GlobalId, what: What, told: &mut Told)
+    fn give<S: Sink>(&mut self, place: usize, target: GlobalId, what: What, told: &mut Told<S>)
         requires hand { IsAtHand self.old place }
         requires within { (thread self.old.local place).context.place < 1024 }
         requires room { 2 ≤ told.old.room }
@@ -133,7 +148,7 @@ impl Core<'_> {
         let _few = self.known.len();
         let caller = self.known.id(place);
         self.come_to(place, &Change::GiveOrder(Asked::new(target, what)));
-        told.tell(Step::Order {
+        told.tell(StepRef::Order {
             caller,
             target,
             what,

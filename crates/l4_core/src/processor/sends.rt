@@ -6,24 +6,27 @@ ghost use Rattle.l4_core_model.specs.Local.{thread, is_own};
 ghost use Rattle.l4_core_model.specs.Acts.{arrives, delivers, ends, goes_to, posts_send, queues_send, refuses, split_place, withdraws};
 ghost use Rattle.l4_core_model.specs.Local.{destination_place};
 ghost use Rattle.l4_types.specs.LetterView.{refusal_of_send, decision_of, cause_of_withdrawal};
-ghost use Rattle.l4_types.specs.StepView.{step_of};
+ghost use Rattle.l4_history.specs.Seen.{seen};
 ghost use Rattle.l4_core.specs.Turning.{Does, IsNewSender, IsNotSplit, IsOwnOf, IsReceiver, IsSender};
 
 use crate::processor::Core;
 use crate::told::Told;
+use l4_history::message_ref::MessageRef;
+use l4_history::sink::Sink;
+use l4_history::step_ref::{DeliveryRef, StepRef};
 use l4_thread::changes::Change;
 use l4_types::letters::{Cause, Content, Decision, Letter, Refusal};
-use l4_types::steps::{Delivery, Name, Step};
+use l4_types::steps::Name;
 
 // The step that tells a refusal.
-fn refusal_step(refusal: Refusal, name: Name) -> Step
-    ensures { step_of result ≡ refusal_step (refusal_of_send refusal) name }
+fn refusal_step(refusal: Refusal, name: Name) -> StepRef<'static>
+    ensures { seen result ≡ refusal_step (refusal_of_send refusal) name }
 {
     match refusal {
-        Refusal::TimedOut => Step::SendTimeout(name),
-        Refusal::Nobody => Step::SendNobody(name),
-        Refusal::Cancelled => Step::SendCancel(name),
-        Refusal::Dropped => Step::Drop(name),
+        Refusal::TimedOut => StepRef::SendTimeout(name),
+        Refusal::Nobody => StepRef::SendNobody(name),
+        Refusal::Cancelled => StepRef::SendCancel(name),
+        Refusal::Dropped => StepRef::Drop(name),
     }
 }
 
@@ -39,7 +42,7 @@ impl Core<'_> {
     }
 
     /// The send of a thread is refused.
-    pub(super) fn refuse(&mut self, place: usize, refusal: Refusal, told: &mut Told)
+    pub(super) fn refuse<S: Sink>(&mut self, place: usize, refusal: Refusal, told: &mut Told<S>)
         requires sender { IsSender self.old place }
         requires room { 0 < told.old.room }
         requires slots { 0 < told.old.slots }
@@ -50,26 +53,27 @@ impl Core<'_> {
     }
 
     /// The message of a sender is delivered to a receiver.
-    pub(super) fn deliver(&mut self, receiver: usize, sender: usize, told: &mut Told)
+    pub(super) fn deliver<S: Sink>(&mut self, receiver: usize, sender: usize, told: &mut Told<S>)
         requires receiver { IsReceiver self.old receiver }
         requires sender { IsSender self.old sender }
         requires room { 0 < told.old.room }
         requires slots { 0 < told.old.slots }
         ensures { Does (delivers self.old.machine self.old.cpu receiver sender) self.old self.new told.old told.new }
     {
-        let delivery = Delivery {
+        let delivery = DeliveryRef {
             name: self.known.last_name(sender),
             receiver: self.known.id(receiver),
-            message: self.known.message(sender).copy(),
+            message: MessageRef::from(self.known.message(sender)),
             cross: !self.known.is_own(sender),
         };
-        self.receive(receiver, &delivery.message, delivery.tag());
-        told.tell(Step::Deliver(delivery));
+        let tag = delivery.tag();
+        told.tell(StepRef::Deliver(delivery));
+        self.receive_from(receiver, sender, tag);
         self.end_send(sender, Decision::Delivered, told);
     }
 
     // The send of a thread is decided here. Its sender goes on, at once where it is of this processor, else by a letter.
-    fn end_send(&mut self, place: usize, decision: Decision, told: &mut Told)
+    fn end_send<S: Sink>(&mut self, place: usize, decision: Decision, told: &mut Told<S>)
         requires sender { IsSender self.old place }
         requires slots { 0 < told.old.slots }
         ensures { Does (ends self.old.machine self.old.cpu (decision_of decision) place) self.old self.new told.old told.new }
@@ -87,7 +91,7 @@ impl Core<'_> {
     }
 
     /// A begun send goes to its destination.
-    pub(super) fn send(&mut self, sender: usize, told: &mut Told)
+    pub(super) fn send<S: Sink>(&mut self, sender: usize, told: &mut Told<S>)
         requires sender { IsNewSender self.old sender }
         requires room { 2 ≤ told.old.room }
         requires slots { 0 < told.old.slots }
@@ -102,7 +106,7 @@ impl Core<'_> {
     }
 
     // A begun send goes to its receiver's processor.
-    fn post_send(&mut self, receiver: usize, sender: usize, told: &mut Told)
+    fn post_send<S: Sink>(&mut self, receiver: usize, sender: usize, told: &mut Told<S>)
         requires receiver { receiver < length self.old.machine.threads }
         requires sender { IsSender self.old sender }
         requires slots { 0 < told.old.slots }
@@ -121,7 +125,7 @@ impl Core<'_> {
 
     /// A send has come to its receiver's processor, which is this one: it is refused, or queued, and delivered where the receiver waits
     /// for it.
-    pub(super) fn arrive(&mut self, receiver: usize, sender: usize, told: &mut Told)
+    pub(super) fn arrive<S: Sink>(&mut self, receiver: usize, sender: usize, told: &mut Told<S>)
         requires receiver { IsOwnOf self.old receiver }
         requires sender { IsNewSender self.old sender }
         requires here { IsNotSplit self.old sender }
@@ -139,7 +143,7 @@ impl Core<'_> {
     }
 
     // A send is queued, and delivered where its receiver waits and takes it first.
-    fn queue(&mut self, receiver: usize, sender: usize, told: &mut Told)
+    fn queue<S: Sink>(&mut self, receiver: usize, sender: usize, told: &mut Told<S>)
         requires receiver { IsOwnOf self.old receiver }
         requires sender { IsNewSender self.old sender }
         requires here { IsNotSplit self.old sender }
@@ -148,7 +152,7 @@ impl Core<'_> {
         ensures { (send : Send) → (thread self.old.local sender).send ≡ Some send →
             Does (queues_send self.old.machine self.old.cpu receiver sender (Some send)) self.old self.new told.old told.new }
     {
-        told.tell(Step::Queue(self.known.last_name(sender)));
+        told.tell(StepRef::Queue(self.known.last_name(sender)));
         let waiting = self.known.entry(receiver, sender);
         self.queue_send(receiver, waiting);
         if self.known.is_first(receiver, sender) {
@@ -157,7 +161,7 @@ impl Core<'_> {
     }
 
     /// The send of a thread of this processor is withdrawn, where it is split.
-    pub(super) fn withdraw(&mut self, place: usize, cause: Cause, told: &mut Told)
+    pub(super) fn withdraw<S: Sink>(&mut self, place: usize, cause: Cause, told: &mut Told<S>)
         requires own { IsOwnOf self.old place }
         requires slots { 0 < told.old.slots }
         ensures does { Does (withdraws self.old.machine (cause_of_withdrawal cause) place (split_place self.old.machine self.old.cpu self.old.local place)) self.old self.new told.old told.new }

@@ -1,7 +1,7 @@
 -- All that turns and letters bring about is addressed: it is done to places of the machine.
 use Rattle.l4_core_model.specs.Plain.{Waiting, armed, popped_due}
-use Rattle.std.proofs.Common.{◌≡◌, ℕ, ◌+◌, ◌<◌, Bool, true, false, cond, Option, Some, None, List, length, refl, subst, ap}
-use Rattle.std.specs.Prelude.{is_some, find, slice_index_or, ◌==◌, nat_lt, ◌||◌, is_none}
+use Rattle.std.proofs.Common.{◌≡◌, ℕ, ◌<◌, Bool, Option, Some, None, List, length, refl, subst, ap}
+use Rattle.std.specs.Prelude.{is_some, find, slice_index_or, ◌==◌, ◌||◌, is_none}
 use Rattle.std.specs.Option.{option_map}
 use Rattle.std.specs.List.{AllByRecursion}
 use Rattle.l4_model.specs.Machine.{Machine, is_declared}
@@ -13,10 +13,10 @@ use Rattle.l4_core_model.specs.Plain as plain
 use Rattle.l4_core_model.specs.Letters.{Nobody, TimedOut, Cancelled, Dropped, ByTimeout, GoneLetter, Content, SendLetter, DoneLetter, WithdrawLetter, OrderLetter, OrderDoneLetter, refusal_of}
 use Rattle.l4_core_model.specs.Local.{Local, declared, thread, held, relists, changes, stand_in, stands_in}
 use Rattle.l4_core_model.specs.Acts.{Work, ◌▷◌, does, first_of_list, first_acceptable, split_place, obeys}
-use Rattle.l4_core_model.specs.Turns.{Duty, DropsOwn, RefusesFirst, TellsGone, CancelsOwn, CancelsReceive, DeliversFirst, ClosesReceive, RefusesZero, does_duty, has_told, times_out, Choice, ByDuty, ByDue, ByReady, does_choice, opened, next_untold, turn}
+use Rattle.l4_core_model.specs.Turns.{Duty, DropsOwn, RefusesFirst, TellsGone, CancelsOwn, CancelsReceive, DeliversFirst, ClosesReceive, RefusesZero, does_duty, has_told, times_out, Choice, ByDuty, ByDue, ByReady, does_choice, opened, turn}
 use Rattle.l4_core_model.specs.Runs.{IsMachine}
 use Rattle.l4_core_model.proofs.Lists.{all_find}
-use Rattle.std.proofs.lemmas.Bool.{ltb-true}
+use Rattle.l4_core_model.proofs.Choosing.{next_elsewhere}
 use Rattle.l4_split.proofs.Turns.Choices.{IsDuty, StandsIn, entry_of_all, IsChoice, turn_then}
 use Rattle.l4_split.proofs.Relation.Relates.{IsSized}
 use Rattle.l4_split.proofs.Letters.Addressed.{IsAddressed, IsThread, is_known, posts_addressed, refuses_addressed, delivers_addressed, withdraws_addressed, acts_addressed, arrives_addressed, home_below, obeys_addressed, thread_at}
@@ -55,16 +55,6 @@ first_sender m l r i z h = by (thread l r).phase h
     by Ended h = cc
     by Deleted h = cc
 
-next_below : (m : Machine) (cpu told to : ℕ) → next_untold m cpu told ≡ Some to → to < m.cpus
-next_below m cpu told to h = by (cond (told == cpu) (told + 1) told) h
-  where
-    by : (n : ℕ) → cond (nat_lt n m.cpus) (Some n) None ≡ Some to → to < m.cpus
-    by n h = at (nat_lt n m.cpus) refl h
-      where
-        at : (b : Bool) → nat_lt n m.cpus ≡ b → cond b (Some n) None ≡ Some to → to < m.cpus
-        at true below h = subst (λ n. n < m.cpus) (some_is n to h) (ltb-true n m.cpus below)
-        at false below h = cc
-
 duty_addressed : (m : Machine) (cpu i : ℕ) (x : Work) (duty : Duty) → IsMachine m → IsSized m x.local → i < length m.threads → IsAddressed m x →
     IsDuty m cpu x.local i duty → IsAddressed m (does_duty m cpu i duty x)
 duty_addressed m cpu i x DropsOwn machine z lt a d = refuses_addressed m cpu i Dropped x (record { machine = machine; within = lt }) a
@@ -72,7 +62,7 @@ duty_addressed m cpu i x (RefusesFirst sender) machine z lt a d =
     refuses_addressed m cpu sender Nobody x (entry_thread m x.local i sender d.1.0 machine z d.1.1.0 d.1.1.1) a
 duty_addressed m cpu i x (TellsGone to) machine z lt a d =
     posts_addressed m to (GoneLetter (declared m i).id) (x ▷ does (has_told to i)) (is_known m i (record { machine = machine; within = lt }))
-    (next_below m cpu (slice_index_or x.local.told i 0) to d.1) a
+    (next_elsewhere m cpu (slice_index_or x.local.told i 0) to d.1).0 a
 duty_addressed m cpu i x CancelsOwn machine z lt a d = refuses_addressed m cpu i Cancelled x (record { machine = machine; within = lt }) a
 duty_addressed m cpu i x CancelsReceive machine z lt a d = a
 duty_addressed m cpu i x (DeliversFirst sender) machine z lt a d =

@@ -1,8 +1,7 @@
 -- A deletion is told to other processors.
-use Rattle.std.proofs.Common.{◌≡◌, ℕ, ◌+◌, ◌<◌, Bool, true, false, cond, Some, None, [], ◌∷◌, length, refl, ap, sym, ◌∙◌, subst, arith}
-use Rattle.std.specs.Prelude.{◌==◌, nat_lt, slice_index_or}
+use Rattle.std.proofs.Common.{◌≡◌, ℕ, ◌+◌, ◌<◌, Bool, true, false, cond, Some, [], ◌∷◌, length, refl, ap, sym, ◌∙◌, subst, arith}
+use Rattle.std.specs.Prelude.{◌==◌, slice_index_or}
 use Rattle.std.specs.List.{AllByRecursion}
-use Rattle.std.proofs.lemmas.Bool.{eqb-true}
 use Rattle.l4_model.specs.Words.{GlobalId}
 use Rattle.l4_model.specs.Machine.{Machine, place_of}
 use Rattle.l4_model.specs.World.{World, Deleted, is_deleted}
@@ -14,7 +13,8 @@ use Rattle.l4_core_model.specs.Turns.{next_untold, has_told}
 use Rattle.l4_core_model.specs.Mail.{foreign_place, handled}
 use Rattle.l4_core_model.proofs.Standing.{place_within}
 use Rattle.l4_core_model.proofs.Changed.{length-changed}
-use Rattle.l4_core_model.proofs.Apart.{same_or_apart, apart}
+use Rattle.l4_core_model.proofs.Choosing.{next_elsewhere}
+use Rattle.l4_core_model.proofs.Apart.{same_or_apart}
 use Rattle.l4_split.proofs.Lists.{get_other_place}
 use Rattle.l4_split.proofs.Relation.Views.{Scene, Kept, View, kept, view, home, put, amid, subject, is_locator, notices, locators}
 use Rattle.l4_split.proofs.Relation.Rows.{seats, Agrees, learned, Row, IsKeptAtHome, IsNotice, IsNoticeOf, Matches, Seats}
@@ -111,20 +111,6 @@ handles_gone m from cpu letter s w x id h content is =
 
 -- It is told to one more.
 
-next_untold_other : (m : Machine) (cpu told to : ℕ) → next_untold m cpu told ≡ Some to → to ≡ cpu → ⊥
-next_untold_other m cpu told to h e = by (told == cpu) refl h
-  where
-    by : (b : Bool) → (told == cpu) ≡ b → cond (nat_lt (cond b (told + 1) told) m.cpus) (Some (cond b (told + 1) told)) None ≡ Some to → ⊥
-    by b is h = bounded (nat_lt (cond b (told + 1) told) m.cpus) h
-      where
-        bounded : (c : Bool) → cond c (Some (cond b (told + 1) told)) None ≡ Some to → ⊥
-        bounded false h = cc
-        bounded true h = which b is (some_is _ to h)
-          where
-            which : (b : Bool) → (told == cpu) ≡ b → cond b (told + 1) told ≡ to → ⊥
-            which true is h = let same = eqb-true told cpu is in absurd (omega arith)
-            which false is h = apart told cpu is (h ∙ e)
-
 told_spares : (m : Machine) (to i : ℕ) (l : Local) → Spares m (i ∷ []) l (has_told to i l)
 told_spares m to i l = record {
   sized = λ z. record {
@@ -175,7 +161,7 @@ tells_gone_goes m cpu to i s w x here processor e gone untold =
     (here.machine.placed i here.within) refl (
       ap (λ (k : Kept). k.thread.phase) was
           ∙ deleted_phase (thread x.local i).phase gone,
-      λ h. next_untold_other m cpu (slice_index_or x.local.told i 0) to untold (h ∙ here.home),
+      λ h. (next_elsewhere m cpu (slice_index_or x.local.told i 0) to untold).1 (h ∙ here.home),
     )
   where
     seen_at : (c : ℕ) (b : Bool) →

@@ -9,5 +9,6 @@ letters-preserved c =
     record {
       come = c.letters.invariant.come ∙ more.come;
       can = more.can;
+      before = c.in-Some.ensures.before ∙ c.letters.invariant.before;
       steps = c.in-Some.ensures.steps ∙ c.letters.invariant.steps;
     }

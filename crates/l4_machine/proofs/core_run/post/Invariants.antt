@@ -6,6 +6,7 @@ abbrev pub invariant-letters : goal.invariant-letters
 invariant-letters l = record {
   come : with_letters l.from l.initial.told.letters l.initial.stations.items ≡ with_letters l.from l.told.letters l.stations.items;
   can : CanPost l.from l.told.letters l.stations.items;
+  before : l.told.before ≡ l.initial.told.before;
   steps : l.told.steps ≡ l.initial.told.steps;
 }
 

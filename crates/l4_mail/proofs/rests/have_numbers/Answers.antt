@@ -1,5 +1,5 @@
 use Rattle.std.proofs.Common.{sym}
-use Rattle.l4_mail.proofs.Numbers.{numbers_fail, numbers_more}
+use Rattle.l4_mail.proofs.Numbers.{numbers_fail}
 use Rattle.l4_mail.proofs.rests.have_numbers.Goals as goal
 
 pub returns-then-not-has_number : goal.returns-then-not-has_number

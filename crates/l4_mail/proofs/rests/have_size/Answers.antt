@@ -1,5 +1,4 @@
-use Rattle.std.proofs.Common.{◌≤◌, length, sym, ap, ◌∙◌, arith}
-use Rattle.l4_mail.specs.declared.ports.Port.{Port}
+use Rattle.std.proofs.Common.{sym, ap, ◌∙◌, arith}
 use Rattle.l4_mail.specs.Ports.{fabric_size}
 use Rattle.l4_mail.proofs.Numbers.{size_fails, size_holds}
 use Rattle.l4_mail.proofs.rests.have_size.Goals as goal

@@ -11,7 +11,7 @@ use Rattle.l4_core.proofs.Ordering.{obeyed_is, still_free, still_fitting, gives_
 use Rattle.l4_core.proofs.processor.Core.give.Goals as goal
 
 pub come_to-requires-in-Some-clause-free : goal.come_to-requires-in-Some-clause-free
-come_to-requires-in-Some-clause-free c =
+come_to-requires-in-Some-clause-free g c =
     let order : Asked = record { target = c.args.target; what = what_of c.args.what } in
     let core = subst AreCore c.self.view_is c.len-few.ensures.core in
     let given = c.come_to.ensures ∙ ap (λ (o : Asked). with_local c.args.self.now (comes_to c.args.place (orders o) c.args.self.now.local)) c.new.ensures in
@@ -19,7 +19,7 @@ come_to-requires-in-Some-clause-free c =
     (obeyed_is c.args.self.now c.come_to.new.self c.obey_order.new.self c.args.place c.in-Some.asked order c.id-caller.result c.tell.new.self c.obey_order.new.told given c.obey_order.ensures.does)
 
 pub come_to-requires-in-Some-clause-fits : goal.come_to-requires-in-Some-clause-fits
-come_to-requires-in-Some-clause-fits c =
+come_to-requires-in-Some-clause-fits g c =
     let order : Asked = record { target = c.args.target; what = what_of c.args.what } in
     let core = subst AreCore c.self.view_is c.len-few.ensures.core in
     let given = c.come_to.ensures ∙ ap (λ (o : Asked). with_local c.args.self.now (comes_to c.args.place (orders o) c.args.self.now.local)) c.new.ensures in
@@ -27,7 +27,7 @@ come_to-requires-in-Some-clause-fits c =
     (obeyed_is c.args.self.now c.come_to.new.self c.obey_order.new.self c.args.place c.in-Some.asked order c.id-caller.result c.tell.new.self c.obey_order.new.told given c.obey_order.ensures.does)
 
 pub returns-in-Some : goal.returns-in-Some
-returns-in-Some c =
+returns-in-Some g c =
     let order : Asked = record { target = c.args.target; what = what_of c.args.what } in
     let given = c.come_to.ensures ∙ ap (λ (o : Asked). with_local c.args.self.now (comes_to c.args.place (orders o) c.args.self.now.local)) c.new.ensures in
     let named = c.id-caller.ensures ∙ ap (λ (p : Processor). (declared p.machine c.args.place).id) c.self.view_is in
@@ -38,7 +38,7 @@ returns-in-Some c =
     named given c.tell.ensures at own c.obey_order.ensures.does c.come_to-in-Some.ensures
 
 pub returns-in-Some-2 : goal.returns-in-Some-2
-returns-in-Some-2 c =
+returns-in-Some-2 g c =
     let order : Asked = record { target = c.args.target; what = what_of c.args.what } in
     let given = c.come_to.ensures ∙ ap (λ (o : Asked). with_local c.args.self.now (comes_to c.args.place (orders o) c.args.self.now.local)) c.new.ensures in
     let named = c.id-caller.ensures ∙ ap (λ (p : Processor). (declared p.machine c.args.place).id) c.self.view_is in
@@ -49,7 +49,7 @@ returns-in-Some-2 c =
     named given c.tell.ensures at away (c.cpu_of.ensures ∙ ap (λ (p : Processor). (declared p.machine c.in-Some.asked).cpu) now) (ap letter_of c.letter-letter.ensures) c.post.ensures
 
 pub returns-in-None : goal.returns-in-None
-returns-in-None c =
+returns-in-None g c =
     let order : Asked = record { target = c.args.target; what = what_of c.args.what } in
     let given = c.come_to.ensures ∙ ap (λ (o : Asked). with_local c.args.self.now (comes_to c.args.place (orders o) c.args.self.now.local)) c.new.ensures in
     let named = c.id-caller.ensures ∙ ap (λ (p : Processor). (declared p.machine c.args.place).id) c.self.view_is in

@@ -1,19 +1,17 @@
 use Rattle.std.proofs.Common.{◌≡◌, Some, refl, subst}
 use Rattle.l4_core.specs.Processor.{Processor}
-use Rattle.l4_core.specs.Tasks.{does_task, task_of}
-use Rattle.l4_core.specs.Tellings.{Told}
-use Rattle.l4_core.specs.Turning.{Does}
+use Rattle.l4_core.specs.Tasks.{task_of}
 use Rattle.l4_core.proofs.Handling.{handled_event, lawful}
 use Rattle.l4_core.proofs.processor.Core.handle_into.Goals as goal
 
 pub returns-then-not-can_stamp-clause-mail : goal.returns-then-not-can_stamp-clause-mail
-returns-then-not-can_stamp-clause-mail c =
+returns-then-not-can_stamp-clause-mail g c =
     let some = lawful c.args.self.now c.args.letter.now c.in-Some.task
     (subst (λ (p : Processor). Some c.in-Some.task ≡ task_of p.machine p.cpu p.local c.args.letter.now.content) c.self.view_is c.in-Some.ensures.value) in
     ((λ e. cc), (λ none. cc))
 
 pub returns-then-not-can_stamp-clause-stamp : goal.returns-then-not-can_stamp-clause-stamp
-returns-then-not-can_stamp-clause-stamp c =
+returns-then-not-can_stamp-clause-stamp g c =
     let some = lawful c.args.self.now c.args.letter.now c.in-Some.task
     (subst (λ (p : Processor). Some c.in-Some.task ≡ task_of p.machine p.cpu p.local c.args.letter.now.content) c.self.view_is c.in-Some.ensures.value) in
     let stamped = c.can_stamp.ensures in
@@ -21,14 +19,14 @@ returns-then-not-can_stamp-clause-stamp c =
     ((λ e. (rw some refl, cc)), (λ both. refl))
 
 pub returns-clause-ok : goal.returns-clause-ok
-returns-clause-ok c =
-    handled_event c.args.self.now c.open-stamp.new.self c.do_task.new.self c.args.letter.now c.in-Some.task c.do_task.new.told c.open-stamp.result
+returns-clause-ok g c =
+    handled_event c.args.self.now c.open-stamp.new.self c.do_task.new.self c.args.letter.now c.in-Some.task c.args.told.now c.do_task.new.told c.open-stamp.result
     (subst (λ (p : Processor). Some c.in-Some.task ≡ task_of p.machine p.cpu p.local c.args.letter.now.content) c.self.view_is c.in-Some.ensures.value)
     c.open-stamp.ensures.state c.open-stamp.ensures.stamp
-    (subst (λ (t : Told). Does (does_task c.open-stamp.new.self.machine c.open-stamp.new.self.cpu c.in-Some.task) c.open-stamp.new.self c.do_task.new.self t c.do_task.new.told) c.requires.untold c.do_task.ensures)
+    c.requires.untold c.do_task.ensures
 
 pub returns-clause-mail : goal.returns-clause-mail
-returns-clause-mail c =
+returns-clause-mail g c =
     let some = lawful c.args.self.now c.args.letter.now c.in-Some.task
     (subst (λ (p : Processor). Some c.in-Some.task ≡ task_of p.machine p.cpu p.local c.args.letter.now.content) c.self.view_is c.in-Some.ensures.value) in
     ((λ e. cc), (λ none. cc))

@@ -6,7 +6,7 @@ use Rattle.l4_core.proofs.Going.{goes_away}
 use Rattle.l4_core.proofs.processor.Core.send.Goals as goal
 
 pub returns-in-Some-2 : goal.returns-in-Some-2
-returns-in-Some-2 c = λ send has.
+returns-in-Some-2 g c = λ send has.
     let goes = subst (λ (p : Processor). (s : Send) → (thread p.local c.args.sender).send ≡ Some s → c.destination.result ≡ destination_place p.machine s.to) c.self.view_is c.destination.ensures.value send has in
     let away = subst (λ (p : Processor). is_own p.machine p.cpu c.in-Some.receiver ≡ false) c.self.view_is (sym c.is_own.ensures.value ∙ c.if-is_own.false) in
     goes_away c.args.self.now c.post_send.new.self c.in-Some.receiver c.args.sender send c.args.told.now c.post_send.new.told _ (sym goes ∙ c.in-Some.is)

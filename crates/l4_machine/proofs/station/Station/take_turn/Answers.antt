@@ -25,12 +25,12 @@ returns-in-Some c =
     let l = letter_of c.in-Some.letter in
     let p = c.self.inside.core in
     let core : p ≡ c.args.self.now.core = ap (λ (s : Station). s.core) (c.self.view_is ∙ t.rest) in
-    let event = subst (λ r. IfOk r (λ stamp. IsEvent (handle p.machine p.cpu p.local l) p c.handle_into.new.self c.handle_into.new.told stamp)) c.unwrap.ensures c.handle_into.ensures.ok in
+    let event = subst (λ r. IfOk r (λ stamp. IsEvent (handle p.machine p.cpu p.local l) p c.handle_into.new.self c.args.told.now c.handle_into.new.told stamp)) c.unwrap.ensures c.handle_into.ensures.ok in
     inl (record {
       letter = l;
       from = t.from;
       poster = t.poster;
       first = t.first;
-      event = subst (λ (p : Processor). IsEvent (handle p.machine p.cpu p.local l) p c.handle_into.new.self c.handle_into.new.told c.unwrap.result) core event;
+      event = subst (λ (p : Processor). IsEvent (handle p.machine p.cpu p.local l) p c.handle_into.new.self c.args.told.now c.handle_into.new.told c.unwrap.result) core event;
       rest = ap (λ (s : Station). s.inbox) (c.self.view_is ∙ t.rest);
     })

@@ -1,6 +1,12 @@
 use Rattle.std.proofs.Common.{refl}
-use Rattle.l4_mail.proofs.Whole.{one_taken, inbox_changed}
+use Rattle.l4_mail.proofs.Whole.{some_taken, none_taken, none_kept}
 use Rattle.l4_mail.proofs.ports.Port.take.Goals as goal
 
 pub returns-clause-some : goal.returns-clause-some
-returns-clause-some c = one_taken _ _ _ refl refl c.take.ensures.same c.in_ok-item.ensures.some.0 c.in_ok-item.ensures.some.1
+returns-clause-some c = some_taken c.args.self.now _ _ _ c.first.result refl refl refl c.deref_mut.ensures.value c.first.ensures.some
+
+pub returns-clause-none : goal.returns-clause-none
+returns-clause-none c = none_taken c.args.self.now _ _ _ c.first.result refl refl refl c.deref_mut.ensures.value c.first.ensures.none
+
+pub returns-clause-kept : goal.returns-clause-kept
+returns-clause-kept c = none_kept c.args.self.now _ _ c.first.result c.deref_mut.ensures.value c.first.ensures.none

@@ -1,0 +1,64 @@
+"""Counts the turns of runs and replays of one processor and of several, and prints the tables."""
+
+import itertools
+import sys
+
+import texts
+from measure import instructions, peak_mebibytes
+from tables import Bench, row, table
+
+SPENT = 3
+MOST_TURNS = 1_000_000
+# The turns in which a run gets going, and those in which its instructions are counted, the first ones among them.
+FIRST_TURNS, COUNTED_TURNS = 10_000, 30_000
+
+# Each with its number of processors, its number of pairs, the first turns, and the counted ones of a replay and of a run. All items of a schedule
+# stand in one word of the command line, and the system lets it have some 130,000 bytes.
+SEVERAL = {
+    "two threads that call each other on 2 processors": (2, 1, 4_000, 20_000, 24_000),
+    "512 pairs across 16 processors": (texts.MOST_CPUS, texts.MOST_THREADS // 2, 16_000, 48_000, 48_000),
+}
+
+
+def instructions_a_turn(words, first, counted):
+    """The instructions of a turn, on the average of those after the first ones. `words` says how so many turns are taken."""
+    return (instructions(words(counted), SPENT) - instructions(words(first), SPENT)) / (counted - first)
+
+
+def peaks(bench, name, text):
+    """The most memory that the longest run held, with the report and with the trace."""
+    return [f"{peak_mebibytes(bench.words(name, text, MOST_TURNS, report), SPENT):.0f}" for report in (True, False)]
+
+
+def run(bench, name, text, report):
+    return lambda turns: bench.words(name, text, turns, report)
+
+
+def replay(bench, name, text, cpus):
+    """Each processor has a turn, in order, and again."""
+    return lambda turns: bench.replay(name, text, itertools.islice(itertools.cycle(range(cpus)), turns))
+
+
+def show_one(bench):
+    """Of each machine of one processor what a turn of a run takes."""
+    table("A turn of `run` on one processor", "report", "trace", "peak MiB of 1,000,000 turns, report", "trace")
+    for place, (name, text) in enumerate(texts.turning().items()):
+        file = f"{place}.l4"
+        counts = [instructions_a_turn(run(bench, file, text, report), FIRST_TURNS, COUNTED_TURNS) for report in (True, False)]
+        row(name, *(f"{count:,.0f}" for count in counts), *peaks(bench, file, text))
+
+
+def show_several(bench):
+    """Of each machine of several processors what a turn takes of a replay in order, and of a run."""
+    table("Several processors, each turn or entry in order", "replay, trace", "run, report", "run, trace",
+          "peak MiB of 1,000,000 turns, run, report", "run, trace")
+    for name, (cpus, pairs, first, items, turns) in SEVERAL.items():
+        file, text = f"{cpus}.l4", texts.machine(texts.across(pairs, cpus), cpus)
+        counts = [instructions_a_turn(replay(bench, file, text, cpus), first, items)]
+        counts += [instructions_a_turn(run(bench, file, text, report), first, turns) for report in (True, False)]
+        row(name, *(f"{count:,.0f}" for count in counts), *peaks(bench, file, text))
+
+
+bench = Bench(*sys.argv[1:])
+show_one(bench)
+show_several(bench)

@@ -1,0 +1,73 @@
+//! The ends of ways by the other processor. A port has none for its own.
+ghost use Rattle.std.specs.Prelude.{◌≡◌, ◌↔◌, ◌≤◌, ◌<◌, ◌+◌, [], ◌∷◌, ◌++◌, OnOk, IfSome, IfNone, IsTrue, Option, None, ◌⊎◌};
+ghost use Rattle.l4_mail.specs.Ends.{ring_out, posted, room, ring_in, taken, kept};
+
+use crate::inlets::Inlet;
+use crate::outlets::Outlet;
+use l4_types::letters::Letter;
+use std::alloc::AllocError;
+
+pub fn reserve(end: &mut Option<Outlet>, letters: usize) -> Result<(), AllocError>
+    ensures ring { ring_out end.new ≡ ring_out end.old }
+    ensures posted { posted end.new ≡ posted end.old }
+    ensures room { OnOk result ((letters ≤ room end.new) ⊎ (ring_out end.new ≡ None)) }
+    ensures grown { room end.old ≤ room end.new }
+{
+    match end {
+        Some(outlet) => outlet.reserve(letters),
+        None => Ok(()),
+    }
+}
+
+pub fn has_room(end: &Option<Outlet>) -> bool
+    ensures { IsTrue result ↔ (0 < room end.now) }
+{
+    match end {
+        Some(outlet) => outlet.has_room(),
+        None => false,
+    }
+}
+
+pub fn post(end: &mut Option<Outlet>, letter: Letter)
+    requires { 0 < room end.old }
+    ensures ring { ring_out end.new ≡ ring_out end.old }
+    ensures posted { posted end.new ≡ posted end.old ++ letter ∷ [] }
+    ensures room { room end.new + 1 ≡ room end.old }
+{
+    let Some(outlet) = end else { unreachable!() };
+    outlet.post(letter);
+}
+
+pub fn flush(end: &mut Option<Outlet>)
+    ensures ring { ring_out end.new ≡ ring_out end.old }
+    ensures posted { posted end.new ≡ posted end.old }
+    ensures room { room end.old ≤ room end.new }
+{
+    if let Some(outlet) = end {
+        outlet.flush();
+    }
+}
+
+pub fn take_kept(end: &mut Option<Inlet>) -> Option<Letter>
+    ensures ring { ring_in end.new ≡ ring_in end.old }
+    ensures some { IfSome result (λ x. (taken end.new ≡ taken end.old ++ x ∷ []) × (kept end.old ≡ x ∷ kept end.new)) }
+    ensures none { IfNone result ((taken end.new ≡ taken end.old) × (kept end.old ≡ []) × (kept end.new ≡ [])) }
+{
+    match end {
+        Some(inlet) => inlet.take_kept(),
+        None => None,
+    }
+}
+
+pub fn take_come(end: &mut Option<Inlet>) -> Option<Letter>
+    requires { kept end.old ≡ [] }
+    ensures ring { ring_in end.new ≡ ring_in end.old }
+    ensures some { IfSome result (λ x. taken end.new ≡ taken end.old ++ x ∷ []) }
+    ensures none { IfNone result (taken end.new ≡ taken end.old) }
+    ensures kept { kept end.new ≡ [] }
+{
+    match end {
+        Some(inlet) => inlet.take_come(),
+        None => None,
+    }
+}

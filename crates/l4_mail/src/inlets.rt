@@ -1,0 +1,41 @@
+//! The end of a way at which letters are taken.
+ghost use Rattle.std.specs.Prelude.{◌≡◌, ◌++◌};
+ghost use Rattle.rtrb.specs.Ring.{received};
+ghost use Rattle.l4_mail.specs.Ways.{given};
+
+use l4_types::letters::Letter;
+use rtrb::Consumer;
+use std::collections::VecDeque;
+
+/// The end of a ring that letters are popped from, and the letters that a rest popped and that are not given yet.
+#[derive(Drop)]
+pub struct Inlet {
+    pub ring: Consumer<Letter>,
+    pub kept: VecDeque<Letter>,
+    pub ghost whole: { received ring ≡ given ring kept.items ++ kept.items },
+}
+
+impl Inlet {
+    ghost use Rattle.std.specs.Prelude.{◌≡◌, [], ◌∷◌, ◌++◌, IfSome, IfNone};
+    ghost use Rattle.l4_mail.specs.Ends.{inlet_ring, inlet_taken, inlet_kept};
+
+    /// The first letter that a rest put by.
+    pub fn take_kept(&mut self) -> Option<Letter>
+        ensures ring { inlet_ring self.new ≡ inlet_ring self.old }
+        ensures some { IfSome result (λ x. (inlet_taken self.new ≡ inlet_taken self.old ++ x ∷ []) × (inlet_kept self.old ≡ x ∷ inlet_kept self.new)) }
+        ensures none { IfNone result ((inlet_taken self.new ≡ inlet_taken self.old) × (inlet_kept self.old ≡ []) × (inlet_kept self.new ≡ [])) }
+    {
+        self.kept.pop_front()
+    }
+
+    /// The first letter in the ring, where no letter is put by.
+    pub fn take_come(&mut self) -> Option<Letter>
+        requires { inlet_kept self.old ≡ [] }
+        ensures ring { inlet_ring self.new ≡ inlet_ring self.old }
+        ensures some { IfSome result (λ x. inlet_taken self.new ≡ inlet_taken self.old ++ x ∷ []) }
+        ensures none { IfNone result (inlet_taken self.new ≡ inlet_taken self.old) }
+        ensures kept { inlet_kept self.new ≡ [] }
+    {
+        self.ring.pop().ok()
+    }
+}

@@ -1,0 +1,49 @@
+//! Taking a letter at the first of a port's inlets that has one.
+ghost use Rattle.std.specs.Prelude.{◌≡◌, ◌≤◌, length, IfSome, IfNone};
+ghost use Rattle.l4_mail.specs.Takes.{NoneIsKept, NoneIsTaken, IsTaken, WasKept, IsFirst};
+
+use crate::ends::{take_come, take_kept};
+use crate::inlets::Inlet;
+use l4_types::letters::Letter;
+
+// The first letter that a rest put by, and the processor that posted it.
+fn first_kept(inlets: &mut [Option<Inlet>]) -> Option<(u8, Letter)>
+    requires { length inlets.old ≤ 16 }
+    ensures some { IfSome result (λ r. IsTaken inlets.old inlets.new r.0 r.1 × WasKept inlets.old inlets.new r.0 r.1) }
+    ensures none { IfNone result (NoneIsTaken inlets.old inlets.new × NoneIsKept inlets.old × NoneIsKept inlets.new) }
+{
+    for from in 0..inlets.len() {
+        if let Some(letter) = take_kept(&mut inlets[from]) {
+            return Some((from as u8, letter));
+        }
+    }
+    None
+}
+
+// The first letter in a ring, and the processor that posted it.
+fn first_come(inlets: &mut [Option<Inlet>]) -> Option<(u8, Letter)>
+    requires few { length inlets.old ≤ 16 }
+    requires none_kept { NoneIsKept inlets.old }
+    ensures some { IfSome result (λ r. IsTaken inlets.old inlets.new r.0 r.1) }
+    ensures none { IfNone result (NoneIsTaken inlets.old inlets.new) }
+    ensures kept { NoneIsKept inlets.new }
+{
+    for from in 0..inlets.len() {
+        if let Some(letter) = take_come(&mut inlets[from]) {
+            return Some((from as u8, letter));
+        }
+    }
+    None
+}
+
+/// The first letter that a rest put by, or else the first in a ring, and the processor that posted it.
+pub fn first(inlets: &mut [Option<Inlet>]) -> Option<(u8, Letter)>
+    requires { length inlets.old ≤ 16 }
+    ensures some { IfSome result (λ r. IsTaken inlets.old inlets.new r.0 r.1 × IsFirst inlets.old inlets.new r.0 r.1) }
+    ensures none { IfNone result (NoneIsTaken inlets.old inlets.new × NoneIsKept inlets.old × NoneIsKept inlets.new) }
+{
+    if let Some(found) = first_kept(inlets) {
+        return Some(found);
+    }
+    first_come(inlets)
+}

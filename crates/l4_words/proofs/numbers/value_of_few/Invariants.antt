@@ -1,0 +1,6 @@
+use Rattle.std.proofs.Common.{◌≡◌, ◌<◌, ◌^◌, drop}
+use Rattle.l4_words.specs.Numbers.{number_onto}
+use Rattle.l4_words.proofs.numbers.value_of_few.Given as goal
+
+abbrev pub invariant-loop-byte : goal.invariant-loop-byte
+invariant-loop-byte l = (number_onto l.radix l.value (drop l.byte-index l.digits) ≡ number_onto l.radix 0 l.digits) × (l.value < 16 ^ l.byte-index)

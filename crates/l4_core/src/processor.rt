@@ -3,6 +3,7 @@ ghost use Rattle.std.specs.Prelude.{◌≡◌, ◌<◌, IfOk, IfSome, is_some, �
 ghost use Rattle.std.specs.Option.{option_map};
 ghost use Rattle.l4_core_model.specs.Local.{is_own, opening_local, thread};
 ghost use Rattle.l4_core_model.specs.Plain.{due_block};
+ghost use Rattle.l4_core_model.specs.Runs.{IsMachine};
 ghost use Rattle.l4_core_model.specs.Turns.{advance, can_stamp, choice, is_busy, next_stamp};
 ghost use Rattle.l4_core.specs.Choosing.{choice_of, IsFound, IsPossible};
 ghost use Rattle.l4_core.specs.Processor.{with_local};
@@ -84,6 +85,15 @@ impl<'m> Core<'m> {
             duties: Places::new(),
             zeros: Places::new(),
         })
+    }
+
+    /// The number of this processor, below the machine's count.
+    pub fn cpu(&self) -> u8
+        ensures value { result ≡ self.now.cpu }
+        ensures fits { result < self.now.machine.cpus }
+        ensures machine { IsMachine self.now.machine }
+    {
+        self.known.cpu()
     }
 
     /// The core's turn: the first duty of a thread, else the first due timeout, else one instruction of the first ready thread. Its steps are told

@@ -1,3 +1,2 @@
-pub mod Events
 pub mod Rows
 pub mod Seen

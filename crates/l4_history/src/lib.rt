@@ -5,7 +5,6 @@
 #![tactic(auto)]
 
 pub mod history;
-pub mod log;
 pub mod message_ref;
 mod records;
 pub mod sink;

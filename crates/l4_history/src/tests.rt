@@ -1,5 +1,4 @@
 use super::history::History;
-use super::log::Log;
 use super::sink::tell;
 use super::step_ref::StepRef;
 use arrayvec::ArrayVec;
@@ -71,27 +70,6 @@ fn sinks_are_told_the_same(rt: HostRuntime) -> Result<(), Fail> {
     tell(&mut list, &steps)?;
     assert_eq!(rt; list.as_slice(), steps.as_slice());
     assert_eq!(rt; history.to_steps(rt.alloc())?.as_slice(), steps.as_slice());
-    Ok(())
-}
-
-#[test]
-fn log_gives_its_events_back(rt: HostRuntime) -> Result<(), Fail> {
-    let steps = some_steps()?;
-    let (first, second) = steps.split_at(2);
-    let mut log = Log::new(rt.alloc(), 3);
-    for (stamp, told) in [(5, first), (8, second)] {
-        log.reserve()?;
-        tell(&mut log.history, told)?;
-        log.end_event(stamp);
-    }
-    assert_eq!(rt; log.len(), 2);
-    let event = log.event(1);
-    assert_eq!(rt; (event.cpu, event.stamp), (3, 8));
-    let mut told = Vec::new(rt.alloc());
-    for step in event.steps {
-        told.push(step.to_step())?;
-    }
-    assert_eq!(rt; told.as_slice(), second);
     Ok(())
 }
 

@@ -5,8 +5,8 @@ use Rattle.std.proofs.lemmas.Bool.{and_parts, and_from, eqb-true, eq-eqb, leb-tr
 use Rattle.std.proofs.lemmas.List.{take-append-le}
 use Rattle.l4_model.specs.Steps.{Step}
 use Rattle.l4_core_model.specs.Runs.{Event}
-use Rattle.l4_history.specs.declared.log.End.{End}
-use Rattle.l4_history.specs.Events.{are_ends, events_between, start_of}
+use Rattle.l4_proc.specs.declared.log.End.{End}
+use Rattle.l4_proc.specs.Ends.{are_ends, events_between, start_of}
 
 pub as_many : (cpu first : ℕ) (ends : List End) (steps : List Step) → length (events_between cpu first ends steps) ≡ length ends
 as_many cpu first [] steps = refl
@@ -44,7 +44,8 @@ event_at cpu first (e ∷ ends) steps (suc i) end is = event_at cpu e.place ends
 
 -- One more end
 
-pub are_pushed : (ends : List End) (first last : ℕ) (end : End) → are_ends first ends last ≡ true → last ≤ end.place → are_ends first (ends ++ end ∷ []) end.place ≡ true
+pub are_pushed : (ends : List End) (first last : ℕ) (end : End) → are_ends first ends last ≡ true → last ≤ end.place →
+    are_ends first (ends ++ end ∷ []) end.place ≡ true
 are_pushed [] first last end are next =
     let same = eqb-true first last are in
     and_from _ _ (le-leb first end.place (omega (arith, same))) (eq-eqb end.place end.place refl)
@@ -53,7 +54,12 @@ are_pushed (e ∷ ends) first last end are next =
     and_from _ _ parts.0 (are_pushed ends e.place last end parts.1 next)
 
 pub events_pushed : (cpu first last : ℕ) (ends : List End) (steps : List Step) (end : End) → are_ends first ends last ≡ true →
-    events_between cpu first (ends ++ end ∷ []) steps ≡ events_between cpu first ends steps ++ record { cpu = cpu; stamp = end.stamp; steps = drop last (take end.place steps) } ∷ []
+    events_between cpu first (ends ++ end ∷ []) steps ≡ events_between cpu first ends steps ++ record {
+      cpu = cpu;
+      stamp = end.stamp;
+      steps = drop
+          last (take end.place steps);
+    } ∷ []
 events_pushed cpu first last [] steps end are =
     ap (λ (n : ℕ). record { cpu = cpu; stamp = end.stamp; steps = drop n (take end.place steps) } ∷ []) (eqb-true first last are)
 events_pushed cpu first last (e ∷ ends) steps end are =

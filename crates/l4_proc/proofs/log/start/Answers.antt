@@ -1,7 +1,7 @@
 use Rattle.std.proofs.Common.{◌≡◌, ◌∙◌, ◌-◌, suc, ap, arith}
-use Rattle.l4_history.specs.Events.{start_of}
-use Rattle.l4_history.proofs.Ends.{start_is}
-use Rattle.l4_history.proofs.log.start.Goals as goal
+use Rattle.l4_proc.specs.Ends.{start_of}
+use Rattle.l4_proc.proofs.Ends.{start_is}
+use Rattle.l4_proc.proofs.log.start.Goals as goal
 
 pub returns-else-i-eq0 : goal.returns-else-i-eq0
 returns-else-i-eq0 c =

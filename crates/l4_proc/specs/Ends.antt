@@ -1,25 +1,8 @@
--- The events of a log.
-use Rattle.std.specs.Prelude.{◌≡◌, ◌++◌, ℕ, zero, suc, Bool, ◌==◌, ◌&&◌, nat_le, List, [], ◌∷◌, take, drop}
+-- The ends of events, and the events between them.
+use Rattle.std.specs.Prelude.{ℕ, zero, suc, ◌==◌, ◌&&◌, Bool, nat_le, List, [], ◌∷◌, take, drop}
 use Rattle.l4_model.specs.Steps.{Step}
 use Rattle.l4_core_model.specs.Runs.{Event}
-use Rattle.l4_history.specs.declared.log.End.{End}
-use Rattle.l4_history.specs.declared.log.EventRef.{EventRef}
-
--- A log to its callers: the events of a processor, the steps told since the last of them, and how many more steps and events it takes
--- without memory.
-pub record Logged : Type 0 where
-  pub cpu : ℕ
-  pub events : List Event
-  pub under_way : List Step
-  pub room : ℕ
-  pub end_room : ℕ
-
--- Steps were told to the event under way of a log.
-pub record Tells (old new : Logged) (more : List Step) : Type 0 where
-  pub cpu : new.cpu ≡ old.cpu
-  pub events : new.events ≡ old.events
-  pub under_way : new.under_way ≡ old.under_way ++ more
-  pub end_room : new.end_room ≡ old.end_room
+use Rattle.l4_proc.specs.declared.log.End.{End}
 
 -- The events that end at these places, where the first begins at this one.
 abbrev pub events_between : (cpu start : ℕ) → List End → List Step → List Event
@@ -31,9 +14,6 @@ events_between cpu start (end ∷ ends) steps =
 abbrev pub are_ends : (first : ℕ) → List End → (last : ℕ) → Bool
 are_ends first [] last = first == last
 are_ends first (end ∷ ends) last = nat_le first end.place && are_ends end.place ends last
-
-abbrev pub event_of : EventRef → Event
-event_of e = record { cpu = e.cpu; stamp = e.stamp; steps = e.steps }
 
 -- Where the i-th of the events begins, the first of which begins at this place.
 abbrev pub start_of : (first : ℕ) → List End → (i : ℕ) → ℕ

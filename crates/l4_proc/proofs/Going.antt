@@ -1,0 +1,152 @@
+-- A processor that goes on by itself: at its opening, by a tick, and turn by turn.
+use Rattle.std.proofs.Common.{◌≡◌, ℕ, ◌+◌, ◌^◌, Some, None, List, [], ◌∷◌, ◌++◌, map, length, refl, ap, sym, ◌∙◌, subst, arith}
+use Rattle.std.specs.Prelude.{nat_lt}
+use Rattle.std.specs.Option.{option_map}
+use Rattle.std.proofs.lemmas.List.{length-append, append-nil}
+use Rattle.l4_model.specs.Machine.{Machine}
+use Rattle.l4_model.proofs.Chains.{guard_then, some_is}
+use Rattle.l4_core_model.specs.Local.{Local}
+use Rattle.l4_core_model.specs.Acts.{Work}
+use Rattle.l4_core_model.specs.Runs.{Event}
+use Rattle.l4_core_model.specs.Turns.{advance}
+use Rattle.l4_merge.specs.Deeds.{Deed, Ticked, letters_with}
+use Rattle.l4_merge.specs.Pasts.{empty_past, HasWorked}
+use Rattle.l4_merge.proofs.Worked.{worked_none, worked_one, worked_trans}
+use Rattle.l4_types.specs.LetterView.{letter_of}
+use Rattle.l4_core.specs.Processor.{Processor as Core}
+use Rattle.l4_core.specs.Turning.{IsEvent, work}
+use Rattle.l4_mail.specs.Ports.{posted_to, place}
+use Rattle.l4_mail.specs.declared.ports.Port.{Port}
+use Rattle.l4_proc.specs.Logs.{all_steps, events, HasBegun, HasEnded, IsClosed}
+use Rattle.l4_proc.specs.Whole.{past_with, handled_from, IsFreshPort, IsPortOf, IsWhole}
+use Rattle.l4_proc.specs.Working.{past, HasGoneOn, HasTaken, HasTicked}
+use Rattle.l4_proc.specs.declared.log.End.{End}
+use Rattle.l4_proc.specs.declared.log.Log.{Log}
+use Rattle.l4_proc.specs.declared.processor.Processor.{Processor}
+use Rattle.l4_proc.specs.declared.worker.Worker.{Worker}
+use Rattle.l4_proc.proofs.Logging.{logged, IsLogged}
+
+-- The opening
+
+-- A processor that has neither told, posted nor taken anything has done nothing.
+pub opened_past : (port : Port) (w : Worker) → IsFreshPort port → w.log.ends.items ≡ [] → w.hand ≡ None →
+    HasWorked w.core.machine w.core.cpu (empty_past w.core.local) (past_with port w)
+opened_past port w fresh ends hand = record {
+  deeds = [];
+  are = record {
+    lead = refl;
+    events = rw (ends) refl;
+    posted = λ to. ap (map letter_of) (fresh.posted to);
+    handled = λ from. rw (hand, fresh.taken from) refl;
+  };
+}
+
+-- A tick
+
+-- The clock went on between the begin of an event and its end.
+pub record IsTicking (to : ℕ) (old new : Worker) (before after : Log) (stamp : ℕ) : Type 0 where
+  pub begun : HasBegun old.log before
+  pub event : IsEvent (advance old.core.machine old.core.cpu to old.core.local) old.core new.core before.told after.told stamp
+  pub hand : new.hand ≡ old.hand
+  pub cpu : after.cpu ≡ before.cpu
+  pub ends : after.ends ≡ before.ends
+  pub ticks : after.ticks ≡ before.ticks
+  pub ended : HasEnded after new.log stamp (after.ticks + 1)
+
+tick_logged : (to : ℕ) (old new : Worker) (before after : Log) (stamp : ℕ) → IsClosed old.log → IsTicking to old new before after stamp →
+    IsLogged old.log new.log stamp after.told.steps
+tick_logged to old new before after stamp closed t =
+    logged old.log before after new.log stamp (after.ticks + 1) closed t.begun t.cpu (ap (λ ends. ends.items) t.ends) t.event.kept t.ended
+
+port_of_same : (port : Port) (old new : Core) → new.machine ≡ old.machine → new.cpu ≡ old.cpu → IsPortOf port old → IsPortOf port new
+port_of_same port old new machine cpu is = record { number = rw (cpu) is.number; size = rw (machine) is.size; ways = rw (machine, cpu) is.ways }
+
+-- A processor that is whole is whole behind a tick.
+pub tick_whole : (to : ℕ) (port : Port) (old new : Worker) (before after : Log) (stamp : ℕ) → IsWhole port old → IsTicking to old new before after stamp →
+    IsWhole port new
+tick_whole to port old new before after stamp whole t = record {
+  port_of = port_of_same port old.core new.core t.event.machine t.event.cpu whole.port_of;
+  log_of = t.ended.cpu ∙ t.cpu ∙ t.begun.cpu ∙ whole.log_of ∙ sym t.event.cpu;
+  closed = (tick_logged to old new before after stamp whole.closed t).closed;
+  hand = rw (t.hand) whole.hand;
+}
+
+-- A tick posts nothing.
+tick_posts_none : (m : Machine) (cpu to : ℕ) (l : Local) (x : Work) → advance m cpu to l ≡ Some x → x.letters ≡ []
+tick_posts_none m cpu to l x is =
+    guard_then (nat_lt l.clock to) _ x is λ later is.
+    guard_then (nat_lt to (2 ^ 62)) _ x is λ below is.
+    sym (ap (λ (x : Work). x.letters) (some_is _ x is))
+
+tick_worked : (to : ℕ) (port : Port) (old new : Worker) (before after : Log) (stamp : ℕ) → IsWhole port old → IsTicking to old new before after stamp →
+    HasWorked old.core.machine old.core.cpu (past_with port old) (past_with port new)
+tick_worked to port old new before after stamp whole t =
+    let m = old.core.machine in
+    let cpu = old.core.cpu in
+    let deed : Deed = record { cpu = cpu; event = Ticked to; work = work new.core.local after.told } in
+    let event : ℕ → ℕ → List Event = λ c s. record { cpu = c; stamp = s; steps = after.told.steps } ∷ [] in
+    let none = tick_posts_none m cpu to old.core.local _ t.event.is in
+    worked_one m cpu (past_with port old) (past_with port new) deed record {
+      does = record { own = refl; work = t.event.is };
+      events = (tick_logged to old new before after stamp whole.closed t).events
+          ∙ ap (λ c. events old.log ++ event c stamp) whole.log_of
+          ∙ ap (λ s. events old.log ++ event cpu s) t.event.stamped;
+      posted = λ to. sym (ap (λ ls. map letter_of (posted_to port to) ++ letters_with to ls) none ∙ append-nil (map letter_of (posted_to port to)));
+      handled = λ from. ap (λ hand. map letter_of (handled_from port hand from)) t.hand ∙ sym (append-nil (map letter_of (handled_from port old.hand from)));
+      local = refl;
+    }
+
+pub has_ticked : (to : ℕ) (old new : Processor) (before after : Log) (stamp : ℕ) → new.port ≡ old.port → IsWhole old.port old.worker →
+    IsTicking to old.worker new.worker before after stamp → HasTicked to old new
+has_ticked to old new before after stamp port whole t =
+    let l = tick_logged to old.worker new.worker before after stamp whole.closed t in
+    let worked = tick_worked to old.port old.worker new.worker before after stamp whole t in
+    let end : End = record { stamp = stamp; place = length (all_steps after.told) } in
+    let items : new.worker.log.ends.items ≡ old.worker.log.ends.items ++ end ∷ [] =
+    t.ended.ends ∙ ap (λ (es : List End). es ++ end ∷ []) (ap (λ ends. ends.items) t.ends ∙ t.begun.ends) in
+    let longer : length new.worker.log.ends.items ≡ length old.worker.log.ends.items + 1 = ap length items ∙ length-append old.worker.log.ends.items (end ∷ []) in
+    let ticks : new.worker.log.ticks ≡ old.worker.log.ticks + 1 = t.ended.ticks ∙ ap (λ n. n + 1) (t.ticks ∙ t.begun.ticks) in
+    record {
+      on = record {
+        machine = t.event.machine;
+        cpu = t.event.cpu;
+        place = ap place port;
+        worked = subst (λ p. HasWorked old.worker.core.machine old.worker.core.cpu (past old) (past_with p new.worker)) (sym port) worked;
+      };
+      port = port;
+      hand = t.hand;
+      advances = ap (option_map (λ (x : Work). x.local)) t.event.is;
+      one = ap length l.events ∙ length-append (events old.worker.log) _;
+      turns = omega (arith, longer, ticks);
+    }
+
+-- Turns
+
+gone_trans : (old middle new : Processor) → HasGoneOn old middle → HasGoneOn middle new → HasGoneOn old new
+gone_trans old middle new first then =
+    let m = old.worker.core.machine in
+    let cpu = old.worker.core.cpu in
+    let next : HasWorked m cpu (past middle) (past new) =
+    subst (λ m. HasWorked m cpu (past middle) (past new)) first.machine
+    (subst (λ cpu. HasWorked middle.worker.core.machine cpu (past middle) (past new)) first.cpu then.worked) in
+    record {
+      machine = then.machine ∙ first.machine;
+      cpu = then.cpu ∙ first.cpu;
+      place = then.place ∙ first.place;
+      worked = worked_trans m cpu (past old) (past middle) (past new) first.worked next;
+    }
+
+-- Before its first turn it has taken none.
+pub taken_none : (p : Processor) → HasTaken 0 p p
+taken_none p = record {
+  on = record { machine = refl; cpu = refl; place = refl; worked = worked_none p.worker.core.machine p.worker.core.cpu (past p) };
+  turns = omega arith;
+  ticks = refl;
+}
+
+pub taken_more : (n k : ℕ) (old middle new : Processor) → HasTaken n old middle → HasTaken k middle new → HasTaken (n + k) old new
+taken_more n k old middle new first then = record {
+  on = gone_trans old middle new first.on then.on;
+  turns = let a = first.turns in let b = then.turns in omega arith;
+  ticks = then.ticks ∙ first.ticks;
+}

@@ -1,0 +1,209 @@
+-- What a turn of a processor does to its past.
+use Rattle.std.proofs.Common.{◌≡◌, ℕ, ◌+◌, ◌-◌, ◌<◌, ◌≤◌, Bool, true, false, Option, Some, None, List, [], ◌∷◌, ◌++◌, map, length, take, refl, ap, sym, ◌∙◌, subst, arith, inl, inr}
+use Rattle.std.specs.Prelude.{◌≢◌, ◌⊎◌, is_some, nat_eq, slice_index_or, vec_len}
+use Rattle.std.specs.List.{AllByRecursion}
+use Rattle.std.proofs.lemmas.List.{append-nil, map-append, take_all, length-append}
+use Rattle.l4_model.specs.Machine.{Machine}
+use Rattle.l4_core_model.specs.Letters as letters
+use Rattle.l4_core_model.specs.Runs.{Event, IsMachine}
+use Rattle.l4_core_model.proofs.Lists.{all-map}
+use Rattle.l4_merge.specs.Deeds.{Deed, letter_of as letter_handled, letters_with, work_of}
+use Rattle.l4_merge.specs.Pasts.{Past, HasWorked}
+use Rattle.l4_merge.proofs.Worked.{worked_one}
+use Rattle.l4_merge.proofs.Destinations.{letters_go_elsewhere, at_most_two_letters}
+use Rattle.l4_types.specs.LetterView.{letter_of}
+use Rattle.l4_types.specs.declared.letters.Letter.{Letter}
+use Rattle.l4_core.specs.Processor as cores
+use Rattle.l4_core.specs.Turning.{work}
+use Rattle.l4_mail.specs.Ends.{RingId}
+use Rattle.l4_mail.specs.Ports.{posted_to, taken_from, kept_from, room_to, place, only, HasWayTo, IsAsBefore}
+use Rattle.l4_mail.specs.declared.ports.Port.{Port}
+use Rattle.l4_proc.specs.declared.log.Log.{Log}
+use Rattle.l4_proc.specs.declared.worker.Worker.{Worker}
+use Rattle.l4_proc.specs.declared.processor.Processor.{Processor}
+use Rattle.l4_proc.specs.declared.stops.Stop.{Stop}
+use Rattle.l4_proc.specs.declared.stops.Stop.TheVariants as stop
+use Rattle.l4_proc.specs.Events.{event_in_hand, HasPostedAll, IsRefused}
+use Rattle.l4_proc.specs.Logs.{all_steps, events, HasBegun, HasEnded, HasLetters, IsSameLog}
+use Rattle.l4_proc.specs.Whole.{hand_from, handled_from, has_way, IsInHand, IsPortOf, IsWhole}
+use Rattle.l4_proc.specs.Working.{past, HasDone, HasTaken, IsReady, IsSameWorker, IsStopped, IsUnready}
+use Rattle.l4_proc.proofs.Logging.{begun_events, same_events, logged}
+
+-- Nothing was done
+
+worked_nothing : (m : Machine) (cpu : ℕ) (old new : Past) → new.events ≡ old.events → ((to : ℕ) → new.posted to ≡ old.posted to) → ((from : ℕ) →
+    new.handled from ≡ old.handled from) →
+    new.local ≡ old.local → HasWorked m cpu old new
+worked_nothing m cpu old new events posted handled local = record {
+  deeds = [];
+  are = record {
+    lead = sym local;
+    events = events ∙ sym (append-nil old.events);
+    posted = λ to. posted to ∙ sym (append-nil (old.posted to));
+    handled = λ from. handled from ∙ sym (append-nil (old.handled from));
+  };
+}
+
+unready_events : (old new : Log) → IsSameLog old new ⊎ HasBegun old new → events new ≡ events old
+unready_events old new (inl same) = same_events old new same
+unready_events old new (inr begun) = begun_events old new begun
+
+unready_ends : (old new : Log) → IsSameLog old new ⊎ HasBegun old new → (new.ends.items ≡ old.ends.items) × (new.ticks ≡ old.ticks)
+unready_ends old new (inl same) = (same.ends, same.ticks)
+unready_ends old new (inr begun) = (begun.ends, begun.ticks)
+
+same_turns : (n o t u : ℕ) → n ≡ o → t ≡ u → n - t ≡ o - u + 0
+same_turns n o t u same ticks = omega (arith, same, ticks)
+
+pub unready_taken : (old new : Processor) → IsUnready old new → HasTaken 0 old new
+unready_taken old new u =
+    let w = old.worker in
+    let ends = unready_ends w.log new.worker.log u.log in
+    record {
+      on = record {
+        machine = ap (λ (c : cores.Processor). c.machine) u.core;
+        cpu = ap (λ (c : cores.Processor). c.cpu) u.core;
+        place = u.place;
+        worked = worked_nothing w.core.machine w.core.cpu (past old) (past new) (unready_events w.log new.worker.log u.log)
+            (λ to. ap (map letter_of) (u.posted to))
+            (λ from. rw (u.hand, u.taken from) refl)
+            (ap (λ (c : cores.Processor). c.local) u.core);
+      };
+      turns = same_turns _ _ _ _ (ap length ends.0) ends.1;
+      ticks = ends.1;
+    }
+
+pub refused_taken : (old ready new : Processor) → IsReady old ready → new.port ≡ ready.port → IsSameWorker ready.worker new.worker → HasTaken 0 old new
+refused_taken old ready new r port s =
+    let w = old.worker in
+    let core = s.core ∙ r.core in
+    let ends = s.log.ends ∙ r.log.ends in
+    let ticks = s.log.ticks ∙ r.log.ticks in
+    record {
+      on = record {
+        machine = ap (λ (c : cores.Processor). c.machine) core;
+        cpu = ap (λ (c : cores.Processor). c.cpu) core;
+        place = ap place port ∙ r.place;
+        worked = worked_nothing w.core.machine w.core.cpu (past old) (past new) (same_events ready.worker.log new.worker.log s.log
+            ∙ begun_events w.log ready.worker.log r.log)
+            (λ to. ap (map letter_of) (ap (λ (p : Port). posted_to p to) port ∙ r.posted to))
+            (λ from. ap (map letter_of) (rw (port, s.hand) (r.handled from)))
+            (ap (λ (c : cores.Processor). c.local) core);
+      };
+      turns = same_turns _ _ _ _ (ap length ends) ticks;
+      ticks = ticks;
+    }
+
+pub refused_stopped : (old ready new : Processor) (why : Stop) → IsReady old ready → new.port ≡ ready.port → IsSameWorker ready.worker new.worker →
+    IsRefused ready.worker.core ready.worker.hand why → IsStopped new why
+refused_stopped old ready new stop.Idle r port s why = record {
+  refused = rw (s.core, s.hand) why;
+  kept = λ from. ap (λ (p : Port). kept_from p from) port ∙ r.kept why.empty from;
+}
+refused_stopped old ready new stop.Used r port s why = tt
+refused_stopped old ready new stop.NoMemory r port s why = tt
+refused_stopped old ready new stop.Mail r port s why = rw (s.core, s.hand) why
+refused_stopped old ready new stop.Stamp r port s why = rw (s.core, s.hand) why
+
+-- A turn was taken
+
+-- The port is still that of the processor.
+port_stays : (port : Port) (old new : cores.Processor) → IsPortOf port old → new.machine ≡ old.machine → new.cpu ≡ old.cpu → IsPortOf port new
+port_stays port old new is machine cpu = record {
+  number = is.number ∙ sym cpu;
+  size = is.size ∙ ap (λ (m : Machine). m.cpus) (sym machine);
+  ways = λ to lt other. is.ways to (subst (λ (m : Machine). to < m.cpus) machine lt) (λ same. other (same ∙ sym cpu));
+}
+
+all_taken : (xs : List Letter) → take (length xs - 0) xs ≡ xs
+all_taken xs = take_all (length xs - 0) xs (omega arith)
+
+no_hand : (port : Port) → IsInHand port None
+no_hand port from = sym (append-nil _ ∙ all_taken (taken_from port from))
+
+pub done_whole : (old ready : Processor) (told : Worker) (log : Log) (stamp : ℕ) → IsReady old ready → IsWhole old.port old.worker →
+    IsWhole ready.port ready.worker → HasDone ready.worker told stamp →
+    HasEnded told.log log stamp told.log.ticks → IsWhole ready.port (record { core = told.core; log = log; hand = told.hand })
+done_whole old ready told log stamp r was is d e = record {
+  port_of = port_stays ready.port ready.worker.core told.core is.port_of d.event.machine d.event.cpu;
+  log_of = e.cpu ∙ d.cpu ∙ is.log_of ∙ sym d.event.cpu;
+  closed = (logged old.worker.log ready.worker.log told.log log stamp told.log.ticks was.closed r.log d.cpu (ap (λ es. es.items) d.ends) d.event.kept e).closed;
+  hand = subst (IsInHand ready.port) (sym d.hand) (no_hand ready.port);
+}
+
+way : (port : Port) (to : ℕ) → has_way port to ≡ true → HasWayTo port to
+way port to has = by (slice_index_or (place port).outs to None) refl has
+  where
+    by : (ring : Option RingId) → slice_index_or (place port).outs to None ≡ ring → is_some ring ≡ true → HasWayTo port to
+    by (Some ring) at is = (ring, at)
+    by None at is = absurd cc
+
+pub letters_have_ways : (ready : Processor) (told : Worker) (stamp : ℕ) → IsWhole ready.port ready.worker → IsMachine ready.worker.core.machine →
+    ready.worker.core.cpu < ready.worker.core.machine.cpus →
+    HasDone ready.worker told stamp → AllByRecursion (λ p. HasWayTo ready.port p.0) told.log.told.letters
+letters_have_ways ready told stamp is machine lt d =
+    let c = ready.worker.core in
+    all-map (λ (p : ℕ × letters.Letter). (p.0 < c.machine.cpus) × (p.0 ≢ c.cpu)) (λ (p : ℕ × letters.Letter). HasWayTo ready.port p.0)
+    (λ p else. way ready.port p.0 (is.port_of.ways p.0 else.0 else.1)) told.log.told.letters
+    (letters_go_elsewhere c.machine c.cpu c.local (event_in_hand ready.worker.hand) (work told.core.local told.log.told) machine lt d.event.is)
+
+pub letters_have_room : (old ready : Processor) (told : Worker) (stamp : ℕ) → IsReady old ready → IsMachine ready.worker.core.machine →
+    ready.worker.core.cpu < ready.worker.core.machine.cpus →
+    HasDone ready.worker told stamp → (to : ℕ) → HasWayTo ready.port to → length told.log.told.letters ≤ room_to ready.port to
+letters_have_room old ready told stamp r machine lt d to has =
+    let c = ready.worker.core in
+    let few = at_most_two_letters c.machine c.cpu c.local (event_in_hand ready.worker.hand) (work told.core.local told.log.told) machine lt d.event.is in
+    omega (arith, few, r.room to has)
+
+-- The letter in hand is the one that is handled.
+hand_handled : (hand : Option (ℕ × Letter)) (from : ℕ) → map letter_of (hand_from hand from) ≡ letters_with from (letter_handled (event_in_hand hand))
+hand_handled None from = refl
+hand_handled (Some p) from = by (nat_eq p.0 from) refl
+  where
+    by : (same : Bool) → nat_eq p.0 from ≡ same → map letter_of (only from p.0 p.1) ≡ letters_with from ((p.0, letter_of p.1) ∷ [])
+    by true e = rw e refl
+    by false e = rw e refl
+
+one_more : (n o t u : ℕ) → n ≡ o + 1 → t ≡ u → u ≤ o → n - t ≡ o - u + 1
+one_more n o t u more ticks few = omega (arith, more, ticks, few)
+
+pub turn_taken : (old ready posted new : Processor) (told : Worker) (log : Log) (stamp : ℕ) → IsWhole old.port old.worker →
+    IsWhole ready.port ready.worker → old.worker.log.ticks ≤ vec_len old.worker.log.ends →
+    IsReady old ready → HasDone ready.worker told stamp → HasEnded told.log log stamp told.log.ticks →
+    HasPostedAll ready.port posted.port log.told.letters → posted.worker.core ≡ told.core → posted.worker.hand ≡ told.hand → HasLetters log posted.worker.log →
+    IsAsBefore posted.port new.port → new.worker ≡ posted.worker → HasTaken 1 old new
+turn_taken old ready posted new told log stamp was is few r d e p core hand ls f worker =
+    let w = old.worker in
+    let rcore = r.core in
+    let all = logged w.log ready.worker.log told.log log stamp told.log.ticks was.closed r.log d.cpu (ap (λ es. es.items) d.ends) d.event.kept e in
+    let deed : Deed = record { cpu = w.core.cpu; event = event_in_hand ready.worker.hand; work = work told.core.local told.log.told } in
+    let new_core : new.worker.core ≡ told.core = ap (λ (x : Worker). x.core) worker ∙ core in
+    let new_hand : new.worker.hand ≡ None = ap (λ (x : Worker). x.hand) worker ∙ hand ∙ d.hand in
+    let same_log : events new.worker.log ≡ events log = ap (λ (x : Worker). events x.log) worker ∙ rw (ls.cpu, ap (λ es. es.items) ls.ends, ls.told) refl in
+    let ends : new.worker.log.ends.items ≡ w.log.ends.items ++ record { stamp = stamp; place = length (all_steps told.log.told) } ∷ [] =
+    ap (λ (x : Worker). x.log.ends.items) worker ∙ ap (λ es. es.items) ls.ends ∙ e.ends
+    ∙ ap (λ es. es ++ record { stamp = stamp; place = length (all_steps told.log.told) } ∷ []) (ap (λ es. es.items) d.ends ∙ r.log.ends) in
+    let ticks : new.worker.log.ticks ≡ w.log.ticks = ap (λ (x : Worker). x.log.ticks) worker ∙ ls.ticks ∙ e.ticks ∙ d.ticks ∙ r.log.ticks in
+    record {
+      on = record {
+        machine = ap (λ (c : cores.Processor). c.machine) new_core ∙ d.event.machine ∙ ap (λ (c : cores.Processor). c.machine) rcore;
+        cpu = ap (λ (c : cores.Processor). c.cpu) new_core ∙ d.event.cpu ∙ ap (λ (c : cores.Processor). c.cpu) rcore;
+        place = f.place ∙ p.place ∙ r.place;
+        worked = worked_one w.core.machine w.core.cpu (past old) (past new) deed (record {
+          does = record {
+            own = refl;
+            work = subst (λ (c : cores.Processor). work_of c.machine c.cpu c.local (event_in_hand ready.worker.hand) ≡ Some (work told.core.local
+                told.log.told)) rcore d.event.is;
+          };
+          events = same_log ∙ all.events ∙ ap (λ (x : Event). events w.log ++ x ∷ []) (rw (was.log_of, d.event.stamped) refl);
+          posted = λ to. ap (map letter_of) (f.posted to) ∙ p.posted to ∙ rw (r.posted to, e.told) refl;
+          handled = λ from. ap (λ h. map letter_of (handled_from new.port h from)) new_hand
+              ∙ ap (map letter_of) (all_taken (taken_from new.port from) ∙ f.taken from ∙ p.taken from ∙ is.hand from)
+              ∙ map-append letter_of (handled_from ready.port ready.worker.hand from) (hand_from ready.worker.hand from)
+              ∙ rw (r.handled from, hand_handled ready.worker.hand from) refl;
+          local = ap (λ (c : cores.Processor). c.local) (sym new_core);
+        });
+      };
+      turns = one_more _ _ _ _ (ap length ends ∙ length-append w.log.ends.items _) ticks (omega (arith, few, w.log.ends.ok.0));
+      ticks = ticks;
+    }

@@ -1,0 +1,5 @@
+use Rattle.l4_proc.specs.Working.{HasTaken}
+use Rattle.l4_proc.proofs.processor.Processor.work.Given as goal
+
+abbrev pub invariant-loop : goal.invariant-loop
+invariant-loop g l = HasTaken l.counter l.initial.self l.self

@@ -1,0 +1,23 @@
+-- The processors of a machine where nothing has happened.
+use Rattle.std.specs.Prelude.{◌≡◌, ℕ, Some, None, List, length, map, slice_get}
+use Rattle.l4_model.specs.Machine.{Machine}
+use Rattle.l4_core_model.specs.Local.{opening_local}
+use Rattle.l4_merge.specs.Pasts.{empty_past, HasWorked}
+use Rattle.l4_mail.specs.Ports.{AreOneFabric}
+use Rattle.l4_proc.specs.declared.processor.Processor.{Processor}
+use Rattle.l4_proc.specs.Working.{past, turns_of}
+
+-- A processor that has done nothing.
+pub record IsOpening (m : Machine) (cpu : ℕ) (p : Processor) : Type 0 where
+  pub machine : p.worker.core.machine ≡ m
+  pub number : p.worker.core.cpu ≡ cpu
+  pub worked : HasWorked m cpu (empty_past (opening_local m cpu)) (past p)
+  pub local : p.worker.core.local ≡ opening_local m cpu
+  pub hand : p.worker.hand ≡ None
+  pub turns : turns_of p ≡ 0
+
+-- All of a machine, in the order of their numbers, with the ports of one fabric.
+pub record AreAssembled (m : Machine) (ps : List Processor) : Type 0 where
+  pub count : length ps ≡ m.cpus
+  pub each : (cpu : ℕ) (p : Processor) → slice_get ps cpu ≡ Some p → IsOpening m cpu p
+  pub one : AreOneFabric (map (λ p. p.port) ps)

@@ -1,0 +1,52 @@
+-- The log of one processor: its events in order, and what is told of the event under way.
+use Rattle.std.specs.Prelude.{◌≡◌, ℕ, ◌++◌, ◌<◌, true, List, [], ◌∷◌, length, vec_len}
+use Rattle.std.specs.Vec.{vec_capacity}
+use Rattle.l4_model.specs.Steps.{Step}
+use Rattle.l4_core_model.specs.Runs.{Event}
+use Rattle.l4_core.specs.Tellings.{Told, IsBegun}
+use Rattle.l4_proc.specs.Ends.{are_ends, events_between}
+use Rattle.l4_proc.specs.declared.log.EventRef.{EventRef}
+use Rattle.l4_proc.specs.declared.log.Log.{Log}
+
+-- All that was told: the steps of the event under way behind those before.
+abbrev pub all_steps : Told → List Step
+all_steps t = t.before ++ t.steps
+
+abbrev pub events : Log → List Event
+events log = events_between log.cpu 0 log.ends.items (all_steps log.told)
+
+abbrev pub event_of : EventRef → Event
+event_of e = record { cpu = e.cpu; stamp = e.stamp; steps = e.steps }
+
+-- All that was told is told of events that have ended.
+abbrev pub IsClosed : Log → Type 0
+IsClosed log = are_ends 0 log.ends.items (length (all_steps log.told)) ≡ true
+
+-- An event begins, and there is room for all that it may tell and for its end.
+pub record HasBegun (old new : Log) : Type 0 where
+  pub cpu : new.cpu ≡ old.cpu
+  pub ends : new.ends.items ≡ old.ends.items
+  pub ticks : new.ticks ≡ old.ticks
+  pub told : IsBegun old.told new.told
+  pub room : vec_len new.ends < vec_capacity new.ends
+
+-- Nothing was told, and no event has begun or ended.
+pub record IsSameLog (old new : Log) : Type 0 where
+  pub cpu : new.cpu ≡ old.cpu
+  pub ends : new.ends.items ≡ old.ends.items
+  pub ticks : new.ticks ≡ old.ticks
+  pub told : new.told ≡ old.told
+
+-- The event under way ended, with this stamp. So many of all are ticks then.
+pub record HasEnded (old new : Log) (stamp count : ℕ) : Type 0 where
+  pub cpu : new.cpu ≡ old.cpu
+  pub ends : new.ends.items ≡ old.ends.items ++ record { stamp = stamp; place = length (all_steps old.told) } ∷ []
+  pub ticks : new.ticks ≡ count
+  pub told : new.told ≡ old.told
+
+-- Letters of the event under way were taken out.
+pub record HasLetters (old new : Log) : Type 0 where
+  pub cpu : new.cpu ≡ old.cpu
+  pub ends : new.ends ≡ old.ends
+  pub ticks : new.ticks ≡ old.ticks
+  pub told : all_steps new.told ≡ all_steps old.told

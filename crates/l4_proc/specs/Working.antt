@@ -1,0 +1,105 @@
+-- A processor at work.
+use Rattle.std.specs.Prelude.{◌≡◌, ◌⊎◌, ℕ, ◌+◌, ◌-◌, ◌≤◌, [], Some, None, length}
+use Rattle.std.specs.Option.{option_map}
+use Rattle.l4_core_model.specs.Turns.{advance}
+use Rattle.l4_merge.specs.Deeds.{work_of}
+use Rattle.l4_merge.specs.Pasts.{Past, HasWorked}
+use Rattle.l4_core.specs.Turning.{IsEvent}
+use Rattle.l4_mail.specs.Ports.{posted_to, taken_from, kept_from, room_to, place, HasWayTo}
+use Rattle.l4_proc.specs.Events.{event_in_hand, HasPostedAll, IsRefused}
+use Rattle.l4_proc.specs.Logs.{events, HasBegun, HasLetters, IsSameLog}
+use Rattle.l4_proc.specs.Whole.{handled_from, past_with}
+use Rattle.l4_proc.specs.declared.processor.Processor.{Processor}
+use Rattle.l4_proc.specs.declared.worker.Worker.{Worker}
+use Rattle.l4_proc.specs.declared.stops.Stop.{Stop}
+use Rattle.l4_proc.specs.declared.stops.Stop.TheVariants as stop
+
+abbrev pub past : Processor → Past
+past p = past_with p.port p.worker
+
+-- How many turns a processor took.
+abbrev pub turns_of : Processor → ℕ
+turns_of p = length p.worker.log.ends.items - p.worker.log.ticks
+
+-- A processor is where it was, and has gone on by itself from there.
+pub record HasGoneOn (old new : Processor) : Type 0 where
+  pub machine : new.worker.core.machine ≡ old.worker.core.machine
+  pub cpu : new.worker.core.cpu ≡ old.worker.core.cpu
+  pub place : place new.port ≡ place old.port
+  pub worked : HasWorked old.worker.core.machine old.worker.core.cpu (past old) (past new)
+
+-- It took so many turns, and no tick.
+pub record HasTaken (count : ℕ) (old new : Processor) : Type 0 where
+  pub on : HasGoneOn old new
+  pub turns : turns_of new ≡ turns_of old + count
+  pub ticks : new.worker.log.ticks ≡ old.worker.log.ticks
+
+-- Nothing is to be done: there is no turn, no letter in hand, and none is kept.
+pub record IsIdle (p : Processor) : Type 0 where
+  pub refused : IsRefused p.worker.core p.worker.hand stop.Idle
+  pub kept : (from : ℕ) → kept_from p.port from ≡ []
+
+-- Why a processor stopped.
+abbrev pub IsStopped : Processor → Stop → Type 0
+IsStopped p stop.Idle = IsIdle p
+IsStopped p stop.Used = Unit {0}
+IsStopped p stop.NoMemory = Unit {0}
+IsStopped p stop.Mail = IsRefused p.worker.core p.worker.hand stop.Mail
+IsStopped p stop.Stamp = IsRefused p.worker.core p.worker.hand stop.Stamp
+
+-- A processor is ready for a turn: it has room, and a letter in hand where one has come.
+pub record IsReady (old new : Processor) : Type 0 where
+  pub core : new.worker.core ≡ old.worker.core
+  pub place : place new.port ≡ place old.port
+  pub posted : (to : ℕ) → posted_to new.port to ≡ posted_to old.port to
+  pub handled : (from : ℕ) → handled_from new.port new.worker.hand from ≡ handled_from old.port old.worker.hand from
+  pub log : HasBegun old.worker.log new.worker.log
+  pub room : (to : ℕ) → HasWayTo new.port to → 2 ≤ room_to new.port to
+  pub kept : new.worker.hand ≡ None → (from : ℕ) → kept_from new.port from ≡ []
+
+-- It has gone on by nothing.
+pub record IsUnready (old new : Processor) : Type 0 where
+  pub core : new.worker.core ≡ old.worker.core
+  pub place : place new.port ≡ place old.port
+  pub posted : (to : ℕ) → posted_to new.port to ≡ posted_to old.port to
+  pub taken : (from : ℕ) → taken_from new.port from ≡ taken_from old.port from
+  pub hand : new.worker.hand ≡ old.worker.hand
+  pub log : IsSameLog old.worker.log new.worker.log ⊎ HasBegun old.worker.log new.worker.log
+
+-- The letter in hand was handled, or the core's turn taken.
+pub record HasDone (old new : Worker) (stamp : ℕ) : Type 0 where
+  pub event : IsEvent (work_of old.core.machine old.core.cpu old.core.local (event_in_hand old.hand)) old.core new.core old.log.told new.log.told stamp
+  pub hand : new.hand ≡ None
+  pub cpu : new.log.cpu ≡ old.log.cpu
+  pub ends : new.log.ends ≡ old.log.ends
+  pub ticks : new.log.ticks ≡ old.log.ticks
+
+-- Nothing has changed.
+pub record IsSameWorker (old new : Worker) : Type 0 where
+  pub core : new.core ≡ old.core
+  pub hand : new.hand ≡ old.hand
+  pub log : IsSameLog old.log new.log
+
+-- The letters of the event under way were posted.
+pub record HasPostedOwn (old new : Processor) : Type 0 where
+  pub port : HasPostedAll old.port new.port old.worker.log.told.letters
+  pub core : new.worker.core ≡ old.worker.core
+  pub hand : new.worker.hand ≡ old.worker.hand
+  pub log : HasLetters old.worker.log new.worker.log
+
+-- The clock went on: one event more, and no letter was posted or taken.
+pub record HasTicked (to : ℕ) (old new : Processor) : Type 0 where
+  pub on : HasGoneOn old new
+  pub port : new.port ≡ old.port
+  pub hand : new.worker.hand ≡ old.worker.hand
+  pub advances : option_map (λ x. x.local) (advance old.worker.core.machine old.worker.core.cpu to old.worker.core.local) ≡ Some new.worker.core.local
+  pub one : length (events new.worker.log) ≡ length (events old.worker.log) + 1
+  pub turns : turns_of new ≡ turns_of old
+
+-- Nothing has changed but room.
+pub record HasStayed (old new : Processor) : Type 0 where
+  pub port : new.port ≡ old.port
+  pub core : new.worker.core ≡ old.worker.core
+  pub hand : new.worker.hand ≡ old.worker.hand
+  pub events : events new.worker.log ≡ events old.worker.log
+  pub turns : turns_of new ≡ turns_of old

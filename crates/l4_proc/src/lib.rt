@@ -1,0 +1,11 @@
+//! A processor at work in a host thread: its core, its port to the others, and the log of its events.
+#![tactic(auto)]
+
+pub mod assembly;
+pub mod gate;
+pub mod log;
+pub mod processor;
+pub mod stops;
+#[cfg(test)]
+mod tests;
+pub mod worker;

@@ -1,0 +1,150 @@
+//! The log of one processor.
+ghost use Rattle.std.specs.Prelude.{◌≡◌, ◌<◌, ◌≤◌, ◌+◌, ◌-◌, ◌++◌, ◌^◌, [], ◌↔◌, IfNone, OnOk, OnErr, IsTrue, Some, length, slice_get, vec_len};
+ghost use Rattle.std.specs.Vec.{vec_capacity};
+ghost use Rattle.l4_proc.specs.Ends.{start_of};
+
+use l4_core::told::Told;
+use l4_history::history::History;
+use l4_history::steps::Steps;
+use l4_types::errors::NoMemory;
+use l4_types::letters::Letter;
+use std::alloc::Global;
+
+// Room is made for so many ends at once, since to ask each time costs more than a push.
+const CHUNK_ENDS: usize = 64;
+
+/// The end of an event: its steps are those from the end of the one before up to this place.
+#[derive(Clone, Copy)]
+pub(crate) struct End {
+    stamp: u64,
+    place: usize,
+}
+
+/// The events of one processor in order.
+#[derive(Drop)]
+pub struct Log {
+    cpu: u8,
+    // The steps of all events, and behind them those of the event under way.
+    pub(crate) told: Told<History>,
+    ends: Vec<End>,
+    // How many of the events were ticks.
+    ticks: usize,
+    ghost few: { ticks ≤ vec_len ends },
+}
+
+/// An event that is only looked at.
+#[derive(Drop)]
+pub struct EventRef<'a> {
+    /// The processor whose event it is.
+    pub cpu: u8,
+    /// The stamp of the event, below 2^62.
+    pub stamp: u64,
+    /// Its steps in order.
+    pub steps: Steps<'a>,
+}
+
+impl Log {
+    ghost use Rattle.l4_proc.specs.Logs.{all_steps, event_of, events, HasBegun, HasEnded, HasLetters, IsClosed, IsSameLog};
+    ghost use Rattle.std.specs.Option.{option_map, option_to_list};
+    ghost use Rattle.l4_core.specs.Tellings.{posted_of};
+
+    /// The log of a processor that has done nothing. It takes no memory.
+    pub fn new(alloc: Global, cpu: u8) -> Log
+        ensures cpu { result.cpu ≡ cpu }
+        ensures ends { result.ends.items ≡ [] }
+        ensures told { all_steps result.told ≡ [] }
+        ensures ticks { result.ticks ≡ 0 }
+    {
+        Log {
+            cpu,
+            told: Told::new(History::new(alloc)),
+            ends: Vec::new(alloc),
+            ticks: 0,
+        }
+    }
+
+    /// How many events it has.
+    #[tactic(auto, using(crate::proofs::Ends::as_many))]
+    pub fn len(&self) -> usize
+        ensures { result ≡ length (events self.now) }
+    {
+        self.ends.len()
+    }
+
+    /// Whether it has no event.
+    pub fn is_empty(&self) -> bool
+        ensures { IsTrue result ↔ (events self.now ≡ []) }
+    {
+        self.len() == 0
+    }
+
+    /// How many of its events were turns, and no ticks.
+    pub fn turns(&self) -> u64
+        ensures value { result ≡ length self.now.ends.items - self.now.ticks }
+        ensures fits { result < 2 ^ 63 }
+    {
+        (self.ends.len() - self.ticks) as u64
+    }
+
+    /// The i-th event, counted from 0.
+    #[tactic(auto, using(crate::proofs::Ends::as_many))]
+    pub fn event(&self, i: usize) -> EventRef<'_>
+        requires within { i < length (events self.now) }
+        requires closed { IsClosed self.now }
+        ensures { slice_get (events self.now) i ≡ Some (event_of result) }
+    {
+        let ends = self.ends.as_slice();
+        let end = ends[i];
+        EventRef {
+            cpu: self.cpu,
+            stamp: end.stamp,
+            steps: self.told.sink().steps_between(start(ends, i), end.place),
+        }
+    }
+
+    // Makes room for an event, and begins it.
+    pub(crate) fn begin(&mut self) -> Result<(), NoMemory>
+        ensures ok { OnOk result (HasBegun self.old self.new) }
+        ensures err { OnErr result (IsSameLog self.old self.new) }
+    {
+        if self.ends.len() == self.ends.capacity() {
+            self.ends.reserve(CHUNK_ENDS)?;
+        }
+        self.told.begin()
+    }
+
+    // The event under way, a turn, has ended.
+    pub(crate) fn end_turn(&mut self, stamp: u64)
+        requires { vec_len self.old.ends < vec_capacity self.old.ends }
+        ensures { HasEnded self.old self.new stamp self.old.ticks }
+    {
+        let place = self.told.sink().len();
+        self.ends.push_reserved(End { stamp, place });
+    }
+
+    // The event under way, a tick, has ended.
+    pub(crate) fn end_tick(&mut self, stamp: u64)
+        requires { vec_len self.old.ends < vec_capacity self.old.ends }
+        ensures { HasEnded self.old self.new stamp (self.old.ticks + 1) }
+    {
+        self.end_turn(stamp);
+        self.ticks += 1;
+    }
+
+    // The next letter of the event under way, with the processor that it goes to.
+    pub(crate) fn take_letter(&mut self) -> Option<(u8, Letter)>
+        ensures letters { self.old.told.letters ≡ option_to_list (option_map posted_of result) ++ self.new.told.letters }
+        ensures none { IfNone result (self.new.told.letters ≡ []) }
+        ensures same { HasLetters self.old self.new }
+    {
+        self.told.take_letter()
+    }
+}
+
+// The place where the i-th of the events that have these ends begins.
+fn start(ends: &[End], i: usize) -> usize
+    requires { i ≤ length ends.now }
+    ensures { result ≡ start_of 0 ends.now i }
+{
+    if i == 0 { 0 } else { ends[i - 1].place }
+}

@@ -1,0 +1,189 @@
+//! A processor: its turns and its clock, with the mail.
+ghost use Rattle.l4_proc.specs.Whole.{IsWhole};
+
+use crate::gate::Gate;
+use crate::log::Log;
+use crate::stops::{ProcFault, Stop};
+use crate::worker::Worker;
+use l4_core::processor::Core;
+use l4_mail::ports::Port;
+use l4_types::errors::NoMemory;
+use l4_types::steps::CLOCKS;
+use std::alloc::Global;
+
+/// A processor of a machine: its port to the others, and what does its work.
+#[derive(Drop)]
+pub struct Processor<'m> {
+    port: Port,
+    worker: Worker<'m>,
+    ghost whole: { IsWhole port worker },
+}
+
+impl<'m> Processor<'m> {
+    ghost use Rattle.std.specs.Prelude.{ℕ, ◌≡◌, ◌↔◌, ◌<◌, ◌≤◌, ◌+◌, ◌^◌, false, IfErr, IsErrOf, IsSome, None, OnErr, OnOk, is_some, length};
+    ghost use Rattle.std.specs.List.{AllByRecursion};
+    ghost use Rattle.l4_mail.specs.Ports.{room_to, HasWayTo};
+    ghost use Rattle.l4_core_model.specs.Turns.{advance, can_stamp};
+    ghost use Rattle.l4_merge.specs.Pasts.{empty_past, HasWorked};
+    ghost use Rattle.l4_proc.specs.Logs.{IsClosed};
+    ghost use Rattle.l4_proc.specs.Working.{past, turns_of, HasGoneOn, HasPostedOwn, HasStayed, HasTaken, HasTicked, IsReady, IsStopped, IsUnready};
+    ghost use Rattle.l4_proc.specs.Whole.{IsFreshPort, IsPortOf};
+
+    /// A processor that has done nothing, with its port, by which no letter has gone.
+    pub fn new(alloc: Global, core: Core<'m>, port: Port) -> Processor<'m>
+        requires port_of { IsPortOf port core }
+        requires fresh { IsFreshPort port }
+        ensures parts { (result.port ≡ port) × (result.worker.core ≡ core.entry) × (result.worker.hand ≡ None) }
+        ensures opened { HasWorked core.entry.machine core.entry.cpu (empty_past core.entry.local) (past result) }
+        ensures turns { turns_of result ≡ 0 }
+    {
+        let log = Log::new(alloc, core.cpu());
+        Processor {
+            port,
+            worker: Worker {
+                core,
+                log,
+                hand: None,
+            },
+        }
+    }
+
+    /// The number of the processor.
+    pub fn cpu(&self) -> u8
+        ensures { result ≡ self.now.worker.core.cpu }
+    {
+        self.port.cpu()
+    }
+
+    /// What the processor knows.
+    pub fn core(&self) -> &Core<'m>
+        ensures { result.now ≡ self.now.worker.core }
+    {
+        &self.worker.core
+    }
+
+    /// The events so far.
+    pub fn log(&self) -> &Log
+        ensures log { result.now ≡ self.now.worker.log }
+        ensures closed { IsClosed result.now }
+    {
+        &self.worker.log
+    }
+
+    /// Whether a letter was taken and is not yet handled.
+    pub fn in_hand(&self) -> bool
+        ensures { result ≡ is_some self.now.worker.hand }
+    {
+        self.worker.hand.is_some()
+    }
+
+    /// How many turns `work` took, below 2^63. Ticks are none.
+    pub fn turns(&self) -> u64
+        ensures value { result ≡ turns_of self.now }
+        ensures fits { result < 2 ^ 63 }
+    {
+        self.worker.log.turns()
+    }
+
+    /// The processor taken apart, so that its port can come to rest with those of the others.
+    pub fn split(self) -> (Port, Worker<'m>)
+        ensures parts { (result.0 ≡ self.entry.port) × (result.1 ≡ self.entry.worker) }
+        ensures whole { IsWhole self.entry.port self.entry.worker }
+    {
+        (self.port, self.worker)
+    }
+
+    /// A processor put together again, of a port and what does its work. They are of one processor, and the port has posted and taken what
+    /// it had when they were parted.
+    pub fn join(port: Port, worker: Worker<'m>) -> Processor<'m>
+        requires { IsWhole port worker }
+        ensures { (result.port ≡ port) × (result.worker ≡ worker.entry) }
+    {
+        Processor { port, worker }
+    }
+
+    /// Takes at most so many turns: each time the letter in hand is handled, or the next that has come, or where none has, it is the core's
+    /// turn. The gate is asked before each attempt.
+    ///
+    /// `Used`: so many were taken. `Idle`: there is nothing to do, and no letter has come. `NoMemory`: memory was refused. `Mail`: the letter in
+    /// hand is not lawful here. `Stamp`: the next stamp would reach 2^62. Then the last turn was not taken; a letter that was taken stays in
+    /// hand, and is handled first by the next call.
+    pub fn work<G: Gate>(&mut self, turns: u64, gate: &G) -> Stop
+        ensures on { HasGoneOn self.old self.new }
+        ensures most { turns_of self.new ≤ turns_of self.old + turns }
+        ensures used { (result ≡ Stop.Used) ↔ (turns_of self.new ≡ turns_of self.old + turns) }
+        ensures ticks { self.new.worker.log.ticks ≡ self.old.worker.log.ticks }
+        ensures stopped { IsStopped self.new result }
+    {
+        for _ in 0..turns {
+            gate.before(self.cpu(), self.turns() + 1);
+            if let Err(stop) = self.take_turn() {
+                return stop;
+            }
+        }
+        Stop::Used
+    }
+
+    // One turn.
+    fn take_turn(&mut self) -> Result<(), Stop>
+        ensures ok { OnOk result (HasTaken 1 self.old self.new) }
+        ensures err { OnErr result (HasTaken 0 self.old self.new) }
+        ensures stopped { IfErr result (λ stop. IsStopped self.new stop) }
+        ensures unused { IfErr result (λ stop. stop ≡ Stop.Used → ⊥) }
+    {
+        self.get_ready()?;
+        let stamp = self.worker.go_on()?;
+        self.worker.log.end_turn(stamp);
+        self.post_all();
+        self.port.flush();
+        Ok(())
+    }
+
+    // Posts the letters of the event that has ended.
+    fn post_all(&mut self)
+        requires ways { AllByRecursion (λ p. HasWayTo self.old.port p.0) self.old.worker.log.told.letters }
+        requires room { (to : ℕ) → HasWayTo self.old.port to → length self.old.worker.log.told.letters ≤ room_to self.old.port to }
+        ensures { HasPostedOwn self.old self.new }
+    {
+        'letters: while let Some((to, letter)) = self.worker.log.take_letter() {
+            self.port.post(to, letter);
+        }
+    }
+
+    // Makes room for a turn, and takes the next letter, where none is in hand and one has come.
+    fn get_ready(&mut self) -> Result<(), NoMemory>
+        ensures ok { OnOk result (IsReady self.old self.new) }
+        ensures err { OnErr result (IsUnready self.old self.new) }
+    {
+        self.worker.log.begin()?;
+        self.port.reserve()?;
+        self.port.flush();
+        if self.worker.hand.is_none() {
+            self.worker.hand = self.port.take();
+        }
+        Ok(())
+    }
+
+    /// The clock goes on to this value, in ticks: one event more, which posts and takes no letter.
+    ///
+    /// `Clock`: the value is not above the clock, or not below 2^62. `Stamp`: else, where the next stamp would reach 2^62. `NoMemory`: else,
+    /// where memory is refused. Nothing is changed then.
+    pub fn tick(&mut self, to: u64) -> Result<(), ProcFault>
+        ensures ok { OnOk result (HasTicked to self.old self.new) }
+        ensures err { OnErr result (HasStayed self.old self.new) }
+        ensures clock { IsErrOf result ProcFault.Clock ↔ (advance self.old.worker.core.machine self.old.worker.core.cpu to self.old.worker.core.local ≡ None) }
+        ensures stamp { IsErrOf result ProcFault.Stamp ↔
+            (IsSome (advance self.old.worker.core.machine self.old.worker.core.cpu to self.old.worker.core.local) × (can_stamp self.old.worker.core.local 0 ≡ false)) }
+    {
+        if to <= self.worker.core.clock() || to >= CLOCKS {
+            return Err(ProcFault::Clock);
+        }
+        if !self.worker.core.can_stamp(0) {
+            return Err(ProcFault::Stamp);
+        }
+        self.worker.log.begin()?;
+        let stamp = self.worker.advance(to);
+        self.worker.log.end_tick(stamp);
+        Ok(())
+    }
+}

@@ -3,20 +3,21 @@ use Rattle.std.proofs.Common.{◌≡◌, ℕ, zero, suc, Bool, true, map, Some, 
 use Rattle.std.specs.Prelude.{slice_get, ◌==◌, ◌&&◌}
 use Rattle.std.specs.Str.{bytes_eq}
 use Rattle.std.proofs.lemmas.Slice.Eq.{bytes_eq-Decides}
-use Rattle.l4_model.specs.Words.{same_id}
-use Rattle.l4_model.specs.Machine.{Machine}
-use Rattle.l4_model.specs.World.{Thread, Send, Receive, Message, World, change, changed, unqueued, receive_now}
+use Rattle.l4_model.specs.Words.{same_id, GlobalId, Id, NilThread, AnyThread, AnyLocalThread, LocalThread, GlobalThread}
+use Rattle.l4_model.specs.Machine.{Machine, place_of}
+use Rattle.l4_model.specs.World.{Name, Thread, Send, Receive, Message, World, change, changed, unqueued, receive_now}
 use Rattle.l4_model.specs.Rules.{received_tag, is_cross}
 use Rattle.l4_model.specs.Effects.{receives, delivered}
-use Rattle.l4_model.specs.Conditions.{Found, Pending, undecided, receiver_of, first_accepted}
+use Rattle.l4_model.specs.Conditions.{Found, Pending, found, found_by, undecided, receiver_of, first_accepted}
 use Rattle.l4_model.specs.Steps.{after_deliver}
 use Rattle.l4_model.proofs.Chains.{some_is, get-map, map-changed_same}
-use Rattle.l4_model.proofs.Places.{and_true, same_id_is, eqb_same, known_send, receiver_there}
+use Rattle.l4_model.proofs.Places.{and_true, same_id_is, eqb_same, known, known_send, id_of, sender_found, receiver_there}
 use Rattle.l4_core_model.specs.Letters.{Delivered}
 use Rattle.l4_core_model.specs.Local.{ended}
 use Rattle.l4_history.specs.declared.step_ref.DeliveryRef.{DeliveryRef}
+use Rattle.l4_script.proofs.Finding.{declared_at}
 use Rattle.l4_audit.specs.Audited.{Audited, with_world}
-use Rattle.l4_audit.specs.Delivering.{is_delivery, taken_over}
+use Rattle.l4_audit.specs.Delivering.{is_delivery, taken_over, IsFound}
 use Rattle.l4_audit.proofs.Starting.{changes_at}
 
 -- Two changes that agree where some part of an element is as it is at a place.
@@ -30,6 +31,21 @@ same_receives d p tag t a b c = rw (a, b, c) refl
 
 same_end : (send : Send) (now : ℕ) (t : Thread) → t.send ≡ Some send → ended Delivered now t ≡ delivered send now t
 same_end send now t e = rw e refl
+
+pub is_found : (m : Machine) (w : World) (id : GlobalId) (t : Found) → found m w id ≡ Some t → IsFound m t
+is_found m w id t is =
+    let k = known m w id t is in
+    declared_at m t.declared.id t.at (ap (place_of m) (id_of m w id t is).0 ∙ k.place) ∙ k.declared
+
+pub sender_is_found : (m : Machine) (w : World) (s : Name) (p : Pending) → undecided m w s ≡ Some p → IsFound m p.sender
+sender_is_found m w s p is = is_found m w s.thread p.sender (sender_found m w s p is)
+
+pub receiver_is_found : (m : Machine) (w : World) (to : Id) (r : Found) → found_by m w to ≡ Some r → IsFound m r
+receiver_is_found m w NilThread r is = cc
+receiver_is_found m w AnyThread r is = cc
+receiver_is_found m w AnyLocalThread r is = cc
+receiver_is_found m w (LocalThread word) r is = cc
+receiver_is_found m w (GlobalThread t) r is = is_found m w t r is
 
 pub delivers_now : (m : Machine) (a v : Audited) (d : DeliveryRef) (p : Pending) (r : Found) (receive : Receive) → undecided m a.world d.name ≡ Some p → receiver_of m a.world p ≡ Some r →
     receive_now r.now.phase ≡ Some receive → first_accepted m a.world r receive.from ≡ Some p.sender.at → is_delivery m d p r ≡ true →

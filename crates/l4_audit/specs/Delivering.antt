@@ -1,8 +1,8 @@
 -- What a delivery tells, and what it does.
-use Rattle.std.specs.Prelude.{ℕ, Bool, ◌==◌, ◌&&◌}
+use Rattle.std.specs.Prelude.{ℕ, ◌≡◌, Some, Bool, ◌==◌, ◌&&◌}
 use Rattle.std.specs.Str.{bytes_eq}
 use Rattle.l4_model.specs.Words.{same_id}
-use Rattle.l4_model.specs.Machine.{Machine}
+use Rattle.l4_model.specs.Machine.{Machine, declaration_of}
 use Rattle.l4_model.specs.World.{World, change, unqueued}
 use Rattle.l4_model.specs.Rules.{received_tag, is_cross}
 use Rattle.l4_model.specs.Effects.{receives}
@@ -10,6 +10,10 @@ use Rattle.l4_model.specs.Conditions.{Found, Pending}
 use Rattle.l4_core_model.specs.Letters.{Delivered}
 use Rattle.l4_core_model.specs.Local.{ended}
 use Rattle.l4_history.specs.declared.step_ref.DeliveryRef.{DeliveryRef}
+
+-- A thread that was found by its id has what is declared of this id.
+abbrev pub IsFound : Machine → Found → Type 0
+IsFound m t = declaration_of m t.declared.id ≡ Some t.declared
 
 -- It tells this send to this receiver: its senders, its tag and its words.
 abbrev pub is_delivery : Machine → DeliveryRef → Pending → Found → Bool

@@ -7,6 +7,7 @@ ghost use Rattle.l4_model.specs.Conditions.{instruction, act_of, may_still_accep
 ghost use Rattle.l4_model.specs.Rules.{accepts, destination, ask_act};
 ghost use Rattle.l4_model.specs.Steps.{runs_alone, send_of, receive_of, order_of, receive_passed};
 ghost use Rattle.l4_types.specs.StepView.{what_of};
+ghost use Rattle.l4_audit.specs.Delivering.{IsFound};
 ghost use Rattle.l4_audit.specs.Phases.{has_phase, is_elsewhere};
 ghost use Rattle.l4_script.specs.Scripts.{instr_of, to_of};
 ghost use Rattle.l4_thread.specs.Ipcs.{may_show};
@@ -16,7 +17,7 @@ use crate::periods::has_passed;
 use l4_script::instructions::{Instr, Ipc, To};
 use l4_script::machine::{Declaration, Machine};
 use l4_thread::orders::Asked;
-use l4_thread::sends::{Receive, Send};
+use l4_thread::sends::{Receive, SendRef};
 use l4_thread::tcb::Tcb;
 use l4_types::ids::{GlobalId, Kind, ThreadId};
 use l4_types::steps::What;
@@ -59,6 +60,17 @@ impl<'a> Found<'a> {
         ensures { result ≡ self.now.declared.id }
     {
         self.declared.id()
+    }
+
+    /// The processor of a declared thread. It is known at once of this one.
+    pub fn cpu_of(&self, machine: &Machine, id: GlobalId) -> Option<u8>
+        requires { IsFound machine.now self.now }
+        ensures { result ≡ option_map (λ d. d.cpu) (declaration_of machine.now id) }
+    {
+        if id == self.id() {
+            return Some(self.declared.cpu());
+        }
+        cpu_of(machine, id)
     }
 
     /// Whether it can run its next instruction.
@@ -261,7 +273,7 @@ impl<'a> Found<'a> {
 #[derive(Drop)]
 pub struct Pending<'a> {
     pub sender: Found<'a>,
-    pub send: &'a Send,
+    pub send: SendRef<'a>,
 }
 
 impl<'a> Model for Pending<'a> {
@@ -269,7 +281,7 @@ impl<'a> Model for Pending<'a> {
 
     ghost Value = { ModelPending };
 
-    ghost view = { λ p. record { sender = p.sender; send = p.send.now } };
+    ghost view = { λ p. record { sender = p.sender; send = p.send } };
 }
 
 impl<'a> Pending<'a> {
@@ -288,10 +300,10 @@ impl<'a> Pending<'a> {
     }
 
     /// The send.
-    pub fn send(&self) -> &Send
+    pub fn send(&self) -> &SendRef<'a>
         ensures { result.now ≡ self.now.send }
     {
-        self.send
+        &self.send
     }
 }
 

@@ -128,6 +128,7 @@ opened-settled m cpu = record {
     phase = ap (λ (t : Thread). t.phase) (get-map opening_thread m.threads i);
   };
   armed = λ i e. cc;
+  near = tt;
   clock = omega arith;
 }
   where

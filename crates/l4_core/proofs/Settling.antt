@@ -1,6 +1,7 @@
 -- A settled local state stays settled.
-use Rattle.std.proofs.Common.{◌≡◌, ℕ, zero, suc, ◌+◌, ◌<◌, ◌≤◌, ◌^◌, Bool, true, false, cond, None, is_some, List, [], ◌∷◌, ◌++◌, map, filter, drop, length, refl, ap, sym, ◌∙◌, subst, inl, inr, ⊎_elim, ◌⊎◌, arith}
-use Rattle.std.specs.Prelude.{slice_index_or, ◌==◌, not, ◌||◌, nat_le}
+use Rattle.std.proofs.Common.{◌≡◌, ℕ, zero, suc, ◌+◌, ◌<◌, ◌≤◌, ◌^◌, Bool, true, false, cond, Option, Some, None, is_some, List, [], ◌∷◌, ◌++◌, map, filter, drop, length, refl, ap, sym, ◌∙◌, subst, inl, inr, ⊎_elim, ◌⊎◌, arith}
+use Rattle.std.specs.Prelude.{slice_get, slice_index_or, ◌==◌, not, ◌||◌, nat_le, IfSome}
+use Rattle.std.specs.Option.{option_map}
 use Rattle.std.specs.List.{list_any}
 use Rattle.std.proofs.lemmas.Bool.{eqb-true}
 use Rattle.l4_model.specs.Machine.{Machine}
@@ -13,7 +14,8 @@ use Rattle.l4_core_model.specs.Turns.{has_told, clock_is}
 use Rattle.tcb_arena.specs.Blocks.{without_due, is_ready as is_ready_in}
 use Rattle.l4_core_model.proofs.Fit.{get_cases}
 use Rattle.l4_core_model.proofs.Changed.{length-changed, get-changed}
-use Rattle.l4_core.specs.Settled.{IsSent, MaySend, IsOwn, IsWaiting, IsReadied, IsSettled}
+use Rattle.l4_core_model.proofs.Lists.{all-map, all-filter, all-drop}
+use Rattle.l4_core.specs.Settled.{IsSent, MaySend, IsOwn, IsWaiting, IsReadied, AreNear, IsSettled}
 
 -- Lists
 
@@ -87,6 +89,26 @@ queued-push zero j w (es ∷ ess) e =
 queued-push (suc r) j w (es ∷ ess) e =
     ⊎_elim (λ h. inl (sooner _ _ h)) (λ h. ⊎_elim (λ g. inl (later _ _ g)) (λ g. inr g) (queued-push r j w ess h)) (or_cases _ _ e)
 
+-- Deadlines
+
+-- The clock goes on, and they are nearer.
+later-near : (clock to : ℕ) (es : List (ℕ × ℕ)) → clock ≤ to → AreNear clock es → AreNear to es
+later-near clock to es le near = all-map (λ (e : ℕ × ℕ). e.0 < clock + 2 ^ 42) (λ (e : ℕ × ℕ). e.0 < to + 2 ^ 42) (λ e lt. omega arith) es near
+
+put-near : (clock : ℕ) (x : ℕ × ℕ) (es : List (ℕ × ℕ)) → x.0 < clock + 2 ^ 42 → AreNear clock es → AreNear clock (plain.put_entry x es)
+put-near clock x [] lt near = (lt, tt)
+put-near clock x (e ∷ es) lt near = by (nat_le e.0 x.0) (put-near clock x es lt near.1)
+  where
+    by : (b : Bool) → AreNear clock (plain.put_entry x es) → AreNear clock (cond b (e ∷ plain.put_entry x es) (x ∷ e ∷ es))
+    by true rest = (near.0, rest)
+    by false rest = (lt, near)
+
+pub least-near : (clock : ℕ) (es : List (ℕ × ℕ)) (least : Option ℕ) → AreNear clock es → least ≡ option_map (λ (e : ℕ × ℕ). e.0) (slice_get es 0) → IfSome least (λ deadline. deadline < clock + 2 ^ 42)
+least-near clock [] None near e = tt
+least-near clock [] (Some deadline) near e = cc
+least-near clock (x ∷ es) None near e = cc
+least-near clock (x ∷ es) (Some deadline) near e = let same : deadline ≡ x.0 = cc in omega (arith, same, near.0)
+
 -- States
 
 same : (i j : ℕ) → (i == j) ≡ true → i ≡ j
@@ -116,11 +138,12 @@ settled-stamped m cpu l stamp le s = record {
   queued = λ i e. stays_queued m cpu l _ i refl (s.queued i e);
   ready = λ i e. stays_readied m cpu l _ i refl (s.ready i e);
   armed = s.armed;
+  near = s.near;
   clock = s.clock;
 }
 
-pub settled-clocked : (m : Machine) (cpu : ℕ) (l : Local) (clock : ℕ) → clock < 2 ^ 62 → IsSettled m cpu l → IsSettled m cpu (clock_is clock l)
-settled-clocked m cpu l clock lt s = record {
+pub settled-clocked : (m : Machine) (cpu : ℕ) (l : Local) (clock : ℕ) → l.clock ≤ clock → clock < 2 ^ 62 → IsSettled m cpu l → IsSettled m cpu (clock_is clock l)
+settled-clocked m cpu l clock le lt s = record {
   threads = s.threads;
   lists = s.lists;
   told = s.told;
@@ -132,6 +155,7 @@ settled-clocked m cpu l clock lt s = record {
   queued = λ i e. stays_queued m cpu l _ i refl (s.queued i e);
   ready = λ i e. stays_readied m cpu l _ i refl (s.ready i e);
   armed = s.armed;
+  near = later-near l.clock clock l.lists.armed le s.near;
   clock = lt;
 }
 
@@ -148,6 +172,7 @@ settled-told m cpu l i to lt s = record {
   queued = λ i e. stays_queued m cpu l _ i refl (s.queued i e);
   ready = λ i e. stays_readied m cpu l _ i refl (s.ready i e);
   armed = s.armed;
+  near = s.near;
   clock = s.clock;
 }
   where
@@ -174,6 +199,7 @@ settled-popped m cpu l s = record {
   queued = λ i e. stays_queued m cpu l _ i refl (s.queued i e);
   ready = λ i e. stays_readied m cpu l _ i refl (s.ready i (any-drop (λ b. i == b) l.lists.ready e));
   armed = s.armed;
+  near = s.near;
   clock = s.clock;
 }
 
@@ -190,6 +216,7 @@ settled-dropped m cpu l block s = record {
   queued = λ i e. stays_queued m cpu l _ i refl (s.queued i e);
   ready = λ i e. stays_readied m cpu l _ i refl (s.ready i (any-filter (λ b. i == b) (λ b. not (block == b)) l.lists.ready e));
   armed = s.armed;
+  near = s.near;
   clock = s.clock;
 }
 
@@ -206,6 +233,7 @@ settled-readied m cpu l i own ready s = record {
   queued = λ i e. stays_queued m cpu l _ i refl (s.queued i e);
   ready = λ j e. ⊎_elim (λ h. stays_readied m cpu l _ j refl (s.ready j h)) (λ h. let P : ℕ → Type 0 = λ k. IsReadied m cpu (relists (plain.made_ready i) l) k in subst P (sym (same j i h)) (record { own = own; phase = ready })) (any-push (λ b. j == b) l.lists.ready i e);
   armed = s.armed;
+  near = s.near;
   clock = s.clock;
 }
 
@@ -222,6 +250,7 @@ settled-disarmed m cpu l i s = record {
   queued = λ i e. stays_queued m cpu l _ i refl (s.queued i e);
   ready = λ i e. stays_readied m cpu l _ i refl (s.ready i e);
   armed = λ j e. s.armed j (any-filter (λ (x : ℕ × ℕ). j == x.1) (λ (x : ℕ × ℕ). not (i == x.1)) l.lists.armed e);
+  near = all-filter _ _ l.lists.armed s.near;
   clock = s.clock;
 }
 
@@ -238,6 +267,7 @@ settled-popped_due m cpu l s = record {
   queued = λ i e. stays_queued m cpu l _ i refl (s.queued i e);
   ready = λ i e. stays_readied m cpu l _ i refl (s.ready i e);
   armed = λ i e. s.armed i (any-drop (λ (x : ℕ × ℕ). i == x.1) l.lists.armed e);
+  near = all-drop _ l.lists.armed s.near;
   clock = s.clock;
 }
 
@@ -254,6 +284,7 @@ settled-unqueued m cpu l i s = record {
   queued = λ j e. stays_queued m cpu l _ j refl (s.queued j (queued-filter i j l.lists.waiting e));
   ready = λ i e. stays_readied m cpu l _ i refl (s.ready i e);
   armed = s.armed;
+  near = s.near;
   clock = s.clock;
 }
   where
@@ -274,6 +305,7 @@ settled-queued m cpu l r w sends s = record {
   queued = λ j e. stays_queued m cpu l _ j refl (⊎_elim (λ h. s.queued j h) (λ h. let P : ℕ → Type 0 = λ k. IsWaiting m cpu l k in subst P (sym (same j w.block h)) sends) (queued-push r j w l.lists.waiting e));
   ready = λ i e. stays_readied m cpu l _ i refl (s.ready i e);
   armed = s.armed;
+  near = s.near;
   clock = s.clock;
 }
 
@@ -312,6 +344,7 @@ settled-changed m cpu l i f s c =
         phase = get_cases (λ t. t.phase ≡ Ready) f l.threads i j within (λ q. c.ready (subst (λ k. is_ready_in l.lists k ≡ true) (sym q) e)) (λ ne. (s.ready j e).phase);
       };
       armed = s.armed;
+      near = s.near;
       clock = s.clock;
     }
 
@@ -339,8 +372,8 @@ put-cases x j (e ∷ es) h = by (nat_le e.0 x.0) h (put-cases x j es)
     by true h f = ⊎_elim (λ g. inl (sooner _ _ g)) (λ g. ⊎_elim (λ k. inl (later _ _ k)) (λ k. inr k) (f g)) (or_cases _ _ h)
     by false h f = ⊎_elim (λ g. inr g) (λ g. inl g) (or_cases _ _ h)
 
-pub settled-armed : (m : Machine) (cpu : ℕ) (l : Local) (i deadline : ℕ) → IsOwn m cpu i → IsSettled m cpu l → IsSettled m cpu (relists (plain.armed deadline i) l)
-settled-armed m cpu l i deadline own s = record {
+pub settled-armed : (m : Machine) (cpu : ℕ) (l : Local) (i deadline : ℕ) → IsOwn m cpu i → deadline < l.clock + 2 ^ 42 → IsSettled m cpu l → IsSettled m cpu (relists (plain.armed deadline i) l)
+settled-armed m cpu l i deadline own near s = record {
   threads = s.threads;
   lists = s.lists;
   told = s.told;
@@ -352,6 +385,7 @@ settled-armed m cpu l i deadline own s = record {
   queued = λ i e. stays_queued m cpu l _ i refl (s.queued i e);
   ready = λ i e. stays_readied m cpu l _ i refl (s.ready i e);
   armed = λ j e. ⊎_elim (λ h. s.armed j h) (λ h. subst (IsOwn m cpu) (sym (same j i h)) own) (put-cases (deadline, i) j l.lists.armed e);
+  near = put-near l.clock (deadline, i) l.lists.armed near s.near;
   clock = s.clock;
 }
 

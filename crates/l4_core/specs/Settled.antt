@@ -1,5 +1,6 @@
 -- The local states that a processor comes to.
-use Rattle.std.specs.Prelude.{◌≡◌, ℕ, ◌+◌, ◌<◌, ◌≤◌, ◌^◌, true, Option, Some, None, is_some, length, slice_index_or}
+use Rattle.std.specs.Prelude.{◌≡◌, ℕ, ◌+◌, ◌<◌, ◌≤◌, ◌^◌, true, Option, Some, None, List, is_some, length, slice_index_or}
+use Rattle.std.specs.List.{AllByRecursion}
 use Rattle.l4_model.specs.Words.{GlobalId}
 use Rattle.l4_model.specs.Machine.{Machine}
 use Rattle.l4_model.specs.World.{Send, Phase, Ready, Sending, Deleted}
@@ -41,6 +42,10 @@ pub record IsReadied (m : Machine) (cpu : ℕ) (l : Local) (i : ℕ) : Type 0 wh
   pub own : IsOwn m cpu i
   pub phase : (thread l i).phase ≡ Ready
 
+-- Each armed deadline is less than 2^42 ticks away, as each period is long.
+abbrev pub AreNear : (clock : ℕ) → (armed : List (ℕ × ℕ)) → Type 0
+AreNear clock armed = AllByRecursion (λ e. e.0 < clock + 2 ^ 42) armed
+
 pub record IsSettled (m : Machine) (cpu : ℕ) (l : Local) : Type 0 where
   pub threads : length l.threads ≡ length m.threads
   pub lists : length l.lists.waiting ≡ length m.threads
@@ -53,4 +58,5 @@ pub record IsSettled (m : Machine) (cpu : ℕ) (l : Local) : Type 0 where
   pub queued : (i : ℕ) → plain.is_queued l.lists i ≡ true → IsWaiting m cpu l i
   pub ready : (i : ℕ) → is_ready_in l.lists i ≡ true → IsReadied m cpu l i
   pub armed : (i : ℕ) → is_armed_in l.lists i ≡ true → IsOwn m cpu i
+  pub near : AreNear l.clock l.lists.armed
   pub clock : l.clock < 2 ^ 62

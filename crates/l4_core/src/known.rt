@@ -1,6 +1,6 @@
 //! What one processor knows: its threads, their lists, its clock, and of other processors' threads what it was told.
 ghost use Rattle.std.specs.Prelude.{◌≡◌, ◌<◌, ◌≤◌, ◌+◌, ◌^◌, Some, length, false, is_some, map, replicate, IfOk, IfSome, slice_get};
-ghost use Rattle.std.specs.Option.{option_map, option_copied};
+ghost use Rattle.std.specs.Option.{option_map};
 ghost use Rattle.l4_model.specs.Machine.{place_of};
 ghost use Rattle.l4_model.specs.World.{Send, is_deleted, opening_thread, receive_now};
 ghost use Rattle.l4_model.specs.Conditions.{instruction};
@@ -18,13 +18,13 @@ ghost use Rattle.l4_core.specs.Opening.{lists_below, opening_lists};
 ghost use Rattle.l4_core.specs.Parts.{threads_of, ids_of, AreCore};
 ghost use Rattle.l4_core.specs.Turning.{IsSender};
 
+use l4_history::message_ref::MessageRef;
 use l4_script::instructions::Instr;
 use l4_script::machine::{Declaration, Machine};
-use l4_thread::sends::{Receive, Send};
+use l4_thread::sends::{Receive, SendRef};
 use l4_thread::tcb::Tcb;
 use l4_types::errors::NoMemory;
 use l4_types::ids::{GlobalId, ThreadId};
-use l4_types::messages::Message;
 use l4_types::steps::{CLOCKS, Name, What};
 use l4_types::times::Period;
 use std::alloc::Global;
@@ -115,9 +115,10 @@ impl<'m> Known<'m> {
         self.stamp.max(letter_stamp) < CLOCKS - 1
     }
 
-    /// The least deadline that a thread is armed for, in ticks.
+    /// The least deadline that a thread is armed for, in ticks, below the clock plus 2^42.
     pub(crate) fn least_deadline(&self) -> Option<u64>
-        ensures { result ≡ option_map (λ e. e.0) (slice_get self.now.local.lists.armed 0) }
+        ensures value { result ≡ option_map (λ e. e.0) (slice_get self.now.local.lists.armed 0) }
+        ensures near { IfSome result (λ deadline. deadline < self.now.local.clock + 2 ^ 42) }
     {
         self.lists.least_deadline()
     }
@@ -216,9 +217,9 @@ impl<'m> Known<'m> {
     }
 
     /// The undecided send of a thread, as far as it is known here.
-    pub(crate) fn send_of(&self, place: usize) -> Option<&Send>
+    pub(crate) fn send_of(&self, place: usize) -> Option<SendRef<'_>>
         requires { place < length self.now.machine.threads }
-        ensures { option_copied result ≡ (thread self.now.local place).send }
+        ensures { result ≡ (thread self.now.local place).send }
     {
         self.tcb(place).send()
     }
@@ -242,10 +243,10 @@ impl<'m> Known<'m> {
     }
 
     /// The message that a thread sends.
-    pub(crate) fn message(&self, sender: usize) -> &Message
+    pub(crate) fn message(&self, sender: usize) -> MessageRef<'_>
         requires { IsSender self.now sender }
-        ensures message { option_map (λ send. send.message) (thread self.now.local sender).send ≡ Some result.now }
-        ensures actual { result.now.actual ≡ (declared self.now.machine sender).id }
+        ensures message { option_map (λ send. send.message) (thread self.now.local sender).send ≡ Some result }
+        ensures actual { result.actual ≡ (declared self.now.machine sender).id }
     {
         let _ = &self.machine;
         self.send_of(sender).unwrap().message()

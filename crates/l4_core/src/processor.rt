@@ -1,5 +1,5 @@
 //! One processor: its turns and its clock.
-ghost use Rattle.std.specs.Prelude.{◌≡◌, ◌<◌, IfOk, IfSome, is_some, ◌^◌, length, slice_get, true, ℕ, ◌||◌, ◌==◌};
+ghost use Rattle.std.specs.Prelude.{◌≡◌, ◌+◌, ◌<◌, IfOk, IfSome, is_some, ◌^◌, length, slice_get, true, ℕ, ◌||◌, ◌==◌};
 ghost use Rattle.std.specs.Option.{option_map};
 ghost use Rattle.l4_core_model.specs.Local.{is_own, opening_local, thread};
 ghost use Rattle.l4_core_model.specs.Plain.{due_block};
@@ -126,9 +126,10 @@ impl<'m> Core<'m> {
         self.known.clock()
     }
 
-    /// The least deadline that a thread is armed for, in ticks.
+    /// The least deadline that a thread is armed for, in ticks, below the clock plus 2^42.
     pub fn least_deadline(&self) -> Option<u64>
-        ensures { result ≡ option_map (λ e. e.0) (slice_get self.now.local.lists.armed 0) }
+        ensures value { result ≡ option_map (λ e. e.0) (slice_get self.now.local.lists.armed 0) }
+        ensures near { IfSome result (λ deadline. deadline < self.now.local.clock + 2 ^ 42) }
     {
         self.known.least_deadline()
     }

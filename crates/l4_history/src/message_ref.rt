@@ -1,9 +1,11 @@
 //! A message that is only looked at.
-ghost use Rattle.std.specs.Prelude.{◌≡◌, ◌^◌, ◌<◌, length};
+ghost use Rattle.std.specs.Prelude.{◌≡◌, ◌^◌, ◌<◌, length, false};
+ghost use Rattle.l4_types.specs.Flags.{flags_of};
 
 use arrayvec::ArrayVec;
 use l4_types::ids::GlobalId;
 use l4_types::messages::Message;
+use l4_types::tags::MsgTag;
 use std::marker::Model;
 
 /// A message whose words stay where they are: in a message, in a history, or in message registers 1 to u of its sender (manual: Messages
@@ -100,6 +102,13 @@ impl<'a> MessageRef<'a> {
         ensures { result ≡ self.now.actual }
     {
         self.actual
+    }
+
+    /// The tag of the message: its label, its number of words, and whether it is propagated.
+    pub fn tag(&self) -> MsgTag
+        ensures { result ≡ record { label = self.now.label; flags = flags_of false self.now.propagated; untyped = length self.now.words } }
+    {
+        MsgTag::new(self.label, self.words.len() as u8, self.propagated).unwrap()
     }
 
     /// The message with words of its own.

@@ -29,14 +29,9 @@ impl DeliveryRef<'_> {
         ensures value { result ≡ tag_of_word (received_tag self.now.cross self.now.message) }
         ensures word { word_of_tag result ≡ received_tag self.now.cross self.now.message }
     {
-        let message = &self.message;
-        MsgTag::new(
-            message.label(),
-            message.words().len() as u8,
-            message.propagated(),
-        )
-        .unwrap()
-        .received(self.cross, message.propagated())
+        self.message
+            .tag()
+            .received(self.cross, self.message.propagated())
     }
 }
 

@@ -82,8 +82,10 @@ abbrev pub text_fault : (line : ℕ) → TextFaultKind → Fault
 text_fault line NoMemoryKind = fault.NoMemory
 text_fault line kind = fault.Text line kind
 
+-- No job gathers processors, so that none finds strangers.
 abbrev pub fault_of_run : RunFault → Fault
 fault_of_run run_fault.NoMemory = fault.NoMemory
+fault_of_run run_fault.Strangers = fault.NoMemory
 fault_of_run run_fault.Turns = fault.Turns
 fault_of_run (run_fault.Schedule place) = fault.Schedule place
 

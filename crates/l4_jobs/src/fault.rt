@@ -56,7 +56,8 @@ impl From<RunFault> for Fault<'_> {
 
     fn from(fault: RunFault) -> Self {
         match fault {
-            RunFault::NoMemory => Fault::NoMemory,
+            // No job gathers processors, so it finds no strangers among them.
+            RunFault::NoMemory | RunFault::Strangers => Fault::NoMemory,
             RunFault::Turns => Fault::Turns,
             RunFault::Schedule(place) => Fault::Schedule(place),
         }

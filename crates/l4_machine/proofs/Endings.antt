@@ -1,18 +1,17 @@
 -- A run is at rest exactly where each of its stations is.
-use Rattle.std.proofs.Common.{◌≡◌, ◌↔◌, ℕ, ◌+◌, ◌<◌, Bool, true, false, cond, ◌&&◌, Option, Some, None, List, [], ◌∷◌, map, length, min, suc, refl, ap, sym, ◌∙◌, subst, arith}
+use Rattle.std.proofs.Common.{◌≡◌, ℕ, ◌+◌, ◌<◌, Bool, true, false, cond, ◌&&◌, Option, Some, None, List, [], ◌∷◌, map, length, min, suc, refl, ap, sym, ◌∙◌, arith}
 use Rattle.std.specs.Prelude.{slice_get, filter, not, ◌==◌}
 use Rattle.std.specs.List.{list_all, range_with_len}
 use Rattle.std.specs.Option.{option_map}
 use Rattle.std.proofs.lemmas.Bool.{eq-eqb, and_from, and_parts}
 use Rattle.std.proofs.lemmas.Option.{slice_get_within, slice_get-map}
 use Rattle.l4_model.specs.Machine.{Machine}
-use Rattle.l4_core_model.specs.Letters.{Letter}
 use Rattle.l4_core_model.specs.Turns.{is_busy}
 use Rattle.l4_core_model.specs.Runs.{Posted, System, processors, letters, is_between, is_empty, local_at_rest, at_rest}
 use Rattle.l4_core_model.specs.Schedules.{earliest, earliest_of, earliest_deadline, least_deadline}
 use Rattle.l4_merge.proofs.Lists.{slice_get_none}
 use Rattle.l4_merge.proofs.Processors.{all_processors, each_processor}
-use Rattle.l4_machine.specs.Stations.{Station, deadline_of, letters_from, IsResting}
+use Rattle.l4_machine.specs.Stations.{Station, deadline_of}
 use Rattle.l4_machine.specs.UnderWay.{letters_at, deadline_at, first_deadline, AreResting, IsSystem}
 use Rattle.l4_machine.proofs.Happening.{local_at, letters_here}
 

@@ -1,35 +1,36 @@
 -- What a station does is what happens in the core run.
-use Rattle.std.proofs.Common.{◌≡◌, ◌≢◌, ℕ, zero, suc, ◌+◌, ◌<◌, ◌≤◌, ◌^◌, Bool, true, false, cond, Option, Some, None, List, [], ◌∷◌, ◌++◌, map, length, take, drop, get_or, set, refl, ap, sym, ◌∙◌, subst, arith, inl, inr, append_assoc, append-nil, length-append}
-use Rattle.std.specs.Prelude.{slice_get, ◌==◌, ◌⊎◌, is_some, IsSomeAnd}
+use Rattle.std.proofs.Common.{◌≡◌, ◌≢◌, ℕ, zero, suc, ◌+◌, ◌<◌, ◌≤◌, ◌^◌, Bool, true, false, cond, Option, Some, None, List, [], ◌∷◌, ◌++◌, map, length, drop, get_or, set, refl, ap, sym, ◌∙◌, subst, arith, inl, inr, append_assoc, append-nil, length-append}
+use Rattle.std.specs.Prelude.{slice_get, ◌==◌, IsSomeAnd}
 use Rattle.std.specs.List.{AllByRecursion, range_with_len}
 use Rattle.std.specs.Option.{option_map}
 use Rattle.std.proofs.lemmas.Bool.{eqb-true, eqb-false}
 use Rattle.std.proofs.lemmas.Bool.Decides.{nat_tests}
-use Rattle.std.proofs.lemmas.List.{map-append, length-map, take-append-le, take_all}
+use Rattle.std.proofs.lemmas.List.{map-append, length-map, get_or-map, take-append-le, take_all}
 use Rattle.std.proofs.lemmas.Option.{slice_get_within, slice_get-get_or, slice_get-map}
 use Rattle.l4_model.specs.Machine.{Machine}
 use Rattle.l4_model.specs.Steps.{Step}
 use Rattle.l4_model.specs.World.{changed}
-use Rattle.l4_model.specs.Conditions.{◌>>=◌}
-use Rattle.l4_model.proofs.Chains.{some_is, get-changed_same, set_changed, length-changed}
+use Rattle.l4_model.proofs.Chains.{get-changed_same, set_changed, length-changed}
 use Rattle.l4_core_model.specs.Letters.{Letter}
 use Rattle.l4_core_model.specs.Local.{Local}
 use Rattle.l4_core_model.specs.Acts.{Work}
 use Rattle.l4_core_model.specs.Turns.{can_stamp, turn, advance}
 use Rattle.l4_core_model.specs.Mail.{handle}
-use Rattle.l4_core_model.specs.Runs.{Posted, System, letters, posted, taken, processors, Happening, Handles, Turns, Ticks, Happened, Event, done, happens, Run, then_event, core_run, opening_run, told, is_empty, IsMachine}
+use Rattle.l4_core_model.specs.Runs.{System, letters, posted, taken, Happening, Handles, Turns, Ticks, Happened, Event, done, happens, Run, then_event, core_run, opening_run, told, is_empty, IsMachine}
 use Rattle.l4_core_model.specs.Schedules.{first_poster, turn_of, next_turn, or_stays, attempts}
 use Rattle.l4_core_model.specs.Laws.{IsCoreRun}
 use Rattle.l4_split.specs.Laws.{IsLawfulLetter, IsLawfulRun}
+use Rattle.l4_merge.specs.Deeds.{Handled, Turned, Ticked}
 use Rattle.l4_merge.proofs.CoreRuns.{core_run-append}
+use Rattle.l4_merge.proofs.Destinations.{at_most_two_letters}
 use Rattle.l4_merge.proofs.Lists.{all-append}
-use Rattle.l4_core.specs.Processor.{Processor}
 use Rattle.l4_core.specs.Tellings.{Told, IsBegun}
-use Rattle.l4_core.specs.Turning.{IsEvent, work}
+use Rattle.l4_core.specs.Turning.{work}
 use Rattle.l4_machine.specs.declared.events.Part.{Part}
 use Rattle.l4_machine.specs.Parts.{event_of, events_of}
-use Rattle.l4_machine.specs.Stations.{Station, letters_from, without_letter, HasNoMail, IsFirstPoster, CanHandle, CanGoOn, IsHandling, IsOwnTurn, TakesTurn, IsTick, IsNoTick, GoesOnTo}
-use Rattle.l4_machine.specs.UnderWay.{UnderWay, letters_at, with_letters, CanPost, IsStation, IsSystem, IsRun, HasRun, GoesOn}
+use Rattle.l4_machine.specs.declared.station.Station as program
+use Rattle.l4_machine.specs.Stations.{Station, station_of, letters_from, without_letter, HasNoMail, IsFirstPoster, CanGoOn, IsHandling, IsOwnTurn, TakesTurn, IsTick, IsNoTick}
+use Rattle.l4_machine.specs.UnderWay.{UnderWay, letters_at, with_letters, CanPost, IsStation, IsSystem, IsRun}
 use Rattle.l4_machine.proofs.Stamps.{local_stamp, letter_stamp}
 use Rattle.l4_machine.proofs.Systems.{taken_system, IsSame, done_system, can_post}
 
@@ -308,7 +309,7 @@ here m r v cpu i s is same lt at =
 written : (v : UnderWay) (cpu i : ℕ) (new : Station) → i ≡ cpu → cpu < length v.stations → set v.stations i new ≡ changed (λ x. new) v.stations cpu
 written v cpu i new same lt = set_changed (λ x. new) v.stations i new new (omega arith) refl ∙ ap (changed (λ x. new) v.stations) same
 
-within : (m : Machine) (r : Run) (v : UnderWay) (cpu : ℕ) → IsRun m r v → cpu < v.machine.cpus → (cpu < length v.stations) × (cpu < m.cpus)
+pub within : (m : Machine) (r : Run) (v : UnderWay) (cpu : ℕ) → IsRun m r v → cpu < v.machine.cpus → (cpu < length v.stations) × (cpu < m.cpus)
 within m r v cpu is lt =
     let size = is.system.for_each in
     let cpus = ap (λ (m : Machine). m.cpus) is.machine in
@@ -370,3 +371,47 @@ same_station a b core inbox = ap (λ c. record { core = c; inbox = a.inbox }) co
 
 pub few_events : (m : Machine) (r : Run) (v : UnderWay) → IsRun m r v → length v.parts < 2 ^ 61 → length r.events < 2 ^ 61
 few_events m r v is few = let a = length-map v.parts (event_of v.steps) in let b = ap length is.events in omega arith
+
+-- Where the program's station stands
+
+-- Room was made at the stations, and one of them is read.
+pub record IsHere (m : Machine) (r : Run) (v : UnderWay) (cpu i : ℕ) (ss : List program.Station) (s : program.Station) : Type 0 where
+  pub run : IsRun m r v
+  pub within : i < length ss
+  pub read : station_of s ≡ get_or v.stations i (station_of s)
+  pub at : slice_get v.stations cpu ≡ Some (station_of s)
+
+pub stands : (m : Machine) (r : Run) (u : UnderWay) (cpu i : ℕ) (ss : List program.Station) (s : program.Station) → IsRun m r u → map station_of ss ≡ u.stations → i ≡ cpu → cpu < u.machine.cpus → s ≡ get_or ss i s →
+    IsHere m r (record u { stations = map station_of ss }) cpu i ss s
+stands m r u cpu i ss s is same_stations same lt at = record {
+  run = run;
+  within = fits;
+  read = read;
+  at = here m r (record u { stations = map station_of ss }) cpu i (station_of s) run same lt read;
+}
+  where
+    run : IsRun m r (record u { stations = map station_of ss })
+    run = subst (λ stations. IsRun m r (record u { stations = stations })) (sym same_stations) is
+
+    fits : i < length ss
+    fits = let w = within m r (record u { stations = map station_of ss }) cpu run lt in let a = w.0 in let e = length-map ss station_of in omega arith
+
+    read : station_of s ≡ get_or (map station_of ss) i (station_of s)
+    read = ap station_of at ∙ sym (get_or-map station_of ss i s (station_of s) fits)
+
+-- An event posts few letters
+
+pub turn_posts_few : (m : Machine) (cpu : ℕ) (old new : Station) (before after : Told) (stamp : ℕ) → IsMachine m → cpu < m.cpus → IsStation m cpu old → TakesTurn old new before after (Some stamp) →
+    length after.letters ≤ 2
+turn_posts_few m cpu old new before after stamp machine lt it (inl t) =
+    let does : handle m cpu old.core.local t.letter ≡ Some (work new.core.local after) = rw (← it.machine, ← it.cpu_is) t.event.is in
+    at_most_two_letters m cpu old.core.local (Handled t.from t.letter) (work new.core.local after) machine lt does
+turn_posts_few m cpu old new before after stamp machine lt it (inr t) =
+    let does : turn m cpu old.core.local ≡ Some (work new.core.local after) = rw (← it.machine, ← it.cpu_is) t.turn.is in
+    at_most_two_letters m cpu old.core.local Turned (work new.core.local after) machine lt does
+
+pub tick_posts_few : (m : Machine) (cpu clock : ℕ) (old new : Station) (before after : Told) (stamp : ℕ) → IsMachine m → cpu < m.cpus → IsStation m cpu old → IsTick clock old new before after stamp →
+    length after.letters ≤ 2
+tick_posts_few m cpu clock old new before after stamp machine lt it t =
+    let does : advance m cpu clock old.core.local ≡ Some (work new.core.local after) = ap (λ c. advance m c clock old.core.local) (sym it.cpu_is) ∙ ap (λ (o : Machine). advance o old.core.cpu clock old.core.local) (sym it.machine) ∙ t.event.is in
+    at_most_two_letters m cpu old.core.local (Ticked clock) (work new.core.local after) machine lt does

@@ -1,14 +1,14 @@
 -- Rounds: a turn or a tick of each processor, one after the other, and rounds one after the other.
-use Rattle.std.proofs.Common.{◌≡◌, ℕ, zero, suc, ◌+◌, ◌-◌, ◌<◌, ◌≤◌, Bool, true, false, cond, Option, Some, None, List, [], ◌∷◌, ◌++◌, map, length, refl, ap, sym, ◌∙◌, subst, arith, length-append}
+use Rattle.std.proofs.Common.{◌≡◌, ℕ, suc, ◌+◌, ◌-◌, ◌<◌, ◌≤◌, Bool, true, false, Option, Some, None, List, [], ◌∷◌, map, length, refl, ap, sym, ◌∙◌, subst, arith, length-append}
 use Rattle.std.specs.Prelude.{nat_le, if◌then◌else◌}
 use Rattle.std.specs.List.{range_with_len}
 use Rattle.std.proofs.lemmas.Bool.Decides.{nat_tests}
 use Rattle.std.proofs.lemmas.List.{length-map}
 use Rattle.l4_model.specs.Machine.{Machine}
-use Rattle.l4_core_model.specs.Runs.{Happening, Ticks, Happened, happens, processors, Run, then_event}
-use Rattle.l4_core_model.specs.Schedules.{or_stays, attempts, attempts_all, next_turn, turns_in_order, turns_of, has_gone_on, round, ticks, ticks_to, round_or_ticks, unless_ended, rounds}
+use Rattle.l4_core_model.specs.Runs.{Happening, Ticks, Happened, happens, processors, Run}
+use Rattle.l4_core_model.specs.Schedules.{or_stays, attempts, attempts_all, turns_in_order, turns_of, has_gone_on, round, ticks, round_or_ticks, unless_ended, rounds}
 use Rattle.l4_machine.specs.Parts.{event_of}
-use Rattle.l4_machine.specs.UnderWay.{UnderWay, IsRun, HasRun, GoesOn}
+use Rattle.l4_machine.specs.UnderWay.{UnderWay, IsRun, GoesOn}
 
 -- There are as many parts as events.
 pub as_many : (m : Machine) (r : Run) (u : UnderWay) → IsRun m r u → length u.parts ≡ length r.events

@@ -1,11 +1,14 @@
 pub mod Endings
+pub mod InOneHand
 pub mod Happening
 pub mod InRounds
+pub mod InLogs
 pub mod Inboxes
 pub mod Opening
 pub mod Outcomes
 pub mod PartOrder
 pub mod Posting
 pub mod Replays
+pub mod Rooms
 pub mod Stamps
 pub mod Systems

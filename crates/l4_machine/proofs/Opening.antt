@@ -1,12 +1,12 @@
 -- The stations of a machine where nothing has happened.
-use Rattle.std.proofs.Common.{◌≡◌, ℕ, ◌<◌, zero, suc, ◌+◌, Option, Some, None, List, [], ◌∷◌, ◌++◌, map, length, get_or, refl, ap, sym, ◌∙◌, subst, arith}
+use Rattle.std.proofs.Common.{◌≡◌, ℕ, zero, suc, ◌+◌, Option, Some, None, List, [], ◌∷◌, ◌++◌, map, length, get_or, refl, ap, sym, ◌∙◌, subst, arith}
 use Rattle.std.specs.Prelude.{replicate, slice_get}
 use Rattle.std.specs.List.{range_with_len}
 use Rattle.std.proofs.lemmas.List.{map-append}
 use Rattle.std.proofs.lemmas.List.FromFn.{length-map-range_with_len}
 use Rattle.l4_model.specs.Machine.{Machine}
 use Rattle.l4_core_model.specs.Letters.{Letter}
-use Rattle.l4_core_model.specs.Local.{Local, opening_local}
+use Rattle.l4_core_model.specs.Local.{opening_local}
 use Rattle.l4_core_model.specs.Runs.{processors, opening_system}
 use Rattle.l4_merge.proofs.Processors.{of_processor}
 use Rattle.l4_machine.specs.Stations.{Station}

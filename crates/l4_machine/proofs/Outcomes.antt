@@ -1,15 +1,13 @@
 -- The outcome of a core run, and what the laws say of it.
-use Rattle.std.proofs.Common.{◌≡◌, ◌↔◌, ℕ, ◌+◌, ◌≤◌, true, Some, List, map, length, take, refl, ap, sym, subst, ◌∙◌, arith}
+use Rattle.std.proofs.Common.{◌≡◌, ◌↔◌, ℕ, true, Some, List, map, length, take, ap, sym, subst, ◌∙◌, arith}
 use Rattle.std.proofs.lemmas.List.{take_all}
 use Rattle.l4_model.specs.Machine.{Machine}
 use Rattle.l4_model.specs.World.{World}
 use Rattle.l4_model.specs.History.{IsHistory, IsFirstFault, reached, view, waiting as undecided_sends}
 use Rattle.l4_model.specs.Steps.{Step}
 use Rattle.l4_model.specs.Laws.{IsLawful}
-use Rattle.l4_model.specs.Still.{IsStill}
 use Rattle.l4_model.proofs.Chains.{some_is}
-use Rattle.l4_core_model.specs.Runs.{Run, IsMachine, merged, told, at_rest}
-use Rattle.l4_core_model.specs.Laws.{IsCoreRun}
+use Rattle.l4_core_model.specs.Runs.{Run, merged, told, at_rest}
 use Rattle.l4_split.specs.Laws.{IsLawfulRun}
 use Rattle.l4_types.specs.declared.reports.Ending.TheVariants.{Quiet}
 use Rattle.l4_types.specs.ReportView.{report_of_view}

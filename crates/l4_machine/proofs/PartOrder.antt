@@ -1,5 +1,5 @@
 -- The order of parts is that of their events.
-use Rattle.std.proofs.Common.{◌≡◌, ℕ, zero, suc, ◌+◌, ◌<◌, ◌≤◌, Bool, false, List, [], ◌∷◌, map, length, get_or, refl, ap, sym, ◌∙◌, arith, rules}
+use Rattle.std.proofs.Common.{◌≡◌, ℕ, zero, suc, ◌+◌, ◌<◌, List, [], ◌∷◌, length, get_or, sym, ◌∙◌, arith}
 use Rattle.std.specs.List.{All, AllByRecursion}
 use Rattle.std.specs.List.Sorted.{IsSortedBy, IsPermutation}
 use Rattle.std.specs.Ordering.{is_lt, nat_cmp, ordering_then}
@@ -10,7 +10,7 @@ use Rattle.l4_core_model.specs.Runs.{Event, is_earlier, merged}
 use Rattle.l4_merge.specs.Merges.{SortAsMerged}
 use Rattle.l4_merge.proofs.EventOrder.{earlier_is_lt}
 use Rattle.l4_machine.specs.declared.events.Part.{Part}
-use Rattle.l4_machine.specs.Parts.{event_of, events_of, part_is_earlier, AreSorted}
+use Rattle.l4_machine.specs.Parts.{event_of, events_of, AreSorted}
 
 pub sorted_events : (steps : List Step) (ps : List Part) → AreSorted ps → IsSortedBy is_earlier (events_of steps ps)
 sorted_events steps [] sorted = λ k d low lt. absurd (omega arith)
@@ -31,14 +31,14 @@ by_key xs sorted = λ k d low lt. sym (earlier_is_lt (bare (get_or xs (k + 1) d)
     bare p = record { cpu = p.cpu; stamp = p.stamp; steps = [] }
 
 -- What is true of all stays true in another order.
-each_at : (P : Part → Type 0) (ps : List Part) (k : ℕ) (d : Part) → AllByRecursion P ps → k < length ps → P (get_or ps k d)
+each_at : {A : Type 0} (P : A → Type 0) (xs : List A) (k : ℕ) (d : A) → AllByRecursion P xs → k < length xs → P (get_or xs k d)
 each_at P [] k d all lt = absurd (omega arith)
-each_at P (p ∷ ps) zero d all lt = all.0
-each_at P (p ∷ ps) (suc k) d all lt = each_at P ps k d all.1 (omega arith)
+each_at P (x ∷ xs) zero d all lt = all.0
+each_at P (x ∷ xs) (suc k) d all lt = each_at P xs k d all.1 (omega arith)
 
-all_of : (P : Part → Type 0) (ps : List Part) → All P ps → AllByRecursion P ps
+all_of : {A : Type 0} (P : A → Type 0) (xs : List A) → All P xs → AllByRecursion P xs
 all_of P [] all = tt
-all_of P (p ∷ ps) all = (all 0 p (omega arith), all_of P ps (λ k d lt. all (suc k) d (omega arith)))
+all_of P (x ∷ xs) all = (all 0 x (omega arith), all_of P xs (λ k d lt. all (suc k) d (omega arith)))
 
-pub all_moved : (P : Part → Type 0) (old new : List Part) → AllByRecursion P old → IsPermutation old new → AllByRecursion P new
+pub all_moved : {A : Type 0} (P : A → Type 0) (old new : List A) → AllByRecursion P old → IsPermutation old new → AllByRecursion P new
 all_moved P old new all moved = all_of P new (All-permutation P old new moved (λ k d lt. each_at P old k d all lt))

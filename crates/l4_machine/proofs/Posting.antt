@@ -1,5 +1,5 @@
 -- One more letter is posted.
-use Rattle.std.proofs.Common.{◌≡◌, ℕ, ◌<◌, List, ◌∷◌, length, get_or, set, refl, ap, sym, ◌∙◌, subst, arith}
+use Rattle.std.proofs.Common.{◌≡◌, ℕ, List, ◌∷◌, get_or, set, ap, sym, ◌∙◌, subst, arith}
 use Rattle.l4_model.specs.World.{changed}
 use Rattle.l4_model.proofs.Chains.{set_changed}
 use Rattle.l4_core_model.specs.Letters.{Letter}

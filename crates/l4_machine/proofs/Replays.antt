@@ -6,7 +6,7 @@ use Rattle.std.proofs.Math.Seq.{drop-cons, drop-length}
 use Rattle.std.proofs.lemmas.Bool.Decides.{nat_tests}
 use Rattle.l4_model.specs.Machine.{Machine}
 use Rattle.l4_model.specs.Conditions.{◌>>=◌}
-use Rattle.l4_core_model.specs.Runs.{Happening, Ticks, Happened, happens, Run}
+use Rattle.l4_core_model.specs.Runs.{Happening, Ticks, happens, Run}
 use Rattle.l4_core_model.specs.Schedules.{attempts, entry_event, least_deadline, next_turn, or_stays, replays}
 use Rattle.l4_machine.specs.Entries.{after_entry, is_entry, first_stranger}
 use Rattle.l4_machine.specs.UnderWay.{UnderWay, deadline_at, IsSystem, IsRun, GoesOn}

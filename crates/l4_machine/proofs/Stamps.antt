@@ -1,18 +1,17 @@
 -- No stamp is above the number of events.
-use Rattle.std.proofs.Common.{◌≡◌, ℕ, zero, suc, ◌+◌, ◌≤◌, ◌<◌, Option, Some, None, List, [], ◌∷◌, ◌++◌, map, length, max, refl, ap, sym, ◌∙◌, subst, arith, length-append}
-use Rattle.std.specs.Prelude.{slice_get, if◌then◌else◌, filter, Bool, true, false, cond}
+use Rattle.std.proofs.Common.{◌≡◌, ℕ, zero, suc, ◌+◌, ◌≤◌, Option, Some, None, List, [], ◌∷◌, map, length, refl, sym, subst, arith, length-append}
+use Rattle.std.specs.Prelude.{slice_get, filter, Bool, true, false, cond}
 use Rattle.std.specs.List.{AllByRecursion}
 use Rattle.std.specs.Option.{option_map}
 use Rattle.l4_model.specs.Machine.{Machine}
 use Rattle.l4_model.specs.World.{changed}
-use Rattle.l4_model.specs.Conditions.{◌>>=◌}
 use Rattle.l4_model.proofs.Chains.{bind_then, some_is}
 use Rattle.l4_core_model.specs.Letters.{Letter}
 use Rattle.l4_core_model.specs.Local.{Local, opening_local}
 use Rattle.l4_core_model.specs.Acts.{Work}
 use Rattle.l4_core_model.specs.Turns.{next_stamp, opened, turn, advance}
 use Rattle.l4_core_model.specs.Mail.{handle}
-use Rattle.l4_core_model.specs.Runs.{Posted, System, is_between, letters, without_first, posted, taken, processors, opening_system, Happening, Handles, Turns, Ticks, Happened, done, happens, Run, then_event, core_run, opening_run}
+use Rattle.l4_core_model.specs.Runs.{Posted, System, is_between, letters, without_first, posted, taken, processors, Happening, Handles, Turns, Ticks, Happened, done, happens, Run, then_event, core_run, opening_run}
 use Rattle.l4_core_model.specs.Laws.{IsCoreRun}
 use Rattle.l4_merge.proofs.Lists.{all-append}
 use Rattle.l4_merge.proofs.StampsOfActs.{IsStamped}

@@ -1,5 +1,6 @@
 pub mod CoreRuns
 pub mod Entries
+pub mod Gathers
 pub mod Outcomes
 pub mod Parts
 pub mod Stations

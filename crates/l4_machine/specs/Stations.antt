@@ -1,19 +1,30 @@
 -- A processor with the letters that have come to it.
-use Rattle.std.specs.Prelude.{◌≡◌, ℕ, ◌<◌, false, true, ◌⊎◌, Option, Some, None, is_some, List, [], ◌∷◌, ◌++◌, drop, length, slice_get, slice_index_or}
+use Rattle.std.specs.Prelude.{◌≡◌, ◌≢◌, ℕ, ◌<◌, ◌+◌, ◌-◌, false, true, ◌⊎◌, Option, Some, None, is_some, List, [], ◌∷◌, ◌++◌, drop, length, map, slice_get, slice_index_or}
 use Rattle.std.specs.Option.{option_map}
+use Rattle.std.specs.VecDeque.{deque_len, deque_capacity}
 use Rattle.l4_model.specs.World.{changed}
 use Rattle.l4_core_model.specs.Letters.{Letter}
 use Rattle.l4_core_model.specs.Mail.{handle}
 use Rattle.l4_core_model.specs.Runs.{is_empty}
 use Rattle.l4_core_model.specs.Turns.{advance, can_stamp, is_busy}
+use Rattle.l4_types.specs.LetterView.{letter_of}
 use Rattle.l4_core.specs.Processor.{Processor}
 use Rattle.l4_core.specs.Tellings.{Told}
-use Rattle.l4_core.specs.Turning.{IsEvent, IsNoEvent, IsTurn}
+use Rattle.l4_core.specs.Turning.{IsEvent, IsTurn}
+use Rattle.l4_machine.specs.declared.station.Station as program
 
 -- A processor, and for each processor the letters that came from it and are not handled yet, of which the first is handled first.
 pub record Station : Type 0 where
   pub core : Processor
   pub inbox : List (List Letter)
+
+-- What the program's station is.
+abbrev pub station_of : program.Station → Station
+station_of s = record { core = s.core; inbox = map (λ q. map letter_of q.items) s.inbox.items }
+
+-- For how many letters more of one poster the program's station has room.
+abbrev pub room_for : (from : ℕ) → program.Station → ℕ
+room_for from s = slice_index_or (map (λ q. deque_capacity q - deque_len q) s.inbox.items) from 0
 
 -- The letters of one poster.
 abbrev pub letters_from : (from : ℕ) → Station → List Letter
@@ -22,6 +33,12 @@ letters_from from s = slice_index_or s.inbox from []
 -- A letter has come.
 abbrev pub with_letter : (from : ℕ) → Letter → Station → Station
 with_letter from letter s = record s { inbox = changed (λ letters. letters ++ letter ∷ []) s.inbox from }
+
+-- One letter more has come, in room that was there.
+pub record HasPosted (from : ℕ) (letter : Letter) (old new : program.Station) : Type 0 where
+  pub station : station_of new ≡ with_letter from letter (station_of old)
+  pub used : room_for from new + 1 ≡ room_for from old
+  pub others : (other : ℕ) → other ≢ from → room_for other new ≡ room_for other old
 
 -- The first letter of one poster is taken out.
 abbrev pub without_letter : (from : ℕ) → Station → Station
@@ -39,22 +56,6 @@ pub record IsFirstPoster (s : Station) (from : ℕ) : Type 0 where
 abbrev pub PostsFirst : Station → Option ℕ → Type 0
 PostsFirst s None = HasNoMail s
 PostsFirst s (Some from) = IsFirstPoster s from
-
--- The first letter of the lowest poster was taken out.
-pub record IsTaken (old new : Station) (letter : Letter) : Type 0 where
-  pub from : ℕ
-  pub poster : IsFirstPoster old from
-  pub first : slice_get (letters_from from old) 0 ≡ Some letter
-  pub rest : new ≡ without_letter from old
-
--- There was no letter.
-pub record IsUntaken (old new : Station) : Type 0 where
-  pub no_mail : HasNoMail old
-  pub same : new ≡ old
-
-abbrev pub TakesLetter : (old new : Station) → Option Letter → Type 0
-TakesLetter old new None = IsUntaken old new
-TakesLetter old new (Some letter) = IsTaken old new letter
 
 -- A letter can be handled here, and the event can have a stamp.
 pub record CanHandle (p : Processor) (letter : Letter) : Type 0 where

@@ -1,5 +1,5 @@
 -- A core run under way in the program, and the core run of the definitions that it is.
-use Rattle.std.specs.Prelude.{◌≡◌, ℕ, ◌<◌, ◌≤◌, Option, Some, None, List, [], ◌∷◌, map, length, slice_get}
+use Rattle.std.specs.Prelude.{◌≡◌, ℕ, ◌<◌, ◌≤◌, Option, Some, None, List, [], ◌∷◌, map, length, slice_get, slice_index_or}
 use Rattle.std.specs.List.{AllByRecursion}
 use Rattle.l4_model.specs.Machine.{Machine}
 use Rattle.l4_model.specs.Steps.{Step}
@@ -9,8 +9,9 @@ use Rattle.l4_core_model.specs.Runs.{System, letters, Run, IsMachine, told}
 use Rattle.l4_core_model.specs.Schedules.{earliest_of}
 use Rattle.l4_core_model.specs.Laws.{IsCoreRun}
 use Rattle.l4_machine.specs.declared.events.Part.{Part}
+use Rattle.l4_machine.specs.declared.station.Station as program
 use Rattle.l4_machine.specs.Parts.{events_of}
-use Rattle.l4_machine.specs.Stations.{Station, letters_from, with_letter, deadline_of, IsResting}
+use Rattle.l4_machine.specs.Stations.{Station, station_of, room_for, letters_from, with_letter, deadline_of, IsResting}
 
 -- The processors with the letters that have come to them, and the events so far, as parts of their steps.
 pub record UnderWay : Type 0 where
@@ -24,9 +25,28 @@ abbrev pub with_letters : (from : ℕ) → List (ℕ × Letter) → List Station
 with_letters from [] ss = ss
 with_letters from (p ∷ ps) ss = with_letters from ps (changed (with_letter from p.1) ss p.0)
 
--- Each goes to a processor that there is, and has room for those of this one.
+-- Each processor has a place for the letters of this one.
+abbrev pub KnowPoster : (from : ℕ) → List Station → Type 0
+KnowPoster from ss = (to : ℕ) (s : Station) → slice_get ss to ≡ Some s → from < length s.inbox
+
+-- Each goes to a processor that there is, and that has a place for those of this one.
 abbrev pub CanPost : (from : ℕ) → List (ℕ × Letter) → List Station → Type 0
-CanPost from ps ss = AllByRecursion (λ p. p.0 < length ss) ps × ((to : ℕ) (s : Station) → slice_get ss to ≡ Some s → from < length s.inbox)
+CanPost from ps ss = AllByRecursion (λ p. p.0 < length ss) ps × KnowPoster from ss
+
+-- For how many letters more of one poster there is room at a processor.
+abbrev pub room_at : (from : ℕ) → Option program.Station → ℕ
+room_at from None = 0
+room_at from (Some s) = room_for from s
+
+-- By poster, for how many letters more each processor has room at least.
+pub record AreRoomy (spare : List ℕ) (ss : List program.Station) : Type 0 where
+  pub size : length spare ≡ length ss
+  pub room : (from to : ℕ) → to < length ss → slice_index_or spare from 0 ≤ room_at from (slice_get ss to)
+
+-- The same processors, each with no less room.
+pub record HaveGrown (old new : List program.Station) : Type 0 where
+  pub same : map station_of new ≡ map station_of old
+  pub room : (from to : ℕ) → room_at from (slice_get old to) ≤ room_at from (slice_get new to)
 
 -- The letters of a pair of processors.
 abbrev pub letters_at : (from : ℕ) → Option Station → List Letter

@@ -10,6 +10,7 @@ ghost use Rattle.l4_machine.specs.Parts.{event_of, events_of, part_is_earlier, A
 
 use l4_core::told::Told;
 use l4_history::history::History;
+use l4_history::steps::Steps;
 use l4_types::errors::NoMemory;
 use std::alloc::Global;
 
@@ -119,7 +120,14 @@ fn copy_part(copy: &mut History, history: &History, part: &Part) -> Result<(), N
     requires { part.now.end ≤ length history.now.steps }
     ensures { OnOk result (copy.new.steps ≡ copy.old.steps ++ (event_of history.now.steps part.now).steps) }
 {
-    for step in history.steps_between(part.start, part.end) {
+    copy_steps(copy, history.steps_between(part.start, part.end))
+}
+
+/// Tells these steps behind those of a history. Where memory is refused, some of them may have been told.
+pub(crate) fn copy_steps(copy: &mut History, steps: Steps<'_>) -> Result<(), NoMemory>
+    ensures { OnOk result (copy.new.steps ≡ copy.old.steps ++ steps.entry) }
+{
+    for step in steps {
         copy.reserve()?;
         copy.push(step);
     }

@@ -3,12 +3,15 @@
 
 mod core_run;
 mod events;
+mod gathering;
 mod laws;
+mod merging;
 mod outcome;
 mod rounds;
 mod schedules;
 mod station;
 
+pub use gathering::gather;
 pub use laws::law_core_run;
 pub use outcome::{CompactOutcome, Outcome, RunFault};
 pub use rounds::{MOST_TURNS, run, run_compact};

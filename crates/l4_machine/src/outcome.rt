@@ -69,6 +69,8 @@ pub enum RunFault {
     Turns,
     /// This entry of the schedule, counted from 1, is the first of no processor of the machine.
     Schedule(usize),
+    /// The processors are not all of the machine, each once.
+    Strangers,
 }
 
 impl From<NoMemory> for RunFault {

@@ -1,21 +1,19 @@
 //! A processor with the letters that have come to it.
-ghost use Rattle.std.specs.Prelude.{◌≡◌, ◌<◌, [], IfOk, OnOk, IsTrue, ◌↔◌, length, map, replicate, true};
-ghost use Rattle.std.specs.Option.{option_map};
+ghost use Rattle.std.specs.Prelude.{◌≡◌, ◌<◌, ◌≤◌, ◌+◌, ℕ, [], IfOk, IsTrue, OnOk, ◌↔◌, length, map, replicate, true};
 ghost use Rattle.l4_core_model.specs.Local.{opening_local};
 ghost use Rattle.l4_core_model.specs.Turns.{can_stamp};
 ghost use Rattle.l4_types.specs.LetterView.{letter_of};
 ghost use Rattle.l4_core.specs.Tellings.{IsOpen};
-ghost use Rattle.l4_machine.specs.Stations.{deadline_of, with_letter, CanGoOn, GoesOnTo, IsResting, PostsFirst, TakesLetter, TakesTurn};
+ghost use Rattle.l4_machine.specs.Stations.{deadline_of, room_for, station_of, with_letter, CanGoOn, GoesOnTo, HasPosted, IsResting, PostsFirst, TakesTurn};
 
 use l4_core::processor::Core;
 use l4_core::told::Told;
 use l4_history::history::History;
 use l4_script::machine::Machine;
 use l4_types::errors::NoMemory;
-use l4_types::letters::Letter;
+use l4_types::letters::{Content, Letter};
 use std::alloc::Global;
 use std::collections::VecDeque;
-use std::marker::Model;
 
 /// A processor, and for each processor the letters that came from it and are not handled yet.
 #[derive(Drop)]
@@ -24,21 +22,11 @@ pub(crate) struct Station<'m> {
     inbox: Vec<VecDeque<Letter>>,
 }
 
-impl<'m> Model for Station<'m> {
-    ghost use Rattle.std.specs.Prelude.{map};
-    ghost use Rattle.l4_types.specs.LetterView.{letter_of};
-    ghost use Rattle.l4_machine.specs.Stations.{Station as StationOfRun};
-
-    ghost Value = { StationOfRun };
-
-    ghost view = { λ s. record { core = s.core; inbox = map (λ letters. map letter_of letters.items) s.inbox.items } };
-}
-
 impl<'m> Station<'m> {
     /// A processor where nothing has happened. `cpu` is its number, below the machine's count.
     pub(crate) fn new(alloc: Global, machine: &'m Machine, cpu: u8) -> Result<Station<'m>, NoMemory>
         requires { cpu < machine.now.cpus }
-        ensures { IfOk result (λ s. s ≡ record {
+        ensures { IfOk result (λ s. station_of s ≡ record {
           core = record { machine = machine.now; cpu = cpu; local = opening_local machine.now cpu };
           inbox = replicate machine.now.cpus [];
         }) }
@@ -50,24 +38,29 @@ impl<'m> Station<'m> {
     }
 
     /// A turn: the first letter of the lowest poster is handled; where there is none, it is the core's turn. Answers the stamp of the event,
-    /// or None where there is nothing to do, and then nothing is changed.
+    /// or None where there is nothing to do, and then nothing is changed. There is no less room for letters than before.
     pub(crate) fn take_turn(&mut self, told: &mut Told<History>) -> Option<u64>
-        requires go_on { CanGoOn self.old }
+        requires go_on { CanGoOn (station_of self.old) }
         requires untold { IsOpen told.old }
-        ensures { TakesTurn self.old self.new told.old told.new result }
+        ensures turn { TakesTurn (station_of self.old) (station_of self.new) told.old told.new result }
+        ensures room { (from : ℕ) → room_for from self.old ≤ room_for from self.new }
     {
-        match self.take_letter() {
-            Some(letter) => Some(self.core.handle_into(&letter, told).unwrap()),
-            None => self.core.turn_into(told),
-        }
+        let Some(from) = self.first_poster() else {
+            return self.core.turn_into(told);
+        };
+        let letters = &mut self.inbox[from];
+        let stamp = self.core.handle_into(&letters[0], told).unwrap();
+        letters.pop_front();
+        Some(stamp)
     }
 
     /// The clock goes on to this value, in ticks. Answers the stamp of the event, or None where the clock may not go on to there, and then
-    /// nothing is changed.
+    /// nothing is changed. There is as much room for letters as before.
     pub(crate) fn tick(&mut self, clock: u64, told: &mut Told<History>) -> Option<u64>
         requires stamp { can_stamp self.old.core.local 0 ≡ true }
         requires untold { IsOpen told.old }
-        ensures { GoesOnTo clock self.old self.new told.old told.new result }
+        ensures tick { GoesOnTo clock (station_of self.old) (station_of self.new) told.old told.new result }
+        ensures room { self.new.inbox ≡ self.old.inbox }
     {
         match self.core.advance_into(clock, told) {
             Ok(stamp) => Some(stamp),
@@ -75,18 +68,28 @@ impl<'m> Station<'m> {
         }
     }
 
-    /// A letter comes from a processor.
-    pub(crate) fn post(&mut self, from: u8, letter: Letter) -> Result<(), NoMemory>
-        requires { from < length self.old.inbox }
-        ensures { OnOk result (self.new ≡ with_letter from (letter_of letter) self.old) }
+    /// Makes room for so many letters more from a processor. Where memory is refused, there is no less room than before.
+    pub(crate) fn reserve(&mut self, from: u8, letters: usize) -> Result<(), NoMemory>
+        requires { from < length self.old.inbox.items }
+        ensures same { station_of self.new ≡ station_of self.old }
+        ensures grown { (other : ℕ) → room_for other self.old ≤ room_for other self.new }
+        ensures room { OnOk result (letters ≤ room_for from self.new) }
     {
-        self.inbox[usize::from(from)].push_back(letter)?;
+        self.inbox[usize::from(from)].reserve(letters)?;
         Ok(())
+    }
+
+    /// A letter comes from a processor. It takes no memory, since there is room for one.
+    pub(crate) fn post(&mut self, from: u8, letter: &Letter)
+        requires { 0 < room_for from self.old }
+        ensures { HasPosted from (letter_of letter.now) self.old self.new }
+    {
+        self.inbox[usize::from(from)].push_back_reserved(copied(letter));
     }
 
     /// The least deadline that a thread is armed for, in ticks.
     pub(crate) fn least_deadline(&self) -> Option<u64>
-        ensures { result ≡ deadline_of self.now }
+        ensures { result ≡ deadline_of (station_of self.now) }
     {
         let _ = &self.inbox;
         self.core.least_deadline()
@@ -94,7 +97,7 @@ impl<'m> Station<'m> {
 
     /// Whether the processor has nothing to do, no deadline and no letter.
     pub(crate) fn is_at_rest(&self) -> bool
-        ensures { IsTrue result ↔ IsResting self.now }
+        ensures { IsTrue result ↔ IsResting (station_of self.now) }
     {
         if self.core.busy() || self.core.least_deadline().is_some() {
             return false;
@@ -104,7 +107,7 @@ impl<'m> Station<'m> {
 
     // The lowest processor that letters have come from.
     fn first_poster(&self) -> Option<usize>
-        ensures { PostsFirst self.now result }
+        ensures { PostsFirst (station_of self.now) result }
     {
         let _ = &self.core;
         for from in 0..self.inbox.len() {
@@ -114,13 +117,52 @@ impl<'m> Station<'m> {
         }
         None
     }
+}
 
-    // Takes the first letter of the lowest poster out.
-    fn take_letter(&mut self) -> Option<Letter>
-        ensures { TakesLetter self.old self.new (option_map letter_of result) }
-    {
-        let from = self.first_poster()?;
-        self.inbox[from].pop_front()
+// The same letter again.
+fn copied(letter: &Letter) -> Letter
+    ensures { result ≡ letter.now }
+{
+    let content = match &letter.content {
+        Content::Send {
+            name,
+            receiver,
+            message,
+            zero_timeout,
+        } => Content::Send {
+            name: *name,
+            receiver: *receiver,
+            message: message.copy(),
+            zero_timeout: *zero_timeout,
+        },
+        Content::Done { name, decision } => Content::Done {
+            name: *name,
+            decision: *decision,
+        },
+        Content::Withdraw {
+            name,
+            receiver,
+            cause,
+        } => Content::Withdraw {
+            name: *name,
+            receiver: *receiver,
+            cause: *cause,
+        },
+        Content::Gone(id) => Content::Gone(*id),
+        Content::Order {
+            caller,
+            target,
+            what,
+        } => Content::Order {
+            caller: *caller,
+            target: *target,
+            what: *what,
+        },
+        Content::OrderDone(caller) => Content::OrderDone(*caller),
+    };
+    Letter {
+        stamp: letter.stamp,
+        content,
     }
 }
 

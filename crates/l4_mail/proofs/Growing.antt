@@ -1,5 +1,5 @@
 -- Ports that get further ends.
-use Rattle.std.proofs.Common.{◌≡◌, ◌≢◌, ℕ, zero, suc, ◌+◌, ◌<◌, List, [], ◌∷◌, ◌++◌, length, map, set, get_or, subst, refl, sym, ap, ◌∙◌, arith, Option, Some, None, slice_get, ◌⊎◌, ⊎_elim, inl, inr}
+use Rattle.std.proofs.Common.{◌≡◌, ◌≢◌, ℕ, zero, suc, ◌+◌, ◌<◌, List, [], ◌∷◌, ◌++◌, length, map, set, get_or, subst, refl, sym, ap, ◌∙◌, arith, Option, Some, None, slice_get, ◌⊎◌, ⊎_elim, inl, inr, vec_len}
 use Rattle.std.proofs.lemmas.Option.{none-some, slice_get_within}
 use Rattle.std.proofs.lemmas.List.{length-map, length-set, length-append, map-append, get_or_append_left}
 use Rattle.std.proofs.Math.Seq.{get_or-append_seam}
@@ -63,11 +63,25 @@ one_longer : {A B : Type 0} (f : A → B) (l more : List A) (y : B) (n : ℕ) �
 one_longer f l more y n e len =
     let a = length-map more f in let b = length-map l f in let c = length-append (map f l) (y ∷ []) in let d = ap length e in omega arith
 
-member_grown : (n i : ℕ) (old new : Port) (out in_ : Option RingId) → Grown old new out in_ → IsMember n i old → IsMember (n + 1) i new
-member_grown n i old new out in_ g m = record {
+none_there : {A : Type 0} (l : List (Option A)) (y : Option A) (i : ℕ) → (i ≡ length l → y ≡ None) → get_or l i None ≡ None → get_or (l ++ y ∷ []) i None ≡ None
+none_there [] y zero here none = here refl
+none_there [] y (suc i) here none = refl
+none_there (x ∷ l) y zero here none = none
+none_there (x ∷ l) y (suc i) here none = none_there l y i (λ same. here (ap suc same)) none
+
+none_at : {A : Type 0} (l more : List (Option A)) (y : Option A) (i n : ℕ) → more ≡ l ++ y ∷ [] → length l ≡ n → (i ≡ n → y ≡ None) → get_or l i None ≡ None →
+    get_or more i None ≡ None
+none_at l more y i n e len here none = ap (λ v. get_or v i None) e ∙ none_there l y i (λ same. here (same ∙ len)) none
+
+-- At its own place it has got no end.
+member_grown : (n i : ℕ) (old new : Port) (out in_ : Option RingId) → (i ≡ n → (out ≡ None) × (in_ ≡ None)) → Grown old new out in_ → IsMember n i old →
+    IsMember (n + 1) i new
+member_grown n i old new out in_ own g m = record {
   cpu = g.cpu ∙ m.cpu;
   outlets = one_longer ring_out old.outlets.items new.outlets.items out n g.outs m.outlets;
   inlets = one_longer ring_in old.inlets.items new.inlets.items in_ n g.ins m.inlets;
+  out = none_at _ _ out i n g.outs (length-map old.outlets.items ring_out ∙ m.outlets) (λ same. (own same).0) m.out;
+  in_ = none_at _ _ in_ i n g.ins (length-map old.inlets.items ring_in ∙ m.inlets) (λ same. (own same).1) m.in_;
   posted = none_longer _ _ g.posts m.posted;
   taken = none_longer _ _ g.takes m.taken;
   kept = none_longer _ _ g.keeps m.kept;
@@ -129,13 +143,14 @@ end_case (a ∷ l) y (suc i) x e = ⊎_elim inl (λ t. inr (ap suc t.0, t.1)) (e
 pub joined_more : (n k : ℕ) (ports : List Port) (p p' q q' : Port) (r s : RingId) → AreJoined n k ports q → slice_get ports k ≡ Some p → Grown p p' (Some r) (Some s) → Grown q q' (Some s) (Some r) → AreJoined n (k + 1) (set ports k p') q'
 joined_more n k ports p p' q q' r s h at a b =
     let m = h.later k p at (omega arith) in
+    let below : k < n = (let lt = slice_get_within ports k p at in let c = h.count in omega arith) in
     let la = longer p p' (Some r) (Some s) a in let lb = longer q q' (Some s) (Some r) b in
     record {
       count = length-set ports k p' ∙ h.count;
-      next = member_grown k n q q' (Some s) (Some r) b h.next;
+      next = member_grown k n q q' (Some s) (Some r) (λ same. absurd (omega arith)) b h.next;
       joined = λ i x e lt. ⊎_elim
           (λ (t : (i ≡ k) × (p' ≡ x)). subst (λ y. IsMember (n + 1) i y × IsWay (place y) (place q') × IsWay (place q') (place y)) t.1 (
-            subst (λ j. IsMember (n + 1) j p') (sym t.0) (member_grown n k p p' (Some r) (Some s) a m),
+            subst (λ j. IsMember (n + 1) j p') (sym t.0) (member_grown n k p p' (Some r) (Some s) (λ same. absurd (omega arith)) a m),
             new_way n k k n p p' q q' r (Some s) (Some s) a b m.cpu h.next.cpu m.outlets h.next.inlets,
             new_way n k n k q q' p p' s (Some r) (Some r) b a h.next.cpu m.cpu h.next.outlets m.inlets,
           ))
@@ -170,7 +185,7 @@ all_joined n ports q q' h b =
       count = (let a = h.count in let c = length-append ports (q' ∷ []) in omega arith);
       each = λ i x e. ⊎_elim
           (λ (t : slice_get ports i ≡ Some x). (h.joined i x t (first i x t)).0)
-          (λ (t : (i ≡ length ports) × (q' ≡ x)). subst (λ y. IsMember (n + 1) i y) t.1 (subst (λ j. IsMember (n + 1) j q') (sym (t.0 ∙ h.count)) (member_grown n n q q' None None b h.next)))
+          (λ (t : (i ≡ length ports) × (q' ≡ x)). subst (λ y. IsMember (n + 1) i y) t.1 (subst (λ j. IsMember (n + 1) j q') (sym (t.0 ∙ h.count)) (member_grown n n q q' None None (λ same. (refl, refl)) b h.next)))
           (end_case ports q' i x e);
       ways = λ i j x y e f ne. ⊎_elim
           (λ (t : slice_get ports i ≡ Some x). ⊎_elim
@@ -223,6 +238,13 @@ fresh n ports h = record {
   ways = λ i p e to lt ne.
       let q = read ports to (let c = h.count in omega arith) in
       way_to p q.0 to (h.each to q.0 q.1).cpu (h.ways i to p q.0 e q.1 (λ f. ne (sym f)));
+  apart = λ i p e.
+      let m = h.each i p e in
+      record {
+        out = ap (λ k. get_or (map ring_out p.outlets.items) k None) m.cpu ∙ m.out;
+        in_ = ap (λ k. get_or (map ring_in p.inlets.items) k None) m.cpu ∙ m.in_;
+        size = length-map p.inlets.items ring_in ∙ m.inlets ∙ sym m.outlets ∙ sym (length-map p.outlets.items ring_out);
+      };
   posted = λ i p e. (h.each i p e).posted;
   taken = λ i p e. (h.each i p e).taken;
   kept = λ i p e. (h.each i p e).kept;
@@ -260,3 +282,18 @@ own_place old new c o i = record {
   takes = ap (map taken) i ∙ map-append taken old.inlets.items (None ∷ []);
   keeps = ap (map kept) i ∙ map-append kept old.inlets.items (None ∷ []);
 }
+
+-- The ends that two ports have got before there is a way between them are few enough.
+pub few_ends : (n k : ℕ) (p q : Port) → IsMember n k p → IsMember k n q → k < n → n < 16 → (vec_len p.outlets < 16) × (vec_len q.inlets < 16)
+few_ends n k p q m next lt few = (
+  (let a = m.outlets in let b = p.outlets.ok.0 in omega arith),
+  (let a = next.inlets in let b = q.inlets.ok.0 in omega arith),
+)
+
+-- So they are before there is a way back.
+pub few_back : (n k : ℕ) (p p' q q' : Port) (out in_ : Option RingId) → IsMember n k p → IsMember k n q → k < n → n < 16 → GainsOutlet p p' out → GainsInlet q q' in_ →
+    (vec_len q'.outlets < 16) × (vec_len p'.inlets < 16)
+few_back n k p p' q q' out in_ m next lt few a b = (
+  subst (λ v. vec_len v < 16) (sym b.outlets) (let d = next.outlets in let e = q.outlets.ok.0 in omega arith),
+  subst (λ v. vec_len v < 16) (sym a.inlets) (let d = m.inlets in let e = p.inlets.ok.0 in omega arith),
+)

@@ -1,8 +1,8 @@
 -- A fabric, and one that is being made.
-use Rattle.std.specs.Prelude.{◌≡◌, ◌≢◌, ◌<◌, ◌≤◌, ◌+◌, ℕ, List, [], ◌∷◌, ◌++◌, length, map, slice_get, Option, Some}
+use Rattle.std.specs.Prelude.{◌≡◌, ◌≢◌, ◌<◌, ◌≤◌, ◌+◌, ℕ, List, [], ◌∷◌, ◌++◌, length, map, slice_get, slice_index_or, Option, Some, None}
 use Rattle.l4_mail.specs.declared.ports.Port.{Port}
 use Rattle.l4_mail.specs.Ends.{RingId, ring_out, posted, ring_in, taken, kept}
-use Rattle.l4_mail.specs.Ports.{place, posted_to, taken_from, kept_from, fabric_size, HasWayTo, IsWay, AreOneFabric}
+use Rattle.l4_mail.specs.Ports.{place, posted_to, taken_from, kept_from, fabric_size, HasWayTo, IsApart, IsWay, AreOneFabric}
 
 -- The ports of all processors of a new fabric, in the order of their numbers, of which none has carried a letter.
 pub record AreFresh (n : ℕ) (ports : List Port) : Type 0 where
@@ -11,6 +11,7 @@ pub record AreFresh (n : ℕ) (ports : List Port) : Type 0 where
   pub cpu : (i : ℕ) (p : Port) → slice_get ports i ≡ Some p → p.cpu ≡ i
   pub size : (i : ℕ) (p : Port) → slice_get ports i ≡ Some p → fabric_size p ≡ n
   pub ways : (i : ℕ) (p : Port) → slice_get ports i ≡ Some p → (to : ℕ) → to < n → to ≢ i → HasWayTo p to
+  pub apart : (i : ℕ) (p : Port) → slice_get ports i ≡ Some p → IsApart (place p)
   pub posted : (i : ℕ) (p : Port) → slice_get ports i ≡ Some p → (to : ℕ) → posted_to p to ≡ []
   pub taken : (i : ℕ) (p : Port) → slice_get ports i ≡ Some p → (from : ℕ) → taken_from p from ≡ []
   pub kept : (i : ℕ) (p : Port) → slice_get ports i ≡ Some p → (from : ℕ) → kept_from p from ≡ []
@@ -35,6 +36,8 @@ pub record IsMember (n i : ℕ) (p : Port) : Type 0 where
   pub cpu : p.cpu ≡ i
   pub outlets : length p.outlets.items ≡ n
   pub inlets : length p.inlets.items ≡ n
+  pub out : slice_index_or (map ring_out p.outlets.items) i None ≡ None
+  pub in_ : slice_index_or (map ring_in p.inlets.items) i None ≡ None
   pub posted : (to : ℕ) → posted_to p to ≡ []
   pub taken : (from : ℕ) → taken_from p from ≡ []
   pub kept : (from : ℕ) → kept_from p from ≡ []

@@ -33,6 +33,12 @@ pub record Place : Type 0 where
 abbrev pub place : Port → Place
 place p = record { cpu = p.cpu; outs = map ring_out p.outlets.items; ins = map ring_in p.inlets.items }
 
+-- It has no way to itself, and as many ends of each kind.
+pub record IsApart (p : Place) : Type 0 where
+  pub out : slice_index_or p.outs p.cpu None ≡ None
+  pub in_ : slice_index_or p.ins p.cpu None ≡ None
+  pub size : length p.ins ≡ length p.outs
+
 -- There is a way to the processor.
 abbrev pub HasWayTo : Port → (to : ℕ) → Type 0
 HasWayTo p to = (ring : RingId) × (slice_index_or (place p).outs to None ≡ Some ring)

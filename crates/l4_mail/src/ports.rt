@@ -29,6 +29,13 @@ impl Port {
         self.cpu
     }
 
+    /// How many processors its fabric has.
+    pub fn fabric_size(&self) -> usize
+        ensures { result ≡ fabric_size self.now }
+    {
+        self.outlets.len()
+    }
+
     /// Makes room for two letters to each other processor. Where memory is refused, the port has carried what it had carried.
     pub fn reserve(&mut self) -> Result<(), NoMemory>
         ensures same { IsAsBefore self.old self.new }

@@ -7,7 +7,7 @@ use Rattle.l4_model.specs.Machine.{Machine}
 use Rattle.l4_model.specs.World.{is_deleted, receive_now}
 use Rattle.l4_model.specs.Conditions.{Found, ◌>>=◌, ◌>>◌, is_nobody}
 use Rattle.l4_core_model.specs.Plain as plain
-use Rattle.l4_core_model.specs.Local.{Local, own_places, held, held_by, thread}
+use Rattle.l4_core_model.specs.Local.{Local, declared, own_places, held, held_by, thread}
 use Rattle.l4_core_model.specs.Acts.{first_acceptable, zero_refusable}
 use Rattle.l4_core_model.specs.Turns.{Duty, DropsOwn, TellsGone, CancelsOwn, CancelsReceive, DeliversFirst, ClosesReceive}
 use Rattle.l4_core_model.specs.Turns.{duty_drops_own, duty_refuses_waiting, next_untold, duty_tells_gone, duty_cancels_own, duty_cancels_receive}
@@ -15,11 +15,15 @@ use Rattle.l4_core_model.specs.Turns.{duty_delivers_first, duty_closes_receive, 
 use Rattle.l4_core_model.specs.Turns.{Choice, ByDuty, ByDue, ByReady, choice}
 use Rattle.l4_core_model.proofs.Choosing.{next_elsewhere}
 
--- Another processor of the machine.
-abbrev pub IsElsewhere : Machine → (cpu to : ℕ) → Type 0
-IsElsewhere m cpu to = (to < m.cpus) × (to ≢ cpu)
+-- Every place has a processor of the machine.
+abbrev pub AllHomed : Machine → Type 0
+AllHomed m = (i : ℕ) → (declared m i).cpu < m.cpus
 
--- The processor that a duty tells of a deletion, if it does, is another one of the machine.
+-- Another processor, and one of the machine where every place has one.
+abbrev pub IsElsewhere : Machine → (cpu to : ℕ) → Type 0
+IsElsewhere m cpu to = (AllHomed m → to < m.cpus) × (to ≢ cpu)
+
+-- The processor that a duty tells of a deletion, if it does, is another one.
 abbrev pub IsAimed : Machine → (cpu : ℕ) → Duty → Type 0
 IsAimed m cpu (TellsGone to) = IsElsewhere m cpu to
 IsAimed m cpu duty = Unit {0}
@@ -53,7 +57,9 @@ duty_aimed m cpu l t =
     let told = slice_index_or l.told t.at 0 in
     let drops = if_guarded aimed deleted _ (if_guarded aimed queued (Some DropsOwn) tt) in
     let refuses = if_guarded aimed deleted _ (if_bound aimed (slice_get (plain.list_of l.lists t.at) 0) _ (λ first is. tt)) in
-    let tells = if_guarded aimed deleted _ (if_bound aimed (next_untold m cpu told) (λ to. Some (TellsGone to)) (next_elsewhere m cpu told)) in
+    let other : (to : ℕ) → next_untold m cpu told ≡ Some to → IsElsewhere m cpu to =
+    λ to is. (let next = next_elsewhere m cpu told to is in ((λ homes. next.0), next.1)) in
+    let tells = if_guarded aimed deleted _ (if_bound aimed (next_untold m cpu told) (λ to. Some (TellsGone to)) other) in
     let cancels = if_guarded aimed queued _ (if_guarded aimed t.now.cancel_send (Some CancelsOwn) tt) in
     let fails = if_guarded aimed (is_some receiving) _ (if_guarded aimed t.now.cancel_receive (Some CancelsReceive) tt) in
     let delivers = if_bound aimed (first_acceptable l t.at) (λ first. Some (DeliversFirst first)) (λ first is. tt) in

@@ -1,8 +1,8 @@
 -- The deeds of all processors, in the order of their events, are done one after another.
-use Rattle.std.proofs.Common.{◌≡◌, ℕ, ◌<◌, ◌≤◌, cond, Some, List, [], ◌∷◌, ◌++◌, map, length, get_or, refl, ap, sym, ◌∙◌, subst, append_assoc, arith}
+use Rattle.std.proofs.Common.{◌≡◌, ℕ, ◌<◌, ◌≤◌, true, cond, Some, List, [], ◌∷◌, ◌++◌, map, length, get_or, refl, ap, sym, ◌∙◌, subst, append_assoc, arith}
 use Rattle.std.specs.Prelude.{slice_get, ◌==◌, filter}
-use Rattle.std.specs.List.{AllByRecursion}
-use Rattle.std.proofs.lemmas.Bool.{eq-eqb}
+use Rattle.std.specs.List.{AllByRecursion, list_all}
+use Rattle.std.proofs.lemmas.Bool.{eq-eqb, and_from}
 use Rattle.std.proofs.lemmas.List.{append-nil, same_lists}
 use Rattle.std.proofs.lemmas.Option.{slice_get-get_or, get_or_from_slice_get}
 use Rattle.l4_model.specs.Machine.{Machine}
@@ -10,8 +10,9 @@ use Rattle.l4_core_model.specs.Letters.{Letter}
 use Rattle.l4_core_model.specs.Local.{Local, opening_local}
 use Rattle.l4_core_model.specs.Runs.{System, letters, Happening, Run, then_event, core_run}
 use Rattle.l4_core_model.proofs.Lists.{all-map, all-map_with, all-filter}
-use Rattle.l4_merge.specs.Deeds.{LocalEvent, Handled, Turned, Ticked, letter_of, Deed, told_by, posted_by, handled_by, letters_with, Lead}
+use Rattle.l4_merge.specs.Deeds.{LocalEvent, Handled, Turned, Ticked, is_turn, letter_of, Deed, told_by, posted_by, handled_by, letters_with, Lead}
 use Rattle.l4_merge.specs.Pasts.{Begins}
+use Rattle.l4_merge.specs.Rounds.{is_no_tick}
 use Rattle.l4_merge.proofs.Lists.{all-of_map, all-flat_map}
 use Rattle.l4_merge.proofs.Deeds.{stamp_of, HasStamps}
 use Rattle.l4_merge.proofs.Own.{own, own_first, handled_own}
@@ -88,6 +89,12 @@ pub record AreDone (m : Machine) (before : Run) (ds : List Deed) (ends : List Lo
   pub events : run.events ≡ before.events ++ map told_by ds
   pub locals : run.system.locals ≡ ends
   pub mail : (from to : ℕ) → letters run.system.mail from to ≡ left from to
+  pub turns : AllByRecursion (λ d. is_turn d.event ≡ true) ds → list_all is_no_tick happenings ≡ true
+
+no_tick : (cpu : ℕ) (event : LocalEvent) → is_turn event ≡ true → is_no_tick (happening_of cpu event) ≡ true
+no_tick cpu (Handled from letter) h = refl
+no_tick cpu Turned h = refl
+no_tick cpu (Ticked clock) h = cc
 
 pub all_done : (m : Machine) (ds : List Deed) (r : Run) (ends : List Local) (left : (from to : ℕ) → List Letter) →
     AreAhead m r.system ds ends left → AreArranged ds → AreDone m r ds ends left
@@ -101,6 +108,7 @@ all_done m [] r ends left ahead order = record {
       let o = ahead.lead cpu now (slice_get-get_or r.system.locals cpu l lt) in
       sym (get_or_from_slice_get ends cpu now l (o.at ∙ ap Some (sym o.lead))));
   mail = λ from to. sym (append-nil (letters r.system.mail from to)) ∙ ahead.mail from to;
+  turns = λ a. refl;
 }
 all_done m (d ∷ ds) r ends left ahead order =
     let g = r.system in
@@ -119,4 +127,6 @@ all_done m (d ∷ ds) r ends left ahead order =
       events = rest.events ∙ append_assoc r.events (told_by d ∷ []) (map told_by ds);
       locals = rest.locals;
       mail = rest.mail;
+      turns = λ a.
+          and_from (is_no_tick (happening_of d.cpu d.event)) (list_all is_no_tick rest.happenings) (no_tick d.cpu d.event a.0) (rest.turns a.1);
     }

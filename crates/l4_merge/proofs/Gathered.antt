@@ -1,5 +1,5 @@
 -- What all processors did between earlier pasts and later ones, in one list of deeds.
-use Rattle.std.proofs.Common.{◌≡◌, ℕ, zero, suc, ◌+◌, ◌<◌, ◌≤◌, List, [], ◌∷◌, ◌++◌, Some, map, length, drop, refl, ap, sym, ◌∙◌, subst, arith}
+use Rattle.std.proofs.Common.{◌≡◌, ℕ, zero, suc, ◌+◌, ◌<◌, ◌≤◌, true, List, [], ◌∷◌, ◌++◌, Some, map, length, drop, refl, ap, sym, ◌∙◌, subst, arith}
 use Rattle.std.specs.Prelude.{slice_get, ◌==◌}
 use Rattle.std.specs.List.{AllByRecursion}
 use Rattle.std.proofs.lemmas.List.{append-nil, map-append}
@@ -8,7 +8,7 @@ use Rattle.std.proofs.lemmas.List.Prefix.{front_rest}
 use Rattle.l4_model.specs.Machine.{Machine}
 use Rattle.l4_model.proofs.Chains.{some_is}
 use Rattle.l4_core_model.proofs.Lists.{all-map}
-use Rattle.l4_merge.specs.Deeds.{Deed, told_by}
+use Rattle.l4_merge.specs.Deeds.{Deed, is_turn, told_by}
 use Rattle.l4_merge.specs.Pasts.{Past, AreDeedsBetween, HasWorked, added_events}
 use Rattle.l4_merge.proofs.Lists.{all-append}
 use Rattle.l4_merge.proofs.Deeds.{HasStamps, lead_stamps, lead_own}
@@ -88,3 +88,19 @@ gather m from (old ∷ olds) (new ∷ news) size work =
     each first rest are (suc i) cpu was now e at there =
         let others = own_of_other from cpu first.deeds rest (omega arith) (lead_own m from old.local new.local first.deeds first.are.lead) in
         subst (AreDeedsBetween m cpu was now) (sym others) (are.each i cpu was now (omega arith) at there)
+
+-- Where each of them went on by turns alone, so are all deeds.
+pub turns_gathered : (m : Machine) (from : ℕ) (olds news : List Past) (size : length news ≡ length olds)
+    (work : (i cpu : ℕ) (old new : Past) → from + i ≡ cpu → slice_get olds i ≡ Some old → slice_get news i ≡ Some new → HasWorked m cpu old new) →
+    ((i cpu : ℕ) (old new : Past) (e : from + i ≡ cpu) (was : slice_get olds i ≡ Some old) (now : slice_get news i ≡ Some new) →
+    AllByRecursion (λ d. is_turn d.event ≡ true) (work i cpu old new e was now).deeds) →
+    AllByRecursion (λ d. is_turn d.event ≡ true) (gather m from olds news size work).deeds
+unfolding gather
+turns_gathered m from [] [] size work turns = tt
+turns_gathered m from [] (new ∷ news) size work turns = absurd (omega arith)
+turns_gathered m from (old ∷ olds) [] size work turns = absurd (omega arith)
+turns_gathered m from (old ∷ olds) (new ∷ news) size work turns =
+    all-append (λ (d : Deed). is_turn d.event ≡ true) (work 0 from old new (omega arith) refl refl).deeds _
+    (turns 0 from old new (omega arith) refl refl)
+    (turns_gathered m (suc from) olds news (omega arith) (λ i cpu old new e was now. work (suc i) cpu old new (omega arith) was now)
+    (λ i cpu old new e was now. turns (suc i) cpu old new (omega arith) was now))

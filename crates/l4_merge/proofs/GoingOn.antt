@@ -1,5 +1,5 @@
 -- Where all processors have gone on by themselves, a run goes on by their events in order of stamp.
-use Rattle.std.proofs.Common.{◌≡◌, ℕ, ◌+◌, ◌<◌, List, [], ◌++◌, Option, Some, None, map, length, get_or, refl, ap, sym, ◌∙◌, subst, append_assoc, arith}
+use Rattle.std.proofs.Common.{◌≡◌, ℕ, ◌+◌, ◌<◌, true, List, [], ◌++◌, Option, Some, None, map, length, get_or, refl, ap, sym, ◌∙◌, subst, append_assoc, arith}
 use Rattle.std.specs.Prelude.{slice_get}
 use Rattle.std.specs.Option.{option_map}
 use Rattle.std.proofs.lemmas.Option.{slice_get-map, slice_get-get_or, slice_get_within, slice_get_past}
@@ -10,14 +10,15 @@ use Rattle.l4_core_model.specs.Letters.{Letter}
 use Rattle.l4_core_model.specs.Local.{Local}
 use Rattle.l4_core_model.specs.Runs.{letters, Run, merged}
 use Rattle.l4_core_model.proofs.Lists.{all-map}
-use Rattle.l4_merge.specs.Deeds.{Deed, posted_by, handled_by, letters_with, Lead}
-use Rattle.l4_merge.specs.Pasts.{Past, posted_in, handled_in, letters_posted, letters_handled, HaveWorked}
-use Rattle.l4_merge.specs.Merges.{EndsAt, HasMergedRun}
+use Rattle.l4_merge.specs.Deeds.{Deed, is_turn, posted_by, handled_by, letters_with, Lead}
+use Rattle.l4_merge.specs.Pasts.{Past, posted_in, handled_in, letters_posted, letters_handled, HaveWorked, HaveTurned}
+use Rattle.l4_merge.specs.Merges.{EndsAt, IsMergedRun, HasMergedRun, HasTurnedRun}
 use Rattle.l4_merge.proofs.Lists.{slice_get_none}
 use Rattle.l4_merge.proofs.Own.{own, own_none}
-use Rattle.l4_merge.proofs.Arranged.{told-arranged}
+use Rattle.l4_merge.proofs.Arranged.{arranged, told-arranged, all-arranged}
 use Rattle.l4_merge.proofs.Ahead.{LeadsOn, AreAhead}
-use Rattle.l4_merge.proofs.Gathered.{AreGathered, Gathered, gather}
+use Rattle.l4_merge.proofs.Gathered.{AreGathered, Gathered, gather, turns_gathered}
+use Rattle.l4_merge.proofs.AllDone.{AreDone}
 use Rattle.l4_merge.proofs.AnyOrder.{merged_run}
 
 -- A processor has both an earlier and a later past, or neither
@@ -121,19 +122,41 @@ gathered m olds news w =
     w.each cpu old new (subst (λ i. slice_get olds i ≡ Some old) (omega arith) was) (subst (λ i. slice_get news i ≡ Some new) (omega arith) now))
 
 -- So the run goes on by them, in the order of their events.
+done : (m : Machine) (before : Run) (olds news : List Past) → EndsAt before olds → (w : HaveWorked m olds news) → (all : Gathered m 0 olds news) →
+    AreDone m before (arranged all.deeds) (map (λ past. past.local) news) (λ from to. (w.in_order from to).rest)
+done m before olds news ends w all =
+    merged_run m before all.deeds (map (λ past. past.local) news) (λ from to. (w.in_order from to).rest) (pasts_ahead m before olds news ends w all)
+
+is_merged : (m : Machine) (before : Run) (olds news : List Past) (ends : EndsAt before olds) (w : HaveWorked m olds news) (all : Gathered m 0 olds news) →
+    IsMergedRun m before olds news (done m before olds news ends w all).run
+is_merged m before olds news ends w all =
+    let d = done m before olds news ends w all in
+    record {
+      happenings = d.happenings;
+      is = d.is;
+      ends = record {
+        locals = d.locals;
+        mail = λ from to. (w.in_order from to).is ∙ ap (λ ls. letters_handled news from to ++ ls) (sym (d.mail from to));
+      };
+      events = d.events ∙ ap (λ es. before.events ++ es) (told-arranged all.deeds ∙ ap merged all.are.told);
+    }
+
 pub merge : (m : Machine) (before : Run) (olds news : List Past) → EndsAt before olds → HaveWorked m olds news → HasMergedRun m before olds news
 merge m before olds news ends w =
     let all = gathered m olds news w in
-    let ahead = pasts_ahead m before olds news ends w all in
-    let d = merged_run m before all.deeds (map (λ past. past.local) news) (λ from to. (w.in_order from to).rest) ahead in (
-      d.run,
-      record {
-        happenings = d.happenings;
-        is = d.is;
-        ends = record {
-          locals = d.locals;
-          mail = λ from to. (w.in_order from to).is ∙ ap (λ ls. letters_handled news from to ++ ls) (sym (d.mail from to));
-        };
-        events = d.events ∙ ap (λ es. before.events ++ es) (told-arranged all.deeds ∙ ap merged all.are.told);
-      },
-    )
+    ((done m before olds news ends w all).run, is_merged m before olds news ends w all)
+
+-- Where they went on by turns alone, so does the run.
+
+have_worked : (m : Machine) (olds news : List Past) → HaveTurned m olds news → HaveWorked m olds news
+have_worked m olds news t = record { for_each = t.for_each; each = λ cpu old new was now. (t.each cpu old new was now).worked; in_order = t.in_order }
+
+pub merge_turns : (m : Machine) (before : Run) (olds news : List Past) → EndsAt before olds → HaveTurned m olds news → HasTurnedRun m before olds news
+unfolding gathered have_worked is_merged done
+merge_turns m before olds news ends t =
+    let w = have_worked m olds news t in
+    let all = gathered m olds news w in
+    let d = done m before olds news ends w all in
+    let turns = all-arranged (λ (deed : Deed). is_turn deed.event ≡ true) all.deeds (turns_gathered m 0 olds news w.for_each _ (λ i cpu old new e was now.
+    (t.each cpu old new (subst (λ i. slice_get olds i ≡ Some old) (omega arith) was) (subst (λ i. slice_get news i ≡ Some new) (omega arith) now)).turns)) in
+    (d.run, record { merged = is_merged m before olds news ends w all; turns = d.turns turns })

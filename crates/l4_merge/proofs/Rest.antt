@@ -14,7 +14,7 @@ use Rattle.l4_merge.proofs.Processors.{all_processors, each_processor}
 
 -- Where no pair has letters, none is under way
 
-no_mail : (mail : List Posted) → ((from to : ℕ) → letters mail from to ≡ []) → is_empty mail ≡ true
+pub no_mail : (mail : List Posted) → ((from to : ℕ) → letters mail from to ≡ []) → is_empty mail ≡ true
 no_mail [] none = refl
 no_mail (p ∷ ps) none = by (p.from == p.from) (p.to == p.to) (eq-eqb p.from p.from refl) (eq-eqb p.to p.to refl) (none p.from p.to)
   where

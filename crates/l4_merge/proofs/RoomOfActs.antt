@@ -20,12 +20,9 @@ use Rattle.l4_core_model.specs.Acts.{delivers, first_acceptable, is_place, deliv
 use Rattle.l4_core_model.specs.Acts.{begins_send, split_receiver, withdraws, fails_receive, withdraws_for, obeys, order_goes_to, gives_order, acts}
 use Rattle.l4_core_model.proofs.Apart.{apart}
 use Rattle.l4_merge.proofs.Lists.{all-append}
-use Rattle.l4_merge.proofs.Aims.{IsElsewhere}
+use Rattle.l4_merge.proofs.Aims.{AllHomed, IsElsewhere}
 
--- Every place has a processor of the machine: of a declared thread the machine says so, and past the end it is processor 0.
-abbrev pub AllHomed : Machine → Type 0
-AllHomed m = (i : ℕ) → (declared m i).cpu < m.cpus
-
+-- Of a declared thread the machine says that it has a processor of the machine, and past the end it is processor 0.
 pub all_homed : (m : Machine) (cpu : ℕ) → IsMachine m → cpu < m.cpus → AllHomed m
 all_homed m cpu is lt i =
     ⊎_elim (is.homed i) (λ past. let here = ap (λ d. d.cpu) (get_or_past m.threads i undeclared past) in omega arith)
@@ -35,8 +32,8 @@ all_homed m cpu is lt i =
 abbrev pub IsForeign : Machine → (cpu i : ℕ) → Type 0
 IsForeign m cpu i = is_own m cpu i ≡ false
 
-pub home_elsewhere : (m : Machine) (cpu i : ℕ) → AllHomed m → IsForeign m cpu i → IsElsewhere m cpu (declared m i).cpu
-home_elsewhere m cpu i homes foreign = (homes i, apart (declared m i).cpu cpu foreign)
+pub home_elsewhere : (m : Machine) (cpu i : ℕ) → IsForeign m cpu i → IsElsewhere m cpu (declared m i).cpu
+home_elsewhere m cpu i foreign = ((λ homes. homes i), apart (declared m i).cpu cpu foreign)
 
 -- A split send goes to a thread of another processor.
 pub split_is_foreign : (m : Machine) (cpu : ℕ) (send : Option Send) → IfSome (split_receiver m cpu send) (IsForeign m cpu)
@@ -83,86 +80,86 @@ posts_fits {m = m} {cpu = cpu} {l = l} {x = x} to content elsewhere h = record {
 
 -- sends
 
-ends_fits : (m : Machine) (cpu : ℕ) (result : Result) (i : ℕ) → AllHomed m → Fits m cpu 0 1 (ends m cpu result i)
-ends_fits m cpu result i homes x h =
-    cond_keeps (HasRoom m cpu 0 0) (is_own m cpu i) _ _ (λ yes. with_local (at_end h)) (λ no. posts_fits _ _ (home_elsewhere m cpu i homes no) (with_local h))
+ends_fits : (m : Machine) (cpu : ℕ) (result : Result) (i : ℕ) → Fits m cpu 0 1 (ends m cpu result i)
+ends_fits m cpu result i x h =
+    cond_keeps (HasRoom m cpu 0 0) (is_own m cpu i) _ _ (λ yes. with_local (at_end h)) (λ no. posts_fits _ _ (home_elsewhere m cpu i no) (with_local h))
 
-pub refuses_fits : (m : Machine) (cpu : ℕ) (refusal : Refusal) (i : ℕ) → AllHomed m → Fits m cpu 1 1 (refuses m cpu refusal i)
-refuses_fits m cpu refusal i homes x h = ends_fits m cpu (Refused refusal) i homes _ (tells_fits _ h)
+pub refuses_fits : (m : Machine) (cpu : ℕ) (refusal : Refusal) (i : ℕ) → Fits m cpu 1 1 (refuses m cpu refusal i)
+refuses_fits m cpu refusal i x h = ends_fits m cpu (Refused refusal) i _ (tells_fits _ h)
 
-delivers_message_fits : (m : Machine) (cpu r i : ℕ) (message : Message) (tag : ℕ) → AllHomed m → Fits m cpu 1 1 (delivers_message m cpu r i message tag)
-delivers_message_fits m cpu r i message tag homes x h = ends_fits m cpu Delivered i homes _ (with_local (tells_fits _ h))
+delivers_message_fits : (m : Machine) (cpu r i : ℕ) (message : Message) (tag : ℕ) → Fits m cpu 1 1 (delivers_message m cpu r i message tag)
+delivers_message_fits m cpu r i message tag x h = ends_fits m cpu Delivered i _ (with_local (tells_fits _ h))
 
-delivers_send_fits : (m : Machine) (cpu r i : ℕ) (send : Option Send) → AllHomed m → Fits m cpu 1 1 (delivers_send m cpu r i send)
-delivers_send_fits m cpu r i None homes x h = at_end h
-delivers_send_fits m cpu r i (Some send) homes x h = delivers_message_fits m cpu r i send.message _ homes x h
+delivers_send_fits : (m : Machine) (cpu r i : ℕ) (send : Option Send) → Fits m cpu 1 1 (delivers_send m cpu r i send)
+delivers_send_fits m cpu r i None x h = at_end h
+delivers_send_fits m cpu r i (Some send) x h = delivers_message_fits m cpu r i send.message _ x h
 
-pub delivers_fits : (m : Machine) (cpu r i : ℕ) → AllHomed m → Fits m cpu 1 1 (delivers m cpu r i)
-delivers_fits m cpu r i homes x h = delivers_send_fits m cpu r i (thread x.local i).send homes x h
+pub delivers_fits : (m : Machine) (cpu r i : ℕ) → Fits m cpu 1 1 (delivers m cpu r i)
+delivers_fits m cpu r i x h = delivers_send_fits m cpu r i (thread x.local i).send x h
 
-delivers_if_first_fits : (m : Machine) (cpu r i : ℕ) → AllHomed m → Fits m cpu 1 1 (delivers_if_first m cpu r i)
-delivers_if_first_fits m cpu r i homes x h =
-    cond_keeps (HasRoom m cpu 0 0) (is_place (first_acceptable x.local r) i) _ _ (λ yes. delivers_fits m cpu r i homes x h)
+delivers_if_first_fits : (m : Machine) (cpu r i : ℕ) → Fits m cpu 1 1 (delivers_if_first m cpu r i)
+delivers_if_first_fits m cpu r i x h =
+    cond_keeps (HasRoom m cpu 0 0) (is_place (first_acceptable x.local r) i) _ _ (λ yes. delivers_fits m cpu r i x h)
     (λ no. at_end h)
 
-queues_send_fits : (m : Machine) (cpu r i : ℕ) (send : Option Send) → AllHomed m → Fits m cpu 2 1 (queues_send m cpu r i send)
-queues_send_fits m cpu r i None homes x h = at_end h
-queues_send_fits m cpu r i (Some send) homes x h =
-    delivers_if_first_fits m cpu r i homes (x ▷ tells_send m Queue i ▷ does (relists (plain.queued r (entry m r i send)))) (with_local (tells_fits _ h))
+queues_send_fits : (m : Machine) (cpu r i : ℕ) (send : Option Send) → Fits m cpu 2 1 (queues_send m cpu r i send)
+queues_send_fits m cpu r i None x h = at_end h
+queues_send_fits m cpu r i (Some send) x h =
+    delivers_if_first_fits m cpu r i (x ▷ tells_send m Queue i ▷ does (relists (plain.queued r (entry m r i send)))) (with_local (tells_fits _ h))
 
-pub arrives_fits : (m : Machine) (cpu r i : ℕ) → AllHomed m → Fits m cpu 2 1 (arrives m cpu r i)
-arrives_fits m cpu r i homes x h =
+pub arrives_fits : (m : Machine) (cpu r i : ℕ) → Fits m cpu 2 1 (arrives m cpu r i)
+arrives_fits m cpu r i x h =
     let fewer = less (omega arith) (omega arith) h in
-    cond_keeps (HasRoom m cpu 0 0) (is_deleted (thread x.local r).phase) _ _ (λ gone. refuses_fits m cpu Nobody i homes x fewer)
+    cond_keeps (HasRoom m cpu 0 0) (is_deleted (thread x.local r).phase) _ _ (λ gone. refuses_fits m cpu Nobody i x fewer)
     (λ alive. cond_keeps (HasRoom m cpu 0 0) (zero_refusable m (held m x.local r) (thread x.local i).send) _ _
-    (λ zero. refuses_fits m cpu TimedOut i homes x fewer) (λ waits. queues_send_fits m cpu r i (thread x.local i).send homes x h))
+    (λ zero. refuses_fits m cpu TimedOut i x fewer) (λ waits. queues_send_fits m cpu r i (thread x.local i).send x h))
 
-goes_to_fits : (m : Machine) (cpu i : ℕ) (send : Send) (to : Option ℕ) → AllHomed m → Fits m cpu 2 1 (goes_to m cpu i send to)
-goes_to_fits m cpu i send None homes x h = refuses_fits m cpu Nobody i homes x (less (omega arith) (omega arith) h)
-goes_to_fits m cpu i send (Some r) homes x h =
-    cond_keeps (HasRoom m cpu 0 0) (is_own m cpu r) _ _ (λ yes. arrives_fits m cpu r i homes x h)
-    (λ no. posts_fits _ _ (home_elsewhere m cpu r homes no) (less (omega arith) (omega arith) h))
+goes_to_fits : (m : Machine) (cpu i : ℕ) (send : Send) (to : Option ℕ) → Fits m cpu 2 1 (goes_to m cpu i send to)
+goes_to_fits m cpu i send None x h = refuses_fits m cpu Nobody i x (less (omega arith) (omega arith) h)
+goes_to_fits m cpu i send (Some r) x h =
+    cond_keeps (HasRoom m cpu 0 0) (is_own m cpu r) _ _ (λ yes. arrives_fits m cpu r i x h)
+    (λ no. posts_fits _ _ (home_elsewhere m cpu r no) (less (omega arith) (omega arith) h))
 
-begins_send_fits : (m : Machine) (cpu i : ℕ) (send : Send) → AllHomed m → Fits m cpu 3 1 (begins_send m cpu i send)
-begins_send_fits m cpu i send homes x h = goes_to_fits m cpu i send (destination_place m send.to) homes _ (tells_fits _ (with_local h))
+begins_send_fits : (m : Machine) (cpu i : ℕ) (send : Send) → Fits m cpu 3 1 (begins_send m cpu i send)
+begins_send_fits m cpu i send x h = goes_to_fits m cpu i send (destination_place m send.to) _ (tells_fits _ (with_local h))
 
 -- A letter less, and as much of other room as there was.
-pub withdraws_fits : (m : Machine) (cpu : ℕ) (cause : Cause) (i : ℕ) (to : Option ℕ) → IfSome to (IsForeign m cpu) → AllHomed m → (s l : ℕ) (x : Work) →
+pub withdraws_fits : (m : Machine) (cpu : ℕ) (cause : Cause) (i : ℕ) (to : Option ℕ) → IfSome to (IsForeign m cpu) → (s l : ℕ) (x : Work) →
     HasRoom m cpu s (suc l) x → HasRoom m cpu s l (withdraws m cause i to x)
-withdraws_fits m cpu cause i None foreign homes s l x h = less (omega arith) (omega arith) h
-withdraws_fits m cpu cause i (Some r) foreign homes s l x h = posts_fits _ _ (home_elsewhere m cpu r homes foreign) h
+withdraws_fits m cpu cause i None foreign s l x h = less (omega arith) (omega arith) h
+withdraws_fits m cpu cause i (Some r) foreign s l x h = posts_fits _ _ (home_elsewhere m cpu r foreign) h
 
 pub fails_receive_fits : (m : Machine) (cpu : ℕ) (step : GlobalId → Step) (code i : ℕ) → Fits m cpu 1 0 (fails_receive m step code i)
 fails_receive_fits m cpu step code i x h = with_local (tells_fits _ h)
 
 -- orders
 
-withdraws_for_fits : (m : Machine) (cpu j : ℕ) (cause : Option Cause) → AllHomed m → (s l : ℕ) (x : Work) → HasRoom m cpu s (suc l) x →
+withdraws_for_fits : (m : Machine) (cpu j : ℕ) (cause : Option Cause) → (s l : ℕ) (x : Work) → HasRoom m cpu s (suc l) x →
     HasRoom m cpu s l (withdraws_for m cpu j cause x)
-withdraws_for_fits m cpu j None homes s l x h = less (omega arith) (omega arith) h
-withdraws_for_fits m cpu j (Some cause) homes s l x h = withdraws_fits m cpu cause j _ (split_is_foreign m cpu (thread x.local j).send) homes s l x h
+withdraws_for_fits m cpu j None s l x h = less (omega arith) (omega arith) h
+withdraws_for_fits m cpu j (Some cause) s l x h = withdraws_fits m cpu cause j _ (split_is_foreign m cpu (thread x.local j).send) s l x h
 
-pub obeys_fits : (m : Machine) (cpu : ℕ) (caller : GlobalId) (what : What) (j : ℕ) → AllHomed m → (l : ℕ) (x : Work) → HasRoom m cpu 1 (suc l) x →
+pub obeys_fits : (m : Machine) (cpu : ℕ) (caller : GlobalId) (what : What) (j : ℕ) → (l : ℕ) (x : Work) → HasRoom m cpu 1 (suc l) x →
     HasRoom m cpu 0 l (obeys m cpu caller what j x)
-obeys_fits m cpu caller what j homes l x h =
+obeys_fits m cpu caller what j l x h =
     cond_keeps (HasRoom m cpu 0 l) (is_deleted (thread x.local j).phase) _ _ (λ gone. with_local (tells_fits _ (less (omega arith) (omega arith) h)))
-    (λ alive. withdraws_for_fits m cpu j (cause_of what) homes 0 l _ (with_local (tells_fits _ h)))
+    (λ alive. withdraws_for_fits m cpu j (cause_of what) 0 l _ (with_local (tells_fits _ h)))
 
-order_goes_to_fits : (m : Machine) (cpu i : ℕ) (order : Asked) (to : Option ℕ) → AllHomed m → Fits m cpu 1 1 (order_goes_to m cpu i order to)
-order_goes_to_fits m cpu i order None homes x h = at_end h
-order_goes_to_fits m cpu i order (Some j) homes x h =
-    cond_keeps (HasRoom m cpu 0 0) (is_own m cpu j) _ _ (λ yes. with_local (obeys_fits m cpu (declared m i).id order.what j homes 0 x h))
-    (λ no. posts_fits _ _ (home_elsewhere m cpu j homes no) (less (omega arith) (omega arith) h))
+order_goes_to_fits : (m : Machine) (cpu i : ℕ) (order : Asked) (to : Option ℕ) → Fits m cpu 1 1 (order_goes_to m cpu i order to)
+order_goes_to_fits m cpu i order None x h = at_end h
+order_goes_to_fits m cpu i order (Some j) x h =
+    cond_keeps (HasRoom m cpu 0 0) (is_own m cpu j) _ _ (λ yes. with_local (obeys_fits m cpu (declared m i).id order.what j 0 x h))
+    (λ no. posts_fits _ _ (home_elsewhere m cpu j no) (less (omega arith) (omega arith) h))
 
-gives_order_fits : (m : Machine) (cpu i : ℕ) (order : Asked) → AllHomed m → Fits m cpu 2 1 (gives_order m cpu i order)
-gives_order_fits m cpu i order homes x h =
-    order_goes_to_fits m cpu i order (place_of m order.target) homes
+gives_order_fits : (m : Machine) (cpu i : ℕ) (order : Asked) → Fits m cpu 2 1 (gives_order m cpu i order)
+gives_order_fits m cpu i order x h =
+    order_goes_to_fits m cpu i order (place_of m order.target)
     (x ▷ does (comes_to i (orders order)) ▷ tells (Order (declared m i).id order.target order.what)) (tells_fits _ (with_local h))
 
 -- instructions
 
-pub acts_fits : (m : Machine) (cpu i : ℕ) (a : Act) → AllHomed m → Fits m cpu 3 1 (acts m cpu i a)
-acts_fits m cpu i RunsAlone homes x h = with_local (tells_fits _ (less (omega arith) (omega arith) h))
-acts_fits m cpu i (Sends send) homes x h = begins_send_fits m cpu i send homes x h
-acts_fits m cpu i (Receives receive) homes x h = with_local (tells_fits _ (less (omega arith) (omega arith) h))
-acts_fits m cpu i (Orders order) homes x h = gives_order_fits m cpu i order homes x (less (omega arith) (omega arith) h)
+pub acts_fits : (m : Machine) (cpu i : ℕ) (a : Act) → Fits m cpu 3 1 (acts m cpu i a)
+acts_fits m cpu i RunsAlone x h = with_local (tells_fits _ (less (omega arith) (omega arith) h))
+acts_fits m cpu i (Sends send) x h = begins_send_fits m cpu i send x h
+acts_fits m cpu i (Receives receive) x h = with_local (tells_fits _ (less (omega arith) (omega arith) h))
+acts_fits m cpu i (Orders order) x h = gives_order_fits m cpu i order x (less (omega arith) (omega arith) h)

@@ -15,13 +15,13 @@ use Rattle.l4_merge.proofs.OneDeed.{given, IsGiven, done_by}
 use Rattle.l4_merge.proofs.Ahead.{AreAhead, ahead_before}
 
 -- What happens is a processor's deed.
-record IsDeed (m : Machine) (g : System) (h : Happened) : Type 0 where
-  deed : Deed
-  local : Local
-  at : slice_get g.locals deed.cpu ≡ Some local
-  does : Does m deed.cpu local deed
-  first : IsGiven deed.cpu deed.event g
-  is : done_by deed g ≡ h
+pub record IsDeed (m : Machine) (g : System) (h : Happened) : Type 0 where
+  pub deed : Deed
+  pub local : Local
+  pub at : slice_get g.locals deed.cpu ≡ Some local
+  pub does : Does m deed.cpu local deed
+  pub first : IsGiven deed.cpu deed.event g
+  pub is : done_by deed g ≡ h
 
 is_deed : (m : Machine) (g : System) (h : Happened) (cpu : ℕ) (event : LocalEvent) (l : Local) → slice_get g.locals cpu ≡ Some l → IsGiven cpu event g →
     option_map (done cpu (given cpu event g)) (work_of m cpu l event) ≡ Some h → IsDeed m g h
@@ -43,7 +43,7 @@ first_of : (ls : List Letter) (letter : Letter) → slice_get ls 0 ≡ Some lett
 first_of [] letter h = absurd cc
 first_of (l ∷ ls) letter h = record { rest = ls; is = ap (λ l. l ∷ ls) (some_is l letter h) }
 
-deed_of : (m : Machine) (g : System) (e : Happening) (h : Happened) → happens m g e ≡ Some h → IsDeed m g h
+pub deed_of : (m : Machine) (g : System) (e : Happening) (h : Happened) → happens m g e ≡ Some h → IsDeed m g h
 deed_of m g (Handles cpu from) h is =
     bind_then (slice_get g.locals cpu) _ h is λ l at is.
     bind_then (slice_get (letters g.mail from cpu) 0) _ h is λ letter first is.

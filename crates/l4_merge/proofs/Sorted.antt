@@ -3,7 +3,7 @@ use Rattle.std.proofs.Common.{◌≡◌, ℕ, suc, ◌+◌, ◌<◌, ◌≤◌, 
 use Rattle.std.specs.List.{AllByRecursion}
 use Rattle.std.specs.List.Sorted.{IsPermutation, IsSortedBy, ties}
 use Rattle.std.proofs.lemmas.List.Elements.{recursion_from_All}
-use Rattle.std.proofs.lemmas.List.Sorted.{sorted_far, IsPermutation-map}
+use Rattle.std.proofs.lemmas.List.Sorted.{sorted_far, IsPermutation-map, IsPermutation-trans}
 use Rattle.std.proofs.lemmas.List.{length-map, get_or-map}
 use Rattle.l4_model.specs.Machine.{Machine}
 use Rattle.l4_core_model.specs.Letters.{Letter}
@@ -110,10 +110,11 @@ sort_as_merged m g ds ends left ahead sorted moved is_sorted =
 
 -- Values that are viewed as events, sorted by a test that is the order of these.
 pub values_sort_as_merged : {X : Type 0} (view : X → Event) (less : X → X → Bool) → ((a b : X) → less a b ≡ is_earlier (view a) (view b)) →
-    (es : List Event) → SortAsMerged es → (xs sorted : List X) → map view xs ≡ es → IsPermutation xs sorted → IsSortedBy less sorted →
+    (es : List Event) → SortAsMerged es → (xs sorted : List X) → IsPermutation es (map view xs) → IsPermutation xs sorted → IsSortedBy less sorted →
     map view sorted ≡ merged es
-values_sort_as_merged {X} view less orders es sort xs sorted is moved is_sorted =
-    sort (map view sorted) (subst (λ es. IsPermutation es (map view sorted)) is (IsPermutation-map view xs sorted moved)) (events_sorted sorted is_sorted)
+values_sort_as_merged {X} view less orders es sort xs sorted are moved is_sorted =
+    sort (map view sorted) (IsPermutation-trans es (map view xs) (map view sorted) are (IsPermutation-map view xs sorted moved))
+    (events_sorted sorted is_sorted)
   where
     events_sorted : (xs : List X) → IsSortedBy less xs → IsSortedBy is_earlier (map view xs)
     events_sorted [] sorted = λ k d le lt. absurd (omega arith)

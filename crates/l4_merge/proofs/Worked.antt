@@ -1,11 +1,12 @@
 -- A processor that goes on, deed by deed.
-use Rattle.std.proofs.Common.{◌≡◌, ℕ, List, [], ◌∷◌, ◌++◌, map, refl, ap, sym, ◌∙◌, append_assoc}
+use Rattle.std.proofs.Common.{◌≡◌, ℕ, true, List, [], ◌∷◌, ◌++◌, map, refl, ap, sym, ◌∙◌, append_assoc}
+use Rattle.std.specs.List.{AllByRecursion}
 use Rattle.std.proofs.lemmas.List.{append-nil, map-append}
 use Rattle.std.proofs.lemmas.List.Concat.{flat_map-append}
 use Rattle.l4_model.specs.Machine.{Machine}
 use Rattle.l4_core_model.specs.Letters.{Letter}
-use Rattle.l4_merge.specs.Deeds.{letter_of, Deed, told_by, posted_by, handled_by, letters_with, Does}
-use Rattle.l4_merge.specs.Pasts.{Past, HasWorked, Begins}
+use Rattle.l4_merge.specs.Deeds.{letter_of, Deed, is_turn, told_by, posted_by, handled_by, letters_with, Does}
+use Rattle.l4_merge.specs.Pasts.{Past, HasWorked, HasTurned, Begins}
 use Rattle.l4_merge.proofs.Deeds.{lead-append}
 use Rattle.l4_merge.proofs.Mail.{letters_with-append}
 
@@ -67,6 +68,28 @@ worked_trans m cpu old middle new first then =
             (ap (letters_with from) (flat_map-append (λ (d : Deed). letter_of d.event) xs ys) ∙ letters_with-append from (handled_by xs) (handled_by ys));
       };
     }
+
+-- It goes on by turns alone, and by no tick
+
+pub turned_none : (m : Machine) (cpu : ℕ) (past : Past) → HasTurned m cpu past past
+unfolding worked_none
+turned_none m cpu past = record { worked = worked_none m cpu past; turns = tt }
+
+pub turned_one : (m : Machine) (cpu : ℕ) (old new : Past) (d : Deed) → is_turn d.event ≡ true → IsNext m cpu old new d → HasTurned m cpu old new
+unfolding worked_one
+turned_one m cpu old new d turn next = record { worked = worked_one m cpu old new d next; turns = (turn, tt) }
+
+all_of_both : (xs ys : List Deed) → AllByRecursion (λ d. is_turn d.event ≡ true) xs → AllByRecursion (λ d. is_turn d.event ≡ true) ys →
+    AllByRecursion (λ d. is_turn d.event ≡ true) (xs ++ ys)
+all_of_both [] ys first then = then
+all_of_both (d ∷ xs) ys first then = (first.0, all_of_both xs ys first.1 then)
+
+pub turned_trans : (m : Machine) (cpu : ℕ) (old middle new : Past) → HasTurned m cpu old middle → HasTurned m cpu middle new → HasTurned m cpu old new
+unfolding worked_trans
+turned_trans m cpu old middle new first then = record {
+  worked = worked_trans m cpu old middle new first.worked then.worked;
+  turns = all_of_both first.worked.deeds then.worked.deeds first.turns then.turns;
+}
 
 -- Of the letters of a pair, those posted are those taken and those under way, and those taken are those handled and those in hand.
 pub handled_begin : (posted taken handled in_hand under_way : List Letter) → posted ≡ taken ++ under_way → taken ≡ handled ++ in_hand →

@@ -1,5 +1,5 @@
 -- What a processor does by itself, one deed after the other.
-use Rattle.std.specs.Prelude.{ℕ, ◌==◌, ◌≡◌, Option, Some, List, [], ◌∷◌, map, filter}
+use Rattle.std.specs.Prelude.{ℕ, ◌==◌, ◌≡◌, Bool, true, false, Option, Some, List, [], ◌∷◌, map, filter}
 use Rattle.std.specs.List.{flat_map}
 use Rattle.l4_model.specs.Machine.{Machine}
 use Rattle.l4_core_model.specs.Letters.{Letter}
@@ -14,6 +14,12 @@ pub data LocalEvent : Type 0 where
   Handled : (from : ℕ) → Letter → LocalEvent
   Turned : LocalEvent
   Ticked : (clock : ℕ) → LocalEvent
+
+-- A turn handles a letter or is the core's own. A tick is none.
+abbrev pub is_turn : LocalEvent → Bool
+is_turn (Handled from letter) = true
+is_turn Turned = true
+is_turn (Ticked clock) = false
 
 -- What a local event does. None where it is not possible.
 abbrev pub work_of : Machine → (cpu : ℕ) → Local → LocalEvent → Option Work

@@ -1,5 +1,6 @@
 -- What is true of the events of all processors in order of stamp.
 use Rattle.std.specs.Prelude.{ℕ, ◌<◌, ◌==◌, ◌≡◌, Bool, true, not, ◌&&◌, Some, List, ◌++◌, map, filter, slice_get}
+use Rattle.std.specs.List.{list_all}
 use Rattle.std.specs.List.Sorted.{IsPermutation, IsSortedBy}
 use Rattle.l4_model.specs.Machine.{Machine}
 use Rattle.l4_core_model.specs.Local.{Local}
@@ -7,6 +8,7 @@ use Rattle.l4_core_model.specs.Turns.{is_busy}
 use Rattle.l4_core_model.specs.Runs.{Event, Happening, Run, core_run, letters, is_earlier, merged, is_empty, at_rest}
 use Rattle.l4_core_model.specs.Laws.{IsCoreRun}
 use Rattle.l4_merge.specs.Pasts.{Past, letters_posted, letters_handled, AreWholePasts, all_events, added_events}
+use Rattle.l4_merge.specs.Rounds.{is_no_tick}
 
 -- A run ends where the processors are: it has their local states, and the letters posted of each pair are those handled and those
 -- under way.
@@ -23,6 +25,14 @@ pub record IsMergedRun (m : Machine) (before : Run) (olds news : List Past) (aft
 
 abbrev pub HasMergedRun : Machine → (before : Run) → (olds news : List Past) → Type 0
 HasMergedRun m before olds news = (after : Run) × IsMergedRun m before olds news after
+
+-- So it goes on by turns alone, where each of them did.
+pub record IsTurnedRun (m : Machine) (before : Run) (olds news : List Past) (after : Run) : Type 0 where
+  pub merged : IsMergedRun m before olds news after
+  pub turns : list_all is_no_tick merged.happenings ≡ true
+
+abbrev pub HasTurnedRun : Machine → (before : Run) → (olds news : List Past) → Type 0
+HasTurnedRun m before olds news = (after : Run) × IsTurnedRun m before olds news after
 
 -- The core run of all processors from the opening on: its events are those of all logs in order of stamp.
 pub record IsWholeRun (m : Machine) (pasts : List Past) (r : Run) : Type 0 where

@@ -1,11 +1,13 @@
 -- What the processors of a machine have done, as each of them knows it.
-use Rattle.std.specs.Prelude.{ℕ, ◌≡◌, length, drop, Option, Some, None, List, [], ◌∷◌, ◌++◌, map, slice_get}
-use Rattle.std.specs.List.{flat_map}
+use Rattle.std.specs.Prelude.{ℕ, ◌≡◌, true, length, drop, Option, Some, None, List, [], ◌∷◌, ◌++◌, map, slice_get}
+use Rattle.std.specs.List.{flat_map, AllByRecursion}
 use Rattle.l4_model.specs.Machine.{Machine}
 use Rattle.l4_core_model.specs.Letters.{Letter}
 use Rattle.l4_core_model.specs.Local.{Local, opening_local}
+use Rattle.l4_core_model.specs.Acts.{Work}
+use Rattle.l4_core_model.specs.Turns.{advance}
 use Rattle.l4_core_model.specs.Runs.{Event, processors}
-use Rattle.l4_merge.specs.Deeds.{Deed, told_by, posted_by, handled_by, letters_with, Lead}
+use Rattle.l4_merge.specs.Deeds.{Deed, Ticked, is_turn, told_by, posted_by, handled_by, letters_with, Lead}
 
 -- What a processor has done so far: its log of events, the letters that it has posted to each processor and handled of each, and the
 -- local state that it has come to.
@@ -30,6 +32,11 @@ pub record AreDeedsBetween (m : Machine) (cpu : ℕ) (old new : Past) (deeds : L
 pub record HasWorked (m : Machine) (cpu : ℕ) (old new : Past) : Type 0 where
   pub deeds : List Deed
   pub are : AreDeedsBetween m cpu old new deeds
+
+-- It has gone on by turns alone, and by no tick.
+pub record HasTurned (m : Machine) (cpu : ℕ) (old new : Past) : Type 0 where
+  pub worked : HasWorked m cpu old new
+  pub turns : AllByRecursion (λ d. is_turn d.event ≡ true) worked.deeds
 
 abbrev pub posted_in : (to : ℕ) → Option Past → List Letter
 posted_in to None = []
@@ -57,6 +64,12 @@ pub record HaveWorked (m : Machine) (olds news : List Past) : Type 0 where
   pub each : (cpu : ℕ) (old new : Past) → slice_get olds cpu ≡ Some old → slice_get news cpu ≡ Some new → HasWorked m cpu old new
   pub in_order : (from to : ℕ) → Begins (letters_handled news from to) (letters_posted news from to)
 
+-- So they have, by turns alone.
+pub record HaveTurned (m : Machine) (olds news : List Past) : Type 0 where
+  pub for_each : length news ≡ length olds
+  pub each : (cpu : ℕ) (old new : Past) → slice_get olds cpu ≡ Some old → slice_get news cpu ≡ Some new → HasTurned m cpu old new
+  pub in_order : (from to : ℕ) → Begins (letters_handled news from to) (letters_posted news from to)
+
 -- The same from the opening on: nothing that the processors of the machine did is missing.
 pub record AreWholePasts (m : Machine) (pasts : List Past) : Type 0 where
   pub for_each : length pasts ≡ m.cpus
@@ -76,3 +89,12 @@ abbrev pub added_events : (olds news : List Past) → List Event
 added_events [] news = []
 added_events (old ∷ olds) [] = []
 added_events (old ∷ olds) (new ∷ news) = drop (length old.events) new.events ++ added_events olds news
+
+-- The clock of a processor went on: one event more, and no letter was posted or handled.
+pub record HasTicked (m : Machine) (cpu clock : ℕ) (old new : Past) : Type 0 where
+  pub work : Work
+  pub advances : advance m cpu clock old.local ≡ Some work
+  pub events : new.events ≡ old.events ++ told_by (record { cpu = cpu; event = Ticked clock; work = work }) ∷ []
+  pub posted : (to : ℕ) → new.posted to ≡ old.posted to
+  pub handled : (from : ℕ) → new.handled from ≡ old.handled from
+  pub local : work.local ≡ new.local

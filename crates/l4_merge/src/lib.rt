@@ -1,16 +1,21 @@
 //! The events of all processors in order of their stamps are those of a core run.
 #![tactic(auto)]
 
-ghost use Rattle.std.specs.Prelude.{◌≡◌, ◌↔◌, true, length, List};
+ghost use Rattle.std.specs.Prelude.{ℕ, ◌≡◌, ◌≤◌, ◌↔◌, ◌⊎◌, ◌++◌, true, Some, length, slice_get, List};
+ghost use Rattle.std.specs.List.Sorted.{IsPermutation};
 ghost use Rattle.l4_model.specs.Machine.{Machine};
-ghost use Rattle.l4_core_model.specs.Runs.{Event, Run, opening_run, at_rest, merged};
+ghost use Rattle.l4_model.specs.World.{changed};
+ghost use Rattle.l4_core_model.specs.Runs.{Event, Run, Ticks, opening_run, at_rest, merged};
+ghost use Rattle.l4_core_model.specs.Schedules.{attempts, run};
 ghost use Rattle.l4_core_model.specs.Laws.{IsCoreRun};
-ghost use Rattle.l4_merge.specs.Pasts.{Past, AreWholePasts, HaveWorked, opening_pasts, all_events};
-ghost use Rattle.l4_merge.specs.Merges.{EndsAt, IsMergedRun, HasMergedRun, HaveWholeRun, HasPasts, SortAsMerged, AreAtRest, HasReorderedRun};
+ghost use Rattle.l4_merge.specs.Pasts.{Past, AreWholePasts, HasTicked, HasTurned, HaveWorked, HaveTurned, opening_pasts, all_events, added_events};
+ghost use Rattle.l4_merge.specs.Merges.{EndsAt, IsMergedRun, HasMergedRun, HasTurnedRun, HaveWholeRun, HasPasts, SortAsMerged, AreAtRest, HasReorderedRun};
+ghost use Rattle.l4_merge.specs.Rounds.{IsInRounds};
 
 /// Processors that each keep a log, and handle the letters of each pair in the order in which they are posted, make a core run, whose
 /// events are those of all logs in order of stamp, however they are sorted. So it is of what they add to where a run has ended. The
-/// run is at rest exactly where each of them is and all letters are handled.
+/// run is at rest exactly where each of them is and all letters are handled. Where they took turns alone, the run goes on by turns alone and
+/// no clock changes, and where the clock of one went on, by that tick.
 pub fn law_merge()
     ensures whole { (m : Machine) (pasts : List Past) → AreWholePasts m pasts → HaveWholeRun m pasts }
     ensures sorted { (m : Machine) (pasts : List Past) → AreWholePasts m pasts → SortAsMerged (all_events pasts) }
@@ -22,6 +27,14 @@ pub fn law_merge()
     ensures opening { (m : Machine) → EndsAt (opening_run m) (opening_pasts m) }
     ensures goes_on { (m : Machine) (before : Run) (olds news : List Past) →
         EndsAt before olds → HaveWorked m olds news → HasMergedRun m before olds news }
+    ensures turns { (m : Machine) (before : Run) (olds news : List Past) →
+        EndsAt before olds → HaveTurned m olds news → HasTurnedRun m before olds news }
+    ensures ticks { (m : Machine) (before : Run) (cpu clock : ℕ) (olds : List Past) (old new : Past) → EndsAt before olds →
+        slice_get olds cpu ≡ Some old → HasTicked m cpu clock old new → EndsAt (attempts m before (Ticks cpu clock)) (changed (λ p. new) olds cpu) }
+    ensures clocks { (m : Machine) (cpu : ℕ) (old new : Past) → HasTurned m cpu old new → new.local.clock ≡ old.local.clock }
+    ensures permuted { (m : Machine) (olds news : List Past) → HaveWorked m olds news →
+        IsPermutation (all_events olds ++ merged (added_events olds news)) (all_events news) }
+    ensures in_rounds { (m : Machine) (r : Run) → IsInRounds m r → IsCoreRun m r }
     ensures core_run { (m : Machine) (before after : Run) (olds news : List Past) →
         IsCoreRun m before → IsMergedRun m before olds news after → IsCoreRun m after }
     ensures rest { (m : Machine) (pasts : List Past) (r : Run) → EndsAt r pasts → (at_rest m r.system ≡ true) ↔ AreAtRest m pasts }
@@ -32,4 +45,12 @@ pub fn law_merge()
 pub fn law_reorder()
     ensures whole { (m : Machine) (r : Run) → IsCoreRun m r → HasReorderedRun m r }
     ensures sorted { (m : Machine) (r : Run) → IsCoreRun m r → SortAsMerged r.events }
+{}
+
+/// On a machine of one processor there is one run in rounds: no letter ever comes, so each event is the only one that is possible. A run in rounds
+/// of `most` events, or of fewer that is at rest, is the one whose rounds have one turn of the processor each, or where it has none a tick to
+/// its least deadline, and which ends where nothing goes on or `most` events are used up.
+pub fn law_alone()
+    ensures { (m : Machine) (most : ℕ) (r : Run) → m.cpus ≡ 1 → IsInRounds m r → length r.events ≤ most →
+        (most ≤ length r.events) ⊎ (at_rest m r.system ≡ true) → r ≡ run m most }
 {}

@@ -7,12 +7,13 @@ use Rattle.l4_core_model.specs.Local.{opening_local}
 use Rattle.l4_merge.specs.Pasts.{empty_past, HasWorked}
 use Rattle.l4_core.specs.Processor as cores
 use Rattle.l4_mail.specs.Fabrics.{AreFresh}
-use Rattle.l4_mail.specs.Ports.{HasWayTo}
+use Rattle.l4_mail.specs.Ports.{place, HasWayTo, IsApart}
 use Rattle.l4_mail.specs.declared.ports.Port.{Port}
 use Rattle.l4_proc.specs.declared.processor.Processor.{Processor}
 use Rattle.l4_proc.specs.Assembled.{IsOpening}
 use Rattle.l4_proc.specs.Whole.{has_way, IsFreshPort, IsPortOf}
 use Rattle.l4_proc.specs.Working.{past, turns_of}
+use Rattle.l4_proc.specs.declared.stops.Stop.TheVariants as stop
 
 seam : {A : Type 0} (xs ys : List A) (y : A) → slice_get (xs ++ y ∷ ys) (length xs) ≡ Some y
 seam [] ys y = refl
@@ -47,6 +48,9 @@ next_port_of n done rest port c f size number =
           ∙ sym (f.cpu (length done) port at) ∙ sym number)));
     }
 
+next_apart : (n : ℕ) (done rest : List Port) (port : Port) → AreFresh n (done ++ port ∷ rest) → IsApart (place port)
+next_apart n done rest port f = f.apart (length done) port (seam done rest port)
+
 pub next_fresh : (n : ℕ) (done rest : List Port) (port : Port) → AreFresh n (done ++ port ∷ rest) → IsFreshPort port
 next_fresh n done rest port f =
     let at = seam done rest port in
@@ -58,8 +62,9 @@ pub one_more : (m : Machine) (ps : List Processor) (p : Processor) → ((cpu : �
 one_more m ps p each last = pushed_at (IsOpening m) ps p each last
 
 opened : (m : Machine) (n k : ℕ) (p : Processor) (c : cores.Processor) → p.worker.core ≡ c → c ≡ record { machine = m; cpu = k; local = opening_local m k } → k ≡ n →
-    HasWorked c.machine c.cpu (empty_past c.local) (past p) → p.worker.hand ≡ None → turns_of p ≡ 0 → IsOpening m n p
-opened m n k p c core is number worked hand turns =
+    HasWorked c.machine c.cpu (empty_past c.local) (past p) → p.worker.hand ≡ None → turns_of p ≡ 0 → p.worker.stop ≡ stop.Used → IsApart (place p.port) →
+    IsOpening m n p
+opened m n k p c core is number worked hand turns used apart =
     let at : c ≡ record { machine = m; cpu = n; local = opening_local m n } = is
     ∙ ap (λ (i : ℕ). record { machine = m; cpu = i; local = opening_local m i }) number in
     record {
@@ -69,6 +74,8 @@ opened m n k p c core is number worked hand turns =
       local = ap (λ (x : cores.Processor). x.local) (core ∙ at);
       hand = hand;
       turns = turns;
+      stop = used;
+      apart = apart;
     }
 
 -- What is kept while the ports get their processors.
@@ -80,14 +87,16 @@ pub record HaveProcessors (m : Machine) (done rest : List Port) (ps : List Proce
 pub next_has : (m : Machine) (done rest all : List Port) (ps news : List Processor) (port : Port) (p : Processor) (c : cores.Processor) (k : ℕ) →
     HaveProcessors m done all ps → all ≡ port ∷ rest → news ≡ ps ++ p ∷ [] →
     p.port ≡ port → p.worker.core ≡ c → c ≡ record { machine = m; cpu = k; local = opening_local m k } → k ≡ port.cpu →
-    HasWorked c.machine c.cpu (empty_past c.local) (past p) → p.worker.hand ≡ None → turns_of p ≡ 0 → HaveProcessors m (done ++ port ∷ []) rest news
-next_has m done rest all ps news port p c k h is more same core at number worked hand turns =
+    HasWorked c.machine c.cpu (empty_past c.local) (past p) → p.worker.hand ≡ None → turns_of p ≡ 0 →
+    p.worker.stop ≡ stop.Used → HaveProcessors m (done ++ port ∷ []) rest news
+next_has m done rest all ps news port p c k h is more same core at number worked hand turns used =
     let fresh = subst (λ (ls : List Port). AreFresh m.cpus (done ++ ls)) is h.fresh in
-    let place : k ≡ length ps = number ∙ next_number m.cpus done rest port fresh ∙ ap length (sym h.ports) ∙ length-map ps (λ (q : Processor). q.port) in
+    let number_is : k ≡ length ps = number ∙ next_number m.cpus done rest port fresh ∙ ap length (sym h.ports) ∙ length-map ps (λ (q : Processor). q.port) in
+    let apart = subst (λ (q : Port). IsApart (place q)) (sym same) (next_apart m.cpus done rest port fresh) in
     record {
       fresh = subst (AreFresh m.cpus) (sym (append_assoc done (port ∷ []) rest)) fresh;
       ports = ap (map (λ (q : Processor). q.port)) more ∙ map-append (λ (q : Processor). q.port) ps (p ∷ [])
           ∙ ap (λ (ls : List Port). ls ++ p.port ∷ []) h.ports ∙ ap (λ (q : Port). done ++ q ∷ []) same;
-      each = λ cpu q e. one_more m ps p h.each (opened m (length ps) k p c core at place worked hand turns) cpu q (ap (λ (ls : List Processor).
+      each = λ cpu q e. one_more m ps p h.each (opened m (length ps) k p c core at number_is worked hand turns used apart) cpu q (ap (λ (ls : List Processor).
           slice_get ls cpu) (sym more) ∙ e);
     }

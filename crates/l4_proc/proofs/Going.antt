@@ -1,5 +1,5 @@
 -- A processor that goes on by itself: at its opening, by a tick, and turn by turn.
-use Rattle.std.proofs.Common.{◌≡◌, ℕ, ◌+◌, ◌^◌, Some, None, List, [], ◌∷◌, ◌++◌, map, length, refl, ap, sym, ◌∙◌, subst, arith}
+use Rattle.std.proofs.Common.{◌≡◌, ℕ, ◌+◌, ◌<◌, ◌^◌, Some, None, List, [], ◌∷◌, ◌++◌, map, length, refl, ap, sym, ◌∙◌, subst, arith}
 use Rattle.std.specs.Prelude.{nat_lt}
 use Rattle.std.specs.Option.{option_map}
 use Rattle.std.proofs.lemmas.List.{length-append, append-nil}
@@ -10,8 +10,8 @@ use Rattle.l4_core_model.specs.Acts.{Work}
 use Rattle.l4_core_model.specs.Runs.{Event}
 use Rattle.l4_core_model.specs.Turns.{advance}
 use Rattle.l4_merge.specs.Deeds.{Deed, Ticked, letters_with}
-use Rattle.l4_merge.specs.Pasts.{empty_past, HasWorked}
-use Rattle.l4_merge.proofs.Worked.{worked_none, worked_one, worked_trans}
+use Rattle.l4_merge.specs.Pasts.{empty_past, HasWorked, HasTurned}
+use Rattle.l4_merge.proofs.Worked.{worked_none, worked_one, worked_trans, turned_none, turned_trans}
 use Rattle.l4_types.specs.LetterView.{letter_of}
 use Rattle.l4_core.specs.Processor.{Processor as Core}
 use Rattle.l4_core.specs.Turning.{IsEvent, work}
@@ -19,7 +19,9 @@ use Rattle.l4_mail.specs.Ports.{posted_to, place}
 use Rattle.l4_mail.specs.declared.ports.Port.{Port}
 use Rattle.l4_proc.specs.Logs.{all_steps, events, HasBegun, HasEnded, IsClosed}
 use Rattle.l4_proc.specs.Whole.{past_with, handled_from, IsFreshPort, IsPortOf, IsWhole}
-use Rattle.l4_proc.specs.Working.{past, HasGoneOn, HasTaken, HasTicked}
+use Rattle.l4_proc.specs.Working.{past, HasGoneOn, HasTaken, HasTakenUpTo, HasTicked, IsStopped}
+use Rattle.l4_proc.specs.declared.stops.Stop.{Stop}
+use Rattle.l4_proc.specs.declared.stops.Stop.TheVariants as stop
 use Rattle.l4_proc.specs.declared.log.End.{End}
 use Rattle.l4_proc.specs.declared.log.Log.{Log}
 use Rattle.l4_proc.specs.declared.processor.Processor.{Processor}
@@ -48,6 +50,7 @@ pub record IsTicking (to : ℕ) (old new : Worker) (before after : Log) (stamp :
   pub begun : HasBegun old.log before
   pub event : IsEvent (advance old.core.machine old.core.cpu to old.core.local) old.core new.core before.told after.told stamp
   pub hand : new.hand ≡ old.hand
+  pub stop : new.stop ≡ old.stop
   pub cpu : after.cpu ≡ before.cpu
   pub ends : after.ends ≡ before.ends
   pub ticks : after.ticks ≡ before.ticks
@@ -118,11 +121,12 @@ has_ticked to old new before after stamp port whole t =
       advances = ap (option_map (λ (x : Work). x.local)) t.event.is;
       one = ap length l.events ∙ length-append (events old.worker.log) _;
       turns = omega (arith, longer, ticks);
+      stop = t.stop;
     }
 
 -- Turns
 
-gone_trans : (old middle new : Processor) → HasGoneOn old middle → HasGoneOn middle new → HasGoneOn old new
+pub gone_trans : (old middle new : Processor) → HasGoneOn old middle → HasGoneOn middle new → HasGoneOn old new
 gone_trans old middle new first then =
     let m = old.worker.core.machine in
     let cpu = old.worker.core.cpu in
@@ -136,10 +140,18 @@ gone_trans old middle new first then =
       worked = worked_trans m cpu (past old) (past middle) (past new) first.worked next;
     }
 
+pub next_turned : (old middle new : Processor) → HasGoneOn old middle →
+    HasTurned middle.worker.core.machine middle.worker.core.cpu (past middle) (past new) →
+    HasTurned old.worker.core.machine old.worker.core.cpu (past middle) (past new)
+next_turned old middle new on then =
+    subst (λ m. HasTurned m old.worker.core.cpu (past middle) (past new)) on.machine
+    (subst (λ cpu. HasTurned middle.worker.core.machine cpu (past middle) (past new)) on.cpu then)
+
 -- Before its first turn it has taken none.
 pub taken_none : (p : Processor) → HasTaken 0 p p
 taken_none p = record {
   on = record { machine = refl; cpu = refl; place = refl; worked = worked_none p.worker.core.machine p.worker.core.cpu (past p) };
+  turned = turned_none p.worker.core.machine p.worker.core.cpu (past p);
   turns = omega arith;
   ticks = refl;
 }
@@ -147,6 +159,35 @@ taken_none p = record {
 pub taken_more : (n k : ℕ) (old middle new : Processor) → HasTaken n old middle → HasTaken k middle new → HasTaken (n + k) old new
 taken_more n k old middle new first then = record {
   on = gone_trans old middle new first.on then.on;
+  turned = turned_trans old.worker.core.machine old.worker.core.cpu (past old) (past middle) (past new) first.turned
+      (next_turned old middle new first.on then.turned);
   turns = let a = first.turns in let b = then.turns in omega arith;
   ticks = then.ticks ∙ first.ticks;
 }
+
+-- So many turns were taken, or it stopped before.
+
+pub all_taken : (turns count : ℕ) (old new : Processor) → count ≡ turns → HasTaken count old new → HasTakenUpTo turns old new stop.Used
+all_taken turns count old new all taken = record {
+  on = taken.on;
+  turned = taken.turned;
+  least = let t = taken.turns in omega arith;
+  most = let t = taken.turns in omega arith;
+  used = (λ is. let t = taken.turns in omega arith, λ is. refl);
+  ticks = taken.ticks;
+  stopped = tt;
+}
+
+pub some_taken : (turns count : ℕ) (old middle new : Processor) (why : Stop) → count < turns → HasTaken count old middle → HasTaken 0 middle new →
+    (why ≡ stop.Used → ⊥) → IsStopped new why → HasTakenUpTo turns old new why
+some_taken turns count old middle new why below first none unused stopped =
+    let taken = taken_more count 0 old middle new first none in
+    record {
+      on = taken.on;
+      turned = taken.turned;
+      least = let t = taken.turns in omega arith;
+      most = let t = taken.turns in omega arith;
+      used = (λ is. absurd (unused is), λ is. absurd (let t = taken.turns in omega arith));
+      ticks = taken.ticks;
+      stopped = stopped;
+    }

@@ -1,6 +1,10 @@
 pub mod Assembling
 pub mod Ends
 pub mod Going
+pub mod Handled
+pub mod Joint
 pub mod Logging
 pub mod Readying
+pub mod Rested
 pub mod Turning
+pub mod UnderWay

@@ -40,7 +40,7 @@ in_hand_kept old new hand same is from =
     subst (λ (ls : List Letter). ls ≡ take (length ls - n) ls ++ hand_from hand from) (sym (same from)) (is from)
 
 pub whole_kept : (old new : Port) (w : Worker) (log : Log) → place new ≡ place old → ((from : ℕ) → taken_from new from ≡ taken_from old from) →
-    log.cpu ≡ w.log.cpu → (IsClosed w.log → IsClosed log) → IsWhole old w → IsWhole new (record { core = w.core; log = log; hand = w.hand })
+    log.cpu ≡ w.log.cpu → (IsClosed w.log → IsClosed log) → IsWhole old w → IsWhole new (record { core = w.core; log = log; hand = w.hand; stop = w.stop })
 whole_kept old new w log same taken cpu closed is = record {
   port_of = port_kept old new w.core same is.port_of;
   log_of = cpu ∙ is.log_of;
@@ -102,7 +102,7 @@ pub all_handled : (port : Port) (from : ℕ) → handled_from port None from ≡
 all_handled port from = take_all (length (taken_from port from) - 0) (taken_from port from) (omega arith)
 
 pub whole_next : (start old new : Port) (w : Worker) (log : Log) (hand : Option (ℕ × Letter)) → IsAsBefore start old → HasNext old new hand → HasBegun w.log log →
-    IsWhole start w → IsWhole new (record { core = w.core; log = log; hand = hand })
+    IsWhole start w → IsWhole new (record { core = w.core; log = log; hand = hand; stop = w.stop })
 whole_next start old new w log hand before next begun is = record {
   port_of = port_kept start new w.core (next.place ∙ before.place) is.port_of;
   log_of = begun.cpu ∙ is.log_of;

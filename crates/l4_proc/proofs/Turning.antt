@@ -7,9 +7,9 @@ use Rattle.l4_model.specs.Machine.{Machine}
 use Rattle.l4_core_model.specs.Letters as letters
 use Rattle.l4_core_model.specs.Runs.{Event, IsMachine}
 use Rattle.l4_core_model.proofs.Lists.{all-map}
-use Rattle.l4_merge.specs.Deeds.{Deed, letter_of as letter_handled, letters_with, work_of}
-use Rattle.l4_merge.specs.Pasts.{Past, HasWorked}
-use Rattle.l4_merge.proofs.Worked.{worked_one}
+use Rattle.l4_merge.specs.Deeds.{Deed, is_turn, letter_of as letter_handled, letters_with, work_of}
+use Rattle.l4_merge.specs.Pasts.{Past, HasTurned}
+use Rattle.l4_merge.proofs.Worked.{turned_one}
 use Rattle.l4_merge.proofs.Destinations.{letters_go_elsewhere, at_most_two_letters}
 use Rattle.l4_types.specs.LetterView.{letter_of}
 use Rattle.l4_types.specs.declared.letters.Letter.{Letter}
@@ -31,17 +31,20 @@ use Rattle.l4_proc.proofs.Logging.{begun_events, same_events, logged}
 
 -- Nothing was done
 
-worked_nothing : (m : Machine) (cpu : ℕ) (old new : Past) → new.events ≡ old.events → ((to : ℕ) → new.posted to ≡ old.posted to) → ((from : ℕ) →
+turned_nothing : (m : Machine) (cpu : ℕ) (old new : Past) → new.events ≡ old.events → ((to : ℕ) → new.posted to ≡ old.posted to) → ((from : ℕ) →
     new.handled from ≡ old.handled from) →
-    new.local ≡ old.local → HasWorked m cpu old new
-worked_nothing m cpu old new events posted handled local = record {
-  deeds = [];
-  are = record {
-    lead = sym local;
-    events = events ∙ sym (append-nil old.events);
-    posted = λ to. posted to ∙ sym (append-nil (old.posted to));
-    handled = λ from. handled from ∙ sym (append-nil (old.handled from));
+    new.local ≡ old.local → HasTurned m cpu old new
+turned_nothing m cpu old new events posted handled local = record {
+  worked = record {
+    deeds = [];
+    are = record {
+      lead = sym local;
+      events = events ∙ sym (append-nil old.events);
+      posted = λ to. posted to ∙ sym (append-nil (old.posted to));
+      handled = λ from. handled from ∙ sym (append-nil (old.handled from));
+    };
   };
+  turns = tt;
 }
 
 unready_events : (old new : Log) → IsSameLog old new ⊎ HasBegun old new → events new ≡ events old
@@ -59,16 +62,18 @@ pub unready_taken : (old new : Processor) → IsUnready old new → HasTaken 0 o
 unready_taken old new u =
     let w = old.worker in
     let ends = unready_ends w.log new.worker.log u.log in
+    let turned = turned_nothing w.core.machine w.core.cpu (past old) (past new) (unready_events w.log new.worker.log u.log)
+    (λ to. ap (map letter_of) (u.posted to))
+    (λ from. rw (u.hand, u.taken from) refl)
+    (ap (λ (c : cores.Processor). c.local) u.core) in
     record {
       on = record {
         machine = ap (λ (c : cores.Processor). c.machine) u.core;
         cpu = ap (λ (c : cores.Processor). c.cpu) u.core;
         place = u.place;
-        worked = worked_nothing w.core.machine w.core.cpu (past old) (past new) (unready_events w.log new.worker.log u.log)
-            (λ to. ap (map letter_of) (u.posted to))
-            (λ from. rw (u.hand, u.taken from) refl)
-            (ap (λ (c : cores.Processor). c.local) u.core);
+        worked = turned.worked;
       };
+      turned = turned;
       turns = same_turns _ _ _ _ (ap length ends.0) ends.1;
       ticks = ends.1;
     }
@@ -79,17 +84,19 @@ refused_taken old ready new r port s =
     let core = s.core ∙ r.core in
     let ends = s.log.ends ∙ r.log.ends in
     let ticks = s.log.ticks ∙ r.log.ticks in
+    let turned = turned_nothing w.core.machine w.core.cpu (past old) (past new) (same_events ready.worker.log new.worker.log s.log
+    ∙ begun_events w.log ready.worker.log r.log)
+    (λ to. ap (map letter_of) (ap (λ (p : Port). posted_to p to) port ∙ r.posted to))
+    (λ from. ap (map letter_of) (rw (port, s.hand) (r.handled from)))
+    (ap (λ (c : cores.Processor). c.local) core) in
     record {
       on = record {
         machine = ap (λ (c : cores.Processor). c.machine) core;
         cpu = ap (λ (c : cores.Processor). c.cpu) core;
         place = ap place port ∙ r.place;
-        worked = worked_nothing w.core.machine w.core.cpu (past old) (past new) (same_events ready.worker.log new.worker.log s.log
-            ∙ begun_events w.log ready.worker.log r.log)
-            (λ to. ap (map letter_of) (ap (λ (p : Port). posted_to p to) port ∙ r.posted to))
-            (λ from. ap (map letter_of) (rw (port, s.hand) (r.handled from)))
-            (ap (λ (c : cores.Processor). c.local) core);
+        worked = turned.worked;
       };
+      turned = turned;
       turns = same_turns _ _ _ _ (ap length ends) ticks;
       ticks = ticks;
     }
@@ -104,6 +111,18 @@ refused_stopped old ready new stop.Used r port s why = tt
 refused_stopped old ready new stop.NoMemory r port s why = tt
 refused_stopped old ready new stop.Mail r port s why = rw (s.core, s.hand) why
 refused_stopped old ready new stop.Stamp r port s why = rw (s.core, s.hand) why
+
+-- What it stopped for stays where core, letter in hand and port stay.
+pub still_stopped : (old new : Processor) (why : Stop) → new.port ≡ old.port → new.worker.core ≡ old.worker.core → new.worker.hand ≡ old.worker.hand →
+    IsStopped old why → IsStopped new why
+still_stopped old new stop.Idle port core hand is = record {
+  refused = rw (core, hand) is.refused;
+  kept = λ from. ap (λ (p : Port). kept_from p from) port ∙ is.kept from;
+}
+still_stopped old new stop.Used port core hand is = tt
+still_stopped old new stop.NoMemory port core hand is = tt
+still_stopped old new stop.Mail port core hand is = rw (core, hand) is
+still_stopped old new stop.Stamp port core hand is = rw (core, hand) is
 
 -- A turn was taken
 
@@ -123,7 +142,7 @@ no_hand port from = sym (append-nil _ ∙ all_taken (taken_from port from))
 
 pub done_whole : (old ready : Processor) (told : Worker) (log : Log) (stamp : ℕ) → IsReady old ready → IsWhole old.port old.worker →
     IsWhole ready.port ready.worker → HasDone ready.worker told stamp →
-    HasEnded told.log log stamp told.log.ticks → IsWhole ready.port (record { core = told.core; log = log; hand = told.hand })
+    HasEnded told.log log stamp told.log.ticks → IsWhole ready.port (record { core = told.core; log = log; hand = told.hand; stop = told.stop })
 done_whole old ready told log stamp r was is d e = record {
   port_of = port_stays ready.port ready.worker.core told.core is.port_of d.event.machine d.event.cpu;
   log_of = e.cpu ∙ d.cpu ∙ is.log_of ∙ sym d.event.cpu;
@@ -155,6 +174,11 @@ letters_have_room old ready told stamp r machine lt d to has =
     let few = at_most_two_letters c.machine c.cpu c.local (event_in_hand ready.worker.hand) (work told.core.local told.log.told) machine lt d.event.is in
     omega (arith, few, r.room to has)
 
+-- A letter that is handled is a turn, and so is the core's own.
+is_a_turn : (hand : Option (ℕ × Letter)) → is_turn (event_in_hand hand) ≡ true
+is_a_turn None = refl
+is_a_turn (Some p) = refl
+
 -- The letter in hand is the one that is handled.
 hand_handled : (hand : Option (ℕ × Letter)) (from : ℕ) → map letter_of (hand_from hand from) ≡ letters_with from (letter_handled (event_in_hand hand))
 hand_handled None from = refl
@@ -184,26 +208,28 @@ turn_taken old ready posted new told log stamp was is few r d e p core hand ls f
     ap (λ (x : Worker). x.log.ends.items) worker ∙ ap (λ es. es.items) ls.ends ∙ e.ends
     ∙ ap (λ es. es ++ record { stamp = stamp; place = length (all_steps told.log.told) } ∷ []) (ap (λ es. es.items) d.ends ∙ r.log.ends) in
     let ticks : new.worker.log.ticks ≡ w.log.ticks = ap (λ (x : Worker). x.log.ticks) worker ∙ ls.ticks ∙ e.ticks ∙ d.ticks ∙ r.log.ticks in
+    let turned = turned_one w.core.machine w.core.cpu (past old) (past new) deed (is_a_turn ready.worker.hand) (record {
+      does = record {
+        own = refl;
+        work = subst (λ (c : cores.Processor). work_of c.machine c.cpu c.local (event_in_hand ready.worker.hand) ≡ Some (work told.core.local
+            told.log.told)) rcore d.event.is;
+      };
+      events = same_log ∙ all.events ∙ ap (λ (x : Event). events w.log ++ x ∷ []) (rw (was.log_of, d.event.stamped) refl);
+      posted = λ to. ap (map letter_of) (f.posted to) ∙ p.posted to ∙ rw (r.posted to, e.told) refl;
+      handled = λ from. ap (λ h. map letter_of (handled_from new.port h from)) new_hand
+          ∙ ap (map letter_of) (all_taken (taken_from new.port from) ∙ f.taken from ∙ p.taken from ∙ is.hand from)
+          ∙ map-append letter_of (handled_from ready.port ready.worker.hand from) (hand_from ready.worker.hand from)
+          ∙ rw (r.handled from, hand_handled ready.worker.hand from) refl;
+      local = ap (λ (c : cores.Processor). c.local) (sym new_core);
+    }) in
     record {
       on = record {
         machine = ap (λ (c : cores.Processor). c.machine) new_core ∙ d.event.machine ∙ ap (λ (c : cores.Processor). c.machine) rcore;
         cpu = ap (λ (c : cores.Processor). c.cpu) new_core ∙ d.event.cpu ∙ ap (λ (c : cores.Processor). c.cpu) rcore;
         place = f.place ∙ p.place ∙ r.place;
-        worked = worked_one w.core.machine w.core.cpu (past old) (past new) deed (record {
-          does = record {
-            own = refl;
-            work = subst (λ (c : cores.Processor). work_of c.machine c.cpu c.local (event_in_hand ready.worker.hand) ≡ Some (work told.core.local
-                told.log.told)) rcore d.event.is;
-          };
-          events = same_log ∙ all.events ∙ ap (λ (x : Event). events w.log ++ x ∷ []) (rw (was.log_of, d.event.stamped) refl);
-          posted = λ to. ap (map letter_of) (f.posted to) ∙ p.posted to ∙ rw (r.posted to, e.told) refl;
-          handled = λ from. ap (λ h. map letter_of (handled_from new.port h from)) new_hand
-              ∙ ap (map letter_of) (all_taken (taken_from new.port from) ∙ f.taken from ∙ p.taken from ∙ is.hand from)
-              ∙ map-append letter_of (handled_from ready.port ready.worker.hand from) (hand_from ready.worker.hand from)
-              ∙ rw (r.handled from, hand_handled ready.worker.hand from) refl;
-          local = ap (λ (c : cores.Processor). c.local) (sym new_core);
-        });
+        worked = turned.worked;
       };
+      turned = turned;
       turns = one_more _ _ _ _ (ap length ends ∙ length-append w.log.ends.items _) ticks (omega (arith, few, w.log.ends.ok.0));
       ticks = ticks;
     }

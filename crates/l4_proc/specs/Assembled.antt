@@ -3,9 +3,10 @@ use Rattle.std.specs.Prelude.{◌≡◌, ℕ, Some, None, List, length, map, sli
 use Rattle.l4_model.specs.Machine.{Machine}
 use Rattle.l4_core_model.specs.Local.{opening_local}
 use Rattle.l4_merge.specs.Pasts.{empty_past, HasWorked}
-use Rattle.l4_mail.specs.Ports.{AreOneFabric}
+use Rattle.l4_mail.specs.Ports.{place, AreOneFabric, IsApart}
 use Rattle.l4_proc.specs.declared.processor.Processor.{Processor}
 use Rattle.l4_proc.specs.Working.{past, turns_of}
+use Rattle.l4_proc.specs.declared.stops.Stop.TheVariants as stop
 
 -- A processor that has done nothing.
 pub record IsOpening (m : Machine) (cpu : ℕ) (p : Processor) : Type 0 where
@@ -15,6 +16,8 @@ pub record IsOpening (m : Machine) (cpu : ℕ) (p : Processor) : Type 0 where
   pub local : p.worker.core.local ≡ opening_local m cpu
   pub hand : p.worker.hand ≡ None
   pub turns : turns_of p ≡ 0
+  pub stop : p.worker.stop ≡ stop.Used
+  pub apart : IsApart (place p.port)
 
 -- All of a machine, in the order of their numbers, with the ports of one fabric.
 pub record AreAssembled (m : Machine) (ps : List Processor) : Type 0 where

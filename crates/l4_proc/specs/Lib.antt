@@ -2,5 +2,6 @@ pub mod Assembled
 pub mod Ends
 pub mod Events
 pub mod Logs
+pub mod Rests
 pub mod Whole
 pub mod Working

@@ -1,9 +1,9 @@
 -- A processor at work.
-use Rattle.std.specs.Prelude.{◌≡◌, ◌⊎◌, ℕ, ◌+◌, ◌-◌, ◌≤◌, [], Some, None, length}
+use Rattle.std.specs.Prelude.{◌≡◌, ◌⊎◌, ◌↔◌, ℕ, ◌+◌, ◌-◌, ◌≤◌, List, [], Some, None, length, slice_get}
 use Rattle.std.specs.Option.{option_map}
 use Rattle.l4_core_model.specs.Turns.{advance}
 use Rattle.l4_merge.specs.Deeds.{work_of}
-use Rattle.l4_merge.specs.Pasts.{Past, HasWorked}
+use Rattle.l4_merge.specs.Pasts.{Past, HasWorked, HasTurned}
 use Rattle.l4_core.specs.Turning.{IsEvent}
 use Rattle.l4_mail.specs.Ports.{posted_to, taken_from, kept_from, room_to, place, HasWayTo}
 use Rattle.l4_proc.specs.Events.{event_in_hand, HasPostedAll, IsRefused}
@@ -31,6 +31,7 @@ pub record HasGoneOn (old new : Processor) : Type 0 where
 -- It took so many turns, and no tick.
 pub record HasTaken (count : ℕ) (old new : Processor) : Type 0 where
   pub on : HasGoneOn old new
+  pub turned : HasTurned old.worker.core.machine old.worker.core.cpu (past old) (past new)
   pub turns : turns_of new ≡ turns_of old + count
   pub ticks : new.worker.log.ticks ≡ old.worker.log.ticks
 
@@ -46,6 +47,25 @@ IsStopped p stop.Used = Unit {0}
 IsStopped p stop.NoMemory = Unit {0}
 IsStopped p stop.Mail = IsRefused p.worker.core p.worker.hand stop.Mail
 IsStopped p stop.Stamp = IsRefused p.worker.core p.worker.hand stop.Stamp
+
+-- A processor took at most so many turns, and no tick, until it stopped.
+pub record HasTakenUpTo (turns : ℕ) (old new : Processor) (why : Stop) : Type 0 where
+  pub on : HasGoneOn old new
+  pub turned : HasTurned old.worker.core.machine old.worker.core.cpu (past old) (past new)
+  pub least : turns_of old ≤ turns_of new
+  pub most : turns_of new ≤ turns_of old + turns
+  pub used : (why ≡ stop.Used) ↔ (turns_of new ≡ turns_of old + turns)
+  pub ticks : new.worker.log.ticks ≡ old.worker.log.ticks
+  pub stopped : IsStopped new why
+
+-- So it did, and it remembers why it stopped.
+abbrev pub HasWorkedOn : (turns : ℕ) → (old new : Processor) → Type 0
+HasWorkedOn turns old new = HasTakenUpTo turns old new new.worker.stop
+
+-- Each of them did by itself.
+pub record HaveWorkedOn (turns : ℕ) (olds news : List Processor) : Type 0 where
+  pub for_each : length news ≡ length olds
+  pub each : (i : ℕ) (old new : Processor) → slice_get olds i ≡ Some old → slice_get news i ≡ Some new → HasWorkedOn turns old new
 
 -- A processor is ready for a turn: it has room, and a letter in hand where one has come.
 pub record IsReady (old new : Processor) : Type 0 where
@@ -95,6 +115,7 @@ pub record HasTicked (to : ℕ) (old new : Processor) : Type 0 where
   pub advances : option_map (λ x. x.local) (advance old.worker.core.machine old.worker.core.cpu to old.worker.core.local) ≡ Some new.worker.core.local
   pub one : length (events new.worker.log) ≡ length (events old.worker.log) + 1
   pub turns : turns_of new ≡ turns_of old
+  pub stop : new.worker.stop ≡ old.worker.stop
 
 -- Nothing has changed but room.
 pub record HasStayed (old new : Processor) : Type 0 where
@@ -103,3 +124,4 @@ pub record HasStayed (old new : Processor) : Type 0 where
   pub hand : new.worker.hand ≡ old.worker.hand
   pub events : events new.worker.log ≡ events old.worker.log
   pub turns : turns_of new ≡ turns_of old
+  pub stop : new.worker.stop ≡ old.worker.stop

@@ -5,7 +5,9 @@ pub mod assembly;
 pub mod gate;
 pub mod log;
 pub mod processor;
+pub mod resting;
 pub mod stops;
 #[cfg(test)]
 mod tests;
+pub mod together;
 pub mod worker;

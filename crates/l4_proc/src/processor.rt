@@ -14,8 +14,8 @@ use std::alloc::Global;
 /// A processor of a machine: its port to the others, and what does its work.
 #[derive(Drop)]
 pub struct Processor<'m> {
-    port: Port,
-    worker: Worker<'m>,
+    pub(crate) port: Port,
+    pub(crate) worker: Worker<'m>,
     ghost whole: { IsWhole port worker },
 }
 
@@ -24,9 +24,9 @@ impl<'m> Processor<'m> {
     ghost use Rattle.std.specs.List.{AllByRecursion};
     ghost use Rattle.l4_mail.specs.Ports.{room_to, HasWayTo};
     ghost use Rattle.l4_core_model.specs.Turns.{advance, can_stamp};
-    ghost use Rattle.l4_merge.specs.Pasts.{empty_past, HasWorked};
+    ghost use Rattle.l4_merge.specs.Pasts.{empty_past, HasWorked, HasTurned};
     ghost use Rattle.l4_proc.specs.Logs.{IsClosed};
-    ghost use Rattle.l4_proc.specs.Working.{past, turns_of, HasGoneOn, HasPostedOwn, HasStayed, HasTaken, HasTicked, IsReady, IsStopped, IsUnready};
+    ghost use Rattle.l4_proc.specs.Working.{past, turns_of, HasGoneOn, HasPostedOwn, HasStayed, HasTaken, HasTakenUpTo, HasTicked, IsReady, IsStopped, IsUnready};
     ghost use Rattle.l4_proc.specs.Whole.{IsFreshPort, IsPortOf};
 
     /// A processor that has done nothing, with its port, by which no letter has gone.
@@ -36,6 +36,7 @@ impl<'m> Processor<'m> {
         ensures parts { (result.port ≡ port) × (result.worker.core ≡ core.entry) × (result.worker.hand ≡ None) }
         ensures opened { HasWorked core.entry.machine core.entry.cpu (empty_past core.entry.local) (past result) }
         ensures turns { turns_of result ≡ 0 }
+        ensures stop { result.worker.stop ≡ Stop.Used }
     {
         let log = Log::new(alloc, core.cpu());
         Processor {
@@ -44,6 +45,7 @@ impl<'m> Processor<'m> {
                 core,
                 log,
                 hand: None,
+                stop: Stop::Used,
             },
         }
     }
@@ -85,6 +87,13 @@ impl<'m> Processor<'m> {
         self.worker.log.turns()
     }
 
+    /// Why its last `work` stopped, `Used` where it has not worked yet.
+    pub fn stop(&self) -> Stop
+        ensures { result ≡ self.now.worker.stop }
+    {
+        self.worker.stop
+    }
+
     /// The processor taken apart, so that its port can come to rest with those of the others.
     pub fn split(self) -> (Port, Worker<'m>)
         ensures parts { (result.0 ≡ self.entry.port) × (result.1 ≡ self.entry.worker) }
@@ -110,10 +119,22 @@ impl<'m> Processor<'m> {
     /// hand, and is handled first by the next call.
     pub fn work<G: Gate>(&mut self, turns: u64, gate: &G) -> Stop
         ensures on { HasGoneOn self.old self.new }
+        ensures turned { HasTurned self.old.worker.core.machine self.old.worker.core.cpu (past self.old) (past self.new) }
+        ensures least { turns_of self.old ≤ turns_of self.new }
         ensures most { turns_of self.new ≤ turns_of self.old + turns }
         ensures used { (result ≡ Stop.Used) ↔ (turns_of self.new ≡ turns_of self.old + turns) }
         ensures ticks { self.new.worker.log.ticks ≡ self.old.worker.log.ticks }
         ensures stopped { IsStopped self.new result }
+        ensures stop { self.new.worker.stop ≡ result }
+    {
+        let stop = self.take_turns(turns, gate);
+        self.worker.stop = stop;
+        stop
+    }
+
+    // The same, without a note of why it stopped.
+    fn take_turns<G: Gate>(&mut self, turns: u64, gate: &G) -> Stop
+        ensures { HasTakenUpTo turns self.old self.new result }
     {
         for _ in 0..turns {
             gate.before(self.cpu(), self.turns() + 1);

@@ -20,6 +20,8 @@ pub struct Worker<'m> {
     pub(crate) log: Log,
     // A letter that was taken and is not yet handled, with the processor that posted it.
     pub(crate) hand: Option<(u8, Letter)>,
+    // Why its last work stopped, `Used` where it has not worked yet.
+    pub(crate) stop: Stop,
 }
 
 // A letter is handled.
@@ -94,6 +96,7 @@ impl Worker<'_> {
         ensures event { IsEvent (advance self.old.core.machine self.old.core.cpu to self.old.core.local)
             self.old.core self.new.core self.old.log.told self.new.log.told result }
         ensures hand { self.new.hand ≡ self.old.hand }
+        ensures stop { self.new.stop ≡ self.old.stop }
         ensures log { (self.new.log.cpu ≡ self.old.log.cpu) × (self.new.log.ends ≡ self.old.log.ends) × (self.new.log.ticks ≡ self.old.log.ticks) }
     {
         self.core.advance_into(to, &mut self.log.told).unwrap()

@@ -1,11 +1,12 @@
 -- An Ipc of one thread, told whether it may show its originator, is that of the machine.
-use Rattle.std.proofs.Common.{ℕ, ◌≡◌, Bool, true, false, refl}
+use Rattle.std.proofs.Common.{ℕ, List, ◌≡◌, Bool, true, false, refl}
 use Rattle.std.specs.Prelude.{◌/◌, ◌%◌, ◌^◌, ◌==◌, ◌&&◌, if◌then◌else◌, Option, Some, None, is_some}
 use Rattle.l4_model.specs.Words.{Period, GlobalId, Id, NilThread, AnyThread, AnyLocalThread, LocalThread, GlobalThread}
 use Rattle.l4_model.specs.Machine.{Machine, same_space, Instr, Set, Copy, Add, Tag, Vs, Ipc, Ask, Jump, OnErr, End}
 use Rattle.l4_model.specs.World.{Context, Message, Receive, Thread, Sending}
 use Rattle.l4_model.specs.Rules.{register, permitted, originator, message_of, destination, receive_phase, ipc_act, act, request, Sends}
 use Rattle.l4_types.specs.Ids.{global_of}
+use Rattle.l4_thread.specs.Held.{Held, sent_of}
 use Rattle.l4_thread.specs.Ipcs.{may_show, starts}
 use Rattle.l4_thread.specs.Requests.{originator_if, message_if, Phases, send_phase, phases_of, phases_begun, counted}
 
@@ -71,6 +72,15 @@ sends_phase m sender now c (Jump place) s h = cc
 sends_phase m sender now c (OnErr place) s h = cc
 sends_phase m sender now c End s h = cc
 
+-- No word of a register changes where phases begin.
+pub begun_words : (c : Context) (p : Phases) → (phases_begun p c).words ≡ c.words
+begun_words c p = by_send p.send p.receive
+  where
+    by_send : (s : Option (Id × Message × Period)) (r : Option Receive) → (phases_begun (record { send = s; receive = r }) c).words ≡ c.words
+    by_send (Some s) r = refl
+    by_send None (Some r) = refl
+    by_send None None = refl
+
 begins_counted : (c : Context) (p : Phases) (s : Id × Message × Period) → p.send ≡ Some s → phases_begun p c ≡ counted c
 begins_counted c p s h = rw h refl
 
@@ -83,3 +93,11 @@ starts_send m sender now t instr asks p s a e h =
     let e2 : p ≡ phases_of (may_show m sender t.context.actual) sender t.context instr = rw (← a) e in
     let h2 : (phases_of (may_show m sender t.context.actual) sender t.context instr).send ≡ Some s = rw (← e2) h in
     rw (begins_counted t.context p s h, sends_phase m sender now t.context instr s h2) (rw e2 refl)
+
+-- The same where the words of the message stay in the registers.
+pub starts_held : (m : Machine) (sender : GlobalId) (now : ℕ) (t : Thread) (instr : Instr) (asks : Bool) (p : Phases) (s : Id × Message × Period) (x : Context) (apart : List ℕ) (h : Held) →
+    asks ≡ may_show m sender t.context.actual → p ≡ phases_of asks sender t.context instr → p.send ≡ Some s → x ≡ phases_begun p t.context →
+    sent_of apart t.context.words h ≡ record { to = s.0; message = s.1; period = s.2; since = now; receive = p.receive } →
+    record t { context = x; phase = Sending; send = Some (sent_of apart x.words h) } ≡ starts (act m sender now t.context instr) now t
+starts_held m sender now t instr asks p s x apart h a e k begun held =
+    rw (begun, begun_words t.context p, held) (starts_send m sender now t instr asks p s a e k)

@@ -1,4 +1,5 @@
 pub mod Changes
+pub mod Held
 pub mod Ipcs
 pub mod Messages
 pub mod Parts

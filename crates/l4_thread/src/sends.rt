@@ -1,8 +1,11 @@
 //! Sends and receive phases as they were fixed when they began.
-ghost use Rattle.std.specs.Prelude.{◌≡◌};
+ghost use Rattle.std.specs.Prelude.{◌≡◌, ◌<◌, ◌^◌, length};
 ghost use Rattle.l4_types.specs.PeriodView.{period_of, IsTimely};
+ghost use Rattle.l4_thread.specs.Held.{with_words, sent_with, AreFew};
+ghost use Rattle.l4_thread.specs.declared.sends.Words.TheVariants.{InRegisters, Apart};
 
-use l4_types::ids::ThreadId;
+use l4_history::message_ref::MessageRef;
+use l4_types::ids::{GlobalId, ThreadId};
 use l4_types::messages::Message;
 use l4_types::times::Period;
 use std::marker::Model;
@@ -56,23 +59,114 @@ impl Receive {
     }
 }
 
-/// A send (manual: Ipc).
+/// Where the words of a message are while its send is undecided.
+#[derive(Clone, Copy, PartialEq, Eq, Debug)]
+pub enum Words {
+    /// In the sender's message registers 1 to this number, which is below 64 (manual: Messages and Message Registers).
+    InRegisters(u8),
+    /// Apart from the sender's registers.
+    Apart,
+}
+
+/// A message but for its words.
+#[derive(PartialEq, Eq, Debug, Drop)]
+pub(crate) struct Head {
+    label: u64,
+    words: Words,
+    propagated: bool,
+    shown: GlobalId,
+    actual: GlobalId,
+}
+
+impl Model for Head {
+    ghost use Rattle.std.specs.Prelude.{◌<◌, ◌^◌};
+    ghost use Rattle.l4_thread.specs.Held.{Headed, AreFew};
+
+    ghost Value = { Headed };
+
+    ghost view = { λ h. record { label = h.label; words = h.words; propagated = h.propagated; shown = h.shown; actual = h.actual } };
+
+    ghost invariant = { λ h. (h.label < 2 ^ 48) × AreFew h.words };
+
+    ghost inverse = { λ h. record { label = h.label; words = h.words; propagated = h.propagated; shown = h.shown; actual = h.actual } };
+}
+
+impl Head {
+    /// Of a message whose words are in message registers 1 to `count` of the thread that sends it. The label is below 2^48.
+    pub(crate) fn in_registers(
+        label: u64,
+        count: u8,
+        propagated: bool,
+        shown: GlobalId,
+        actual: GlobalId,
+    ) -> Head
+        requires label { label < 2 ^ 48 }
+        requires count { count < 64 }
+        ensures { result ≡ record { label = label; words = InRegisters count; propagated = propagated; shown = shown; actual = actual } }
+    {
+        Head {
+            label,
+            words: Words::InRegisters(count),
+            propagated,
+            shown,
+            actual,
+        }
+    }
+
+    /// Of a message whose words are apart.
+    pub(crate) fn apart(message: &Message) -> Head
+        ensures { result ≡ record { label = message.now.label; words = Apart; propagated = message.now.propagated; shown = message.now.shown; actual = message.now.actual } }
+    {
+        Head {
+            label: message.label(),
+            words: Words::Apart,
+            propagated: message.propagated(),
+            shown: message.shown(),
+            actual: message.actual(),
+        }
+    }
+
+    /// Where the words are.
+    pub(crate) fn words(&self) -> Words
+        ensures value { result ≡ self.now.words }
+        ensures few { AreFew result }
+    {
+        self.words
+    }
+
+    // The words are apart now.
+    fn set_apart(&mut self)
+        ensures { self.new ≡ record self.old { words = Apart } }
+    {
+        self.words = Words::Apart;
+    }
+
+    // The message, with these words.
+    fn with_words<'a>(&self, words: &'a [u64]) -> MessageRef<'a>
+        requires { length words.now < 64 }
+        ensures { result ≡ with_words words.now self.now }
+    {
+        MessageRef::new(self.label, self.propagated, words, self.shown, self.actual)
+    }
+}
+
+/// A send as it was fixed when it began (manual: Ipc), but for the words of its message.
 #[derive(Drop)]
-pub struct Send {
+pub(crate) struct Send {
     to: ThreadId,
-    message: Message,
+    head: Head,
     period: Period,
     since: u64,
     receive: Option<Receive>,
 }
 
 impl Model for Send {
-    ghost use Rattle.l4_model.specs.World.{Send as ModelSend};
+    ghost use Rattle.l4_thread.specs.Held.{Held};
     ghost use Rattle.l4_types.specs.PeriodView.{period_of, IsTimely};
 
-    ghost Value = { ModelSend };
+    ghost Value = { Held };
 
-    ghost view = { λ s. record { to = s.to; message = s.message; period = period_of s.period; since = s.since; receive = s.receive } };
+    ghost view = { λ s. record { to = s.to; head = s.head; period = period_of s.period; since = s.since; receive = s.receive } };
 
     ghost invariant = { λ s. IsTimely s.period };
 }
@@ -80,19 +174,19 @@ impl Model for Send {
 impl Send {
     /// A send to an id, that may wait for a period that a time has, below 2^42 ticks, from the clock at its beginning on. `receive` is the
     /// receive phase of the same Ipc.
-    pub fn new(
+    pub(crate) fn new(
         to: ThreadId,
-        message: Message,
+        head: Head,
         period: Period,
         since: u64,
         receive: Option<Receive>,
     ) -> Send
         requires { IsTimely period }
-        ensures { result ≡ record { to = to; message = message; period = period_of period; since = since; receive = receive } }
+        ensures { result ≡ record { to = to; head = head; period = period_of period; since = since; receive = receive } }
     {
         Send {
             to,
-            message,
+            head,
             period,
             since,
             receive,
@@ -100,17 +194,89 @@ impl Send {
     }
 
     /// Where it goes.
-    pub fn to(&self) -> ThreadId
+    pub(crate) fn to(&self) -> ThreadId
         ensures { result ≡ self.now.to }
     {
         self.to
     }
 
-    /// The message.
-    pub fn message(&self) -> &Message
-        ensures { result.now ≡ self.now.message }
+    /// The clock of its processor when it began, in ticks.
+    pub(crate) fn since(&self) -> u64
+        ensures { result ≡ self.now.since }
     {
-        &self.message
+        self.since
+    }
+
+    /// Its message, but for the words.
+    pub(crate) fn head(&self) -> &Head
+        ensures { result.now ≡ self.now.head }
+    {
+        &self.head
+    }
+
+    /// The words of its message are apart now.
+    pub(crate) fn set_apart(&mut self)
+        ensures { self.new ≡ record self.old { head = record self.old.head { words = Apart } } }
+    {
+        self.head.set_apart();
+    }
+
+    /// How long it may wait, below 2^42 ticks.
+    pub(crate) fn period(&self) -> Period
+        ensures value { period_of result ≡ self.now.period }
+        ensures timely { IsTimely result }
+    {
+        self.period
+    }
+
+    /// The receive phase of the same Ipc.
+    pub(crate) fn receive(&self) -> Option<Receive>
+        ensures { result ≡ self.now.receive }
+    {
+        self.receive
+    }
+}
+
+/// An undecided send, which is only looked at (manual: Ipc). The words of its message stay where they are.
+#[derive(Drop)]
+pub struct SendRef<'a> {
+    send: &'a Send,
+    words: &'a [u64],
+}
+
+impl<'a> Model for SendRef<'a> {
+    ghost use Rattle.std.specs.Prelude.{◌<◌, length};
+    ghost use Rattle.l4_model.specs.World.{Send as ModelSend};
+    ghost use Rattle.l4_thread.specs.Held.{sent_with};
+
+    ghost Value = { ModelSend };
+
+    ghost view = { λ s. sent_with s.words.now s.send.now };
+
+    ghost invariant = { λ s. length s.words.now < 64 };
+}
+
+impl<'a> SendRef<'a> {
+    /// A send with the words of its message, of which there are at most 63.
+    pub(crate) fn new(send: &'a Send, words: &'a [u64]) -> SendRef<'a>
+        requires { length words.now < 64 }
+        ensures { result ≡ sent_with words.now send.now }
+    {
+        SendRef { send, words }
+    }
+
+    /// Where it goes.
+    pub fn to(&self) -> ThreadId
+        ensures { result ≡ self.now.to }
+    {
+        self.send.to()
+    }
+
+    /// The message.
+    pub fn message(&self) -> MessageRef<'a>
+        ensures { result ≡ self.now.message }
+    {
+        self.send.head().with_words(self.words)
     }
 
     /// How long it may wait, below 2^42 ticks.
@@ -118,20 +284,20 @@ impl Send {
         ensures value { period_of result ≡ self.now.period }
         ensures timely { IsTimely result }
     {
-        self.period
+        self.send.period()
     }
 
     /// The clock of its processor when it began, in ticks.
     pub fn since(&self) -> u64
         ensures { result ≡ self.now.since }
     {
-        self.since
+        self.send.since()
     }
 
     /// The receive phase of the same Ipc.
     pub fn receive(&self) -> Option<Receive>
         ensures { result ≡ self.now.receive }
     {
-        self.receive
+        self.send.receive()
     }
 }

@@ -13,8 +13,9 @@ mod effects;
 
 use crate::orders::Asked;
 use crate::phases::Phase;
-use crate::sends::{Receive, Send};
+use crate::sends::{Receive, Send, SendRef, Words};
 use crate::thread::Thread;
+use arrayvec::ArrayVec;
 use l4_types::ids::GlobalId;
 use l4_types::reports::State;
 use l4_types::times::Period;
@@ -26,12 +27,16 @@ pub struct Tcb {
     thread: Thread,
     phase: Phase,
     send: Option<Send>,
+    // The words of its send, where they are not in its registers.
+    apart: ArrayVec<u64, 63>,
     order: Option<Asked>,
     cancel_send: bool,
     cancel_receive: bool,
 }
 
 impl Model for Tcb {
+    ghost use Rattle.std.specs.Option.{option_map};
+    ghost use Rattle.l4_thread.specs.Held.{sent_of};
     ghost use Rattle.l4_thread.specs.Parts.{Block};
     ghost use Rattle.l4_thread.specs.PhaseView.{phase_of};
 
@@ -42,7 +47,7 @@ impl Model for Tcb {
       thread = record {
         context = t.thread.context;
         phase = phase_of t.phase;
-        send = t.send;
+        send = option_map (sent_of t.apart.items t.thread.context.words) t.send;
         order = t.order;
         cancel_send = t.cancel_send;
         cancel_receive = t.cancel_receive;
@@ -59,6 +64,7 @@ impl Tcb {
             thread: Thread::new(id),
             phase: Phase::Ready,
             send: None,
+            apart: ArrayVec::new(),
             order: None,
             cancel_send: false,
             cancel_receive: false,
@@ -128,10 +134,15 @@ impl Tcb {
     }
 
     /// Its undecided send.
-    pub fn send(&self) -> Option<&Send>
-        ensures { option_copied result ≡ self.now.thread.send }
+    pub fn send(&self) -> Option<SendRef<'_>>
+        ensures { result ≡ self.now.thread.send }
     {
-        self.send.as_ref()
+        let send = self.send.as_ref()?;
+        let words = match send.head().words() {
+            Words::InRegisters(count) => self.thread.words(count),
+            Words::Apart => self.apart.as_slice(),
+        };
+        Some(SendRef::new(send, words))
     }
 
     /// What it asked of another thread, and is not done yet.

@@ -1,5 +1,5 @@
 //! The part of a thread that its own instructions read and write.
-ghost use Rattle.std.specs.Prelude.{◌≡◌, ◌<◌, ◌^◌, ◌+◌, ◌%◌, IfSome, false, true, take, drop, length};
+ghost use Rattle.std.specs.Prelude.{◌≡◌, ◌<◌, ◌^◌, ◌+◌, ◌%◌, IfSome, false, true, take, drop, length, List, [], ℕ};
 ghost use Rattle.std.specs.Option.{option_map};
 ghost use Rattle.l4_model.specs.Words.{word_of_tag};
 ghost use Rattle.l4_model.specs.World.{opening_context};
@@ -7,11 +7,12 @@ ghost use Rattle.l4_model.specs.Rules.{failed, sent, received, ordered, advanced
 ghost use Rattle.l4_types.specs.Codes.{code_of};
 ghost use Rattle.l4_types.specs.PeriodView.{period_of, IsTimely};
 ghost use Rattle.l4_script.specs.Scripts.{instr_of, ipc_of, to_of};
+ghost use Rattle.l4_thread.specs.Held.{message_of};
 ghost use Rattle.l4_thread.specs.Messages.{unlabelled};
 ghost use Rattle.l4_thread.specs.Requests.{originator_if, message_if, phases_of, phases_from, phases_begun, receive_from, counted, AreTimely, asks_to_send, is_end};
 
 use crate::requests::Request;
-use arrayvec::ArrayVec;
+use crate::sends::Head;
 use l4_script::instructions::{Instr, Ipc, Register, To};
 use l4_types::errors::IpcError;
 use l4_types::ids::{GlobalId, ThreadId};
@@ -151,10 +152,11 @@ impl Thread {
 
     /// Begins the phases of an Ipc (manual: Ipc), of which there may be none. `permitted` says whether the thread may show the
     /// originator that its VirtualSender names. Other instructions have no phases.
-    pub fn request(&mut self, instr: &Instr, permitted: bool) -> Request
+    pub(crate) fn request(&mut self, instr: &Instr, permitted: bool) -> Request
         requires room { is_end (instr_of instr.now) ≡ false → self.old.context.place + 1 < 2 ^ 64 }
         requires count { asks_to_send self.old.context (instr_of instr.now) ≡ true → self.old.context.begun + 1 < 2 ^ 64 }
-        ensures phases { phases_from result ≡ phases_of permitted self.old.id self.old.context (instr_of instr.now) }
+        ensures phases { phases_from [] self.old.context.words result ≡ phases_of permitted self.old.id self.old.context (instr_of instr.now) }
+        ensures stays { (apart : List ℕ) → phases_from apart self.old.context.words result ≡ phases_of permitted self.old.id self.old.context (instr_of instr.now) }
         ensures timely { AreTimely result }
         ensures context { self.new ≡ record self.old { context = phases_begun (phases_of permitted self.old.id self.old.context (instr_of instr.now)) self.old.context } }
     {
@@ -164,9 +166,21 @@ impl Thread {
         }
     }
 
-    /// An Ipc received a message of these words, at most 63, with this tag in message register 0. It shows one sender, and another one may
-    /// have sent it. Registers past its words keep their contents.
-    pub fn received(&mut self, words: &[u64], shown: GlobalId, actual: GlobalId, tag: MsgTag)
+    /// An Ipc received a message, with this tag in message register 0. Registers past its words keep their contents.
+    pub fn received(&mut self, message: &Message, tag: MsgTag)
+        ensures { self.new ≡ record self.old { context = received message.now (word_of_tag tag) self.old.context } }
+    {
+        self.received_words(message.words(), message.shown(), message.actual(), tag);
+    }
+
+    /// The same of a message of these words, at most 63, which shows one sender, and which another one may have sent.
+    pub(crate) fn received_words(
+        &mut self,
+        words: &[u64],
+        shown: GlobalId,
+        actual: GlobalId,
+        tag: MsgTag,
+    )
         requires { length words.now < 64 }
         ensures { self.new ≡ record self.old { context = received (unlabelled words.now shown actual) (word_of_tag tag) self.old.context } }
     {
@@ -209,7 +223,8 @@ impl Thread {
     fn begin(&mut self, ipc: &Ipc, permitted: bool) -> Request
         requires room { self.old.context.place + 1 < 2 ^ 64 }
         requires count { asks_to_send self.old.context (ipc_of ipc.now) ≡ true → self.old.context.begun + 1 < 2 ^ 64 }
-        ensures phases { phases_from result ≡ phases_of permitted self.old.id self.old.context (ipc_of ipc.now) }
+        ensures phases { phases_from [] self.old.context.words result ≡ phases_of permitted self.old.id self.old.context (ipc_of ipc.now) }
+        ensures stays { (apart : List ℕ) → phases_from apart self.old.context.words result ≡ phases_of permitted self.old.id self.old.context (ipc_of ipc.now) }
         ensures timely { AreTimely result }
         ensures context { self.new ≡ record self.old { context = phases_begun (phases_of permitted self.old.id self.old.context (ipc_of ipc.now)) self.old.context } }
     {
@@ -224,10 +239,10 @@ impl Thread {
                 receive,
             };
         }
-        let message = self.message(permitted);
+        let head = self.head(permitted);
         self.count();
         Request {
-            send: Some((to, message, ipc.send_period())),
+            send: Some((to, head, ipc.send_period())),
             receive,
         }
     }
@@ -264,30 +279,28 @@ impl Thread {
         }
     }
 
-    // The words from message register 1 on that a send of this thread carries.
-    fn words(&self) -> ArrayVec<u64, 63>
-        ensures { result.items ≡ take (register self.now.context 0 % 64) (drop 1 self.now.context.words) }
+    /// So many words from message register 1 on.
+    pub(crate) fn words(&self, count: u8) -> &[u64]
+        requires { count < 64 }
+        ensures value { result.now ≡ take count (drop 1 self.now.context.words) }
+        ensures fits { length result.now < 64 }
     {
-        let count = (self.regs.words[0] % 64) as usize;
-        let mut words = ArrayVec::new();
-        let _fits = words.try_extend_from_slice(&self.regs.words[1..count + 1]);
-        words
+        &self.regs.words[1..usize::from(count) + 1]
     }
 
-    // The message of a send that this thread begins now.
-    fn message(&self, permitted: bool) -> Message
-        ensures { result ≡ message_if permitted self.now.id self.now.context }
+    // The message of a send that this thread begins now, but for its words.
+    fn head(&self, permitted: bool) -> Head
+        ensures { (apart : List ℕ) → message_of apart self.now.context.words result ≡ message_if permitted self.now.id self.now.context }
     {
         let originator = self.originator(permitted);
-        let label = self.regs.words[0] / 0x1_0000;
-        Message::new(
-            label,
+        let mr0 = self.regs.words[0];
+        Head::in_registers(
+            mr0 / 0x1_0000,
+            (mr0 % 64) as u8,
             originator.is_some(),
-            self.words(),
             originator.unwrap_or(self.id),
             self.id,
         )
-        .unwrap()
     }
 }
 

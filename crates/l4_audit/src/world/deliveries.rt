@@ -1,22 +1,45 @@
 //! The step that delivers a send.
-ghost use Rattle.std.specs.Prelude.{◌≡◌, ◌<◌, length};
+ghost use Rattle.std.specs.Prelude.{◌≡◌, ◌<◌, length, not};
+ghost use Rattle.l4_model.specs.Machine.{same_cpu};
 ghost use Rattle.l4_model.specs.Steps.{next};
 ghost use Rattle.l4_history.specs.Seen.{delivered};
 ghost use Rattle.l4_audit.specs.Audited.{IsOf, Makes, with_world};
-ghost use Rattle.l4_audit.specs.Delivering.{is_delivery, taken_over};
+ghost use Rattle.l4_audit.specs.Delivering.{is_delivery, taken_over, IsFound};
 
-use crate::found::{Found, Pending, same_cpu};
+use crate::found::{Found, Pending};
 use crate::world::World;
 use l4_history::step_ref::DeliveryRef;
 use l4_script::machine::Machine;
+use l4_types::ids::GlobalId;
 use l4_types::letters::Decision;
+
+// Whether two threads are of different processors, or not declared. They may be those of a send and its receiver, which were found already.
+fn is_cross(
+    machine: &Machine,
+    pending: &Pending,
+    receiver: &Found,
+    actual: GlobalId,
+    to: GlobalId,
+) -> bool
+    requires sender { IsFound machine.now pending.now.sender }
+    requires receiver { IsFound machine.now receiver.now }
+    ensures { result ≡ not (same_cpu machine.now actual to) }
+{
+    let sender = pending.sender();
+    match (sender.cpu_of(machine, actual), receiver.cpu_of(machine, to)) {
+        (Some(from), Some(to)) => from != to,
+        _ => true,
+    }
+}
 
 // Whether a delivery tells this send to this receiver: the senders, the tag and the words.
 fn tells(delivery: &DeliveryRef<'_>, machine: &Machine, pending: &Pending, receiver: &Found) -> bool
+    requires sender { IsFound machine.now pending.now.sender }
+    requires receiver { IsFound machine.now receiver.now }
     ensures { result ≡ is_delivery machine.now delivery.now pending.now receiver.now }
 {
     let sent = pending.send().message();
-    let cross = !same_cpu(machine, sent.actual(), delivery.receiver);
+    let cross = is_cross(machine, pending, receiver, sent.actual(), delivery.receiver);
     let tag = sent.tag().received(cross, sent.propagated());
     delivery.receiver == receiver.id()
         && delivery.message.shown() == sent.shown()

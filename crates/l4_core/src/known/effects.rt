@@ -34,7 +34,8 @@ use tcb_arena::Waiting;
 impl Known<'_> {
     /// The clock goes on to this value, in ticks.
     pub(crate) fn set_clock(&mut self, to: u64)
-        requires { to < 2 ^ 62 }
+        requires later { self.old.local.clock ≤ to }
+        requires fits { to < 2 ^ 62 }
         ensures { self.new ≡ with_local self.old (clock_is to self.old.local) }
     {
         self.clock = to;
@@ -261,6 +262,6 @@ fn receive_from(receiver: &mut Tcb, sender: &Tcb, tag: MsgTag)
     ensures { receiver.new ≡ passed (word_of_tag tag) sender.now receiver.old }
 {
     if let Some(send) = sender.send() {
-        receiver.receive(send.message(), tag);
+        receiver.receive(&send.message(), tag);
     }
 }

@@ -1,5 +1,5 @@
 //! A thread that has come to a phase stands among the ready ones, or its deadline is armed.
-ghost use Rattle.std.specs.Prelude.{◌≡◌, ◌<◌, ◌+◌, ◌^◌, false, length};
+ghost use Rattle.std.specs.Prelude.{◌≡◌, ◌<◌, ◌+◌, ◌^◌, IfSome, false, length};
 ghost use Rattle.std.specs.Option.{option_map};
 ghost use Rattle.l4_types.specs.PeriodView.{period_of, IsTimely};
 ghost use Rattle.l4_core_model.specs.Local.{thread, relists, settles};
@@ -15,7 +15,8 @@ use l4_types::times::Period;
 fn deadline(period: Period, clock: u64) -> Option<u64>
     requires period { IsTimely period }
     requires clock { clock < 2 ^ 62 }
-    ensures { result ≡ option_map (λ n. clock + n) (period_of period) }
+    ensures value { result ≡ option_map (λ n. clock + n) (period_of period) }
+    ensures near { IfSome result (λ deadline. deadline < clock + 2 ^ 42) }
 {
     match period {
         Period::Never => None,

@@ -11,7 +11,6 @@ ghost use Rattle.l4_core.specs.Turning.{Does, IsNewSender, IsNotSplit, IsOwnOf, 
 
 use crate::processor::Core;
 use crate::told::Told;
-use l4_history::message_ref::MessageRef;
 use l4_history::sink::Sink;
 use l4_history::step_ref::{DeliveryRef, StepRef};
 use l4_thread::changes::Change;
@@ -63,7 +62,7 @@ impl Core<'_> {
         let delivery = DeliveryRef {
             name: self.known.last_name(sender),
             receiver: self.known.id(receiver),
-            message: MessageRef::from(self.known.message(sender)),
+            message: self.known.message(sender),
             cross: !self.known.is_own(sender),
         };
         let tag = delivery.tag();
@@ -116,7 +115,7 @@ impl Core<'_> {
         let content = Content::Send {
             name: self.known.last_name(sender),
             receiver: self.known.id(receiver),
-            message: self.known.message(sender).copy(),
+            message: self.known.message(sender).to_message(),
             zero_timeout: self.known.is_zero(sender),
         };
         let letter = self.letter(content);

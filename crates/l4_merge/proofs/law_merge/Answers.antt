@@ -1,7 +1,11 @@
 use Rattle.l4_merge.proofs.Wholes.{opening_ends, make_whole, whole_sorts_as_merged}
 use Rattle.l4_merge.proofs.Sorted.{length-merged}
 use Rattle.l4_merge.proofs.PastsOfRuns.{has_pasts}
-use Rattle.l4_merge.proofs.GoingOn.{merge}
+use Rattle.l4_merge.proofs.GoingOn.{merge, merge_turns}
+use Rattle.l4_merge.proofs.Ticking.{ends_ticked}
+use Rattle.l4_merge.proofs.ClocksOfEvents.{turned_clock}
+use Rattle.l4_merge.proofs.Permuted.{permuted}
+use Rattle.l4_merge.proofs.InRounds.{is_core_run}
 use Rattle.l4_merge.proofs.CoreRuns.{stays_core_run}
 use Rattle.l4_merge.proofs.Rest.{rests, rested}
 use Rattle.l4_merge.proofs.law_merge.Goals as goal
@@ -23,6 +27,21 @@ returns-clause-opening c = opening_ends
 
 pub returns-clause-goes_on : goal.returns-clause-goes_on
 returns-clause-goes_on c = merge
+
+pub returns-clause-turns : goal.returns-clause-turns
+returns-clause-turns c = merge_turns
+
+pub returns-clause-ticks : goal.returns-clause-ticks
+returns-clause-ticks c = ends_ticked
+
+pub returns-clause-clocks : goal.returns-clause-clocks
+returns-clause-clocks c = turned_clock
+
+pub returns-clause-permuted : goal.returns-clause-permuted
+returns-clause-permuted c = permuted
+
+pub returns-clause-in_rounds : goal.returns-clause-in_rounds
+returns-clause-in_rounds c = is_core_run
 
 pub returns-clause-core_run : goal.returns-clause-core_run
 returns-clause-core_run c = stays_core_run

@@ -1,5 +1,5 @@
 //! What happens to a thread.
-ghost use Rattle.std.specs.Prelude.{◌≡◌, ◌<◌, ◌^◌, ◌+◌, ℕ, true, false, None, IfSome, length};
+ghost use Rattle.std.specs.Prelude.{◌≡◌, ◌<◌, ◌^◌, ◌+◌, ℕ, List, true, false, None, IfSome, length};
 ghost use Rattle.std.specs.Option.{option_map};
 ghost use Rattle.l4_model.specs.Words.{word_of_tag};
 ghost use Rattle.l4_model.specs.Machine.{Machine};
@@ -12,6 +12,7 @@ ghost use Rattle.l4_types.specs.StepView.{what_of};
 ghost use Rattle.l4_types.specs.LetterView.{decision_of};
 ghost use Rattle.l4_script.specs.Scripts.{instr_of};
 ghost use Rattle.l4_thread.specs.Changes.{change_of, may_advance};
+ghost use Rattle.l4_thread.specs.Held.{sent_of};
 ghost use Rattle.l4_thread.specs.Ipcs.{may_show, starts, began_of};
 ghost use Rattle.l4_thread.specs.Messages.{unlabelled};
 ghost use Rattle.l4_thread.specs.Requests.{asks_to_send, is_end, receive_from};
@@ -19,8 +20,11 @@ ghost use Rattle.l4_thread.specs.Requests.{asks_to_send, is_end, receive_from};
 use crate::changes::Change;
 use crate::orders::Asked;
 use crate::phases::{Began, Phase};
-use crate::sends::{Receive, Send};
+use crate::sends::{Head, Receive, Send, Words};
 use crate::tcb::Tcb;
+use crate::thread::Thread;
+use arrayvec::ArrayVec;
+use l4_history::message_ref::MessageRef;
 use l4_script::instructions::Instr;
 use l4_types::errors::IpcError;
 use l4_types::ids::{GlobalId, ThreadId};
@@ -56,7 +60,8 @@ impl Tcb {
             Period::Never
         };
         self.thread.begin_at(k);
-        self.send = Some(Send::new(receiver.id(), message, period, 0, None));
+        copy_words(&mut self.apart, message.words());
+        self.send = Some(Send::new(receiver.id(), Head::apart(&message), period, 0, None));
     }
 
     /// It is known as deleted here, where it is of another processor.
@@ -71,6 +76,7 @@ impl Tcb {
         requires room { is_end (instr_of instr.now) ≡ false → self.old.thread.context.place + 1 < 2 ^ 64 }
         ensures { self.new ≡ record self.old { thread = runs (instr_of instr.now) self.old.thread } }
     {
+        set_apart(&mut self.send, &mut self.apart, &self.thread);
         let has_ended = self.thread.local(instr);
         self.phase = if has_ended {
             Phase::Ended
@@ -117,7 +123,7 @@ impl Tcb {
     }
 
     /// It receives a message, with this tag.
-    pub fn receive(&mut self, message: &Message, tag: MsgTag)
+    pub fn receive(&mut self, message: &MessageRef<'_>, tag: MsgTag)
         ensures { self.new ≡ record self.old { thread = receives message.now (word_of_tag tag) self.old.thread } }
     {
         self.receive_words(message.words(), message.shown(), message.actual(), tag);
@@ -128,7 +134,8 @@ impl Tcb {
         requires { length words.now < 64 }
         ensures { self.new ≡ record self.old { thread = receives (unlabelled words.now shown actual) (word_of_tag tag) self.old.thread } }
     {
-        self.thread.received(words, shown, actual, tag);
+        set_apart(&mut self.send, &mut self.apart, &self.thread);
+        self.thread.received_words(words, shown, actual, tag);
         self.phase = Phase::Ready;
         self.cancel_receive = false;
     }
@@ -291,10 +298,31 @@ fn receive_of(phase: Option<(ThreadId, Period)>) -> Option<Receive>
 }
 
 // The send of an Ipc that begins at this clock of its processor, with the receive phase that the Ipc asks for.
-fn send_of(phase: (ThreadId, Message, Period), receive: Option<Receive>, now: u64) -> Send
+fn send_of(phase: (ThreadId, Head, Period), receive: Option<Receive>, now: u64) -> Send
     requires { IsTimely phase.2 }
-    ensures { result ≡ record { to = phase.0; message = phase.1; period = period_of phase.2; since = now; receive = receive } }
+    ensures { result ≡ record { to = phase.0; head = phase.1; period = period_of phase.2; since = now; receive = receive } }
 {
-    let (to, message, period) = phase;
-    Send::new(to, message, period, now, receive)
+    let (to, head, period) = phase;
+    Send::new(to, head, period, now, receive)
+}
+
+// The words of an undecided send stay as they are, whatever the registers of its thread become.
+fn set_apart(send: &mut Option<Send>, apart: &mut ArrayVec<u64, 63>, thread: &Thread)
+    ensures { (registers : List ℕ) → option_map (sent_of apart.new.items registers) send.new ≡ option_map (sent_of apart.old.items thread.now.context.words) send.old }
+{
+    if let Some(send) = send {
+        if let Words::InRegisters(count) = send.head().words() {
+            copy_words(apart, thread.words(count));
+            send.set_apart();
+        }
+    }
+}
+
+// These words, and no others.
+fn copy_words(apart: &mut ArrayVec<u64, 63>, words: &[u64])
+    requires { length words.now < 64 }
+    ensures { apart.new.items ≡ words.now }
+{
+    apart.clear();
+    apart.try_extend_from_slice(words).unwrap();
 }

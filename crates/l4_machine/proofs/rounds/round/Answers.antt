@@ -1,6 +1,5 @@
-use Rattle.std.proofs.Common.{◌≡◌, ◌≤◌, refl, sym, ap, ◌∙◌, arith, rules}
+use Rattle.std.proofs.Common.{refl, ap, arith}
 use Rattle.l4_core_model.specs.Schedules.{next_turn}
-use Rattle.l4_machine.specs.UnderWay.{UnderWay}
 use Rattle.l4_machine.proofs.InRounds.{turns_of_all, midway_start, midway_next, midway_end, as_many}
 use Rattle.l4_machine.proofs.rounds.round.Goals as goal
 
@@ -11,7 +10,7 @@ pub loop-cpu-preserved : goal.loop-cpu-preserved
 loop-cpu-preserved c = λ m r is.
     let mid = c.loop-cpu.invariant m r is in
     let same = ap (λ p. p.cpus) is.machine in
-    midway_next m (turns_of_all m) (λ m r. next_turn m r.system c.loop-cpu.cpu) r _ _ c.loop-cpu.cpu (omega (arith, same)) (λ r cpus. refl) mid c.in_ok-take_turn.ensures
+    midway_next m (turns_of_all m) (λ m r. next_turn m r.system c.loop-cpu.cpu) r _ _ c.loop-cpu.cpu (omega (arith, same)) (λ r cpus. refl) mid c.in_ok-take_turn.ensures.ok
 
 pub returns : goal.returns
 returns c = λ m r is.

@@ -1,7 +1,7 @@
-use Rattle.std.proofs.Common.{◌≡◌, ◌<◌, ◌≤◌, refl, ap, sym, ◌∙◌, subst, arith}
+use Rattle.std.proofs.Common.{sym, subst, arith}
 use Rattle.l4_core_model.specs.Schedules.{round}
 use Rattle.l4_machine.specs.UnderWay.{IsRun}
-use Rattle.l4_machine.proofs.InRounds.{as_many, with_turns, with_ticks}
+use Rattle.l4_machine.proofs.InRounds.{as_many, with_ticks}
 use Rattle.l4_machine.proofs.rounds.round_or_ticks.Goals as goal
 
 pub ticks-requires-clause-run : goal.ticks-requires-clause-run

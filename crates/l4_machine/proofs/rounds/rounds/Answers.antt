@@ -1,4 +1,4 @@
-use Rattle.std.proofs.Common.{◌≡◌, ◌≤◌, refl, sym, ap, ◌∙◌, arith, rules}
+use Rattle.std.proofs.Common.{arith}
 use Rattle.l4_machine.proofs.InRounds.{in_rounds_start, in_rounds_next, in_rounds_idle, in_rounds_used, in_rounds_end, as_many}
 use Rattle.l4_machine.proofs.rounds.rounds.Goals as goal
 

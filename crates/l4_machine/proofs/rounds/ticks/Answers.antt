@@ -1,4 +1,4 @@
-use Rattle.std.proofs.Common.{◌≡◌, ◌≤◌, Some, refl, sym, ap, ◌∙◌, subst, arith, rules}
+use Rattle.std.proofs.Common.{refl, sym, ap, ◌∙◌, subst, arith}
 use Rattle.l4_core_model.specs.Runs.{Ticks}
 use Rattle.l4_core_model.specs.Schedules.{ticks_to}
 use Rattle.l4_machine.specs.UnderWay.{IsRun}
@@ -13,7 +13,7 @@ pub loop-cpu-preserved : goal.loop-cpu-preserved
 loop-cpu-preserved c = λ m r is.
     let mid = c.loop-cpu.invariant m r is in
     let same = ap (λ p. p.cpus) is.machine in
-    midway_next m (ticks_of_all m c.in-Some.deadline) (λ m r. Ticks c.loop-cpu.cpu c.in-Some.deadline) r _ _ c.loop-cpu.cpu (omega (arith, same)) (λ r cpus. refl) mid c.in_ok-tick.ensures
+    midway_next m (ticks_of_all m c.in-Some.deadline) (λ m r. Ticks c.loop-cpu.cpu c.in-Some.deadline) r _ _ c.loop-cpu.cpu (omega (arith, same)) (λ r cpus. refl) mid c.in_ok-tick.ensures.ok
 
 pub returns : goal.returns
 returns c = λ m r is.

@@ -1,6 +1,6 @@
-use Rattle.std.proofs.Common.{◌≡◌, length, refl, ap, sym, ◌∙◌, subst, arith, rules}
+use Rattle.std.proofs.Common.{sym, ◌∙◌, subst}
 use Rattle.l4_model.specs.History.{IsHistory}
-use Rattle.l4_core_model.specs.Runs.{opening_run, told}
+use Rattle.l4_core_model.specs.Runs.{opening_run}
 use Rattle.l4_core_model.specs.Schedules.{replay}
 use Rattle.l4_machine.proofs.InRounds.{as_many}
 use Rattle.l4_machine.proofs.Endings.{rests, are_resting}

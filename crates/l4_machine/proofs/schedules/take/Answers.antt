@@ -1,4 +1,4 @@
-use Rattle.std.proofs.Common.{◌≡◌, ◌<◌, ◌+◌, ap, sym, ◌∙◌, subst}
+use Rattle.std.proofs.Common.{◌<◌, ◌+◌, sym, subst}
 use Rattle.std.specs.Prelude.{OnOk}
 use Rattle.l4_core_model.specs.Schedules.{attempts, next_turn}
 use Rattle.l4_core_model.specs.Runs.{Ticks}
@@ -15,7 +15,7 @@ returns-in-Turn c =
     let below = subst (λ (e : Entry). processor_of e < 16) c.in-Turn.is c.requires.below in
     subst (λ (e : Entry). OnOk c.take_turn.result (GoesOn (after_entry (number_of e)) c.args.run.now new)) (sym c.in-Turn.is)
     (on_ok c.take_turn.result (GoesOn (λ m r. attempts m r (next_turn m r.system cpu)) c.args.run.now new) (GoesOn (after_entry cpu) c.args.run.now new)
-    (λ h m r is. subst (λ q. IsRun m q new) (sym (turn_entry m r cpu below)) (h m r is)) c.take_turn.ensures)
+    (λ h m r is. subst (λ q. IsRun m q new) (sym (turn_entry m r cpu below)) (h m r is)) c.take_turn.ensures.ok)
 
 pub returns-in-Some : goal.returns-in-Some
 returns-in-Some c =
@@ -23,7 +23,7 @@ returns-in-Some c =
     let new = c.tick.new.self in
     subst (λ (e : Entry). OnOk c.tick.result (GoesOn (after_entry (number_of e)) c.args.run.now new)) (sym c.in-Tick.is)
     (on_ok c.tick.result (GoesOn (λ m r. attempts m r (Ticks cpu c.in-Some.deadline)) c.args.run.now new) (GoesOn (after_entry (cpu + 16)) c.args.run.now new)
-    (λ h m r is. subst (λ q. IsRun m q new) (sym (tick_entry m r c.args.run.now.stations cpu c.in-Some.deadline is.system (sym c.in-Some.ensures))) (h m r is)) c.tick.ensures)
+    (λ h m r is. subst (λ q. IsRun m q new) (sym (tick_entry m r c.args.run.now.stations cpu c.in-Some.deadline is.system (sym c.in-Some.ensures))) (h m r is)) c.tick.ensures.ok)
 
 pub returns-in-None : goal.returns-in-None
 returns-in-None c =

@@ -1,4 +1,4 @@
-use Rattle.std.proofs.Common.{◌≡◌, ◌≤◌, length, subst, get_or, refl, sym, ap, ◌∙◌, arith, rules}
+use Rattle.std.proofs.Common.{◌≡◌, length, subst, refl, sym, ap, arith}
 use Rattle.l4_machine.proofs.Replays.{IsReplaying, replaying_start, replaying_next, replaying_end, lawful-next}
 use Rattle.l4_machine.proofs.InRounds.{as_many}
 use Rattle.l4_machine.proofs.schedules.take_all.Goals as goal

@@ -1,7 +1,21 @@
 use Rattle.std.proofs.Common.{◌≡◌, ◌<◌, length, get_or, subst, refl, arith}
 use Rattle.l4_mail.specs.Fabrics.{AreJoined}
-use Rattle.l4_mail.proofs.Growing.{joined_more, all_joined, out_then_in, in_then_out, own_place, stands_there}
+use Rattle.l4_mail.proofs.Growing.{joined_more, all_joined, few_back, few_ends, out_then_in, in_then_out, own_place, stands_there}
 use Rattle.l4_mail.proofs.fabric.join.Goals as goal
+
+pub lay-requires-clause-few : goal.lay-requires-clause-few
+lay-requires-clause-few c =
+    let lt : c.loop-port.port-index < length c.loop-port.ports = (let t = c.loop-port-test.true in let e = c.loop-port.auto.ports in omega arith) in
+    let h = c.loop-port.invariant in
+    let m = h.later c.loop-port.port-index _ (stands_there c.loop-port.ports c.loop-port.port-index c.port-item.result lt) (omega arith) in
+    few_ends c.args.cpu c.loop-port.port-index _ c.loop-port.next m h.next (let n = h.count in omega arith) c.requires.few
+
+pub lay-requires-in-loop-port-clause-few : goal.lay-requires-in-loop-port-clause-few
+lay-requires-in-loop-port-clause-few c =
+    let lt : c.loop-port.port-index < length c.loop-port.ports = (let t = c.loop-port-test.true in let e = c.loop-port.auto.ports in omega arith) in
+    let h = c.loop-port.invariant in
+    let m = h.later c.loop-port.port-index _ (stands_there c.loop-port.ports c.loop-port.port-index c.port-item.result lt) (omega arith) in
+    few_back c.args.cpu c.loop-port.port-index _ _ c.loop-port.next _ _ _ m h.next (let n = h.count in omega arith) c.requires.few c.in_ok-lay.ensures.1 c.in_ok-lay.ensures.2
 
 pub loop-port-preserved : goal.loop-port-preserved
 loop-port-preserved c =

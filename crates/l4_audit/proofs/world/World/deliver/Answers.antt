@@ -2,8 +2,14 @@ use Rattle.std.proofs.Common.{◌≡◌, ap, sym, ◌∙◌, true, arith, Some, 
 use Rattle.std.proofs.lemmas.Grind.{common_steps}
 use Rattle.l4_model.specs.Conditions.{first_accepted}
 use Rattle.l4_audit.specs.Delivering.{is_delivery}
-use Rattle.l4_audit.proofs.Delivering.{delivers_now}
+use Rattle.l4_audit.proofs.Delivering.{delivers_now, sender_is_found, receiver_is_found}
 use Rattle.l4_audit.proofs.world.World.deliver.Goals as goal
+
+pub tells-requires-clause-sender : goal.tells-requires-clause-sender
+tells-requires-clause-sender c = sender_is_found c.args.machine.now c.args.self.now.world c.args.delivery.now.name c.in-Some.pending (sym c.in-Some.ensures)
+
+pub tells-requires-clause-receiver : goal.tells-requires-clause-receiver
+tells-requires-clause-receiver c = receiver_is_found c.args.machine.now c.args.self.now.world c.in-Some.pending.send.to c.in-Some-receiver_of.receiver (sym c.in-Some-receiver_of.ensures)
 
 pub returns-clause-step : goal.returns-clause-step
 returns-clause-step c =

@@ -1,5 +1,5 @@
-use Rattle.std.proofs.Common.{sym, subst, ap, ◌∙◌}
-use Rattle.std.specs.Prelude.{◌==◌, ℕ}
+use Rattle.std.proofs.Common.{◌+◌, ◌<◌, ◌^◌, sym, subst, ap, ◌∙◌}
+use Rattle.std.specs.Prelude.{◌==◌, ℕ, IfSome}
 use Rattle.std.specs.List.{list_any}
 use Rattle.l4_core_model.specs.Plain.{Plain, disarmed}
 use Rattle.l4_core.specs.Processor.{Processor}
@@ -21,8 +21,9 @@ invariant_of-self c =
     let first = c.disarm.ensures in
     let then_is = c.arm.ensures in
     let l = local_of s.threads.items (disarmed c.args.place s.lists) s.told.items s.clock s.stamp in
+    let near = subst (λ o. IfSome o (λ d. d < s.clock + 2 ^ 42)) c.in-Some.is c.deadline.ensures.near in
     let settled = settled-disarmed s.machine.now s.cpu (local_of s.threads.items s.lists s.told.items s.clock s.stamp) c.args.place c.self.invariant.core.settled in
-    rw (then_is, first) (kept-settled s.machine.now s.cpu s.threads.items s.lists _ s.told.items _ s.clock s.stamp _ _ c.self.invariant (settled-armed s.machine.now s.cpu l c.args.place c.in-Some.deadline own settled))
+    rw (then_is, first) (kept-settled s.machine.now s.cpu s.threads.items s.lists _ s.told.items _ s.clock s.stamp _ _ c.self.invariant (settled-armed s.machine.now s.cpu l c.args.place c.in-Some.deadline own near settled))
 
 pub invariant_of-self-in_default : goal.invariant_of-self-in_default
 invariant_of-self-in_default c =

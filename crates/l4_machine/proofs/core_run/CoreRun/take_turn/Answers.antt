@@ -1,42 +1,76 @@
-use Rattle.std.proofs.Common.{◌<◌, refl, sym, subst}
+use Rattle.std.proofs.Common.{◌<◌, ◌∙◌, length, map, set, refl, ap, sym, subst, arith}
+use Rattle.std.proofs.lemmas.List.{length-map, map-set}
 use Rattle.l4_core_model.specs.Schedules.{next_turn}
-use Rattle.l4_machine.specs.UnderWay.{UnderWay, IsRun}
-use Rattle.l4_machine.proofs.Happening.{can_go_on, few_events, here, same_station, can_post_event, event_ended, nothing_told, turn_happens, no_turn_happens, turn_kept}
+use Rattle.l4_core.specs.Tellings.{posted_of}
+use Rattle.l4_machine.specs.Stations.{station_of}
+use Rattle.l4_machine.specs.UnderWay.{with_letters, CanPost, UnderWay, IsRun}
+use Rattle.l4_machine.proofs.Happening.{can_go_on, few_events, same_station, turn_happens, no_turn_happens, turn_kept, turn_posts_few, within, can_post_event, event_ended, nothing_told, stands}
+use Rattle.l4_machine.proofs.Rooms.{roomy_turned}
 use Rattle.l4_machine.proofs.core_run.CoreRun.take_turn.Goals as goal
 
 pub take_turn-requires-clause-go_on : goal.take_turn-requires-clause-go_on
 take_turn-requires-clause-go_on c =
     let m = c.requires.run.0 in
     let r = c.requires.run.1.0 in
-    let i = subst (IsRun m r) (sym c.self.view_is) c.requires.run.1.1 in
     let lt = subst (λ (u : UnderWay). c.args.cpu < u.machine.cpus) (sym c.self.view_is) c.requires.cpu in
-    let at = here m r _ c.args.cpu c.from.result c.index_mut.result.now i c.from.ensures lt c.index_mut.ensures.value in
-    (can_go_on c.law_core_run.ensures.lawful m r _ c.args.cpu c.index_mut.result.now i (few_events m r c.args.self.now c.requires.run.1.1 c.requires.few) at)
+    let here = stands m r _ c.args.cpu c.from.result c.make_room.new.stations.items c.index_mut.result.now (subst (IsRun m r) (sym c.self.view_is) c.requires.run.1.1) c.make_room.ensures.same c.from.ensures lt c.index_mut.ensures.value in
+    can_go_on c.law_core_run.ensures.lawful m r _ c.args.cpu (station_of c.index_mut.result.now) here.run (few_events m r c.args.self.now c.requires.run.1.1 c.requires.few) here.at
 
-pub returns-in-None : goal.returns-in-None
-returns-in-None c = λ m r i.
-    let i = subst (IsRun m r) (sym c.self.view_is) i in
-    let lt = subst (λ (u : UnderWay). c.args.cpu < u.machine.cpus) (sym c.self.view_is) c.requires.cpu in
-    let at = here m r _ c.args.cpu c.from.result c.index_mut.result.now i c.from.ensures lt c.index_mut.ensures.value in
-    nothing_told m r _ _ i (next_turn m r.system c.args.cpu) c.from.result c.index_mut.result.now c.take_turn.new.self c.self.inside.told c.begin_event.new.told c.take_turn.new.told c.index_mut.ensures.value
-    (same_station c.take_turn.new.self c.index_mut.result.now c.in-None.ensures.turn.same c.in-None.ensures.rest)
-    (no_turn_happens m r.system _ c.args.cpu c.index_mut.result.now c.take_turn.new.self c.begin_event.new.told c.take_turn.new.told i.system at c.in-None.ensures)
-    refl c.in_ok-begin_event.ensures.begun c.in-None.ensures.turn.untold refl refl refl c.begin_event.ensures.parts
-
-pub post-requires : goal.post-requires
-post-requires c =
+pub invariant_of-self-in-None : goal.invariant_of-self-in-None
+invariant_of-self-in-None c =
     let m = c.requires.run.0 in
     let r = c.requires.run.1.0 in
-    let i = subst (IsRun m r) (sym c.self.view_is) c.requires.run.1.1 in
     let lt = subst (λ (u : UnderWay). c.args.cpu < u.machine.cpus) (sym c.self.view_is) c.requires.cpu in
-    let at = here m r _ c.args.cpu c.from.result c.index_mut.result.now i c.from.ensures lt c.index_mut.ensures.value in
-    can_post_event c.law_core_run.ensures.lawful m r _ i (next_turn m r.system c.args.cpu) c.args.cpu c.from.result c.in-Some.stamp _ _ c.from.ensures lt (turn_happens m r.system _ c.args.cpu c.index_mut.result.now c.take_turn.new.self c.begin_event.new.told c.take_turn.new.told c.in-Some.stamp i.system at c.in-Some.ensures)
+    let here = stands m r _ c.args.cpu c.from.result c.make_room.new.stations.items c.index_mut.result.now (subst (IsRun m r) (sym c.self.view_is) c.requires.run.1.1) c.make_room.ensures.same c.from.ensures lt c.index_mut.ensures.value in
+    roomy_turned c.make_room.new.spare.items c.make_room.new.stations.items c.from.result c.index_mut.result.now c.take_turn.new.self c.make_room.ensures.roomy here.within c.index_mut.ensures.value c.take_turn.ensures.room
 
-pub returns : goal.returns
-returns c = λ m r i.
-    let i = subst (IsRun m r) (sym c.self.view_is) i in
+pub returns-in-None-clause-ok : goal.returns-in-None-clause-ok
+returns-in-None-clause-ok c = λ m r i.
     let lt = subst (λ (u : UnderWay). c.args.cpu < u.machine.cpus) (sym c.self.view_is) c.requires.cpu in
-    let at = here m r _ c.args.cpu c.from.result c.index_mut.result.now i c.from.ensures lt c.index_mut.ensures.value in
-    event_ended c.law_core_run.ensures.lawful m r _ _ i (next_turn m r.system c.args.cpu) c.args.cpu c.from.result c.in-Some.stamp c.take_turn.new.self c.self.inside.told c.begin_event.new.told c.take_turn.new.told c.post.new.told c.begin_event.new.parts.items c.from.ensures lt
-    (turn_happens m r.system _ c.args.cpu c.index_mut.result.now c.take_turn.new.self c.begin_event.new.told c.take_turn.new.told c.in-Some.stamp i.system at c.in-Some.ensures)
-    refl c.in_ok-begin_event.ensures.begun (turn_kept c.index_mut.result.now c.take_turn.new.self c.begin_event.new.told c.take_turn.new.told c.in-Some.stamp c.in-Some.ensures) c.in_ok-post.ensures.before c.in_ok-post.ensures.steps c.begin_event.ensures.parts refl c.in_ok-post.ensures.stations refl c.end_event.ensures
+    let here = stands m r _ c.args.cpu c.from.result c.make_room.new.stations.items c.index_mut.result.now (subst (IsRun m r) (sym c.self.view_is) i) c.make_room.ensures.same c.from.ensures lt c.index_mut.ensures.value in
+    nothing_told m r _ _ here.run (next_turn m r.system c.args.cpu) c.from.result (station_of c.index_mut.result.now) (station_of c.take_turn.new.self) c.self.inside.told c.begin_event.new.told c.take_turn.new.told here.read
+    (same_station (station_of c.take_turn.new.self) (station_of c.index_mut.result.now) c.in-None.ensures.turn.turn.same c.in-None.ensures.turn.rest)
+    (no_turn_happens m r.system _ c.args.cpu (station_of c.index_mut.result.now) (station_of c.take_turn.new.self) c.begin_event.new.told c.take_turn.new.told here.run.system here.at c.in-None.ensures.turn)
+    refl c.in_ok-begin_event.ensures.begun c.in-None.ensures.turn.turn.untold refl (map-set station_of c.make_room.new.stations.items c.from.result c.take_turn.new.self) refl c.begin_event.ensures.parts
+
+pub post-requires-clause-posted : goal.post-requires-clause-posted
+post-requires-clause-posted c =
+    let m = c.requires.run.0 in
+    let r = c.requires.run.1.0 in
+    let lt = subst (λ (u : UnderWay). c.args.cpu < u.machine.cpus) (sym c.self.view_is) c.requires.cpu in
+    let here = stands m r _ c.args.cpu c.from.result c.make_room.new.stations.items c.index_mut.result.now (subst (IsRun m r) (sym c.self.view_is) c.requires.run.1.1) c.make_room.ensures.same c.from.ensures lt c.index_mut.ensures.value in
+    subst (λ ps. CanPost c.args.cpu ps (map station_of (set c.make_room.new.stations.items c.from.result c.take_turn.new.self))) (sym c.letters.ensures)
+    (subst (CanPost c.args.cpu c.take_turn.new.told.letters) (sym (map-set station_of c.make_room.new.stations.items c.from.result c.take_turn.new.self))
+    (can_post_event c.law_core_run.ensures.lawful m r _ here.run (next_turn m r.system c.args.cpu) c.args.cpu c.from.result c.in-Some.stamp _ _ c.from.ensures lt (turn_happens m r.system _ c.args.cpu (station_of c.index_mut.result.now) (station_of c.take_turn.new.self) c.begin_event.new.told c.take_turn.new.told c.in-Some.stamp here.run.system here.at c.in-Some.ensures.turn)))
+
+pub post-requires-clause-roomy : goal.post-requires-clause-roomy
+post-requires-clause-roomy c =
+    let m = c.requires.run.0 in
+    let r = c.requires.run.1.0 in
+    let lt = subst (λ (u : UnderWay). c.args.cpu < u.machine.cpus) (sym c.self.view_is) c.requires.cpu in
+    let here = stands m r _ c.args.cpu c.from.result c.make_room.new.stations.items c.index_mut.result.now (subst (IsRun m r) (sym c.self.view_is) c.requires.run.1.1) c.make_room.ensures.same c.from.ensures lt c.index_mut.ensures.value in
+    roomy_turned c.make_room.new.spare.items c.make_room.new.stations.items c.from.result c.index_mut.result.now c.take_turn.new.self c.make_room.ensures.roomy here.within c.index_mut.ensures.value c.take_turn.ensures.room
+
+pub post-requires-clause-few : goal.post-requires-clause-few
+post-requires-clause-few c =
+    let m = c.requires.run.0 in
+    let r = c.requires.run.1.0 in
+    let lt = subst (λ (u : UnderWay). c.args.cpu < u.machine.cpus) (sym c.self.view_is) c.requires.cpu in
+    let here = stands m r _ c.args.cpu c.from.result c.make_room.new.stations.items c.index_mut.result.now (subst (IsRun m r) (sym c.self.view_is) c.requires.run.1.1) c.make_room.ensures.same c.from.ensures lt c.index_mut.ensures.value in
+    let fits = within m r _ c.args.cpu here.run lt in
+    let few = turn_posts_few m c.args.cpu (station_of c.index_mut.result.now) (station_of c.take_turn.new.self) c.begin_event.new.told c.take_turn.new.told c.in-Some.stamp here.run.lawful fits.1 (here.run.system.each c.args.cpu (station_of c.index_mut.result.now) here.at) c.in-Some.ensures.turn in
+    let posted = ap length c.letters.ensures in
+    let size = length-map c.letters.result.now posted_of in
+    let room = c.in_ok-make_room.ensures.room in
+    omega arith
+
+pub returns-clause-ok : goal.returns-clause-ok
+returns-clause-ok c = λ m r i.
+    let lt = subst (λ (u : UnderWay). c.args.cpu < u.machine.cpus) (sym c.self.view_is) c.requires.cpu in
+    let here = stands m r _ c.args.cpu c.from.result c.make_room.new.stations.items c.index_mut.result.now (subst (IsRun m r) (sym c.self.view_is) i) c.make_room.ensures.same c.from.ensures lt c.index_mut.ensures.value in
+    event_ended c.law_core_run.ensures.lawful m r _ _ here.run (next_turn m r.system c.args.cpu) c.args.cpu c.from.result c.in-Some.stamp (station_of c.take_turn.new.self) c.self.inside.told c.begin_event.new.told c.take_turn.new.told c.take_turn.new.told c.begin_event.new.parts.items c.from.ensures lt
+    (turn_happens m r.system _ c.args.cpu (station_of c.index_mut.result.now) (station_of c.take_turn.new.self) c.begin_event.new.told c.take_turn.new.told c.in-Some.stamp here.run.system here.at c.in-Some.ensures.turn)
+    refl c.in_ok-begin_event.ensures.begun (turn_kept (station_of c.index_mut.result.now) (station_of c.take_turn.new.self) c.begin_event.new.told c.take_turn.new.told c.in-Some.stamp c.in-Some.ensures.turn) refl refl c.begin_event.ensures.parts refl
+    (c.post.ensures.stations ∙ ap (λ ps. with_letters c.args.cpu ps (map station_of (set c.make_room.new.stations.items c.from.result c.take_turn.new.self))) c.letters.ensures
+    ∙ ap (with_letters c.args.cpu c.take_turn.new.told.letters) (map-set station_of c.make_room.new.stations.items c.from.result c.take_turn.new.self))
+    refl c.end_event.ensures

@@ -4,7 +4,7 @@ use Rattle.l4_machine.proofs.station.Station.first_poster.Goals as goal
 
 pub loop-from-preserved : goal.loop-from-preserved
 loop-from-preserved c = λ other lt.
-    let qs = c.self.inside.inbox.items in
+    let qs = c.args.self.now.inbox.items in
     let from = c.loop-from.from in
     let empty : c.is_empty.result ≡ true = search rules in
     below_next (λ k. get_or (map queue qs) k [] ≡ []) from other c.loop-from.invariant

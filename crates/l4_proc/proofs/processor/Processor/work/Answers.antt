@@ -1,11 +1,16 @@
-use Rattle.l4_proc.proofs.Going.{taken_none, taken_more}
+use Rattle.std.proofs.Common.{refl}
+use Rattle.l4_proc.proofs.Turning.{still_stopped}
 use Rattle.l4_proc.proofs.processor.Processor.work.Goals as goal
 
-pub loop-init : goal.loop-init
-loop-init g c = taken_none c.args.self.now
+pub invariant_of-self : goal.invariant_of-self
+invariant_of-self g c =
+    let is = c.take_turns-stop.new.self.whole in
+    record { whole = record { port_of = is.port_of; log_of = is.log_of; closed = is.closed; hand = is.hand } }
 
-pub loop-preserved : goal.loop-preserved
-loop-preserved g c = taken_more c.loop.counter 1 c.args.self.now c.loop.self c.take_turn.new.self c.loop.invariant c.in_default.ensures.ok
+pub returns-clause-on : goal.returns-clause-on
+returns-clause-on g c =
+    let on = c.take_turns-stop.ensures.on in
+    record { machine = on.machine; cpu = on.cpu; place = on.place; worked = on.worked }
 
-pub returns-in-Err-clause-on : goal.returns-in-Err-clause-on
-returns-in-Err-clause-on g c = (taken_more c.loop.counter 0 c.args.self.now c.loop.self c.take_turn.new.self c.loop.invariant c.in-Err.ensures.err).on
+pub returns-clause-stopped : goal.returns-clause-stopped
+returns-clause-stopped g c = still_stopped c.take_turns-stop.new.self _ _ refl refl refl c.take_turns-stop.ensures.stopped

@@ -1,5 +1,5 @@
 use Rattle.l4_proc.specs.Working.{HasTaken}
-use Rattle.l4_proc.proofs.processor.Processor.work.Given as goal
+use Rattle.l4_proc.proofs.processor.Processor.take_turns.Given as goal
 
 abbrev pub invariant-loop : goal.invariant-loop
 invariant-loop g l = HasTaken l.counter l.initial.self l.self

@@ -1,0 +1,37 @@
+use Rattle.std.proofs.Common.{length, ap, sym, ◌∙◌, subst}
+use Rattle.std.proofs.lemmas.Result.{IfOk-weaker}
+use Rattle.l4_model.specs.History.{IsHistory}
+use Rattle.l4_machine.specs.Outcomes.{compact_findings_of}
+use Rattle.l4_machine.specs.Gathers.{pasts_of}
+use Rattle.l4_merge.specs.Pasts.{all_events}
+use Rattle.l4_machine.proofs.Outcomes.{sound}
+use Rattle.l4_machine.proofs.InOneHand.{whole_pasts, gathered_history, is_gathered, quiet}
+use Rattle.l4_machine.proofs.gathering.rested_outcome.Goals as goal
+
+pub outcome_of-requires : goal.outcome_of-requires
+outcome_of-requires c =
+    let m = c.args.machine.now in
+    let ps = c.args.processors.now in
+    let whole = whole_pasts m ps c.requires.one c.requires.numbers c.requires.whole in
+    let run = c.law_merge.ensures.whole m (pasts_of m ps) whole in
+    let told_is = gathered_history m ps run.0 c.in_ok-history.history.steps run.1 (c.law_merge.ensures.sorted m (pasts_of m ps) whole)
+    (c.in_ok-history.ensures.history m (sym c.cpus.ensures.value)) in
+    let lawful = c.law_core_run.ensures.lawful m run.0 c.cpus.ensures.lawful run.1.core_run in
+    subst (IsHistory m) (sym told_is) lawful.history
+
+pub returns : goal.returns
+returns c =
+    let m = c.args.machine.now in
+    let ps = c.args.processors.now in
+    let whole = whole_pasts m ps c.requires.one c.requires.numbers c.requires.whole in
+    let run = c.law_merge.ensures.whole m (pasts_of m ps) whole in
+    let told_is = gathered_history m ps run.0 c.in_ok-history.history.steps run.1 (c.law_merge.ensures.sorted m (pasts_of m ps) whole)
+    (c.in_ok-history.ensures.history m (sym c.cpus.ensures.value)) in
+    let lawful = c.law_core_run.ensures.lawful m run.0 c.cpus.ensures.lawful run.1.core_run in
+    let count = c.in_ok-history.ensures.events m (sym c.cpus.ensures.value) in
+    IfOk-weaker c.outcome_of.result _ _
+    (λ o is. is_gathered m ps run.0 (compact_findings_of o) run.1 (is run.0 (sound m run.0 lawful) told_is
+    (count ∙ sym (ap length run.1.events ∙ c.law_merge.ensures.count (all_events (pasts_of m ps))))
+    (quiet m ps run.0 c.ending-ending.result c.requires.one c.requires.numbers c.requires.whole (c.law_merge.ensures.rest m (pasts_of m ps) run.0 run.1.ends)
+    c.ending-ending.ensures)))
+    c.outcome_of.ensures

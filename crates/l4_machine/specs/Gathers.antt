@@ -1,0 +1,90 @@
+-- The processors of a machine in one hand, in any order, and what they come to together.
+use Rattle.std.specs.Prelude.{◌≡◌, ℕ, ◌==◌, ◌<◌, ◌&&◌, ◌||◌, nat_lt, Bool, true, Option, Some, None, is_some, List, [], length, map, find, slice_get}
+use Rattle.std.specs.List.Sorted.{IsPermutation}
+use Rattle.l4_model.specs.Machine.{Machine}
+use Rattle.l4_model.specs.Steps.{Step}
+use Rattle.l4_core_model.specs.Local.{opening_local}
+use Rattle.l4_core_model.specs.Runs.{Event, Run, processors, merged, told}
+use Rattle.l4_merge.specs.Pasts.{Past, empty_past, HasWorked, all_events}
+use Rattle.l4_merge.specs.Merges.{is_at_rest, SortAsMerged, IsWholeRun}
+use Rattle.l4_mail.specs.Ports.{place, AreOneFabric, IsApart}
+use Rattle.l4_mail.specs.declared.rests.RestFault.{RestFault}
+use Rattle.l4_mail.specs.declared.rests.RestFault.TheVariants as rest_fault
+use Rattle.l4_proc.specs.Logs.{events}
+use Rattle.l4_proc.specs.Rests.{HaveHandledAll}
+use Rattle.l4_proc.specs.Working.{past}
+use Rattle.l4_proc.specs.declared.processor.Processor.{Processor}
+use Rattle.l4_machine.specs.Outcomes.{Findings, IsOutcomeOf}
+use Rattle.l4_machine.specs.declared.merging.Entry.{Entry}
+use Rattle.l4_machine.specs.declared.outcome.RunFault.{RunFault}
+use Rattle.l4_machine.specs.declared.outcome.RunFault.TheVariants as run_fault
+
+-- The processor of this number among these.
+abbrev pub with_number : (cpu : ℕ) → List Processor → Option Processor
+with_number cpu ps = find (λ p. p.worker.core.cpu == cpu) ps
+
+-- The events of the processor of this number.
+abbrev pub events_of : Option Processor → List Event
+events_of None = []
+events_of (Some p) = events p.worker.log
+
+-- What the processor of this number has done.
+abbrev pub past_of : Machine → (cpu : ℕ) → Option Processor → Past
+past_of m cpu None = empty_past (opening_local m cpu)
+past_of m cpu (Some p) = past p
+
+-- What each has done, in the order of their numbers.
+abbrev pub pasts_of : Machine → List Processor → List Past
+pasts_of m ps = map (λ cpu. past_of m cpu (with_number cpu ps)) (processors m)
+
+-- A processor of a machine, that has done what it has by itself.
+pub record IsOneOf (m : Machine) (p : Processor) : Type 0 where
+  pub machine : p.worker.core.machine ≡ m
+  pub number : p.worker.core.cpu < m.cpus
+  pub apart : IsApart (place p.port)
+  pub worked : HasWorked m p.worker.core.cpu (empty_past (opening_local m p.worker.core.cpu)) (past p)
+
+-- Processors of one assembly of a machine, in any order.
+pub record AreOfOne (m : Machine) (ps : List Processor) : Type 0 where
+  pub each : (i : ℕ) (p : Processor) → slice_get ps i ≡ Some p → IsOneOf m p
+  pub one : AreOneFabric (map (λ p. p.port) ps)
+
+-- There is a processor of each number below this.
+abbrev pub HaveNumbers : (below : ℕ) → List Processor → Type 0
+HaveNumbers below ps = (cpu : ℕ) → cpu < below → is_some (with_number cpu ps) ≡ true
+
+-- An entry stands for an event of the processor at its place.
+abbrev pub steps_at : Option Event → List Step
+steps_at None = []
+steps_at (Some e) = e.steps
+
+abbrev pub event_at : List Processor → Entry → Event
+event_at ps e = record { cpu = e.cpu; stamp = e.stamp; steps = steps_at (slice_get (events_of (slice_get ps e.place)) e.index) }
+
+-- One has a lower stamp, or the same one and a lower processor.
+abbrev pub entry_is_earlier : Entry → Entry → Bool
+entry_is_earlier a b = nat_lt a.stamp b.stamp || (a.stamp == b.stamp && nat_lt a.cpu b.cpu)
+
+-- There is such an event.
+abbrev pub IsWithin : List Processor → Entry → Type 0
+IsWithin ps e = e.index < length (events_of (slice_get ps e.place))
+
+-- A history of the events of all processors in order of stamp and processor, however those are listed.
+abbrev pub IsMerge : Machine → List Processor → List Step → Type 0
+IsMerge m ps steps = (es : List Event) → SortAsMerged es → IsPermutation es (all_events (pasts_of m ps)) → steps ≡ told (merged es)
+
+-- Nothing is to be done, armed or under way.
+pub record AreResting (ps : List Processor) : Type 0 where
+  pub each : (i : ℕ) (p : Processor) → slice_get ps i ≡ Some p → is_at_rest p.worker.core.machine p.worker.core.cpu p.worker.core.local ≡ true
+  pub handled : HaveHandledAll ps
+
+-- What they came to together: the outcome of the core run whose events are those of all their logs, in order of stamp and processor.
+pub record IsGathered (m : Machine) (ps : List Processor) (o : Findings) : Type 0 where
+  pub run : Run
+  pub whole : IsWholeRun m (pasts_of m ps) run
+  pub outcome : IsOutcomeOf m run o
+
+-- Why processors come to no outcome.
+abbrev pub fault_of_rest : RestFault → RunFault
+fault_of_rest rest_fault.Numbers = run_fault.Strangers
+fault_of_rest rest_fault.NoMemory = run_fault.NoMemory

@@ -1,0 +1,129 @@
+//! The outcome of processors that worked in threads of their caller's.
+ghost use Rattle.std.specs.Prelude.{ℕ, ◌≡◌, ◌↔◌, ◌⊎◌, false, true, map, slice_get, IfErr, IfOk, IsErrOf, IsTrue, Some};
+ghost use Rattle.l4_mail.specs.Ports.{AreWhole};
+ghost use Rattle.l4_mail.specs.Rests.{are_all};
+ghost use Rattle.l4_merge.specs.Merges.{is_at_rest};
+ghost use Rattle.l4_proc.specs.Rests.{AreAsBefore, HaveHandledAll};
+ghost use Rattle.l4_proc.specs.declared.processor.Processor.{Processor as ProcessorOfMachine};
+ghost use Rattle.l4_types.specs.declared.reports.Ending.TheVariants.{Quiet};
+ghost use Rattle.l4_machine.specs.Gathers.{AreOfOne, AreResting, HaveNumbers, IsGathered};
+ghost use Rattle.l4_machine.specs.Outcomes.{compact_findings_of, findings_of};
+
+use crate::laws::law_core_run;
+use crate::merging::merged_history;
+use crate::outcome::{CompactOutcome, Outcome, RunFault, outcome_of};
+use l4_mail::rests::RestFault;
+use l4_merge::law_merge;
+use l4_proc::processor::Processor;
+use l4_proc::resting::rest;
+use l4_script::machine::Machine;
+use l4_types::errors::NoMemory;
+use l4_types::reports::Ending;
+use std::alloc::Global;
+
+impl From<RestFault> for RunFault {
+    ghost use Rattle.std.specs.Prelude.{◌≡◌};
+    ghost use Rattle.l4_mail.specs.declared.rests.RestFault.{RestFault as Fault};
+    ghost use Rattle.l4_machine.specs.Gathers.{fault_of_rest};
+
+    ghost from_gives = { λ fault run. run ≡ fault_of_rest fault };
+
+    fn from(fault: RestFault) -> RunFault {
+        match fault {
+            RestFault::Numbers => RunFault::Strangers,
+            RestFault::NoMemory => RunFault::NoMemory,
+        }
+    }
+}
+
+/// What the processors of one `assemble` of this machine, in any order, came to together, for callers with threads of their own. No other
+/// thread is at work on them any more. The history is in order of stamp, and of equal ones by processor.
+///
+/// `Strangers`: they are not all processors of the machine, each once. `NoMemory`: memory was refused. The processors come back in their
+/// order, each as it was, but that letters under way may be kept where they go to; the call can be made again.
+pub fn gather<'m>(
+    alloc: Global,
+    machine: &Machine,
+    processors: Vec<Processor<'m>>,
+) -> Result<Outcome, (RunFault, Vec<Processor<'m>>)>
+    requires { AreOfOne machine.now processors.items }
+    ensures ok { IfOk result (λ o. IsGathered machine.now processors.entry.items (findings_of o)) }
+    ensures err { IfErr result (λ e. (e.0 ≡ RunFault.NoMemory) ⊎ (e.0 ≡ RunFault.Strangers)) }
+    ensures strangers { IfErr result (λ e. (e.0 ≡ RunFault.Strangers) ↔ (are_all (map (λ p. p.port) processors.entry.items) ≡ false)) }
+    ensures back { IfErr result (λ e. AreAsBefore processors.entry.items e.1.items) }
+{
+    let mut processors = processors;
+    match gathered(alloc, machine, &mut processors) {
+        Ok(outcome) => Ok(outcome),
+        Err(fault) => Err((fault, processors)),
+    }
+}
+
+fn gathered(
+    alloc: Global,
+    machine: &Machine,
+    processors: &mut Vec<Processor<'_>>,
+) -> Result<Outcome, RunFault>
+    requires { AreOfOne machine.now processors.old.items }
+    ensures ok { IfOk result (λ o. IsGathered machine.now processors.old.items (findings_of o)) }
+    ensures err { IfErr result (λ fault. (fault ≡ RunFault.NoMemory) ⊎ (fault ≡ RunFault.Strangers)) }
+    ensures strangers { IsErrOf result RunFault.Strangers ↔ (are_all (map (λ p. p.port) processors.old.items) ≡ false) }
+    ensures same { AreAsBefore processors.old.items processors.new.items }
+{
+    let all_handled = rest(alloc, processors)?;
+    let outcome = rested_outcome(alloc, machine, processors.as_slice(), all_handled)?;
+    Ok(outcome.into_outcome(alloc)?)
+}
+
+// The outcome of all processors of a machine, which have come to rest. Whether all letters are handled was found then.
+fn rested_outcome(
+    alloc: Global,
+    machine: &Machine,
+    processors: &[Processor<'_>],
+    all_handled: bool,
+) -> Result<CompactOutcome, NoMemory>
+    requires one { AreOfOne machine.now processors.now }
+    requires numbers { HaveNumbers machine.now.cpus processors.now }
+    requires whole { AreWhole (map (λ p. p.port) processors.now) }
+    requires handled { IsTrue all_handled ↔ HaveHandledAll processors.now }
+    ensures { IfOk result (λ o. IsGathered machine.now processors.now (compact_findings_of o)) }
+{
+    law_core_run();
+    law_merge();
+    let (history, events) = merged_history(alloc, processors, machine.cpus())?;
+    let ending = ending(processors, all_handled);
+    outcome_of(alloc, machine, history, ending, events as u64)
+}
+
+// `Quiet` where nothing is to be done, armed or under way.
+fn ending(processors: &[Processor<'_>], all_handled: bool) -> Ending
+    requires { IsTrue all_handled ↔ HaveHandledAll processors.now }
+    ensures { (result ≡ Quiet) ↔ AreResting processors.now }
+{
+    if all_handled && are_at_rest(processors) {
+        Ending::Quiet
+    } else {
+        Ending::Spent
+    }
+}
+
+// Whether none of these processors has anything to do, or a deadline.
+fn are_at_rest(processors: &[Processor<'_>]) -> bool
+    ensures { IsTrue result ↔ ((i : ℕ) (p : ProcessorOfMachine) → slice_get processors.now i ≡ Some p →
+        is_at_rest p.worker.core.machine p.worker.core.cpu p.worker.core.local ≡ true) }
+{
+    for processor in processors {
+        if !is_at_rest(processor) {
+            return false;
+        }
+    }
+    true
+}
+
+// Whether a processor has nothing to do, and no deadline.
+fn is_at_rest(processor: &Processor<'_>) -> bool
+    ensures { result ≡ is_at_rest processor.now.worker.core.machine processor.now.worker.core.cpu processor.now.worker.core.local }
+{
+    let core = processor.core();
+    !core.busy() && core.least_deadline().is_none()
+}

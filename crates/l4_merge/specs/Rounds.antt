@@ -1,0 +1,45 @@
+-- Runs in rounds: the processors work side by side, and the clocks go on only where nothing else is to be done.
+use Rattle.std.specs.Prelude.{ℕ, ◌≡◌, Bool, true, false, not, if◌then◌else◌, ◌&&◌, Option, Some, None, List, [], ◌∷◌, slice_get}
+use Rattle.std.specs.List.{list_all}
+use Rattle.l4_model.specs.Machine.{Machine}
+use Rattle.l4_model.specs.Conditions.{◌>>=◌}
+use Rattle.l4_core_model.specs.Local.{Local}
+use Rattle.l4_core_model.specs.Turns.{is_busy}
+use Rattle.l4_core_model.specs.Runs.{System, processors, Happening, Handles, Turns, Ticks, Run, core_run, opening_run, is_empty}
+use Rattle.l4_core_model.specs.Schedules.{ticks}
+
+abbrev pub is_no_tick : Happening → Bool
+is_no_tick (Handles cpu from) = true
+is_no_tick (Turns cpu) = true
+is_no_tick (Ticks cpu clock) = false
+
+-- A processor has no duty, due timeout or ready thread.
+abbrev pub local_is_idle : Machine → System → ℕ → Bool
+local_is_idle m g cpu = at (slice_get g.locals cpu)
+  where
+    at : Option Local → Bool
+    at None = true
+    at (Some l) = not (is_busy m cpu l)
+
+-- None has, and no letter is under way.
+abbrev pub is_idle : Machine → System → Bool
+is_idle m g = list_all (local_is_idle m g) (processors m) && is_empty g.mail
+
+-- In one round the processors take turns, in whatever order. In another the clocks go on.
+pub data Round : Type 0 where
+  Turning : List Happening → Round
+  Ticking : Round
+
+-- What a round makes of a run. None where it may not be: turns are no ticks, and the clocks go on, to the least deadline of all,
+-- only where nothing else is to be done.
+abbrev pub after_round : Machine → Run → Round → Option Run
+after_round m r (Turning happenings) = if list_all is_no_tick happenings then core_run m r happenings else None
+after_round m r Ticking = if is_idle m r.system then Some (ticks m r) else None
+
+abbrev pub after_rounds : Machine → Run → List Round → Option Run
+after_rounds m r [] = Some r
+after_rounds m r (round ∷ rounds) = after_round m r round >>= λ after. after_rounds m after rounds
+
+-- Some rounds lead to it from the opening.
+abbrev pub IsInRounds : Machine → Run → Type 0
+IsInRounds m r = (rounds : List Round) × (after_rounds m (opening_run m) rounds ≡ Some r)

@@ -1,0 +1,5 @@
+//! Tests of processors on host threads of their own, with no leave to wait: no call of theirs waits for another thread.
+#![tactic(auto)]
+
+#[cfg(test)]
+mod tests;

@@ -1,0 +1,120 @@
+-- Turns that a processor takes among others: those of several calls, with looks between them.
+use Rattle.std.proofs.Common.{◌≡◌, ℕ, zero, suc, Some, List, [], ◌∷◌, length, get_or, set, ◌+◌, ◌<◌, ◌≤◌, refl, ◌∙◌, subst, sym, arith}
+use Rattle.std.specs.Prelude.{◌≢◌, slice_get}
+use Rattle.l4_model.proofs.Chains.{some_is}
+use Rattle.l4_merge.specs.Pasts.{HasTurned}
+use Rattle.l4_merge.proofs.Worked.{turned_trans}
+use Rattle.l4_proc.specs.Working.{past, turns_of, HasGoneOn, HasTakenUpTo, HasWorkedOn, HaveWorkedOn, IsStopped}
+use Rattle.l4_proc.specs.declared.processor.Processor.{Processor}
+use Rattle.l4_proc.specs.declared.stops.Stop.{Stop}
+use Rattle.l4_proc.specs.declared.stops.Stop.TheVariants as stop
+use Rattle.l4_proc.proofs.Going.{gone_trans, next_turned, taken_none}
+
+-- It has gone on by turns, however many and whyever it stopped.
+record IsOnward (old new : Processor) : Type 0 where
+  pub on : HasGoneOn old new
+  pub turned : HasTurned old.worker.core.machine old.worker.core.cpu (past old) (past new)
+  pub least : turns_of old ≤ turns_of new
+  pub ticks : new.worker.log.ticks ≡ old.worker.log.ticks
+
+onward : (turns : ℕ) (old new : Processor) (why : Stop) → HasTakenUpTo turns old new why → IsOnward old new
+onward turns old new why up = record { on = up.on; turned = up.turned; least = up.least; ticks = up.ticks }
+
+onward_trans : (old middle new : Processor) → IsOnward old middle → IsOnward middle new → IsOnward old new
+onward_trans old middle new first then = record {
+  on = gone_trans old middle new first.on then.on;
+  turned = turned_trans old.worker.core.machine old.worker.core.cpu (past old) (past middle) (past new) first.turned
+      (next_turned old middle new first.on then.turned);
+  least = let a = first.least in let b = then.least in omega arith;
+  ticks = then.ticks ∙ first.ticks;
+}
+
+-- The turns that are left were its last.
+ended : (turns left : ℕ) (old middle new : Processor) (why : Stop) → IsOnward old middle → turns_of middle + left ≡ turns_of old + turns →
+    HasTakenUpTo left middle new why → HasTakenUpTo turns old new why
+ended turns left old middle new why first all last =
+    let both = onward_trans old middle new first (onward left middle new why last) in
+    record {
+      on = both.on;
+      turned = both.turned;
+      least = both.least;
+      most = let m = last.most in omega arith;
+      used = (λ is. let u = last.used.0 is in omega arith, λ is. last.used.1 (omega arith));
+      ticks = both.ticks;
+      stopped = last.stopped;
+    }
+
+-- What is left where it has found nothing.
+pub some_left : (turns left : ℕ) (old new : Processor) → HasWorkedOn turns old new → new.worker.stop ≡ stop.Idle → turns_of new + left ≡ turns_of old + turns →
+    0 < left
+some_left turns left old new worked idle all =
+    let unused : turns_of new ≢ turns_of old + turns = λ is. absurd (let used = worked.used.1 is in cc) in
+    let most = worked.most in
+    omega arith
+
+-- It has looked on
+
+pub looks_none : (p : Processor) → p.worker.stop ≡ stop.Idle → IsStopped p stop.Idle → HasWorkedOn 1 p p
+looks_none p idle stopped =
+    let taken = taken_none p in
+    record {
+      on = taken.on;
+      turned = taken.turned;
+      least = omega arith;
+      most = omega arith;
+      used = (λ is. absurd cc, λ is. absurd (omega arith));
+      ticks = refl;
+      stopped = subst (IsStopped p) (sym idle) stopped;
+    }
+
+pub no_turn_yet : (old new : Processor) → HasWorkedOn 1 old new → new.worker.stop ≡ stop.Idle → turns_of new ≡ turns_of old
+no_turn_yet old new worked idle =
+    let unused : turns_of new ≢ turns_of old + 1 = λ is. absurd (let used = worked.used.1 is in cc) in
+    let most = worked.most in
+    let least = worked.least in
+    omega arith
+
+-- It looks once more.
+pub looks_more : (old middle new : Processor) (why : Stop) → HasWorkedOn 1 old middle → middle.worker.stop ≡ stop.Idle → HasTakenUpTo 1 middle new why →
+    new.worker.stop ≡ why → HasWorkedOn 1 old new
+looks_more old middle new why worked idle look is =
+    let none = no_turn_yet old middle worked idle in
+    subst (HasTakenUpTo 1 old new) (sym is) (ended 1 1 old middle new why (onward 1 old middle _ worked) (omega arith) look)
+
+-- It works on
+
+-- It found nothing where it looked on, and stops there.
+pub looked_in_vain : (turns : ℕ) (old middle new : Processor) → HasWorkedOn turns old middle → middle.worker.stop ≡ stop.Idle → HasWorkedOn 1 middle new →
+    (new.worker.stop ≡ stop.Used → ⊥) → HasWorkedOn turns old new
+looked_in_vain turns old middle new worked idle look unused =
+    let both = onward_trans old middle new (onward turns old middle _ worked) (onward 1 middle new _ look) in
+    let no_turn : turns_of new ≢ turns_of middle + 1 = λ is. unused (look.used.1 is) in
+    let same : turns_of new ≡ turns_of middle = (let a = look.least in let b = look.most in omega arith) in
+    let not_all : turns_of middle ≢ turns_of old + turns = λ is. absurd (let used = worked.used.1 is in cc) in
+    record {
+      on = both.on;
+      turned = both.turned;
+      least = both.least;
+      most = let m = worked.most in omega arith;
+      used = (λ is. absurd (unused is), λ is. absurd (not_all (omega arith)));
+      ticks = both.ticks;
+      stopped = look.stopped;
+    }
+
+-- It found something, and took the turns that were left.
+pub looked_and_worked : (turns left : ℕ) (old middle seen new : Processor) → HasWorkedOn turns old middle → HasWorkedOn 1 middle seen →
+    seen.worker.stop ≡ stop.Used → turns_of middle + left ≡ turns_of old + turns → 0 < left → (rest : ℕ) → rest + 1 ≡ left → HasWorkedOn rest seen new → HasWorkedOn turns old new
+looked_and_worked turns left old middle seen new worked look found all some rest is more =
+    let one = look.used.0 found in
+    ended turns rest old seen new new.worker.stop
+    (onward_trans old middle seen (onward turns old middle _ worked) (onward 1 middle seen _ look)) (omega arith) more
+
+-- A single one worked.
+pub alone : (turns : ℕ) (ps : List Processor) (new d : Processor) → length ps ≡ 1 → HasWorkedOn turns (get_or ps 0 d) new → HaveWorkedOn turns ps (set ps 0 new)
+alone turns [] new d one worked = absurd (omega arith)
+alone turns (p ∷ q ∷ ps) new d one worked = absurd (omega arith)
+alone turns (p ∷ []) new d one worked = record { for_each = refl; each = each }
+  where
+    each : (i : ℕ) (a b : Processor) → slice_get (p ∷ []) i ≡ Some a → slice_get (new ∷ []) i ≡ Some b → HasWorkedOn turns a b
+    each zero a b was now = subst (HasWorkedOn turns a) (some_is new b now) (subst (λ (x : Processor). HasWorkedOn turns x new) (some_is p a was) worked)
+    each (suc i) a b was now = absurd cc

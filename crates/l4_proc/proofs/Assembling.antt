@@ -11,6 +11,7 @@ use Rattle.l4_mail.specs.Ports.{place, HasWayTo, IsApart}
 use Rattle.l4_mail.specs.declared.ports.Port.{Port}
 use Rattle.l4_proc.specs.declared.processor.Processor.{Processor}
 use Rattle.l4_proc.specs.Assembled.{IsOpening}
+use Rattle.l4_proc.specs.Logs.{events}
 use Rattle.l4_proc.specs.Whole.{has_way, IsFreshPort, IsPortOf}
 use Rattle.l4_proc.specs.Working.{past, turns_of}
 use Rattle.l4_proc.specs.declared.stops.Stop.TheVariants as stop
@@ -63,8 +64,8 @@ one_more m ps p each last = pushed_at (IsOpening m) ps p each last
 
 opened : (m : Machine) (n k : ℕ) (p : Processor) (c : cores.Processor) → p.worker.core ≡ c → c ≡ record { machine = m; cpu = k; local = opening_local m k } → k ≡ n →
     HasWorked c.machine c.cpu (empty_past c.local) (past p) → p.worker.hand ≡ None → turns_of p ≡ 0 → p.worker.stop ≡ stop.Used → IsApart (place p.port) →
-    IsOpening m n p
-opened m n k p c core is number worked hand turns used apart =
+    IsFreshPort p.port → events p.worker.log ≡ [] → IsOpening m n p
+opened m n k p c core is number worked hand turns used apart fresh none =
     let at : c ≡ record { machine = m; cpu = n; local = opening_local m n } = is
     ∙ ap (λ (i : ℕ). record { machine = m; cpu = i; local = opening_local m i }) number in
     record {
@@ -72,6 +73,9 @@ opened m n k p c core is number worked hand turns used apart =
       number = ap (λ (x : cores.Processor). x.cpu) (core ∙ at);
       worked = subst (λ (x : cores.Processor). HasWorked x.machine x.cpu (empty_past x.local) (past p)) at worked;
       local = ap (λ (x : cores.Processor). x.local) (core ∙ at);
+      events = none;
+      posted = fresh.posted;
+      taken = fresh.taken;
       hand = hand;
       turns = turns;
       stop = used;
@@ -88,15 +92,16 @@ pub next_has : (m : Machine) (done rest all : List Port) (ps news : List Process
     HaveProcessors m done all ps → all ≡ port ∷ rest → news ≡ ps ++ p ∷ [] →
     p.port ≡ port → p.worker.core ≡ c → c ≡ record { machine = m; cpu = k; local = opening_local m k } → k ≡ port.cpu →
     HasWorked c.machine c.cpu (empty_past c.local) (past p) → p.worker.hand ≡ None → turns_of p ≡ 0 →
-    p.worker.stop ≡ stop.Used → HaveProcessors m (done ++ port ∷ []) rest news
-next_has m done rest all ps news port p c k h is more same core at number worked hand turns used =
+    p.worker.stop ≡ stop.Used → events p.worker.log ≡ [] → HaveProcessors m (done ++ port ∷ []) rest news
+next_has m done rest all ps news port p c k h is more same core at number worked hand turns used none =
     let fresh = subst (λ (ls : List Port). AreFresh m.cpus (done ++ ls)) is h.fresh in
     let number_is : k ≡ length ps = number ∙ next_number m.cpus done rest port fresh ∙ ap length (sym h.ports) ∙ length-map ps (λ (q : Processor). q.port) in
+    let new = subst IsFreshPort (sym same) (next_fresh m.cpus done rest port fresh) in
     let apart = subst (λ (q : Port). IsApart (place q)) (sym same) (next_apart m.cpus done rest port fresh) in
     record {
       fresh = subst (AreFresh m.cpus) (sym (append_assoc done (port ∷ []) rest)) fresh;
       ports = ap (map (λ (q : Processor). q.port)) more ∙ map-append (λ (q : Processor). q.port) ps (p ∷ [])
           ∙ ap (λ (ls : List Port). ls ++ p.port ∷ []) h.ports ∙ ap (λ (q : Port). done ++ q ∷ []) same;
-      each = λ cpu q e. one_more m ps p h.each (opened m (length ps) k p c core at number_is worked hand turns used apart) cpu q (ap (λ (ls : List Processor).
+      each = λ cpu q e. one_more m ps p h.each (opened m (length ps) k p c core at number_is worked hand turns used apart new none) cpu q (ap (λ (ls : List Processor).
           slice_get ls cpu) (sym more) ∙ e);
     }

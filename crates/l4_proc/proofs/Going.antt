@@ -19,7 +19,7 @@ use Rattle.l4_mail.specs.Ports.{posted_to, place}
 use Rattle.l4_mail.specs.declared.ports.Port.{Port}
 use Rattle.l4_proc.specs.Logs.{all_steps, events, HasBegun, HasEnded, IsClosed}
 use Rattle.l4_proc.specs.Whole.{past_with, handled_from, IsFreshPort, IsPortOf, IsWhole}
-use Rattle.l4_proc.specs.Working.{past, HasGoneOn, HasTaken, HasTakenUpTo, HasTicked, IsStopped}
+use Rattle.l4_proc.specs.Working.{past, HasGoneOn, HasTaken, HasTakenUpTo, HasTicked, IsIdle, IsStopped}
 use Rattle.l4_proc.specs.declared.stops.Stop.{Stop}
 use Rattle.l4_proc.specs.declared.stops.Stop.TheVariants as stop
 use Rattle.l4_proc.specs.declared.log.End.{End}
@@ -104,6 +104,7 @@ pub has_ticked : (to : ℕ) (old new : Processor) (before after : Log) (stamp : 
 has_ticked to old new before after stamp port whole t =
     let l = tick_logged to old.worker new.worker before after stamp whole.closed t in
     let worked = tick_worked to old.port old.worker new.worker before after stamp whole t in
+    let event : ℕ → ℕ → List Event = λ c s. record { cpu = c; stamp = s; steps = after.told.steps } ∷ [] in
     let end : End = record { stamp = stamp; place = length (all_steps after.told) } in
     let items : new.worker.log.ends.items ≡ old.worker.log.ends.items ++ end ∷ [] =
     t.ended.ends ∙ ap (λ (es : List End). es ++ end ∷ []) (ap (λ ends. ends.items) t.ends ∙ t.begun.ends) in
@@ -118,6 +119,15 @@ has_ticked to old new before after stamp port whole t =
       };
       port = port;
       hand = t.hand;
+      past = record {
+        work = work new.worker.core.local after.told;
+        advances = t.event.is;
+        events = l.events ∙ ap (λ c. events old.worker.log ++ event c stamp) whole.log_of ∙ ap (λ s. events old.worker.log ++ event old.worker.core.cpu s) t.event.stamped;
+        posted = λ to. ap (λ (p : Port). map letter_of (posted_to p to)) port;
+        handled = λ from. ap (λ (p : Port). map letter_of (handled_from p new.worker.hand from)) port
+            ∙ ap (λ hand. map letter_of (handled_from old.port hand from)) t.hand;
+        local = refl;
+      };
       advances = ap (option_map (λ (x : Work). x.local)) t.event.is;
       one = ap length l.events ∙ length-append (events old.worker.log) _;
       turns = omega (arith, longer, ticks);
@@ -176,11 +186,12 @@ all_taken turns count old new all taken = record {
   used = (λ is. let t = taken.turns in omega arith, λ is. refl);
   ticks = taken.ticks;
   stopped = tt;
+  nothing = λ is. absurd cc;
 }
 
 pub some_taken : (turns count : ℕ) (old middle new : Processor) (why : Stop) → count < turns → HasTaken count old middle → HasTaken 0 middle new →
-    (why ≡ stop.Used → ⊥) → IsStopped new why → HasTakenUpTo turns old new why
-some_taken turns count old middle new why below first none unused stopped =
+    (why ≡ stop.Used → ⊥) → IsStopped new why → (count ≡ 0 → middle ≡ old) → (why ≡ stop.Idle → IsIdle middle) → HasTakenUpTo turns old new why
+some_taken turns count old middle new why below first none unused stopped start nothing =
     let taken = taken_more count 0 old middle new first none in
     record {
       on = taken.on;
@@ -190,4 +201,5 @@ some_taken turns count old middle new why below first none unused stopped =
       used = (λ is. absurd (unused is), λ is. absurd (let t = taken.turns in omega arith));
       ticks = taken.ticks;
       stopped = stopped;
+      nothing = λ is same. subst IsIdle (start (let t = taken.turns in omega arith)) (nothing is);
     }

@@ -4,7 +4,7 @@ use Rattle.std.specs.Prelude.{◌≢◌, slice_get}
 use Rattle.l4_model.proofs.Chains.{some_is}
 use Rattle.l4_merge.specs.Pasts.{HasTurned}
 use Rattle.l4_merge.proofs.Worked.{turned_trans}
-use Rattle.l4_proc.specs.Working.{past, turns_of, HasGoneOn, HasTakenUpTo, HasWorkedOn, HaveWorkedOn, IsStopped}
+use Rattle.l4_proc.specs.Working.{IsIdle, past, turns_of, HasGoneOn, HasTakenUpTo, HasWorkedOn, HaveWorkedOn, IsStopped}
 use Rattle.l4_proc.specs.declared.processor.Processor.{Processor}
 use Rattle.l4_proc.specs.declared.stops.Stop.{Stop}
 use Rattle.l4_proc.specs.declared.stops.Stop.TheVariants as stop
@@ -31,8 +31,8 @@ onward_trans old middle new first then = record {
 
 -- The turns that are left were its last.
 ended : (turns left : ℕ) (old middle new : Processor) (why : Stop) → IsOnward old middle → turns_of middle + left ≡ turns_of old + turns →
-    HasTakenUpTo left middle new why → HasTakenUpTo turns old new why
-ended turns left old middle new why first all last =
+    (turns_of middle ≡ turns_of old → IsIdle old) → HasTakenUpTo left middle new why → HasTakenUpTo turns old new why
+ended turns left old middle new why first all nothing last =
     let both = onward_trans old middle new first (onward left middle new why last) in
     record {
       on = both.on;
@@ -42,6 +42,7 @@ ended turns left old middle new why first all last =
       used = (λ is. let u = last.used.0 is in omega arith, λ is. last.used.1 (omega arith));
       ticks = both.ticks;
       stopped = last.stopped;
+      nothing = λ is same. nothing (let a = first.least in let b = last.least in omega arith);
     }
 
 -- What is left where it has found nothing.
@@ -65,6 +66,7 @@ looks_none p idle stopped =
       used = (λ is. absurd cc, λ is. absurd (omega arith));
       ticks = refl;
       stopped = subst (IsStopped p) (sym idle) stopped;
+      nothing = λ is same. stopped;
     }
 
 pub no_turn_yet : (old new : Processor) → HasWorkedOn 1 old new → new.worker.stop ≡ stop.Idle → turns_of new ≡ turns_of old
@@ -79,7 +81,7 @@ pub looks_more : (old middle new : Processor) (why : Stop) → HasWorkedOn 1 old
     new.worker.stop ≡ why → HasWorkedOn 1 old new
 looks_more old middle new why worked idle look is =
     let none = no_turn_yet old middle worked idle in
-    subst (HasTakenUpTo 1 old new) (sym is) (ended 1 1 old middle new why (onward 1 old middle _ worked) (omega arith) look)
+    subst (HasTakenUpTo 1 old new) (sym is) (ended 1 1 old middle new why (onward 1 old middle _ worked) (omega arith) (worked.nothing idle) look)
 
 -- It works on
 
@@ -99,6 +101,7 @@ looked_in_vain turns old middle new worked idle look unused =
       used = (λ is. absurd (unused is), λ is. absurd (not_all (omega arith)));
       ticks = both.ticks;
       stopped = look.stopped;
+      nothing = λ is none. worked.nothing idle (omega arith);
     }
 
 -- It found something, and took the turns that were left.
@@ -107,7 +110,8 @@ pub looked_and_worked : (turns left : ℕ) (old middle seen new : Processor) →
 looked_and_worked turns left old middle seen new worked look found all some rest is more =
     let one = look.used.0 found in
     ended turns rest old seen new new.worker.stop
-    (onward_trans old middle seen (onward turns old middle _ worked) (onward 1 middle seen _ look)) (omega arith) more
+    (onward_trans old middle seen (onward turns old middle _ worked) (onward 1 middle seen _ look)) (omega arith)
+    (λ same. absurd (let least = worked.least in omega arith)) more
 
 -- A single one worked.
 pub alone : (turns : ℕ) (ps : List Processor) (new d : Processor) → length ps ≡ 1 → HasWorkedOn turns (get_or ps 0 d) new → HaveWorkedOn turns ps (set ps 0 new)

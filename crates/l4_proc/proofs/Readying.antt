@@ -14,6 +14,7 @@ use Rattle.l4_mail.specs.Ends.{ring_out}
 use Rattle.l4_mail.specs.Ports.{Place, place, posted_to, taken_from, kept_from, room_to, only, HasWayTo, IsAsBefore, HasPosted, HasTaken}
 use Rattle.l4_mail.specs.declared.ports.Port.{Port}
 use Rattle.l4_proc.specs.Logs.{HasBegun, HasLetters, IsClosed}
+use Rattle.l4_proc.specs.Working.{HadNoLetter}
 use Rattle.l4_proc.specs.Whole.{hand_from, handled_from, IsInHand, IsPortOf, IsWhole}
 use Rattle.l4_proc.specs.declared.log.Log.{Log}
 use Rattle.l4_proc.specs.declared.worker.Worker.{Worker}
@@ -66,6 +67,7 @@ pub record HasNext (old new : Port) (hand : Option (ℕ × Letter)) : Type 0 whe
   pub taken : (from : ℕ) → taken_from new from ≡ taken_from old from ++ hand_from hand from
   pub room : (to : ℕ) → room_to old to ≤ room_to new to
   pub kept : hand ≡ None → (from : ℕ) → kept_from new from ≡ []
+  pub had : hand ≡ None → (from : ℕ) → kept_from old from ≡ []
 
 pub next_taken : (old new : Port) (hand : Option (ℕ × Letter)) → IfSome hand (λ r. HasTaken old new r.0 r.1) → IfNone hand (IsAsBefore old new) →
     IfNone hand ((from : ℕ) → kept_from old from ≡ []) → HasNext old new hand
@@ -75,6 +77,7 @@ next_taken old new None some same none = record {
   taken = λ from. same.taken from ∙ sym (append-nil (taken_from old from));
   room = same.room;
   kept = λ is from. same.kept from ∙ none from;
+  had = λ is. none;
 }
 next_taken old new (Some p) has same none = record {
   place = has.place;
@@ -82,6 +85,7 @@ next_taken old new (Some p) has same none = record {
   taken = has.taken;
   room = λ to. omega (arith, has.room to);
   kept = λ is. absurd cc;
+  had = λ is. absurd cc;
 }
 
 front : (ls more : List Letter) → take (length (ls ++ more) - length more) (ls ++ more) ≡ ls
@@ -121,6 +125,7 @@ pub record IsReadied (old new : Port) (was hand : Option (ℕ × Letter)) : Type
   pub handled : (from : ℕ) → handled_from new hand from ≡ handled_from old was from
   pub room : HasRoomForTurn new
   pub kept : hand ≡ None → (from : ℕ) → kept_from new from ≡ []
+  pub had : hand ≡ None → HadNoLetter old was
 
 room_kept : (old new : Port) → place new ≡ place old → ((to : ℕ) → room_to old to ≤ room_to new to) → HasRoomForTurn old → HasRoomForTurn new
 room_kept old new same more room to way = omega (arith, more to, room to (way_before old new to same way))
@@ -138,6 +143,7 @@ readied_empty old reserved flushed new was hand none first room flush next = rec
       ∙ sym (ap (λ (h : Option (ℕ × Letter)). handled_from old h from) (empty_hand was none) ∙ all_handled old from);
   room = room_kept flushed new next.place next.room (room_kept reserved flushed flush.place flush.room room);
   kept = next.kept;
+  had = λ is. record { empty = empty_hand was none; kept = λ from. sym (flush.kept from ∙ first.kept from) ∙ next.had is from };
 }
 
 pub readied_full : (old reserved flushed : Port) (was : Option (ℕ × Letter)) → is_some was ≡ true → IsAsBefore old reserved → HasRoomForTurn reserved →
@@ -148,6 +154,7 @@ readied_full old reserved flushed was some first room flush = record {
   handled = λ from. ap (λ (ls : List Letter). take (length ls - length (hand_from was from)) ls) (flush.taken from ∙ first.taken from);
   room = room_kept reserved flushed flush.place flush.room room;
   kept = λ is. absurd (let none : is_some was ≡ false = ap is_some is in cc);
+  had = λ is. absurd (let none : is_some was ≡ false = ap is_some is in cc);
 }
 
 -- Letters are posted

@@ -1,9 +1,10 @@
 -- The processors of a machine where nothing has happened.
-use Rattle.std.specs.Prelude.{◌≡◌, ℕ, Some, None, List, length, map, slice_get}
+use Rattle.std.specs.Prelude.{◌≡◌, ℕ, Some, None, List, [], length, map, slice_get}
 use Rattle.l4_model.specs.Machine.{Machine}
 use Rattle.l4_core_model.specs.Local.{opening_local}
 use Rattle.l4_merge.specs.Pasts.{empty_past, HasWorked}
-use Rattle.l4_mail.specs.Ports.{place, AreOneFabric, IsApart}
+use Rattle.l4_mail.specs.Ports.{place, posted_to, taken_from, AreOneFabric, IsApart}
+use Rattle.l4_proc.specs.Logs.{events}
 use Rattle.l4_proc.specs.declared.processor.Processor.{Processor}
 use Rattle.l4_proc.specs.Working.{past, turns_of}
 use Rattle.l4_proc.specs.declared.stops.Stop.TheVariants as stop
@@ -14,6 +15,9 @@ pub record IsOpening (m : Machine) (cpu : ℕ) (p : Processor) : Type 0 where
   pub number : p.worker.core.cpu ≡ cpu
   pub worked : HasWorked m cpu (empty_past (opening_local m cpu)) (past p)
   pub local : p.worker.core.local ≡ opening_local m cpu
+  pub events : events p.worker.log ≡ []
+  pub posted : (to : ℕ) → posted_to p.port to ≡ []
+  pub taken : (from : ℕ) → taken_from p.port from ≡ []
   pub hand : p.worker.hand ≡ None
   pub turns : turns_of p ≡ 0
   pub stop : p.worker.stop ≡ stop.Used

@@ -1,10 +1,13 @@
 -- A processor at work.
-use Rattle.std.specs.Prelude.{◌≡◌, ◌⊎◌, ◌↔◌, ℕ, ◌+◌, ◌-◌, ◌≤◌, List, [], Some, None, length, slice_get}
+use Rattle.std.specs.Prelude.{◌≡◌, ◌⊎◌, ◌↔◌, ℕ, ◌+◌, ◌-◌, ◌≤◌, List, [], Option, Some, None, length, slice_get}
 use Rattle.std.specs.Option.{option_map}
 use Rattle.l4_core_model.specs.Turns.{advance}
 use Rattle.l4_merge.specs.Deeds.{work_of}
+use Rattle.l4_merge.specs.Pasts as pasts
 use Rattle.l4_merge.specs.Pasts.{Past, HasWorked, HasTurned}
 use Rattle.l4_core.specs.Turning.{IsEvent}
+use Rattle.l4_types.specs.declared.letters.Letter.{Letter}
+use Rattle.l4_mail.specs.declared.ports.Port.{Port}
 use Rattle.l4_mail.specs.Ports.{posted_to, taken_from, kept_from, room_to, place, HasWayTo}
 use Rattle.l4_proc.specs.Events.{event_in_hand, HasPostedAll, IsRefused}
 use Rattle.l4_proc.specs.Logs.{events, HasBegun, HasLetters, IsSameLog}
@@ -57,6 +60,8 @@ pub record HasTakenUpTo (turns : ℕ) (old new : Processor) (why : Stop) : Type 
   pub used : (why ≡ stop.Used) ↔ (turns_of new ≡ turns_of old + turns)
   pub ticks : new.worker.log.ticks ≡ old.worker.log.ticks
   pub stopped : IsStopped new why
+  -- it finds nothing, and takes no turn, only where there was nothing to do and no letter was kept
+  pub nothing : why ≡ stop.Idle → turns_of new ≡ turns_of old → IsIdle old
 
 -- So it did, and it remembers why it stopped.
 abbrev pub HasWorkedOn : (turns : ℕ) → (old new : Processor) → Type 0
@@ -67,6 +72,11 @@ pub record HaveWorkedOn (turns : ℕ) (olds news : List Processor) : Type 0 wher
   pub for_each : length news ≡ length olds
   pub each : (i : ℕ) (old new : Processor) → slice_get olds i ≡ Some old → slice_get news i ≡ Some new → HasWorkedOn turns old new
 
+-- No letter was in hand, and none was kept.
+pub record HadNoLetter (port : Port) (was : Option (ℕ × Letter)) : Type 0 where
+  pub empty : was ≡ None
+  pub kept : (from : ℕ) → kept_from port from ≡ []
+
 -- A processor is ready for a turn: it has room, and a letter in hand where one has come.
 pub record IsReady (old new : Processor) : Type 0 where
   pub core : new.worker.core ≡ old.worker.core
@@ -76,6 +86,7 @@ pub record IsReady (old new : Processor) : Type 0 where
   pub log : HasBegun old.worker.log new.worker.log
   pub room : (to : ℕ) → HasWayTo new.port to → 2 ≤ room_to new.port to
   pub kept : new.worker.hand ≡ None → (from : ℕ) → kept_from new.port from ≡ []
+  pub had : new.worker.hand ≡ None → HadNoLetter old.port old.worker.hand
 
 -- It has gone on by nothing.
 pub record IsUnready (old new : Processor) : Type 0 where
@@ -112,6 +123,7 @@ pub record HasTicked (to : ℕ) (old new : Processor) : Type 0 where
   pub on : HasGoneOn old new
   pub port : new.port ≡ old.port
   pub hand : new.worker.hand ≡ old.worker.hand
+  pub past : pasts.HasTicked old.worker.core.machine old.worker.core.cpu to (past old) (past new)
   pub advances : option_map (λ x. x.local) (advance old.worker.core.machine old.worker.core.cpu to old.worker.core.local) ≡ Some new.worker.core.local
   pub one : length (events new.worker.log) ≡ length (events old.worker.log) + 1
   pub turns : turns_of new ≡ turns_of old

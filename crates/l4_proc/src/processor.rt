@@ -20,13 +20,13 @@ pub struct Processor<'m> {
 }
 
 impl<'m> Processor<'m> {
-    ghost use Rattle.std.specs.Prelude.{ℕ, ◌≡◌, ◌↔◌, ◌<◌, ◌≤◌, ◌+◌, ◌^◌, false, IfErr, IsErrOf, IsSome, None, OnErr, OnOk, is_some, length};
+    ghost use Rattle.std.specs.Prelude.{ℕ, ◌≡◌, [], ◌↔◌, ◌<◌, ◌≤◌, ◌+◌, ◌^◌, false, IfErr, IsErrOf, IsSome, None, OnErr, OnOk, is_some, length};
     ghost use Rattle.std.specs.List.{AllByRecursion};
     ghost use Rattle.l4_mail.specs.Ports.{room_to, HasWayTo};
     ghost use Rattle.l4_core_model.specs.Turns.{advance, can_stamp};
     ghost use Rattle.l4_merge.specs.Pasts.{empty_past, HasWorked, HasTurned};
-    ghost use Rattle.l4_proc.specs.Logs.{IsClosed};
-    ghost use Rattle.l4_proc.specs.Working.{past, turns_of, HasGoneOn, HasPostedOwn, HasStayed, HasTaken, HasTakenUpTo, HasTicked, IsReady, IsStopped, IsUnready};
+    ghost use Rattle.l4_proc.specs.Logs.{events, IsClosed};
+    ghost use Rattle.l4_proc.specs.Working.{past, turns_of, HasGoneOn, HasPostedOwn, HasStayed, HasTaken, HasTakenUpTo, HasTicked, IsIdle, IsReady, IsStopped, IsUnready};
     ghost use Rattle.l4_proc.specs.Whole.{IsFreshPort, IsPortOf};
 
     /// A processor that has done nothing, with its port, by which no letter has gone.
@@ -36,6 +36,7 @@ impl<'m> Processor<'m> {
         ensures parts { (result.port ≡ port) × (result.worker.core ≡ core.entry) × (result.worker.hand ≡ None) }
         ensures opened { HasWorked core.entry.machine core.entry.cpu (empty_past core.entry.local) (past result) }
         ensures turns { turns_of result ≡ 0 }
+        ensures log { events result.worker.log ≡ [] }
         ensures stop { result.worker.stop ≡ Stop.Used }
     {
         let log = Log::new(alloc, core.cpu());
@@ -125,6 +126,7 @@ impl<'m> Processor<'m> {
         ensures used { (result ≡ Stop.Used) ↔ (turns_of self.new ≡ turns_of self.old + turns) }
         ensures ticks { self.new.worker.log.ticks ≡ self.old.worker.log.ticks }
         ensures stopped { IsStopped self.new result }
+        ensures nothing { result ≡ Stop.Idle → turns_of self.new ≡ turns_of self.old → IsIdle self.old }
         ensures stop { self.new.worker.stop ≡ result }
     {
         let stop = self.take_turns(turns, gate);
@@ -150,6 +152,7 @@ impl<'m> Processor<'m> {
         ensures ok { OnOk result (HasTaken 1 self.old self.new) }
         ensures err { OnErr result (HasTaken 0 self.old self.new) }
         ensures stopped { IfErr result (λ stop. IsStopped self.new stop) }
+        ensures nothing { IfErr result (λ stop. stop ≡ Stop.Idle → IsIdle self.old) }
         ensures unused { IfErr result (λ stop. stop ≡ Stop.Used → ⊥) }
     {
         self.get_ready()?;

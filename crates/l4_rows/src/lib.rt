@@ -19,6 +19,8 @@ mod deadlines;
 #[cfg(test)]
 mod faults;
 #[cfg(test)]
+mod gathers;
+#[cfg(test)]
 mod letters;
 #[cfg(test)]
 mod limits;

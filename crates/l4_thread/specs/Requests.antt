@@ -9,6 +9,7 @@ use Rattle.l4_types.specs.declared.times.Period.{Period as CodePeriod}
 use Rattle.l4_types.specs.PeriodView.{period_of, IsTimely}
 use Rattle.l4_types.specs.Ids.{global_of}
 use Rattle.l4_thread.specs.Held.{Headed, message_of}
+use Rattle.l4_thread.specs.declared.requests.Begun.{Begun}
 use Rattle.l4_thread.specs.declared.requests.Request.{Request}
 
 -- The originator of a propagated send (manual: Ipc, VirtualSender).
@@ -59,27 +60,37 @@ phases_begun p c = by_send p.send
     by_send None = by_receive p.receive
     by_send (Some send) = counted c
 
--- The phases that a request of the program holds, with the words that the registers have.
-abbrev pub send_from : (apart registers : List ℕ) → Id × Headed × CodePeriod → Id × Message × Period
-send_from apart registers s = (s.0, message_of apart registers s.1, period_of s.2)
+-- The phases that a request of the program holds.
+abbrev pub send_from : Id × Message × CodePeriod → Id × Message × Period
+send_from s = (s.0, s.1, period_of s.2)
 
 abbrev pub receive_from : Id × CodePeriod → Receive
 receive_from r = record { from = r.0; period = period_of r.1 }
 
-abbrev pub phases_from : (apart registers : List ℕ) → Request → Phases
-phases_from apart registers r = record { send = option_map (send_from apart registers) r.send; receive = option_map receive_from r.receive }
+abbrev pub phases_from : Request → Phases
+phases_from r = record { send = option_map send_from r.send; receive = option_map receive_from r.receive }
+
+-- The same where the words are those that the registers have.
+abbrev pub send_held : (apart registers : List ℕ) → Id × Headed × CodePeriod → Id × Message × Period
+send_held apart registers s = (s.0, message_of apart registers s.1, period_of s.2)
+
+abbrev pub phases_held : (apart registers : List ℕ) → Begun → Phases
+phases_held apart registers r = record { send = option_map (send_held apart registers) r.send; receive = option_map receive_from r.receive }
 
 -- Its periods are ones that times have.
-abbrev pub AreTimely : Request → Type 0
-AreTimely r = send_is r.send × receive_is r.receive
-  where
-    send_is : Option (Id × Headed × CodePeriod) → Type 0
-    send_is None = Unit {0}
-    send_is (Some s) = IsTimely s.2
+abbrev pub is_timely_send : {M : Type 0} → Option (Id × M × CodePeriod) → Type 0
+is_timely_send None = Unit {0}
+is_timely_send (Some s) = IsTimely s.2
 
-    receive_is : Option (Id × CodePeriod) → Type 0
-    receive_is None = Unit {0}
-    receive_is (Some r) = IsTimely r.1
+abbrev pub is_timely_receive : Option (Id × CodePeriod) → Type 0
+is_timely_receive None = Unit {0}
+is_timely_receive (Some r) = IsTimely r.1
+
+abbrev pub AreTimely : Request → Type 0
+AreTimely r = is_timely_send r.send × is_timely_receive r.receive
+
+abbrev pub AreTimelyHeld : Begun → Type 0
+AreTimelyHeld r = is_timely_send r.send × is_timely_receive r.receive
 
 abbrev pub is_end : Instr → Bool
 is_end End = true

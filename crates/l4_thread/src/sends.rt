@@ -141,8 +141,8 @@ impl Head {
         self.words = Words::Apart;
     }
 
-    // The message, with these words.
-    fn with_words<'a>(&self, words: &'a [u64]) -> MessageRef<'a>
+    /// The message, with these words, of which there are at most 63.
+    pub(crate) fn with_words<'a>(&self, words: &'a [u64]) -> MessageRef<'a>
         requires { length words.now < 64 }
         ensures { result ≡ with_words words.now self.now }
     {

@@ -9,10 +9,10 @@ ghost use Rattle.l4_types.specs.PeriodView.{period_of, IsTimely};
 ghost use Rattle.l4_script.specs.Scripts.{instr_of, ipc_of, to_of};
 ghost use Rattle.l4_thread.specs.Held.{message_of};
 ghost use Rattle.l4_thread.specs.Messages.{unlabelled};
-ghost use Rattle.l4_thread.specs.Requests.{originator_if, message_if, phases_of, phases_from, phases_begun, receive_from, counted, AreTimely, asks_to_send, is_end};
+ghost use Rattle.l4_thread.specs.Requests.{originator_if, message_if, phases_of, phases_from, phases_held, phases_begun, receive_from, counted, AreTimely, AreTimelyHeld, asks_to_send, is_end};
 
-use crate::requests::Request;
-use crate::sends::Head;
+use crate::requests::{Begun, Request};
+use crate::sends::{Head, Words};
 use l4_script::instructions::{Instr, Ipc, Register, To};
 use l4_types::errors::IpcError;
 use l4_types::ids::{GlobalId, ThreadId};
@@ -152,17 +152,37 @@ impl Thread {
 
     /// Begins the phases of an Ipc (manual: Ipc), of which there may be none. `permitted` says whether the thread may show the
     /// originator that its VirtualSender names. Other instructions have no phases.
-    pub(crate) fn request(&mut self, instr: &Instr, permitted: bool) -> Request
+    pub fn request(&mut self, instr: &Instr, permitted: bool) -> Request
         requires room { is_end (instr_of instr.now) ≡ false → self.old.context.place + 1 < 2 ^ 64 }
         requires count { asks_to_send self.old.context (instr_of instr.now) ≡ true → self.old.context.begun + 1 < 2 ^ 64 }
-        ensures phases { phases_from [] self.old.context.words result ≡ phases_of permitted self.old.id self.old.context (instr_of instr.now) }
-        ensures stays { (apart : List ℕ) → phases_from apart self.old.context.words result ≡ phases_of permitted self.old.id self.old.context (instr_of instr.now) }
+        ensures phases { phases_from result ≡ phases_of permitted self.old.id self.old.context (instr_of instr.now) }
         ensures timely { AreTimely result }
+        ensures context { self.new ≡ record self.old { context = phases_begun (phases_of permitted self.old.id self.old.context (instr_of instr.now)) self.old.context } }
+    {
+        let begun = self.begin_phases(instr, permitted);
+        let receive = begun.receive;
+        if let Some(phase) = begun.send {
+            let send = Some(self.with_message(phase));
+            return Request { send, receive };
+        }
+        Request {
+            send: None,
+            receive,
+        }
+    }
+
+    /// The same, where the words of the message stay in the registers, which no phase changes where it begins.
+    pub(crate) fn begin_phases(&mut self, instr: &Instr, permitted: bool) -> Begun
+        requires room { is_end (instr_of instr.now) ≡ false → self.old.context.place + 1 < 2 ^ 64 }
+        requires count { asks_to_send self.old.context (instr_of instr.now) ≡ true → self.old.context.begun + 1 < 2 ^ 64 }
+        ensures phases { phases_held [] self.old.context.words result ≡ phases_of permitted self.old.id self.old.context (instr_of instr.now) }
+        ensures stays { (apart : List ℕ) → phases_held apart self.old.context.words result ≡ phases_of permitted self.old.id self.old.context (instr_of instr.now) }
+        ensures timely { AreTimelyHeld result }
         ensures context { self.new ≡ record self.old { context = phases_begun (phases_of permitted self.old.id self.old.context (instr_of instr.now)) self.old.context } }
     {
         match instr {
             Instr::Ipc(ipc) => self.begin(ipc, permitted),
-            _ => Request::NONE,
+            _ => Begun::NONE,
         }
     }
 
@@ -220,12 +240,12 @@ impl Thread {
     }
 
     // Begins the phases of an Ipc.
-    fn begin(&mut self, ipc: &Ipc, permitted: bool) -> Request
+    fn begin(&mut self, ipc: &Ipc, permitted: bool) -> Begun
         requires room { self.old.context.place + 1 < 2 ^ 64 }
         requires count { asks_to_send self.old.context (ipc_of ipc.now) ≡ true → self.old.context.begun + 1 < 2 ^ 64 }
-        ensures phases { phases_from [] self.old.context.words result ≡ phases_of permitted self.old.id self.old.context (ipc_of ipc.now) }
-        ensures stays { (apart : List ℕ) → phases_from apart self.old.context.words result ≡ phases_of permitted self.old.id self.old.context (ipc_of ipc.now) }
-        ensures timely { AreTimely result }
+        ensures phases { phases_held [] self.old.context.words result ≡ phases_of permitted self.old.id self.old.context (ipc_of ipc.now) }
+        ensures stays { (apart : List ℕ) → phases_held apart self.old.context.words result ≡ phases_of permitted self.old.id self.old.context (ipc_of ipc.now) }
+        ensures timely { AreTimelyHeld result }
         ensures context { self.new ≡ record self.old { context = phases_begun (phases_of permitted self.old.id self.old.context (ipc_of ipc.now)) self.old.context } }
     {
         let to = self.destination(ipc.to());
@@ -234,14 +254,14 @@ impl Thread {
             if receive.is_some() {
                 self.advance();
             }
-            return Request {
+            return Begun {
                 send: None,
                 receive,
             };
         }
         let head = self.head(permitted);
         self.count();
-        Request {
+        Begun {
             send: Some((to, head, ipc.send_period())),
             receive,
         }
@@ -286,6 +306,27 @@ impl Thread {
         ensures fits { length result.now < 64 }
     {
         &self.regs.words[1..usize::from(count) + 1]
+    }
+
+    // A send phase with its message.
+    fn with_message(&self, phase: (ThreadId, Head, Period)) -> (ThreadId, Message, Period)
+        ensures to { result.0 ≡ phase.0 }
+        ensures message { result.1 ≡ message_of [] self.now.context.words phase.1 }
+        ensures period { result.2 ≡ phase.2 }
+    {
+        let (to, head, period) = phase;
+        (to, self.message(&head), period)
+    }
+
+    // The message of this head, whose words are in the registers.
+    fn message(&self, head: &Head) -> Message
+        ensures { result ≡ message_of [] self.now.context.words head.now }
+    {
+        let words = match head.words() {
+            Words::InRegisters(count) => self.words(count),
+            Words::Apart => &[],
+        };
+        head.with_words(words).to_message()
     }
 
     // The message of a send that this thread begins now, but for its words.

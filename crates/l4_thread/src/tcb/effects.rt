@@ -95,7 +95,7 @@ impl Tcb {
         ensures began { (m : Machine) → permitted ≡ may_show m self.old.id self.old.thread.context.actual →
             result ≡ began_of (act m self.old.id now self.old.thread.context (instr_of instr.now)) }
     {
-        let request = self.thread.request(instr, permitted);
+        let request = self.thread.begin_phases(instr, permitted);
         let receive = receive_of(request.receive);
         if let Some(phase) = request.send {
             self.send = Some(send_of(phase, receive, now));

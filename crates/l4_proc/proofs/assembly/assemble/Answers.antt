@@ -26,5 +26,6 @@ loop-port-preserved c =
     let h = next_has c.args.machine.now c.loop-port.yielded c.next.new.self.rest.items _ c.loop-port.processors.items c.push.new.self.items
     c.in-Some.port c.new-in-loop-port.result c.in_ok-core.core c.cpu.result before
     c.in-Some.ensures.steps.0 c.in_ok-push.ensures.items c.new-in-loop-port.ensures.parts.0 c.new-in-loop-port.ensures.parts.1 c.in_ok-core.ensures
-    c.cpu.ensures c.new-in-loop-port.ensures.opened c.new-in-loop-port.ensures.parts.2 c.new-in-loop-port.ensures.turns c.new-in-loop-port.ensures.stop in
+    c.cpu.ensures c.new-in-loop-port.ensures.opened c.new-in-loop-port.ensures.parts.2 c.new-in-loop-port.ensures.turns c.new-in-loop-port.ensures.stop
+    c.new-in-loop-port.ensures.log in
     record { fresh = h.fresh; ports = h.ports; each = h.each }

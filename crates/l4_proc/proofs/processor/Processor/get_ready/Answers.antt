@@ -25,9 +25,9 @@ pub returns-then-is_none-clause-ok : goal.returns-then-is_none-clause-ok
 returns-then-is_none-clause-ok c =
     let next = next_taken _ _ _ c.take-self.ensures.some c.take-self.ensures.none c.take-self.ensures.kept in
     let is = readied_empty _ _ _ _ _ _ c.if-is_none.ensures c.reserve.ensures.same c.in_ok-reserve.ensures.room c.flush.ensures.same next in
-    record { core = refl; place = is.place; posted = is.posted; handled = is.handled; log = c.in_ok-begin.ensures.ok; room = is.room; kept = is.kept }
+    record { core = refl; place = is.place; posted = is.posted; handled = is.handled; log = c.in_ok-begin.ensures.ok; room = is.room; kept = is.kept; had = is.had }
 
 pub returns-else-is_none-clause-ok : goal.returns-else-is_none-clause-ok
 returns-else-is_none-clause-ok c =
     let is = readied_full _ _ _ _ c.if-is_none.ensures c.reserve.ensures.same c.in_ok-reserve.ensures.room c.flush.ensures.same in
-    record { core = refl; place = is.place; posted = is.posted; handled = is.handled; log = c.in_ok-begin.ensures.ok; room = is.room; kept = is.kept }
+    record { core = refl; place = is.place; posted = is.posted; handled = is.handled; log = c.in_ok-begin.ensures.ok; room = is.room; kept = is.kept; had = is.had }

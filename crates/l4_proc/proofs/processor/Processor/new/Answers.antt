@@ -5,3 +5,6 @@ use Rattle.l4_proc.proofs.processor.Processor.new.Goals as goal
 
 pub returns-clause-opened : goal.returns-clause-opened
 returns-clause-opened c = opened_past c.args.port (record { core = c.args.core; log = c.new-log.result; hand = None; stop = stop.Used }) c.requires.fresh c.new-log.ensures.ends refl
+
+pub returns-clause-log : goal.returns-clause-log
+returns-clause-log c = rw (c.new-log.ensures.ends) refl

@@ -1,6 +1,6 @@
 use Rattle.std.proofs.Common.{refl}
 use Rattle.std.proofs.lemmas.Result.{err_from_is_err_and}
-use Rattle.l4_proc.proofs.Turning.{done_whole, letters_have_room, letters_have_ways, refused_stopped, refused_taken, turn_taken, unready_taken}
+use Rattle.l4_proc.proofs.Turning.{done_whole, letters_have_room, letters_have_ways, refused_stopped, refused_taken, turn_taken, unready_taken, was_idle}
 use Rattle.l4_proc.proofs.processor.Processor.take_turn.Goals as goal
 
 pub returns-in_err-get_ready-clause-err : goal.returns-in_err-get_ready-clause-err
@@ -37,3 +37,13 @@ returns-clause-ok c = turn_taken c.args.self.now c.get_ready.new.self c.post_all
     c.args.self.now.whole c.get_ready.new.self.whole c.args.self.now.worker.log.few
     c.in_ok-get_ready.ensures.ok c.in_ok-stamp.ensures.ok c.end_turn.ensures c.post_all.ensures.port c.post_all.ensures.core c.post_all.ensures.hand
     c.post_all.ensures.log c.flush.ensures.same refl
+
+pub returns-in_err-get_ready-clause-nothing : goal.returns-in_err-get_ready-clause-nothing
+returns-in_err-get_ready-clause-nothing c =
+    let p = err_from_is_err_and c.from_residual.result c.from_residual.ensures.1 in
+    rw (p.1, p.2) (λ is. absurd cc)
+
+pub returns-in_err-stamp-clause-nothing : goal.returns-in_err-stamp-clause-nothing
+returns-in_err-stamp-clause-nothing c =
+    let p = err_from_is_err_and c.from_residual-in_err-stamp.result c.from_residual-in_err-stamp.ensures.1 in
+    rw (p.1, p.2) (was_idle c.args.self.now c.get_ready.new.self _ c.in_ok-get_ready.ensures.ok c.in_err-stamp.ensures.why)

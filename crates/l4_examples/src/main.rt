@@ -9,10 +9,11 @@ use l4_jobs::perform::perform;
 use l4_jobs::streams::Sink;
 use std::process::ExitCode;
 use std::rt::{Env, Files};
+use std::thread::Threads;
 use std::{env, fs, io};
 
 // Audits the trace of an example, and answers the status.
-fn audit_example<R: Files + AllocGlobal, E: Sink>(
+fn audit_example<R: Files + AllocGlobal + Threads + Sync, E: Sink>(
     rt: &R,
     name: &str,
     trace: &[u8],
@@ -26,6 +27,7 @@ fn audit_example<R: Files + AllocGlobal, E: Sink>(
     let mut told = trace;
     match fs::open(rt, name) {
         Ok(mut machine) => perform(
+            rt,
             rt.alloc(),
             &audit,
             &mut machine,
@@ -54,7 +56,7 @@ fn job_of(word: &str) -> Job<'_> {
 }
 
 // Runs or replays an example, audits its trace and prints it. Answers the first status that is not 0, or 0.
-fn run_example<R: Files + AllocGlobal, W: Sink, E: Sink>(
+fn run_example<R: Files + AllocGlobal + Threads + Sync, W: Sink, E: Sink>(
     rt: &R,
     word: &str,
     out: &mut W,
@@ -62,7 +64,7 @@ fn run_example<R: Files + AllocGlobal, W: Sink, E: Sink>(
 ) -> u8 {
     let job = job_of(word);
     let mut trace = Vec::new(rt.alloc());
-    let status = perform_on_files(rt.alloc(), rt, &job, &mut trace, faults);
+    let status = perform_on_files(rt, rt.alloc(), rt, &job, &mut trace, faults);
     if status != 0 {
         return status;
     }
@@ -77,7 +79,7 @@ fn run_example<R: Files + AllocGlobal, W: Sink, E: Sink>(
 }
 
 // Runs the examples up to the first one that does not come to rest or whose trace does not pass, and answers its status, or 0.
-fn run_examples<R: Files + AllocGlobal, W: Sink, E: Sink>(
+fn run_examples<R: Files + AllocGlobal + Threads + Sync, W: Sink, E: Sink>(
     rt: &R,
     words: &[String],
     out: &mut W,

@@ -7,5 +7,6 @@ pub mod ItemSpelling
 pub mod Lawful
 pub mod Matched
 pub mod Opened
+pub mod RunsShown
 pub mod Shown
 pub mod Splits

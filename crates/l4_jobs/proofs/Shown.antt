@@ -14,7 +14,7 @@ use Rattle.l4_machine.specs.declared.outcome.CompactOutcome.{CompactOutcome}
 use Rattle.l4_machine.specs.declared.outcome.RunFault.{RunFault}
 use Rattle.l4_machine.specs.declared.outcome.RunFault.TheVariants.{NoMemory}
 use Rattle.l4_jobs.specs.Items.{schedule_of}
-use Rattle.l4_jobs.specs.Jobs.{IsTold, IsFaultOf, IsJobFault, IsPassed, IsShown, IsShownOn, status_at_rest, fault_of, fault_of_job, fault_of_trace, fault_of_steps, fault_on as fault_of_judged, fault_of_result}
+use Rattle.l4_jobs.specs.Jobs.{IsTold, IsFaultOf, IsJobFault, IsPassed, IsShown, IsShownOn, status_at_rest, fault_of, fault_of_job, fault_of_trace, fault_of_steps, fault_on as fault_of_judged, fault_of_result, fault_of_run}
 use Rattle.l4_jobs.specs.declared.fault.Fault.{Fault}
 use Rattle.l4_jobs.specs.declared.fault.Fault.TheVariants as fault
 use Rattle.l4_jobs.specs.declared.job.Job.{Job}
@@ -68,8 +68,8 @@ passed_right m trace lines p =
 
 -- What is shown has no fault.
 right_on : (job : Job) (m : Machine) (trace lines : List ℕ) (status : ℕ) → IsShownOn job m trace lines status → fault_of_job job m trace ≡ None
-right_on (Run file turns report) m trace lines status s = ap fault_of_result s.runs
-right_on (Replay file schedule report) m trace lines status s = ap fault_of_result s.runs
+right_on (Run file turns report) m trace lines status s = ap (option_map fault_of_run) s.is.lawful
+right_on (Replay file schedule report) m trace lines status s = ap fault_of_result s.is
 right_on (Audit file name) m trace lines status s = passed_right m trace lines s.0
 
 shown_right : (job : Job) (text trace lines : List ℕ) (status : ℕ) → IsShown job text trace lines status → fault_of job text trace ≡ None

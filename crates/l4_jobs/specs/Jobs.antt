@@ -9,7 +9,7 @@ use Rattle.l4_model.specs.World.{World}
 use Rattle.l4_model.specs.History.{reached, refused_place, view, waiting as undecided_sends}
 use Rattle.l4_model.specs.Still.{IsStill}
 use Rattle.l4_core_model.specs.Runs.{Run as CoreRun, told, at_rest}
-use Rattle.l4_core_model.specs.Schedules.{run, replay}
+use Rattle.l4_core_model.specs.Schedules.{replay}
 use Rattle.l4_script.specs.Texts.{machine_of_text}
 use Rattle.l4_script.specs.declared.text.fault.TextFault.{TextFault}
 use Rattle.l4_script.specs.declared.text.fault.TextFaultKind.{TextFaultKind}
@@ -19,7 +19,7 @@ use Rattle.l4_types.specs.declared.reports.Ending.TheVariants.{Quiet, Spent}
 use Rattle.l4_audit.specs.Audits.{is_quiet}
 use Rattle.l4_audit.specs.declared.audit.AuditFault.{AuditFault}
 use Rattle.l4_audit.specs.declared.audit.AuditFault.TheVariants as audit_fault
-use Rattle.l4_machine.specs.Outcomes.{Findings, in_order}
+use Rattle.l4_machine.specs.Outcomes.{Findings, IsRunFor, in_order}
 use Rattle.l4_machine.specs.Entries.{turns_fault}
 use Rattle.l4_machine.specs.declared.outcome.RunFault.{RunFault}
 use Rattle.l4_machine.specs.declared.outcome.RunFault.TheVariants as run_fault
@@ -62,20 +62,23 @@ abbrev pub IsUnread : (file : List ℕ) → ErrorKind → Fault → Type 0
 IsUnread file OutOfMemory f = f ≡ fault.NoMemory
 IsUnread file _ f = Names file f
 
--- The core run in rounds of a machine, its events in order of stamp, and that by a list of items, or why there is none.
-abbrev pub unless : {X : Type 0} → Option RunFault → X → Result X RunFault
-unless None x = Ok x
-unless (Some fault) x = Err fault
+-- A run of a machine for so many turns, its events in order of stamp. On several processors there may be more than one.
+pub record IsRunAsked (m : Machine) (turns : ℕ) (r : CoreRun) : Type 0 where
+  pub lawful : turns_fault turns ≡ None
+  pub run : CoreRun
+  pub is : IsRunFor m turns run
+  pub sorted : r ≡ in_order run
 
-abbrev pub run_in_rounds : Machine → (turns : ℕ) → Result CoreRun RunFault
-run_in_rounds m turns = unless (turns_fault turns) (in_order (run m turns))
-
+-- The core run of a machine by a list of items, or why there is none.
 abbrev pub replayed : Machine → Result (List ℕ) RunFault → Result CoreRun RunFault
 replayed m (Ok schedule) = Ok (replay m schedule)
 replayed m (Err fault) = Err fault
 
 abbrev pub run_by_list : Machine → (list : List ℕ) → Result CoreRun RunFault
 run_by_list m list = replayed m (schedule_of m list)
+
+abbrev pub IsReplayAsked : Machine → (list : List ℕ) → CoreRun → Type 0
+IsReplayAsked m list r = run_by_list m list ≡ Ok r
 
 -- Its fault on a text. The text is judged first.
 abbrev pub text_fault : (line : ℕ) → TextFaultKind → Fault
@@ -88,6 +91,9 @@ fault_of_run run_fault.NoMemory = fault.NoMemory
 fault_of_run run_fault.Strangers = fault.NoMemory
 fault_of_run run_fault.Turns = fault.Turns
 fault_of_run (run_fault.Schedule place) = fault.Schedule place
+
+abbrev pub fault_of_turns : (turns : ℕ) → Option Fault
+fault_of_turns turns = option_map fault_of_run (turns_fault turns)
 
 abbrev pub fault_of_result : Result CoreRun RunFault → Option Fault
 fault_of_result (Ok r) = None
@@ -110,7 +116,7 @@ abbrev pub fault_of_trace : Machine → (trace : List ℕ) → Option Fault
 fault_of_trace m trace = fault_of_steps m (steps_of trace)
 
 abbrev pub fault_of_job : Job → Machine → (trace : List ℕ) → Option Fault
-fault_of_job (Run file turns report) m trace = fault_of_result (run_in_rounds m turns)
+fault_of_job (Run file turns report) m trace = fault_of_turns turns
 fault_of_job (Replay file schedule report) m trace = fault_of_result (run_by_list m schedule.now)
 fault_of_job (Audit file name) m trace = fault_of_trace m trace
 
@@ -128,7 +134,7 @@ IsTraceFault m name gives f =
     ((kind : ErrorKind) × gives (Err kind) × IsUnread name kind f) ⊎ ((trace : List ℕ) × gives (Ok trace) × (fault_of_trace m trace ≡ Some f))
 
 abbrev pub IsFaultOn : Job → Machine → (trace : Result (List ℕ) ErrorKind → Type 0) → Fault → Type 0
-IsFaultOn (Run file turns report) m trace f = fault_of_result (run_in_rounds m turns) ≡ Some f
+IsFaultOn (Run file turns report) m trace f = fault_of_turns turns ≡ Some f
 IsFaultOn (Replay file schedule report) m trace f = fault_of_result (run_by_list m schedule.now) ≡ Some f
 IsFaultOn (Audit file name) m trace f = IsTraceFault m name.now trace f
 
@@ -174,10 +180,10 @@ abbrev pub Shows : (report : Bool) → Machine → CoreRun → (lines : List ℕ
 Shows true m r lines = IsReport m r lines
 Shows false m r lines = lines ≡ trace_of (told r.events)
 
--- These are what is shown of a run on a machine, and the exit status.
-pub record IsRunShown (report : Bool) (machine : Machine) (asked : Result CoreRun RunFault) (lines : List ℕ) (status : ℕ) : Type 0 where
+-- These are what is shown of a core run on a machine that is asked for, and the exit status.
+pub record IsRunShown (report : Bool) (machine : Machine) (IsAsked : CoreRun → Type 0) (lines : List ℕ) (status : ℕ) : Type 0 where
   pub run : CoreRun
-  pub runs : asked ≡ Ok run
+  pub is : IsAsked run
   pub shows : Shows report machine run lines
   pub status_is : status ≡ status_at_rest (at_rest machine run.system)
 
@@ -193,8 +199,8 @@ pub record IsPassed (machine : Machine) (trace lines : List ℕ) : Type 0 where
 
 -- These are what a job shows on a machine, and the exit status.
 abbrev pub IsShownOn : Job → Machine → (trace lines : List ℕ) → (status : ℕ) → Type 0
-IsShownOn (Run file turns report) m trace lines status = IsRunShown report m (run_in_rounds m turns) lines status
-IsShownOn (Replay file schedule report) m trace lines status = IsRunShown report m (run_by_list m schedule.now) lines status
+IsShownOn (Run file turns report) m trace lines status = IsRunShown report m (IsRunAsked m turns) lines status
+IsShownOn (Replay file schedule report) m trace lines status = IsRunShown report m (IsReplayAsked m schedule.now) lines status
 IsShownOn (Audit file name) m trace lines status = IsPassed m trace lines × (status ≡ 0)
 
 -- The text declares a machine, and these are what the job shows there.

@@ -8,9 +8,11 @@ use crate::job::Job;
 use crate::perform::perform;
 use crate::streams::{Folder, Sink, Source};
 use std::alloc::Global;
+use std::thread::Threads;
 
 // Opens the trace of a job that reads one, and does the job.
-fn on_trace<F: Folder, M: Source, W: Sink, E: Sink>(
+fn on_trace<R: Threads + Sync, F: Folder, M: Source, W: Sink, E: Sink>(
+    rt: &R,
     alloc: Global,
     folder: &F,
     job: &Job<'_>,
@@ -26,17 +28,18 @@ fn on_trace<F: Folder, M: Source, W: Sink, E: Sink>(
     ensures statuses { (result ≡ 0) ⊎ (result ≡ 1) ⊎ (result ≡ 3) }
 {
     let Some(name) = job.trace_file() else {
-        return perform(alloc, job, machine, &mut b"".as_slice(), out, faults);
+        return perform(rt, alloc, job, machine, &mut b"".as_slice(), out, faults);
     };
     match folder.open(name) {
-        Ok(mut trace) => perform(alloc, job, machine, &mut trace, out, faults),
+        Ok(mut trace) => perform(rt, alloc, job, machine, &mut trace, out, faults),
         Err(kind) => report(alloc, faults, &unread(name, kind)),
     }
 }
 
 /// Opens the files of a job, the machine text's before the trace's and both before anything is read of them, and does the job. The exit
 /// status is that of `perform`, and 1 where a file can't be opened.
-pub fn perform_on_files<F: Folder, W: Sink, E: Sink>(
+pub fn perform_on_files<R: Threads + Sync, F: Folder, W: Sink, E: Sink>(
+    rt: &R,
     alloc: Global,
     folder: &F,
     job: &Job<'_>,
@@ -52,7 +55,7 @@ pub fn perform_on_files<F: Folder, W: Sink, E: Sink>(
 {
     let file = job.file();
     match folder.open(file) {
-        Ok(mut machine) => on_trace(alloc, folder, job, &mut machine, out, faults),
+        Ok(mut machine) => on_trace(rt, alloc, folder, job, &mut machine, out, faults),
         Err(kind) => report(alloc, faults, &unread(file, kind)),
     }
 }

@@ -6,7 +6,7 @@ ghost use Rattle.l4_jobs.specs.Jobs.{file_of, trace_file_of};
 /// What is to be done.
 #[derive(Clone, Copy, Debug, PartialEq, Eq)]
 pub enum Job<'a> {
-    /// Run the machine text in a file for at most so many turns, and print its trace, or its report in place of it.
+    /// Run the machine text in a file until so many turns are taken or nothing is left to do, and print its trace, or its report in place of it.
     Run {
         file: &'a str,
         turns: u64,

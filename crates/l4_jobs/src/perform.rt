@@ -5,7 +5,7 @@ ghost use Rattle.l4_machine.specs.Outcomes.{IsCompactReplay, compact_findings_of
 ghost use Rattle.l4_machine.specs.declared.outcome.RunFault.TheVariants.{NoMemory as RunOutOfMemory};
 ghost use Rattle.l4_script.specs.Texts.{machine_of_text};
 ghost use Rattle.l4_jobs.specs.Items.{schedule_of};
-ghost use Rattle.l4_jobs.specs.Jobs.{IsUnread, IsTold, file_of, trace_file_of, IsShown, IsShownOn, IsRunShown, IsPassed, IsTraceFault, IsFaultOn, IsFaultOf, IsJobFault, IsDone, IsNotDone, run_in_rounds, run_by_list, fault_of, fault_of_result, lines_of_outcome, status_of_ending};
+ghost use Rattle.l4_jobs.specs.Jobs.{IsUnread, IsTold, file_of, trace_file_of, IsShown, IsShownOn, IsRunShown, IsPassed, IsTraceFault, IsFaultOn, IsFaultOf, IsJobFault, IsDone, IsNotDone, IsRunAsked, IsReplayAsked, run_by_list, fault_of, fault_of_result, fault_of_turns, lines_of_outcome, status_of_ending};
 ghost use Rattle.l4_jobs.specs.declared.fault.Fault.TheVariants.{NoMemory as OutOfMemory};
 
 use crate::audits::audited;
@@ -15,12 +15,14 @@ use crate::job::Job;
 use crate::report_lines::write_report;
 use crate::streams::{Sink, Source};
 use l4_machine::{CompactOutcome, RunFault, replay_compact, run_compact};
+use l4_proc::gate::Open;
 use l4_script::machine::Machine;
 use l4_script::text::MOST_BYTES;
 use l4_trace::traces::trace_history;
 use l4_types::errors::NoMemory;
 use l4_types::reports::Ending;
 use std::alloc::Global;
+use std::thread::Threads;
 
 /// What a job prints, and its exit status.
 #[derive(Drop)]
@@ -91,16 +93,17 @@ fn output_of_run(alloc: Global, report: bool, outcome: &CompactOutcome) -> Resul
 }
 
 // What a run prints.
-fn run_output<'a>(
+fn run_output<'a, R: Threads + Sync>(
+    rt: &R,
     alloc: Global,
     machine: &Machine,
     turns: u64,
     report: bool,
 ) -> Result<Output, Fault<'a>>
-    ensures ok { IfOk result (λ output. IsRunShown report machine.now (run_in_rounds machine.now turns) output.lines.items output.status) }
-    ensures err { IfErr result (λ fault. (fault ≡ OutOfMemory) ⊎ (fault_of_result (run_in_rounds machine.now turns) ≡ Some fault)) }
+    ensures ok { IfOk result (λ output. IsRunShown report machine.now (IsRunAsked machine.now turns) output.lines.items output.status) }
+    ensures err { IfErr result (λ fault. (fault ≡ OutOfMemory) ⊎ (fault_of_turns turns ≡ Some fault)) }
 {
-    let outcome = run_compact(alloc, machine, turns)?;
+    let outcome = run_compact(rt, alloc, machine, turns, &Open)?;
     Ok(output_of_run(alloc, report, &outcome)?)
 }
 
@@ -111,7 +114,7 @@ fn replay_output<'a>(
     list: &str,
     report: bool,
 ) -> Result<Output, Fault<'a>>
-    ensures ok { IfOk result (λ output. IsRunShown report machine.now (run_by_list machine.now list.now) output.lines.items output.status) }
+    ensures ok { IfOk result (λ output. IsRunShown report machine.now (IsReplayAsked machine.now list.now) output.lines.items output.status) }
     ensures err { IfErr result (λ fault. (fault ≡ OutOfMemory) ⊎ (fault_of_result (run_by_list machine.now list.now) ≡ Some fault)) }
 {
     let outcome = replayed(alloc, machine, list)?;
@@ -138,7 +141,8 @@ fn audit_output<'a, T: Source>(
 }
 
 // What a job prints for a machine. Only an audit reads the trace.
-fn output_on<'a, T: Source>(
+fn output_on<'a, R: Threads + Sync, T: Source>(
+    rt: &R,
     alloc: Global,
     job: &Job<'a>,
     machine: &Machine,
@@ -150,7 +154,7 @@ fn output_on<'a, T: Source>(
     ensures unread { trace_file_of job.now ≡ None → trace.new ≡ trace.old }
 {
     match *job {
-        Job::Run { turns, report, .. } => run_output(alloc, machine, turns, report),
+        Job::Run { turns, report, .. } => run_output(rt, alloc, machine, turns, report),
         Job::Replay {
             schedule,
             report,
@@ -161,7 +165,8 @@ fn output_on<'a, T: Source>(
 }
 
 // What a job prints for a text. The text is judged before the trace is read.
-fn output_of<'a, T: Source>(
+fn output_of<'a, R: Threads + Sync, T: Source>(
+    rt: &R,
     alloc: Global,
     job: &Job<'a>,
     text: &[u8],
@@ -173,11 +178,12 @@ fn output_of<'a, T: Source>(
     ensures unread { trace_file_of job.now ≡ None → trace.new ≡ trace.old }
 {
     let machine = Machine::parse(alloc, text)?;
-    output_on(alloc, job, &machine, trace)
+    output_on(rt, alloc, job, &machine, trace)
 }
 
 // What a job prints for what its readers give.
-fn job_output<'a, M: Source, T: Source>(
+fn job_output<'a, R: Threads + Sync, M: Source, T: Source>(
+    rt: &R,
     alloc: Global,
     job: &Job<'a>,
     machine: &mut M,
@@ -189,13 +195,17 @@ fn job_output<'a, M: Source, T: Source>(
     ensures unread { trace_file_of job.now ≡ None → trace.new ≡ trace.old }
 {
     let text = read_text(alloc, job.file(), machine)?;
-    output_of(alloc, job, text.as_slice(), trace)
+    output_of(rt, alloc, job, text.as_slice(), trace)
 }
 
 /// Does a job, and answers the exit status: 0 where a run came to rest or a trace passed, 3 where a run did not come to rest, 1 where a fault
 /// was reported instead. The machine text is judged before anything is read of the trace, and only an audit reads that. The output is made
 /// whole before any of it is written, and it is written once. A fault is reported by its one line.
-pub fn perform<M: Source, T: Source, W: Sink, E: Sink>(
+///
+/// A run has a host thread for each processor of the machine. So two runs of several processors may differ: each is a lawful one, and a replay
+/// finds out what else may happen.
+pub fn perform<R: Threads + Sync, M: Source, T: Source, W: Sink, E: Sink>(
+    rt: &R,
     alloc: Global,
     job: &Job<'_>,
     machine: &mut M,
@@ -211,7 +221,7 @@ pub fn perform<M: Source, T: Source, W: Sink, E: Sink>(
     ensures statuses { (result ≡ 0) ⊎ (result ≡ 1) ⊎ (result ≡ 3) }
     ensures unread { trace_file_of job.now ≡ None → trace.new ≡ trace.old }
 {
-    let output = match job_output(alloc, job, machine, trace) {
+    let output = match job_output(rt, alloc, job, machine, trace) {
         Ok(output) => output,
         Err(fault) => return report(alloc, faults, &fault),
     };

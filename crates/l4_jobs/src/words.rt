@@ -24,7 +24,10 @@ const RUN_EXAMPLE: &str = "Example: `l4run run ping.l4`, where the file ping.l4 
   ipc nil any never never
 
 prints a line for each step: 1.1 sends the word 10 to 2.1, which waits for anybody.
-With `--report` it prints what the two threads have come to in place of it.";
+With `--report` it prints what the two threads have come to in place of it.
+
+Each processor of a machine text is a thread of the host. So two runs of a text with several processors may differ:
+each is one that the machine can take, and `l4run replay` finds out what else may happen.";
 
 const REPLAY_EXAMPLE: &str =
     "Example: `l4run replay ping.l4 --schedule 0,0,0`, with the machine text that `l4run help run` shows,
@@ -85,7 +88,7 @@ fn turns_arg<'a>(alloc: Global) -> Arg<'a>
     Arg::new(alloc, "turns")
         .long("turns")
         .value_name("N")
-        .help("Takes at most N turns, 1 to 1000000")
+        .help("Ends after N turns, 1 to 1000000, and at most one more for each further processor")
         .value_parser(value_parser!(u64))
         .default_value("100000")
 }

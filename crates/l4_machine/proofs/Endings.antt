@@ -8,11 +8,11 @@ use Rattle.std.proofs.lemmas.Option.{slice_get_within, slice_get-map}
 use Rattle.l4_model.specs.Machine.{Machine}
 use Rattle.l4_core_model.specs.Turns.{is_busy}
 use Rattle.l4_core_model.specs.Runs.{Posted, System, processors, letters, is_between, is_empty, local_at_rest, at_rest}
-use Rattle.l4_core_model.specs.Schedules.{earliest, earliest_of, earliest_deadline, least_deadline}
+use Rattle.l4_core_model.specs.Schedules.{least_deadline}
 use Rattle.l4_merge.proofs.Lists.{slice_get_none}
 use Rattle.l4_merge.proofs.Processors.{all_processors, each_processor}
-use Rattle.l4_machine.specs.Stations.{Station, deadline_of}
-use Rattle.l4_machine.specs.UnderWay.{letters_at, deadline_at, first_deadline, AreResting, IsSystem}
+use Rattle.l4_machine.specs.Stations.{Station}
+use Rattle.l4_machine.specs.UnderWay.{letters_at, deadline_at, AreResting, IsSystem}
 use Rattle.l4_machine.proofs.Happening.{local_at, letters_here}
 
 -- Where no pair has letters, none is under way.
@@ -33,7 +33,7 @@ no_letters_then : (mail : List Posted) → is_empty mail ≡ true → (from to :
 no_letters_then [] none from to = refl
 no_letters_then (p ∷ ps) none from to = cc
 
-unarmed_is : {A : Type 0} (f : A → ℕ) (xs : List A) → option_map f (slice_get xs 0) ≡ None → is_empty xs ≡ true
+pub unarmed_is : {A : Type 0} (f : A → ℕ) (xs : List A) → option_map f (slice_get xs 0) ≡ None → is_empty xs ≡ true
 unarmed_is f [] h = refl
 unarmed_is f (x ∷ xs) h = cc
 
@@ -83,12 +83,6 @@ are_resting m g ss i rest cpu s at =
 
 -- Deadlines
 
-pub earliest_assoc : (a b c : Option ℕ) → earliest (earliest a b) c ≡ earliest a (earliest b c)
-earliest_assoc None b c = refl
-earliest_assoc (Some a) None c = refl
-earliest_assoc (Some a) (Some b) None = refl
-earliest_assoc (Some a) (Some b) (Some c) = let e : min (min a b) c ≡ min a (min b c) = omega arith in ap Some e
-
 pub deadline_here : (m : Machine) (g : System) (ss : List Station) (cpu : ℕ) → IsSystem m g ss → least_deadline g cpu ≡ deadline_at (slice_get ss cpu)
 deadline_here m g ss cpu i = by (slice_get ss cpu) refl
   where
@@ -98,16 +92,3 @@ deadline_here m g ss cpu i = by (slice_get ss cpu) refl
     by : (o : Option Station) → slice_get ss cpu ≡ o → least_deadline g cpu ≡ deadline_at o
     by None at = let here = locals ∙ ap (option_map (λ (s : Station). s.core.local)) at in rw here refl
     by (Some s) at = let here = locals ∙ ap (option_map (λ (s : Station). s.core.local)) at in rw here refl
-
-deadlines_are : (g : System) (ss : List Station) (start : ℕ) → ((k : ℕ) → least_deadline g (start + k) ≡ deadline_at (slice_get ss k)) →
-    map (least_deadline g) (range_with_len start (length ss)) ≡ map deadline_of ss
-deadlines_are g [] start each = refl
-deadlines_are g (s ∷ ss) start each =
-    let here : start + 0 ≡ start = omega arith in
-    ap (λ d. d ∷ map (least_deadline g) (range_with_len (start + 1) (length ss))) (ap (least_deadline g) (sym here) ∙ each 0)
-    ∙ ap (λ ds. deadline_of s ∷ ds) (deadlines_are g ss (start + 1) (λ k. let next : start + 1 + k ≡ start + suc k = omega arith in ap (least_deadline g) next ∙ each (suc k)))
-
-pub earliest_here : (m : Machine) (g : System) (ss : List Station) → IsSystem m g ss → earliest_deadline m g ≡ first_deadline ss
-earliest_here m g ss i =
-    ap (λ n. earliest_of (map (least_deadline g) (range_with_len 0 n))) (sym i.for_each)
-    ∙ ap earliest_of (deadlines_are g ss 0 (λ k. let same : 0 + k ≡ k = omega arith in ap (least_deadline g) same ∙ deadline_here m g ss k i))

@@ -1,13 +1,13 @@
 -- The events of all processors, as entries, and in order.
 use Rattle.std.proofs.Common.{◌≡◌, ℕ, zero, suc, ◌+◌, ◌<◌, Bool, true, cond, Option, Some, None, List, [], ◌∷◌, ◌++◌, map, length, get_or, drop, take, refl, ap, sym, ◌∙◌, subst, append_assoc, ⊎_elim, arith}
 use Rattle.std.specs.Prelude.{slice_get, ◌==◌}
-use Rattle.std.specs.List.{AllByRecursion, flat_map, range_with_len}
+use Rattle.std.specs.List.{All, AllByRecursion, flat_map, range_with_len}
 use Rattle.std.specs.List.Sorted.{IsSortedBy, IsPermutation}
 use Rattle.std.specs.Ordering.{is_lt, nat_cmp, ordering_then}
 use Rattle.std.proofs.lemmas.Bool.{cases_lt}
 use Rattle.std.proofs.lemmas.Option.{slice_get-get_or, slice_get_within, slice_get_past}
 use Rattle.std.proofs.lemmas.List.{append-nil, map-append, length-map}
-use Rattle.std.proofs.lemmas.List.Sorted.{length_permutation}
+use Rattle.std.proofs.lemmas.List.Sorted.{length_permutation, All-permutation}
 use Rattle.std.proofs.lemmas.List.Concat.{flat_map-append}
 use Rattle.l4_model.specs.Machine.{Machine}
 use Rattle.l4_model.specs.Steps.{Step}
@@ -142,3 +142,16 @@ all_count m ps cpus entries sorted count are moved =
     let same : all_events (pasts_of m ps) ≡ map (event_at ps) entries =
     all_events_are m ps (processors m) ∙ ap (λ n. flat_map (λ cpu. events_of (with_number cpu ps)) (range_with_len 0 n)) count ∙ sym are in
     length_permutation entries sorted moved ∙ sym (length-map entries (event_at ps)) ∙ ap length (sym same)
+
+-- What is true of all stays true in another order.
+each_at : {A : Type 0} (P : A → Type 0) (xs : List A) (k : ℕ) (d : A) → AllByRecursion P xs → k < length xs → P (get_or xs k d)
+each_at P [] k d all lt = absurd (omega arith)
+each_at P (x ∷ xs) zero d all lt = all.0
+each_at P (x ∷ xs) (suc k) d all lt = each_at P xs k d all.1 (omega arith)
+
+all_of : {A : Type 0} (P : A → Type 0) (xs : List A) → All P xs → AllByRecursion P xs
+all_of P [] all = tt
+all_of P (x ∷ xs) all = (all 0 x (omega arith), all_of P xs (λ k d lt. all (suc k) d (omega arith)))
+
+pub all_moved : {A : Type 0} (P : A → Type 0) (old new : List A) → AllByRecursion P old → IsPermutation old new → AllByRecursion P new
+all_moved P old new all moved = all_of P new (All-permutation P old new moved (λ k d lt. each_at P old k d all lt))

@@ -26,7 +26,7 @@ use Rattle.l4_mail.specs.Ports.{Account, account, fabric_size, place, posted_to,
 use Rattle.l4_mail.specs.declared.outlets.Outlet.{Outlet}
 use Rattle.l4_mail.specs.declared.inlets.Inlet.{Inlet}
 use Rattle.l4_mail.specs.declared.ports.Port.{Port}
-use Rattle.l4_proc.specs.Rests.{AreAsBefore}
+use Rattle.l4_proc.specs.Rests.{AreAsBefore, HaveHandledAll}
 use Rattle.l4_proc.specs.declared.worker.Worker.{Worker}
 use Rattle.l4_proc.specs.Whole.{hand_from, handled_from}
 use Rattle.l4_mail.proofs.Growing.{set_case}
@@ -88,7 +88,7 @@ none_posted_own m p o =
 outlets_are : (m : Machine) (p : Processor) → IsOneOf m p → length p.port.outlets.items ≡ m.cpus
 outlets_are m p o = p.whole.port_of.size ∙ ap (λ (m : Machine). m.cpus) o.machine
 
-none_taken_beyond : (m : Machine) (p : Processor) (k : ℕ) → IsOneOf m p → m.cpus ≤ k → taken_from p.port k ≡ []
+pub none_taken_beyond : (m : Machine) (p : Processor) (k : ℕ) → IsOneOf m p → m.cpus ≤ k → taken_from p.port k ≡ []
 none_taken_beyond m p k o le =
     let outs = outlets_are m p o in
     let size = o.apart.size in
@@ -104,7 +104,7 @@ none_posted_beyond m p k o le =
     beyond (map posted p.port.outlets.items) k [] (omega arith)
 
 -- What was not taken was not handled.
-none_handled : (p : Processor) (k : ℕ) → taken_from p.port k ≡ [] → (past p).handled k ≡ []
+pub none_handled : (p : Processor) (k : ℕ) → taken_from p.port k ≡ [] → (past p).handled k ≡ []
 none_handled p k none = ap (λ (ls : List own.Letter). map letter_of (take (length ls - length (hand_from p.worker.hand k)) ls)) none ∙ nothing _
   where
     nothing : (n : ℕ) → map letter_of (take n []) ≡ []
@@ -214,7 +214,7 @@ whole_pasts m ps all have whole = record {
 -- When they are at rest
 
 -- Places and numbers tell the same.
-numbered : (m : Machine) (ps : List Processor) (i : ℕ) (p : Processor) → AreOfOne m ps → HaveNumbers m.cpus ps → slice_get ps i ≡ Some p →
+pub numbered : (m : Machine) (ps : List Processor) (i : ℕ) (p : Processor) → AreOfOne m ps → HaveNumbers m.cpus ps → slice_get ps i ≡ Some p →
     with_number p.worker.core.cpu ps ≡ Some p
 numbered m ps i p all have at = by (with_number p.worker.core.cpu ps) refl (have p.worker.core.cpu (all.each i p at).number)
   where
@@ -230,11 +230,21 @@ numbered m ps i p all have at = by (with_number p.worker.core.cpu ps) refl (have
         absurd (apart (q.whole.port_of.number ∙ f.number ∙ sym p.whole.port_of.number)))
         (eqb_tells f.at i)
 
+-- Where all is handled, no letter of a pair is under way.
+pub all_handled_between : (m : Machine) (ps : List Processor) → AreOfOne m ps → HaveNumbers m.cpus ps → AreWhole (map port_of ps) → HaveHandledAll ps →
+    (from to : ℕ) → letters_posted (pasts_of m ps) from to ≡ letters_handled (pasts_of m ps) from to
+all_handled_between m ps all have whole handled from to = by (pair m ps from to all have)
+  where
+    by : Pair m ps from to → letters_posted (pasts_of m ps) from to ≡ letters_handled (pasts_of m ps) from to
+    by (Beyond a b) = b ∙ sym a
+    by (Two i j p q ne at_p at_q num_p num_q sends gets) =
+        sends ∙ ap (past p).posted (sym num_q) ∙ all_is_handled ps i j p q whole handled ne at_p at_q ∙ ap (past q).handled num_p ∙ sym gets
+
 pub rests : (m : Machine) (ps : List Processor) → AreOfOne m ps → HaveNumbers m.cpus ps → AreWhole (map port_of ps) → AreResting ps →
     AreAtRest m (pasts_of m ps)
 rests m ps all have whole r = record {
   each = λ cpu done lt at. each cpu done lt (with_number cpu ps) refl at;
-  all_handled = λ from to. same from to (pair m ps from to all have);
+  all_handled = all_handled_between m ps all have whole r.handled;
 }
   where
     each : (cpu : ℕ) (done : Past) → cpu < m.cpus → (o : Option Processor) → with_number cpu ps ≡ o → slice_get (pasts_of m ps) cpu ≡ Some done →
@@ -247,11 +257,6 @@ rests m ps all have whole r = record {
         subst (λ (d : Past). is_at_rest m cpu d.local ≡ true) same
         (subst (λ m. is_at_rest m cpu p.worker.core.local ≡ true) o.machine
         (subst (λ cpu. is_at_rest p.worker.core.machine cpu p.worker.core.local ≡ true) f.number (r.each f.at p f.here)))
-
-    same : (from to : ℕ) → Pair m ps from to → letters_posted (pasts_of m ps) from to ≡ letters_handled (pasts_of m ps) from to
-    same from to (Beyond a b) = b ∙ sym a
-    same from to (Two i j p q ne at_p at_q num_p num_q sends gets) =
-        sends ∙ ap (past p).posted (sym num_q) ∙ all_is_handled ps i j p q whole r.handled ne at_p at_q ∙ ap (past q).handled num_p ∙ sym gets
 
 -- Nothing is left behind what was handled.
 nothing_left : (handled more : List Letter) → handled ++ more ≡ handled → more ≡ []
@@ -472,7 +477,7 @@ assembled m ps a = record {
   one = a.one;
 }
 
-gone_on : (m : Machine) (old new : Processor) → HasGoneOn old new → IsOneOf m old → IsOneOf m new
+pub gone_on : (m : Machine) (old new : Processor) → HasGoneOn old new → IsOneOf m old → IsOneOf m new
 gone_on m old new on o =
     let cpu = old.worker.core.cpu in
     let more = subst (λ m. HasWorked m cpu (past old) (past new)) o.machine on.worked in

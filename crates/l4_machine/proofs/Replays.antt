@@ -1,18 +1,31 @@
 -- A schedule, entry by entry.
-use Rattle.std.proofs.Common.{◌≡◌, ℕ, suc, ◌+◌, ◌-◌, ◌<◌, ◌≤◌, true, false, Option, Some, None, List, ◌∷◌, length, get_or, drop, refl, ap, sym, ◌∙◌, subst, arith, add-one}
+use Rattle.std.proofs.Common.{◌≡◌, ℕ, suc, ◌+◌, ◌-◌, ◌<◌, ◌≤◌, true, false, Option, Some, None, List, [], ◌∷◌, length, get_or, drop, refl, ap, sym, ◌∙◌, subst, arith, add-one, length-append}
 use Rattle.std.specs.Prelude.{if◌then◌else◌, nat_lt, slice_get, OnOk, Result, Ok, Err}
 use Rattle.std.specs.Option.{option_map}
 use Rattle.std.proofs.Math.Seq.{drop-cons, drop-length}
 use Rattle.std.proofs.lemmas.Bool.Decides.{nat_tests}
+use Rattle.std.proofs.lemmas.List.{length-map}
 use Rattle.l4_model.specs.Machine.{Machine}
 use Rattle.l4_model.specs.Conditions.{◌>>=◌}
-use Rattle.l4_core_model.specs.Runs.{Happening, Ticks, happens, Run}
+use Rattle.l4_core_model.specs.Runs.{Happening, Happened, Ticks, happens, Run}
 use Rattle.l4_core_model.specs.Schedules.{attempts, entry_event, least_deadline, next_turn, or_stays, replays}
+use Rattle.l4_machine.specs.Parts.{event_of}
 use Rattle.l4_machine.specs.Entries.{after_entry, is_entry, first_stranger}
 use Rattle.l4_machine.specs.UnderWay.{UnderWay, deadline_at, IsSystem, IsRun, GoesOn}
 use Rattle.l4_machine.specs.Stations.{Station}
 use Rattle.l4_machine.proofs.Endings.{deadline_here}
-use Rattle.l4_machine.proofs.InRounds.{as_many, one_more}
+
+-- There are as many parts as events.
+pub as_many : (m : Machine) (r : Run) (u : UnderWay) → IsRun m r u → length u.parts ≡ length r.events
+as_many m r u i = sym (length-map u.parts (event_of u.steps)) ∙ ap length i.events
+
+-- What is tried adds one event at most.
+one_more : (m : Machine) (r : Run) (e : Happening) → length (attempts m r e).events ≤ length r.events + 1
+one_more m r e = by (happens m r.system e)
+  where
+    by : (o : Option Happened) → length (or_stays r o).events ≤ length r.events + 1
+    by None = omega arith
+    by (Some h) = let longer = length-append r.events (h.event ∷ []) in omega arith
 
 pub record IsReplaying (m : Machine) (schedule : List ℕ) (first : Run) (u : UnderWay) (place : ℕ) : Type 0 where
   pub run : Run

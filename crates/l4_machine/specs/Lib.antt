@@ -4,4 +4,5 @@ pub mod Gathers
 pub mod Outcomes
 pub mod Parts
 pub mod Stations
+pub mod Teams
 pub mod UnderWay

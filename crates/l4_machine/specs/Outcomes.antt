@@ -1,5 +1,5 @@
 -- What the outcome of a run says.
-use Rattle.std.specs.Prelude.{◌≡◌, ◌↔◌, ℕ, true, Some, List, map, length}
+use Rattle.std.specs.Prelude.{◌≡◌, ◌↔◌, ◌⊎◌, ℕ, ◌+◌, ◌<◌, ◌≤◌, true, Some, List, map, length}
 use Rattle.l4_model.specs.Words.{Id}
 use Rattle.l4_model.specs.Machine.{Machine}
 use Rattle.l4_model.specs.Steps.{Step}
@@ -9,6 +9,7 @@ use Rattle.l4_model.specs.Laws.{IsLawful}
 use Rattle.l4_model.specs.Still.{IsStill}
 use Rattle.l4_core_model.specs.Runs.{Run, merged, told, at_rest}
 use Rattle.l4_core_model.specs.Schedules.{run, replay}
+use Rattle.l4_merge.specs.Rounds.{IsInRounds}
 use Rattle.l4_types.specs.declared.reports.Ending.{Ending}
 use Rattle.l4_types.specs.declared.reports.Ending.TheVariants.{Quiet}
 use Rattle.l4_types.specs.StepView.{step_of}
@@ -66,12 +67,28 @@ pub record IsOutcomeOf (m : Machine) (r : Run) (o : Findings) : Type 0 where
 abbrev pub in_order : Run → Run
 in_order r = record r { events = merged r.events }
 
--- The outcome of a run in rounds of this machine for at most so many turns. Its history is in order of stamp.
+-- A run of a machine for so many turns, however its processors come to one another.
+pub record IsRunFor (m : Machine) (most : ℕ) (r : Run) : Type 0 where
+  -- it goes in rounds of turns in any order, and the clocks go on, to the least deadline, only where nothing else is to be done
+  pub rounds : IsInRounds m r
+  -- it ends at rest, or has used up its turns
+  pub least : (most ≤ length r.events) ⊎ (at_rest m r.system ≡ true)
+  -- of which it has fewer than so many and one for each processor
+  pub fewer : length r.events < most + m.cpus
+  -- on one processor there is one such run
+  pub alone : m.cpus ≡ 1 → r ≡ run m most
+
+-- The findings of such a run. Its history is in order of stamp.
+pub record IsFoundFor (m : Machine) (most : ℕ) (o : Findings) : Type 0 where
+  pub run : Run
+  pub is : IsRunFor m most run
+  pub outcome : IsOutcomeOf m (in_order run) o
+
 abbrev pub IsOutcome : Machine → (most : ℕ) → Outcome → Type 0
-IsOutcome m most o = IsOutcomeOf m (in_order (run m most)) (findings_of o)
+IsOutcome m most o = IsFoundFor m most (findings_of o)
 
 abbrev pub IsCompactOutcome : Machine → (most : ℕ) → CompactOutcome → Type 0
-IsCompactOutcome m most o = IsOutcomeOf m (in_order (run m most)) (compact_findings_of o)
+IsCompactOutcome m most o = IsFoundFor m most (compact_findings_of o)
 
 -- The outcome of a run of this machine by a schedule. Its history is in the order told.
 abbrev pub IsReplayed : Machine → (schedule : List ℕ) → Outcome → Type 0

@@ -6,7 +6,6 @@ use Rattle.l4_model.specs.Steps.{Step}
 use Rattle.l4_model.specs.World.{changed}
 use Rattle.l4_core_model.specs.Letters.{Letter}
 use Rattle.l4_core_model.specs.Runs.{System, letters, Run, IsMachine, told}
-use Rattle.l4_core_model.specs.Schedules.{earliest_of}
 use Rattle.l4_core_model.specs.Laws.{IsCoreRun}
 use Rattle.l4_machine.specs.declared.events.Part.{Part}
 use Rattle.l4_machine.specs.declared.station.Station as program
@@ -53,10 +52,7 @@ abbrev pub letters_at : (from : ℕ) → Option Station → List Letter
 letters_at from None = []
 letters_at from (Some s) = letters_from from s
 
--- The least deadline of all.
-abbrev pub first_deadline : List Station → Option ℕ
-first_deadline ss = earliest_of (map deadline_of ss)
-
+-- The least deadline of a processor.
 abbrev pub deadline_at : Option Station → Option ℕ
 deadline_at None = None
 deadline_at (Some s) = deadline_of s

@@ -1,14 +1,13 @@
 //! A core run under way: all processors of a machine, the letters between them, and the events so far.
 ghost use Rattle.std.specs.Prelude.{ℕ, ◌≡◌, ◌<◌, ◌≤◌, ◌↔◌, ◌^◌, [], IfOk, IsTrue, OnErr, OnOk, length, map, slice_get, slice_index_or};
-ghost use Rattle.l4_core_model.specs.Runs.{IsMachine, Ticks, merged, opening_run, opening_system, told};
-ghost use Rattle.l4_core_model.specs.Schedules.{attempts, earliest, next_turn};
+ghost use Rattle.l4_core_model.specs.Runs.{IsMachine, Ticks, opening_run, opening_system};
+ghost use Rattle.l4_core_model.specs.Schedules.{attempts, next_turn};
 ghost use Rattle.l4_types.specs.declared.reports.Ending.TheVariants.{Quiet};
 ghost use Rattle.l4_core.specs.Tellings.{posted_of};
-ghost use Rattle.l4_machine.specs.Parts.{events_of};
 ghost use Rattle.l4_machine.specs.Stations.{station_of};
-ghost use Rattle.l4_machine.specs.UnderWay.{with_letters, first_deadline, deadline_at, room_at, AreResting, AreRoomy, CanPost, GoesOn, HasRun, HaveGrown, IsRun, IsSystem, KnowPoster};
+ghost use Rattle.l4_machine.specs.UnderWay.{with_letters, deadline_at, room_at, AreResting, AreRoomy, CanPost, GoesOn, HasRun, HaveGrown, IsRun, IsSystem, KnowPoster};
 
-use crate::events::{Part, begin_event, end_event, in_order};
+use crate::events::{Part, begin_event, end_event};
 use crate::laws::law_core_run;
 use crate::station::Station;
 use l4_core::told::{MOST_LETTERS, Told};
@@ -59,15 +58,6 @@ impl<'m> CoreRun<'m> {
             parts: Vec::new(alloc),
             told: Told::new(History::new(alloc)),
         })
-    }
-
-    /// How many processors there are.
-    pub(crate) fn cpus(&self) -> u8
-        ensures value { result ≡ self.now.machine.cpus }
-        ensures few { result ≤ 16 }
-    {
-        let _ = &self.parts;
-        self.machine.cpus()
     }
 
     /// How many events there were.
@@ -138,14 +128,6 @@ impl<'m> CoreRun<'m> {
         self.stations[usize::from(cpu)].least_deadline()
     }
 
-    /// The least deadline of all, in ticks.
-    pub(crate) fn first_deadline(&self) -> Option<u64>
-        ensures { result ≡ first_deadline self.now.stations }
-    {
-        let _ = &self.parts;
-        first_deadline(self.stations.as_slice())
-    }
-
     /// `Quiet` where nothing is to be done, armed or under way.
     pub(crate) fn ending(&self) -> Ending
         ensures { (result ≡ Quiet) ↔ AreResting self.now.stations }
@@ -163,15 +145,6 @@ impl<'m> CoreRun<'m> {
         ensures { result.steps ≡ self.entry.steps }
     {
         self.told.into_sink()
-    }
-
-    /// The history in order of stamp, and of equal ones by processor.
-    pub(crate) fn into_ordered_history(self, alloc: Global) -> Result<History, NoMemory>
-        requires { HasRun self }
-        ensures { IfOk result (λ h. h.steps ≡ told (merged (events_of self.entry.steps self.entry.parts))) }
-    {
-        law_core_run();
-        in_order(alloc, self.told.into_sink(), self.parts)
     }
 }
 
@@ -233,17 +206,6 @@ fn post(stations: &mut Vec<Station<'_>>, spare: &mut Vec<usize>, from: u8, lette
     }
 }
 
-// The least deadline of these processors.
-fn first_deadline(stations: &[Station<'_>]) -> Option<u64>
-    ensures { result ≡ first_deadline (map station_of stations.now) }
-{
-    let mut first = None;
-    for station in stations {
-        first = earliest(first, station.least_deadline());
-    }
-    first
-}
-
 // Whether none of these processors has anything to do, a deadline or a letter.
 fn are_at_rest(stations: &[Station<'_>]) -> bool
     ensures { IsTrue result ↔ AreResting (map station_of stations.now) }
@@ -254,15 +216,4 @@ fn are_at_rest(stations: &[Station<'_>]) -> bool
         }
     }
     true
-}
-
-// The earlier of two deadlines, where there are any.
-fn earliest(a: Option<u64>, b: Option<u64>) -> Option<u64>
-    ensures { result ≡ earliest a b }
-{
-    match (a, b) {
-        (Some(a), Some(b)) => Some(a.min(b)),
-        (a, None) => a,
-        (None, b) => b,
-    }
 }

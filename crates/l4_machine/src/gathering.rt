@@ -95,8 +95,8 @@ fn rested_outcome(
     outcome_of(alloc, machine, history, ending, events as u64)
 }
 
-// `Quiet` where nothing is to be done, armed or under way.
-fn ending(processors: &[Processor<'_>], all_handled: bool) -> Ending
+/// `Quiet` where nothing is to be done, armed or under way. Whether all letters are handled was found by a rest.
+pub(crate) fn ending(processors: &[Processor<'_>], all_handled: bool) -> Ending
     requires { IsTrue all_handled ↔ HaveHandledAll processors.now }
     ensures { (result ≡ Quiet) ↔ AreResting processors.now }
 {

@@ -1,4 +1,4 @@
-//! Machines at work: runs in rounds, replays of a schedule, and the law of core runs.
+//! Machines at work: runs by host threads, replays of a schedule, and the law of core runs.
 #![tactic(auto)]
 
 mod core_run;
@@ -7,12 +7,13 @@ mod gathering;
 mod laws;
 mod merging;
 mod outcome;
-mod rounds;
+mod runs;
 mod schedules;
 mod station;
+mod team;
 
 pub use gathering::gather;
 pub use laws::law_core_run;
 pub use outcome::{CompactOutcome, Outcome, RunFault};
-pub use rounds::{MOST_TURNS, run, run_compact};
+pub use runs::{MOST_TURNS, run, run_compact};
 pub use schedules::{MOST_ENTRIES, replay, replay_compact};

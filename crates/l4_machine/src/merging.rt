@@ -2,14 +2,16 @@
 ghost use Rattle.std.specs.Prelude.{◌≡◌, ◌<◌, ◌++◌, true, IfOk, OnOk, is_some, length, map, slice_get};
 ghost use Rattle.std.specs.List.{AllByRecursion, flat_map, range_with_len};
 ghost use Rattle.std.specs.List.Sorted.{IsPermutation, IsSortedBy};
-ghost use Rattle.l4_model.specs.Machine.{Machine};
+ghost use Rattle.l4_model.specs.Machine.{Machine as MachineOfModel};
 ghost use Rattle.l4_core_model.specs.Runs.{told};
 ghost use Rattle.l4_merge.specs.Pasts.{all_events};
-ghost use Rattle.l4_machine.specs.Gathers.{entry_is_earlier, event_at, events_of, pasts_of, with_number, HaveNumbers, IsMerge, IsWithin};
+ghost use Rattle.l4_proc.specs.Logs.{events};
+ghost use Rattle.l4_machine.specs.Gathers.{entry_is_earlier, event_at, events_of, pasts_of, with_number, AreOfOne, HaveNumbers, IsMerge, IsWithin};
 
 use crate::events::copy_steps;
 use l4_history::history::History;
 use l4_proc::processor::Processor;
+use l4_script::machine::Machine;
 use l4_types::errors::NoMemory;
 use std::alloc::Global;
 
@@ -30,13 +32,45 @@ pub(crate) fn merged_history(
     cpus: u8,
 ) -> Result<(History, usize), NoMemory>
     requires { HaveNumbers cpus processors.now }
-    ensures history { (m : Machine) → m.cpus ≡ cpus → IfOk result (λ r. IsMerge m processors.now r.0.steps) }
-    ensures events { (m : Machine) → m.cpus ≡ cpus → IfOk result (λ r. r.1 ≡ length (all_events (pasts_of m processors.now))) }
+    ensures history { (m : MachineOfModel) → m.cpus ≡ cpus → IfOk result (λ r. IsMerge m processors.now r.0.steps) }
+    ensures events { (m : MachineOfModel) → m.cpus ≡ cpus → IfOk result (λ r. r.1 ≡ length (all_events (pasts_of m processors.now))) }
 {
     let mut entries = all_entries(alloc, processors, cpus)?;
     sort(&mut entries);
     let history = copied(alloc, processors, entries.as_slice())?;
     Ok((history, entries.as_slice().len()))
+}
+
+/// The same of processors that nobody needs any more. The history of one that is alone is its log's, and nothing is copied.
+pub(crate) fn into_merged_history(
+    alloc: Global,
+    machine: &Machine,
+    processors: Vec<Processor<'_>>,
+) -> Result<(History, usize), NoMemory>
+    requires one { AreOfOne machine.now processors.items }
+    requires numbers { HaveNumbers machine.now.cpus processors.items }
+    requires count { length processors.items ≡ machine.now.cpus }
+    ensures history { IfOk result (λ r. IsMerge machine.now processors.entry.items r.0.steps) }
+    ensures events { IfOk result (λ r. r.1 ≡ length (all_events (pasts_of machine.now processors.entry.items))) }
+{
+    if machine.cpus() > 1 {
+        return merged_history(alloc, processors.as_slice(), machine.cpus());
+    }
+    let mut processors = processors;
+    match processors.pop() {
+        Some(processor) => Ok(own_history(processor)),
+        None => unreachable!(),
+    }
+}
+
+// The history of a log, and how many events it has.
+fn own_history(processor: Processor<'_>) -> (History, usize)
+    ensures history { result.0.steps ≡ told (events processor.entry.worker.log) }
+    ensures events { result.1 ≡ length (events processor.entry.worker.log) }
+{
+    let log = processor.into_log();
+    let events = log.len();
+    (log.into_history(), events)
 }
 
 // The events of all processors, by their numbers.

@@ -1,10 +1,10 @@
 -- The ends of events, and the events between them.
-use Rattle.std.proofs.Common.{◌≡◌, ℕ, ◌<◌, ◌≤◌, true, zero, suc, List, [], ◌∷◌, ◌++◌, length, get_or, take, drop, refl, ap, arith}
+use Rattle.std.proofs.Common.{◌≡◌, ℕ, ◌<◌, ◌≤◌, true, zero, suc, List, [], ◌∷◌, ◌++◌, length, get_or, take, drop, refl, ap, sym, ◌∙◌, arith}
 use Rattle.std.specs.Prelude.{nat_le, slice_get, Option, Some}
 use Rattle.std.proofs.lemmas.Bool.{and_parts, and_from, eqb-true, eq-eqb, leb-true, le-leb}
-use Rattle.std.proofs.lemmas.List.{take-append-le}
+use Rattle.std.proofs.lemmas.List.{drop_all, take-append-le}
 use Rattle.l4_model.specs.Steps.{Step}
-use Rattle.l4_core_model.specs.Runs.{Event}
+use Rattle.l4_core_model.specs.Runs.{Event, told}
 use Rattle.l4_proc.specs.declared.log.End.{End}
 use Rattle.l4_proc.specs.Ends.{are_ends, events_between, start_of}
 
@@ -41,6 +41,29 @@ event_at cpu first (e ∷ ends) steps zero end is =
     let same : e ≡ end = cc in
     let first_event : End → Option Event = λ x. Some (record { cpu = cpu; stamp = x.stamp; steps = drop first (take x.place steps) }) in ap first_event same
 event_at cpu first (e ∷ ends) steps (suc i) end is = event_at cpu e.place ends steps i end is
+
+-- All steps are told of the events together.
+
+halves : (steps : List Step) (n : ℕ) → take n steps ++ drop n steps ≡ steps
+halves [] zero = refl
+halves [] (suc n) = refl
+halves (x ∷ steps) zero = refl
+halves (x ∷ steps) (suc n) = ap (λ xs. x ∷ xs) (halves steps n)
+
+parted : (steps : List Step) (first last : ℕ) → first ≤ last → drop first (take last steps) ++ drop last steps ≡ drop first steps
+parted steps zero last le = halves steps last
+parted [] (suc first) zero le = absurd (omega arith)
+parted [] (suc first) (suc last) le = refl
+parted (x ∷ steps) (suc first) zero le = absurd (omega arith)
+parted (x ∷ steps) (suc first) (suc last) le = parted steps first last (omega arith)
+
+pub told_between : (cpu first : ℕ) (ends : List End) (steps : List Step) → are_ends first ends (length steps) ≡ true →
+    told (events_between cpu first ends steps) ≡ drop first steps
+told_between cpu first [] steps are = sym (drop_all first steps (omega (arith, eqb-true first (length steps) are)))
+told_between cpu first (end ∷ ends) steps are =
+    let parts = and_parts (nat_le first end.place) (are_ends end.place ends (length steps)) are in
+    ap (λ xs. drop first (take end.place steps) ++ xs) (told_between cpu end.place ends steps parts.1)
+    ∙ parted steps first end.place (leb-true first end.place parts.0)
 
 -- One more end
 

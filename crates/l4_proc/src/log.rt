@@ -46,6 +46,7 @@ pub struct EventRef<'a> {
 impl Log {
     ghost use Rattle.l4_proc.specs.Logs.{all_steps, event_of, events, HasBegun, HasEnded, HasLetters, IsClosed, IsSameLog};
     ghost use Rattle.std.specs.Option.{option_map, option_to_list};
+    ghost use Rattle.l4_core_model.specs.Runs.{told};
     ghost use Rattle.l4_core.specs.Tellings.{posted_of};
 
     /// The log of a processor that has done nothing. It takes no memory.
@@ -100,6 +101,14 @@ impl Log {
             stamp: end.stamp,
             steps: self.told.sink().steps_between(start(ends, i), end.place),
         }
+    }
+
+    /// The steps of all events, one event behind the other. Nothing is copied.
+    pub fn into_history(self) -> History
+        requires { IsClosed self }
+        ensures { result.steps ≡ told (events self) }
+    {
+        self.told.into_sink()
     }
 
     // Makes room for an event, and begins it.

@@ -103,6 +103,15 @@ impl<'m> Processor<'m> {
         (self.port, self.worker)
     }
 
+    /// The log alone.
+    pub fn into_log(self) -> Log
+        ensures log { result ≡ self.entry.worker.log }
+        ensures closed { IsClosed result }
+    {
+        let worker = self.worker;
+        worker.log
+    }
+
     /// A processor put together again, of a port and what does its work. They are of one processor, and the port has posted and taken what
     /// it had when they were parted.
     pub fn join(port: Port, worker: Worker<'m>) -> Processor<'m>

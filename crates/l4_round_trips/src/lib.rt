@@ -15,6 +15,7 @@ ghost use Rattle.l4_round_trips.specs.RoundTrips.{IsAudited};
 use l4_audit::audit::{Audit, AuditFault, check};
 use l4_machine::{Outcome, RunFault, replay, run};
 use l4_model::law_first_fault;
+use l4_proc::gate::Gate;
 use l4_script::machine::Machine;
 use l4_trace::fault::TraceFault;
 use l4_trace::reading::{law_read_back, read_events};
@@ -22,6 +23,7 @@ use l4_trace::traces::trace;
 use l4_types::errors::NoMemory;
 use l4_types::steps::Step;
 use std::alloc::Global;
+use std::thread::Threads;
 
 /// What a run came to, its trace, and the audit of the steps that were read of this trace.
 #[derive(Drop)]
@@ -34,16 +36,22 @@ pub struct AuditedOutcome {
     pub audit: Audit,
 }
 
-/// Runs a machine for at most so many turns, 1 to 1,000,000, writes its trace, reads the trace back and audits what was read.
+/// Runs a machine for so many turns, 1 to 1,000,000, as `run` does, writes its trace, reads the trace back and audits what was read.
 ///
 /// The faults are those of `run` alone: no line of the trace is that of no step, and no step is refused.
-pub fn audited_run(alloc: Global, machine: &Machine, turns: u64) -> Result<AuditedOutcome, RunFault>
+pub fn audited_run<R: Threads + Sync, G: Gate + Sync>(
+    rt: &R,
+    alloc: Global,
+    machine: &Machine,
+    turns: u64,
+    gate: &G,
+) -> Result<AuditedOutcome, RunFault>
     ensures outcome { IfOk result (λ audited. IsOutcome machine.now turns audited.outcome) }
     ensures audited { IfOk result (IsAudited machine.now) }
     ensures err { IfErr result (λ fault. (fault ≡ RunFault.NoMemory) ⊎ (turns_fault turns ≡ Some fault)) }
     ensures range { IsErrOf result RunFault.Turns ↔ ((turns ≡ 0) ⊎ (1000000 < turns)) }
 {
-    let outcome = run(alloc, machine, turns)?;
+    let outcome = run(rt, alloc, machine, turns, gate)?;
     Ok(audited(alloc, machine, outcome)?)
 }
 

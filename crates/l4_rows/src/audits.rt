@@ -4,13 +4,14 @@ use crate::receives::{CLOSED, CLOSED_TRACE};
 use crate::ticks::WAITS;
 use std::process::Abort;
 use std::test::Fail;
+use std::thread::Threads;
 
 const WORDS: [&str; 3] = ["audit", "m.l4", "m.trace"];
 
 const PASSED: (u8, &str, &str) = (0, "passed 8 quiet\n", "");
 
 /// Tests what an audit comes to: the status, and what is written to the output and to the faults.
-pub(crate) fn tells<R: AllocGlobal + Abort>(
+pub(crate) fn tells<R: AllocGlobal + Abort + Threads + Sync>(
     rt: &R,
     text: &str,
     trace: &str,

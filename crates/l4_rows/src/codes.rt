@@ -2,10 +2,11 @@
 use crate::program::runs;
 use std::process::Abort;
 use std::test::Fail;
+use std::thread::Threads;
 
 // Tests the run of a thread whose first instruction fails with this code, so that it goes on behind an `end` and sets register 1. Its trace
 // begins with this, and what is declared behind it has this report.
-fn fails<R: AllocGlobal + Abort>(
+fn fails<R: AllocGlobal + Abort + Threads + Sync>(
     rt: &R,
     code: u64,
     ipc: &str,

@@ -3,12 +3,13 @@ use crate::program::{Broken, Full, PING, PING_TRACE, does_into, shows};
 use l4_jobs::fault::{Fault, report};
 use std::process::Abort;
 use std::test::Fail;
+use std::thread::Threads;
 
 // The header lines and the first thread.
 const ONE_THREAD: &str = "l4 1 64\ncpus 1\nthread 1.1 cpu 0 space 1\n";
 
 // Tests that the text behind the beginning is faulty in this line.
-fn is_faulty<R: AllocGlobal + Abort>(
+fn is_faulty<R: AllocGlobal + Abort + Threads + Sync>(
     rt: &R,
     beginning: &str,
     rest: &str,

@@ -1,10 +1,12 @@
 // Processors that a caller puts to work itself, and what they come to together.
-ghost use Rattle.std.specs.Prelude.{◌<◌, ◌≤◌};
+ghost use Rattle.std.specs.Prelude.{◌<◌, ◌≤◌, IfSome};
+ghost use Rattle.l4_machine.specs.Gathers.{AreOfOne};
 
 use l4_jobs::report_lines::write_report;
-use l4_machine::{Outcome, gather};
+use l4_machine::{Outcome, RunFault, gather};
 use l4_proc::assembly::assemble;
 use l4_proc::gate::Open;
+use l4_proc::processor::Processor;
 use l4_proc::stops::Stop;
 use l4_script::machine::Machine;
 use l4_trace::traces::trace;
@@ -35,15 +37,27 @@ ipc nil any never never
 jump 0
 ";
 
-// What the processors of a machine come to, which take turns one after the other: each time so many of one of them. None where one does not
-// take as many.
-fn gathered(
+// Three processors, each with a thread that goes on for ever.
+const TOGETHER: &str = "l4 1 64
+cpus 3
+thread 1.1 cpu 0 space 1
+jump 0
+thread 2.1 cpu 1 space 1
+jump 0
+thread 3.1 cpu 2 space 1
+jump 0
+";
+
+// The processors of a machine, which have taken turns one after the other: each time so many of one of them. None where one does not take as
+// many.
+fn worked<'m>(
     alloc: Global,
-    machine: &Machine,
+    machine: &'m Machine,
     room: usize,
     shares: &[(usize, u64)],
-) -> Option<Outcome>
+) -> Option<Vec<Processor<'m>>>
     requires { (0 < room) × (room ≤ 65536) }
+    ensures { IfSome result (λ processors. AreOfOne machine.now processors.items) }
 {
     let Ok(mut processors) = assemble(alloc, machine, room) else {
         return None;
@@ -56,11 +70,57 @@ fn gathered(
             return None;
         }
     }
+    Some(processors)
+}
+
+// What they come to.
+fn gathered(
+    alloc: Global,
+    machine: &Machine,
+    room: usize,
+    shares: &[(usize, u64)],
+) -> Option<Outcome>
+    requires { (0 < room) × (room ≤ 65536) }
+{
+    let processors = worked(alloc, machine, room, shares)?;
     gather(alloc, machine, processors).ok()
 }
 
-// Tests that an outcome has this trace, this report and so many turns.
-fn has<R: AllocGlobal + Abort>(rt: &R, outcome: &Outcome, lines: &str, report: &str, turns: u64) {
+// What they come to where the call is made again for want of memory.
+fn gathered_again(
+    alloc: Global,
+    machine: &Machine,
+    processors: Vec<Processor<'_>>,
+) -> Option<Outcome>
+    requires { AreOfOne machine.now processors.items }
+{
+    match gather(alloc, machine, processors) {
+        Ok(outcome) => Some(outcome),
+        Err((RunFault::NoMemory, back)) => gather(alloc, machine, back).ok(),
+        Err(_) => None,
+    }
+}
+
+// Why they come to nothing without the last of them, and those that come back.
+fn gathered_without_last<'m>(
+    alloc: Global,
+    machine: &Machine,
+    mut processors: Vec<Processor<'m>>,
+) -> Option<(RunFault, Vec<Processor<'m>>)>
+    requires { AreOfOne machine.now processors.items }
+{
+    let _last = processors.pop();
+    gather(alloc, machine, processors).err()
+}
+
+/// Tests that an outcome has this trace, this report and so many turns.
+pub(crate) fn has<R: AllocGlobal + Abort>(
+    rt: &R,
+    outcome: &Outcome,
+    lines: &str,
+    report: &str,
+    turns: u64,
+) {
     let told = trace(rt.alloc(), outcome.history.as_slice())
         .ok()
         .expect(rt, "a trace");
@@ -111,4 +171,47 @@ fn nobody_is_not_all(rt: HostRuntime) -> Result<(), Fail> {
         .ok_or("a machine")?;
     assert!(rt; gather(rt.alloc(), &machine, Vec::new(rt.alloc())).is_err());
     Ok(())
+}
+
+// The last of three is missing: the two others come back in their order, with all that they did. That one is there twice is ruled out by
+// ownership, since no processor can be copied.
+#[test]
+fn one_of_them_is_missing(rt: HostRuntime) -> Result<(), Fail> {
+    let machine = Machine::parse(rt.alloc(), TOGETHER.as_bytes())
+        .ok()
+        .ok_or("a machine")?;
+    let processors = worked(rt.alloc(), &machine, 1, &[(1, 2), (2, 1), (0, 2)]).ok_or(
+        "processors",
+    )?;
+    let (fault, back) = gathered_without_last(rt.alloc(), &machine, processors).ok_or("a fault")?;
+    assert_eq!(rt; fault, RunFault::Strangers);
+    assert_eq!(rt; back.len(), 2);
+    for place in 0..2 {
+        assert_eq!(rt; usize::from(back[place].cpu()), place);
+        assert_eq!(rt; back[place].turns(), 2);
+        assert_eq!(rt; back[place].log().len(), 2);
+    }
+    Ok(())
+}
+
+// To be run with each allocation refused in turn: the processors come back, and the same call comes to the same then. Where memory is refused
+// to those that make them, nothing is to be gathered.
+#[test]
+fn what_memory_was_refused_for_is_gathered_again(rt: HostRuntime) {
+    let Ok(machine) = Machine::parse(rt.alloc(), QUEUED.as_bytes()) else {
+        return;
+    };
+    let shares = [(0, 3), (1, 3)];
+    let Some(first) = gathered(rt.alloc(), &machine, 1, &shares) else {
+        return;
+    };
+    let Some(processors) = worked(rt.alloc(), &machine, 1, &shares) else {
+        return;
+    };
+    let again = gathered_again(rt.alloc(), &machine, processors).expect(&rt, "an outcome");
+    assert!(rt; again.history.as_slice() == first.history.as_slice());
+    assert!(rt; again.waiting.as_slice() == first.waiting.as_slice());
+    assert!(rt; again.threads.as_slice() == first.threads.as_slice());
+    assert!(rt; again.ending == first.ending);
+    assert_eq!(rt; again.turns, first.turns);
 }

@@ -21,6 +21,8 @@ mod faults;
 #[cfg(test)]
 mod gathers;
 #[cfg(test)]
+mod host_threads;
+#[cfg(test)]
 mod letters;
 #[cfg(test)]
 mod limits;

@@ -11,6 +11,7 @@ use l4_types::reports::Ending;
 use l4_types::steps::{Delivery, Name, Step};
 use std::process::Abort;
 use std::test::Fail;
+use std::thread::Threads;
 
 // The last of the numbers that a thread may have, and the first of 1,024 up to it.
 const LAST: u64 = 4294967295;
@@ -18,7 +19,7 @@ const LAST: u64 = 4294967295;
 const FIRST: u64 = 4294966272;
 
 // A thread for each of these numbers that fills all registers, and sends to the last one. Nobody receives: all wait there, the last one too.
-fn all_wait<R: AllocGlobal + Abort>(rt: &R) -> Result<String, Fail> {
+fn all_wait<R: AllocGlobal + Abort + Threads + Sync>(rt: &R) -> Result<String, Fail> {
     let mut script = format!(in rt.alloc(); "vs {LAST}.4294967294\nset 1 0xffffffffffffffff\n")?;
     for register in 2..64 {
         writeln!(script, "copy {register} 1")?;
@@ -38,7 +39,7 @@ fn all_wait<R: AllocGlobal + Abort>(rt: &R) -> Result<String, Fail> {
 }
 
 // The report of its run.
-fn all_waiting<R: AllocGlobal + Abort>(rt: &R) -> Result<String, Fail> {
+fn all_waiting<R: AllocGlobal + Abort + Threads + Sync>(rt: &R) -> Result<String, Fail> {
     let mut registers = format!(in rt.alloc(); "fffffffffffff03f")?;
     for _ in 1..64 {
         registers.push_str(" ffffffffffffffff")?;

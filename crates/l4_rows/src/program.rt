@@ -5,6 +5,7 @@ use l4_jobs::words::job_of;
 use std::io;
 use std::io::{Read, Write};
 use std::process::Abort;
+use std::thread::Threads;
 
 /// The two header lines and the two threads of the first path.
 pub(crate) const PING: &str = "l4 1 64
@@ -43,12 +44,16 @@ pub(crate) struct Done {
 }
 
 /// Does what the words behind the program's name ask for, where the file that they name gives this text.
-pub(crate) fn does<R: AllocGlobal + Abort>(rt: &R, words: &[&str], text: &[u8]) -> Done {
+pub(crate) fn does<R: AllocGlobal + Abort + Threads + Sync>(
+    rt: &R,
+    words: &[&str],
+    text: &[u8],
+) -> Done {
     does_on(rt, words, text, b"")
 }
 
 /// The same where the file of a trace gives these bytes.
-pub(crate) fn does_on<R: AllocGlobal + Abort>(
+pub(crate) fn does_on<R: AllocGlobal + Abort + Threads + Sync>(
     rt: &R,
     words: &[&str],
     text: &[u8],
@@ -66,7 +71,7 @@ pub(crate) fn does_on<R: AllocGlobal + Abort>(
 }
 
 /// The same over other readers and another writer. Answers the status, and what is written to the faults.
-pub(crate) fn does_into<R: AllocGlobal + Abort, M: Read, T: Read, W: Write>(
+pub(crate) fn does_into<R: AllocGlobal + Abort + Threads + Sync, M: Read, T: Read, W: Write>(
     rt: &R,
     words: &[&str],
     machine: &mut M,
@@ -78,14 +83,14 @@ pub(crate) fn does_into<R: AllocGlobal + Abort, M: Read, T: Read, W: Write>(
     line.push("l4run").expect(rt, "memory");
     line.extend_from_slice(words).expect(rt, "memory");
     let status = match job_of(rt.alloc(), line.as_slice()) {
-        Ok(job) => perform(rt.alloc(), &job, machine, trace, out, &mut faults),
+        Ok(job) => perform(rt, rt.alloc(), &job, machine, trace, out, &mut faults),
         Err(fault) => refuse(rt.alloc(), &fault, out, &mut faults),
     };
     (status, faults)
 }
 
 /// Tests what the words come to on a text: the status, and what is written to the output and to the faults.
-pub(crate) fn shows<R: AllocGlobal + Abort>(
+pub(crate) fn shows<R: AllocGlobal + Abort + Threads + Sync>(
     rt: &R,
     words: &[&str],
     text: &str,
@@ -101,7 +106,12 @@ pub(crate) fn shows<R: AllocGlobal + Abort>(
 }
 
 /// Tests the status of words that ask for a trace, and that what they print passes the audit. Answers what came of them.
-pub(crate) fn ends<R: AllocGlobal + Abort>(rt: &R, words: &[&str], text: &str, status: u8) -> Done {
+pub(crate) fn ends<R: AllocGlobal + Abort + Threads + Sync>(
+    rt: &R,
+    words: &[&str],
+    text: &str,
+    status: u8,
+) -> Done {
     let done = does(rt, words, text.as_bytes());
     assert_eq!(rt; done.faults.as_slice(), b"".as_slice(), "{words:?}");
     assert_eq!(rt; done.status, status, "{words:?}");
@@ -115,7 +125,7 @@ fn is_trace(words: &[&str]) -> bool {
 }
 
 // Tests that what was printed passes the audit: with each of its lines, and where the run came to rest, quiet.
-fn passes<R: AllocGlobal + Abort>(rt: &R, text: &str, printed: &Done) {
+fn passes<R: AllocGlobal + Abort + Threads + Sync>(rt: &R, text: &str, printed: &Done) {
     let words = ["audit", "m.l4", "m.trace"];
     let audit = does_on(rt, &words, text.as_bytes(), printed.out.as_slice());
     let lines = printed.out.iter().filter(|byte| **byte == b'\n').count();
@@ -132,13 +142,18 @@ fn passes<R: AllocGlobal + Abort>(rt: &R, text: &str, printed: &Done) {
 }
 
 /// Tests what a run of a text prints that comes to rest: its trace, and its report.
-pub(crate) fn runs<R: AllocGlobal + Abort>(rt: &R, text: &str, trace: &str, report: &str) {
+pub(crate) fn runs<R: AllocGlobal + Abort + Threads + Sync>(
+    rt: &R,
+    text: &str,
+    trace: &str,
+    report: &str,
+) {
     shows(rt, &["run", "m.l4"], text, (0, trace, ""));
     shows(rt, &["run", "m.l4", "--report"], text, (0, report, ""));
 }
 
 /// Tests what a replay of a list of items prints: its trace, and its report.
-pub(crate) fn replays<R: AllocGlobal + Abort>(
+pub(crate) fn replays<R: AllocGlobal + Abort + Threads + Sync>(
     rt: &R,
     text: &str,
     list: &str,

@@ -1,5 +1,6 @@
 // Runs and replays whose traces are read back and audited.
 use crate::program::{PING, PING_TRACE};
+use l4_proc::gate::Open;
 use l4_round_trips::{audited_replay, audited_run};
 use l4_script::machine::Machine;
 use l4_types::reports::{Ending, State};
@@ -10,7 +11,9 @@ fn what_is_written_is_read_and_passes(rt: HostRuntime) -> Result<(), Fail> {
     let machine = Machine::parse(rt.alloc(), PING.as_bytes())
         .ok()
         .ok_or("a machine")?;
-    let ran = audited_run(rt.alloc(), &machine, 100).ok().ok_or("a run")?;
+    let ran = audited_run(&rt, rt.alloc(), &machine, 100, &Open)
+        .ok()
+        .ok_or("a run")?;
     assert_eq!(rt; ran.trace.as_slice(), PING_TRACE.as_bytes());
     assert_eq!(rt; ran.audit.ending, Ending::Quiet);
     assert_eq!(rt; ran.audit.threads.len(), 2);

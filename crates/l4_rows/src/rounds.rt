@@ -3,6 +3,7 @@ use crate::program::{ends, shows};
 use std::fmt::Write;
 use std::process::Abort;
 use std::test::Fail;
+use std::thread::Threads;
 
 // A caller and a server that answers, on two processors.
 const ANSWERED: &str = "l4 1 64
@@ -17,7 +18,11 @@ jump 1
 ";
 
 // A thread that sends the words 1 to 63, and one that waits for them, on the last of these processors.
-fn all_words<R: AllocGlobal + Abort>(rt: &R, cpus: &str, last: &str) -> Result<String, Fail> {
+fn all_words<R: AllocGlobal + Abort + Threads + Sync>(
+    rt: &R,
+    cpus: &str,
+    last: &str,
+) -> Result<String, Fail> {
     let mut text = format!(in rt.alloc(); "l4 1 64\ncpus {cpus}\nthread 1.1 cpu 0 space 1\n")?;
     for word in 1..64 {
         write!(text, "set {word} {word}\n")?;
@@ -60,7 +65,10 @@ fn calls_and_answers_go_on_until_the_turns_are_used_up(rt: HostRuntime) {
 }
 
 // 1,023 threads that send to one more, on one processor or on 16 in turn; the one more is on processor 0.
-fn many_senders<R: AllocGlobal + Abort>(rt: &R, cpus: u32) -> Result<String, Fail> {
+fn many_senders<R: AllocGlobal + Abort + Threads + Sync>(
+    rt: &R,
+    cpus: u32,
+) -> Result<String, Fail> {
     let mut text = format!(in rt.alloc(); "l4 1 64\ncpus {cpus}\n")?;
     for sender in 1..1024_u32 {
         let cpu = if cpus == 1 { 0 } else { sender % 16 };

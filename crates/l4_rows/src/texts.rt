@@ -2,6 +2,7 @@
 use crate::program::{runs, shows};
 use std::process::Abort;
 use std::test::Fail;
+use std::thread::Threads;
 
 const HEADERS: &str = "l4 1 64\ncpus 1\n";
 
@@ -9,7 +10,7 @@ const HEADERS: &str = "l4 1 64\ncpus 1\n";
 const ONE_THREAD: &str = "l4 1 64\ncpus 1\nthread 1.1 cpu 0 space 1\n";
 
 // Tests that the text behind a beginning has this first fault.
-fn is_faulty<R: AllocGlobal + Abort>(
+fn is_faulty<R: AllocGlobal + Abort + Threads + Sync>(
     rt: &R,
     beginning: &str,
     rest: &str,

@@ -9,17 +9,18 @@ use l4_jobs::words::job_of;
 use std::alloc::{AllocError, Global};
 use std::process::ExitCode;
 use std::rt::{Env, Files};
+use std::thread::Threads;
 use std::{env, io};
 
 // Does what the words ask for.
-fn on_words<R: Files + AllocGlobal, W: Sink, E: Sink>(
+fn on_words<R: Files + AllocGlobal + Threads + Sync, W: Sink, E: Sink>(
     rt: &R,
     words: &[&str],
     out: &mut W,
     faults: &mut E,
 ) -> u8 {
     match job_of(rt.alloc(), words) {
-        Ok(job) => perform_on_files(rt.alloc(), rt, &job, out, faults),
+        Ok(job) => perform_on_files(rt, rt.alloc(), rt, &job, out, faults),
         Err(fault) => refuse(rt.alloc(), &fault, out, faults),
     }
 }
@@ -28,7 +29,7 @@ fn texts<'a>(alloc: Global, words: &'a [String]) -> Result<Vec<&'a str>, AllocEr
     words.iter().map(|word| word.as_str()).collect(alloc)
 }
 
-fn run_program<R: Files + Env + AllocGlobal, W: Sink, E: Sink>(
+fn run_program<R: Files + Env + AllocGlobal + Threads + Sync, W: Sink, E: Sink>(
     rt: &R,
     out: &mut W,
     faults: &mut E,
@@ -63,7 +64,11 @@ mod tests {
     use std::process::Abort;
 
     // Tests that what the words ask for is refused with this line.
-    fn is_refused<R: Files + AllocGlobal + Abort>(rt: &R, words: &[&str], line: &str) {
+    fn is_refused<R: Files + AllocGlobal + Threads + Sync + Abort>(
+        rt: &R,
+        words: &[&str],
+        line: &str,
+    ) {
         let mut out = Vec::new(rt.alloc());
         let mut faults = Vec::new(rt.alloc());
         let status = on_words(rt, words, &mut out, &mut faults);

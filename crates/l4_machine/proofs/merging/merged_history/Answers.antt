@@ -3,8 +3,7 @@ use Rattle.std.specs.List.{AllByRecursion}
 use Rattle.l4_core_model.specs.Runs.{told}
 use Rattle.l4_machine.specs.declared.merging.Entry.{Entry}
 use Rattle.l4_machine.specs.Gathers.{event_at, IsWithin}
-use Rattle.l4_machine.proofs.InLogs.{is_merge, all_count}
-use Rattle.l4_machine.proofs.PartOrder.{all_moved}
+use Rattle.l4_machine.proofs.InLogs.{is_merge, all_count, all_moved}
 use Rattle.l4_machine.proofs.merging.merged_history.Goals as goal
 
 pub copied-requires : goal.copied-requires

@@ -2,7 +2,7 @@ use Rattle.std.proofs.Common.{sym, ◌∙◌, subst}
 use Rattle.l4_model.specs.History.{IsHistory}
 use Rattle.l4_core_model.specs.Runs.{opening_run}
 use Rattle.l4_core_model.specs.Schedules.{replay}
-use Rattle.l4_machine.proofs.InRounds.{as_many}
+use Rattle.l4_machine.proofs.Replays.{as_many}
 use Rattle.l4_machine.proofs.Endings.{rests, are_resting}
 use Rattle.l4_machine.proofs.Outcomes.{sound}
 use Rattle.l4_machine.proofs.schedules.outcome_of_entries.Goals as goal

@@ -1,6 +1,6 @@
 use Rattle.std.proofs.Common.{◌≡◌, length, subst, refl, sym, ap, arith}
 use Rattle.l4_machine.proofs.Replays.{IsReplaying, replaying_start, replaying_next, replaying_end, lawful-next}
-use Rattle.l4_machine.proofs.InRounds.{as_many}
+use Rattle.l4_machine.proofs.Replays.{as_many}
 use Rattle.l4_machine.proofs.schedules.take_all.Goals as goal
 
 pub loop-place-init : goal.loop-place-init

@@ -1,0 +1,20 @@
+use Rattle.std.proofs.Common.{◌≡◌, ◌++◌, List, [], ◌∷◌, length, refl, ◌∙◌, subst, arith}
+use Rattle.std.specs.List.Sorted.{IsPermutation}
+use Rattle.l4_merge.specs.Pasts.{all_events}
+use Rattle.l4_machine.specs.Gathers.{pasts_of, AreOfOne}
+use Rattle.l4_machine.proofs.Rising.{alone_merged, one_left}
+use Rattle.l4_machine.proofs.merging.into_merged_history.Goals as goal
+
+pub returns-clause-history : goal.returns-clause-history
+returns-clause-history c =
+    let m = c.args.machine.now in
+    let ps = c.args.processors.items in
+    let p = c.in-Some.processor in
+    let low = c.if-cpus-gt1.false in
+    let some = c.cpus.ensures.some in
+    let value = c.cpus.ensures.value in
+    let one : m.cpus ≡ 1 = omega arith in
+    let alone = one_left ps c.pop.new.self.items p c.in-Some.ensures.items (c.requires.count ∙ one) in
+    λ es sorts moved. c.own_history.ensures.history
+    ∙ alone_merged m p one ((subst (AreOfOne m) alone c.requires.one).each 0 p refl) es sorts
+    (subst (λ ps. IsPermutation es (all_events (pasts_of m ps))) alone moved)

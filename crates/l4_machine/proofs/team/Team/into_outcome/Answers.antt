@@ -1,0 +1,46 @@
+use Rattle.std.proofs.Common.{◌≡◌, ◌↔◌, length, ap, sym, ◌∙◌, subst}
+use Rattle.std.proofs.lemmas.Result.{IfOk-weaker}
+use Rattle.l4_model.specs.History.{IsHistory}
+use Rattle.l4_merge.specs.Pasts.{all_events}
+use Rattle.l4_merge.proofs.Rest.{rests as run_rests, rested as run_rested}
+use Rattle.l4_merge.proofs.Sorted.{length-merged}
+use Rattle.l4_merge.proofs.Wholes.{make_whole, whole_sorts_as_merged}
+use Rattle.l4_types.specs.declared.reports.Ending.TheVariants.{Quiet}
+use Rattle.l4_machine.specs.Outcomes.{compact_findings_of}
+use Rattle.l4_machine.specs.Gathers.{pasts_of, AreResting}
+use Rattle.l4_machine.proofs.InOneHand.{gathered_history, is_gathered, quiet, whole_pasts}
+use Rattle.l4_machine.proofs.Members.{in_order_have_numbers}
+use Rattle.l4_machine.proofs.Outcomes.{sound}
+use Rattle.l4_machine.proofs.team.Team.into_outcome.Goals as goal
+
+pub into_merged_history-requires-clause-numbers : goal.into_merged_history-requires-clause-numbers
+into_merged_history-requires-clause-numbers c = in_order_have_numbers c.args.self.machine.now c.args.self.processors.items c.requires.come.in_order
+
+pub outcome_of-requires : goal.outcome_of-requires
+outcome_of-requires c =
+    let m = c.args.self.machine.now in
+    let ps = c.args.self.processors.items in
+    let all = c.requires.come.in_order in
+    let whole = whole_pasts m ps all.of_one (in_order_have_numbers m ps all) c.requires.whole in
+    let run = make_whole m (pasts_of m ps) whole in
+    let told_is = gathered_history m ps run.0 c.in_ok-history.history.steps run.1 (whole_sorts_as_merged m (pasts_of m ps) whole) c.in_ok-history.ensures.history in
+    let lawful = c.law_core_run.ensures.lawful m run.0 c.cpus.ensures.lawful run.1.core_run in
+    subst (IsHistory m) (sym told_is) lawful.history
+
+pub returns : goal.returns
+returns c =
+    let m = c.args.self.machine.now in
+    let ps = c.args.self.processors.items in
+    let all = c.requires.come.in_order in
+    let numbers = in_order_have_numbers m ps all in
+    let whole = whole_pasts m ps all.of_one numbers c.requires.whole in
+    let run = make_whole m (pasts_of m ps) whole in
+    let told_is = gathered_history m ps run.0 c.in_ok-history.history.steps run.1 (whole_sorts_as_merged m (pasts_of m ps) whole) c.in_ok-history.ensures.history in
+    let lawful = c.law_core_run.ensures.lawful m run.0 c.cpus.ensures.lawful run.1.core_run in
+    let rest = subst (λ qs. (c.ending-ending.result ≡ Quiet) ↔ AreResting qs) c.as_slice.ensures.value c.ending-ending.ensures in
+    IfOk-weaker c.outcome_of.result _ _
+    (λ o is. is_gathered m ps run.0 (compact_findings_of o) run.1 (is run.0 (sound m run.0 lawful) told_is
+    (c.in_ok-history.ensures.events ∙ sym (ap length run.1.events ∙ length-merged (all_events (pasts_of m ps))))
+    (quiet m ps run.0 c.ending-ending.result all.of_one numbers c.requires.whole
+    (λ e. run_rested m (pasts_of m ps) run.0 run.1.ends e, λ e. run_rests m (pasts_of m ps) run.0 run.1.ends e) rest)))
+    c.outcome_of.ensures

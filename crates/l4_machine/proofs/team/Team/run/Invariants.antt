@@ -1,0 +1,11 @@
+use Rattle.std.proofs.Common.{◌≡◌, ◌+◌, ◌<◌, ◌≤◌}
+use Rattle.l4_machine.specs.Teams.{count_events, IsTeam}
+use Rattle.l4_machine.proofs.team.Team.run.Given as goal
+
+abbrev pub invariant-loop-done : goal.invariant-loop-done
+invariant-loop-done g l = record {
+  team : IsTeam l.self;
+  machine : l.self.machine ≡ l.fn.self.machine;
+  fewer : count_events l.self.processors.items < l.turns + l.fn.self.machine.now.cpus;
+  some : l.done ≤ count_events l.self.processors.items;
+}

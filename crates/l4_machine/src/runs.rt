@@ -1,0 +1,73 @@
+//! Runs of a machine by host threads.
+ghost use Rattle.std.specs.Prelude.{◌≡◌, ◌<◌, ◌≤◌, ◌↔◌, ◌⊎◌, IfErr, IfOk, IsErrOf, Some};
+ghost use Rattle.l4_machine.specs.Entries.{turns_fault};
+ghost use Rattle.l4_machine.specs.Outcomes.{IsCompactOutcome, IsOutcome};
+
+use crate::outcome::{CompactOutcome, Outcome, RunFault};
+use crate::team::Team;
+use l4_proc::gate::Gate;
+use l4_script::machine::Machine;
+use l4_types::errors::NoMemory;
+use std::alloc::Global;
+use std::thread::Threads;
+
+/// A run has at most this many turns.
+pub const MOST_TURNS: u64 = 1_000_000;
+
+/// Runs a machine for so many turns, 1 to 1,000,000, or until nothing is left to do, each processor in a host thread of its own; a single one on
+/// the thread of the caller. In a round each takes at most the turns that are left divided by the number of processors, rounded up: mail
+/// first, else its core's turn. Where all are idle and no letter is under way, all clocks below it are advanced to the least deadline of all,
+/// each of which counts as a turn; where there is none, the run ends. It ends too behind the round, or the ticks, with which the turns are
+/// used up, which may be one more for each processor but one. The gate is asked before each attempt at a turn. The history is in order of
+/// stamp, and of equal ones by processor.
+///
+/// Two runs of several processors may differ, since which letter comes first is up to the threads. Each is a history of the machine.
+///
+/// `Turns`: the number of turns is 0 or above 1,000,000.
+pub fn run<R: Threads + Sync, G: Gate + Sync>(
+    rt: &R,
+    alloc: Global,
+    machine: &Machine,
+    turns: u64,
+    gate: &G,
+) -> Result<Outcome, RunFault>
+    ensures ok { IfOk result (IsOutcome machine.now turns) }
+    ensures err { IfErr result (λ fault. (fault ≡ RunFault.NoMemory) ⊎ (turns_fault turns ≡ Some fault)) }
+    ensures range { IsErrOf result RunFault.Turns ↔ ((turns ≡ 0) ⊎ (1000000 < turns)) }
+{
+    let outcome = run_compact(rt, alloc, machine, turns, gate)?;
+    Ok(outcome.into_outcome(alloc)?)
+}
+
+/// Runs a machine as `run` does, with the same outcome and the same faults, and keeps the history in compact form.
+pub fn run_compact<R: Threads + Sync, G: Gate + Sync>(
+    rt: &R,
+    alloc: Global,
+    machine: &Machine,
+    turns: u64,
+    gate: &G,
+) -> Result<CompactOutcome, RunFault>
+    ensures ok { IfOk result (IsCompactOutcome machine.now turns) }
+    ensures err { IfErr result (λ fault. (fault ≡ RunFault.NoMemory) ⊎ (turns_fault turns ≡ Some fault)) }
+    ensures range { IsErrOf result RunFault.Turns ↔ ((turns ≡ 0) ⊎ (1000000 < turns)) }
+{
+    if turns == 0 || turns > MOST_TURNS {
+        return Err(RunFault::Turns);
+    }
+    Ok(outcome_of_turns(rt, alloc, machine, turns, gate)?)
+}
+
+fn outcome_of_turns<R: Threads + Sync, G: Gate + Sync>(
+    rt: &R,
+    alloc: Global,
+    machine: &Machine,
+    turns: u64,
+    gate: &G,
+) -> Result<CompactOutcome, NoMemory>
+    requires { turns ≤ 1000000 }
+    ensures { IfOk result (IsCompactOutcome machine.now turns) }
+{
+    let mut team = Team::new(alloc, machine)?;
+    team.run(rt, alloc, turns, gate)?;
+    team.into_outcome(alloc)
+}

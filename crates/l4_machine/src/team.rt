@@ -1,0 +1,319 @@
+//! The processors of a machine at work together, each in a thread of its own.
+ghost use Rattle.std.specs.Prelude.{ℕ, ◌≡◌, ◌≢◌, ◌<◌, ◌≤◌, ◌+◌, ◌-◌, ◌*◌, ◌^◌, ◌↔◌, ◌⊎◌, false, true, map, length, slice_get, IfOk, IfSome, IsTrue, OnOk, Some, None};
+ghost use Rattle.l4_core_model.specs.Schedules.{earliest};
+ghost use Rattle.l4_core_model.specs.Turns.{can_stamp, is_busy};
+ghost use Rattle.l4_mail.specs.Ports.{AreOneFabric, AreWhole};
+ghost use Rattle.l4_mail.specs.Rests.{are_all};
+ghost use Rattle.l4_proc.specs.Rests.{AreAsBefore, HaveHandledAll};
+ghost use Rattle.l4_proc.specs.declared.processor.Processor.{Processor as ProcessorOfMachine};
+ghost use Rattle.l4_machine.specs.Gathers.{AreResting, IsGathered};
+ghost use Rattle.l4_machine.specs.Outcomes.{compact_findings_of};
+ghost use Rattle.l4_machine.specs.Teams.{count_events, deadline_of, first_deadline, AreIdle, HasComeTo, HaveComeTo, IsTeam};
+
+use crate::gathering::ending;
+use crate::laws::law_core_run;
+use crate::merging::into_merged_history;
+use crate::outcome::{CompactOutcome, outcome_of};
+use l4_mail::rests::RestFault;
+use l4_proc::assembly::assemble;
+use l4_proc::gate::Gate;
+use l4_proc::processor::Processor;
+use l4_proc::resting::rest;
+use l4_proc::stops::{ProcFault, Stop};
+use l4_proc::together::work_together;
+use l4_script::machine::Machine;
+use l4_types::errors::NoMemory;
+use std::alloc::Global;
+use std::thread::Threads;
+
+// Between any two processors there is room for so many letters each way.
+const ROOM: usize = 64;
+
+/// All processors of a machine, in the order of their numbers.
+#[derive(Drop)]
+pub(crate) struct Team<'m> {
+    machine: &'m Machine,
+    processors: Vec<Processor<'m>>,
+    // Whether no letter is under way or in hand.
+    all_handled: bool,
+}
+
+impl<'m> Team<'m> {
+    /// The processors of a machine where nothing has happened.
+    pub(crate) fn new(alloc: Global, machine: &'m Machine) -> Result<Team<'m>, NoMemory>
+        ensures team { IfOk result IsTeam }
+        ensures machine { IfOk result (λ team. team.machine.now ≡ machine.now) }
+        ensures fresh { IfOk result (λ team. count_events team.processors.items ≡ 0) }
+    {
+        let _ = machine.cpus();
+        let mut processors = assemble(alloc, machine, ROOM)?;
+        let all_handled = come_to_rest(alloc, &mut processors)?;
+        Ok(Team {
+            machine,
+            processors,
+            all_handled,
+        })
+    }
+
+    /// Goes on in rounds, until nothing is left to do or so many turns are used up.
+    pub(crate) fn run<R: Threads + Sync, G: Gate + Sync>(
+        &mut self,
+        rt: &R,
+        alloc: Global,
+        turns: u64,
+        gate: &G,
+    ) -> Result<(), NoMemory>
+        requires team { IsTeam self.old }
+        requires few { turns ≤ 1000000 }
+        requires fresh { count_events self.old.processors.items ≡ 0 }
+        ensures team { OnOk result (IsTeam self.new) }
+        ensures machine { self.new.machine ≡ self.old.machine }
+        ensures least { OnOk result ((turns ≤ count_events self.new.processors.items) ⊎ AreResting self.new.processors.items) }
+        ensures fewer { OnOk result (count_events self.new.processors.items < turns + self.old.machine.now.cpus) }
+    {
+        let _ = self.machine.cpus();
+        for done in 0..turns {
+            let _ = done;
+            if self.events() >= turns || !self.go_on(rt, alloc, turns, gate)? {
+                return Ok(());
+            }
+        }
+        Ok(())
+    }
+
+    /// What they came to together.
+    pub(crate) fn into_outcome(self, alloc: Global) -> Result<CompactOutcome, NoMemory>
+        requires { IsTeam self }
+        ensures { IfOk result (λ o. IsGathered self.entry.machine.now self.entry.processors.items (compact_findings_of o)) }
+    {
+        law_core_run();
+        let _ = self.machine.cpus();
+        let ending = ending(self.processors.as_slice(), self.all_handled);
+        let (history, events) = into_merged_history(alloc, self.machine, self.processors)?;
+        outcome_of(alloc, self.machine, history, ending, events as u64)
+    }
+
+    // A round of turns, or where nothing else is to be done the clocks go on to the least deadline. Answers whether there was one.
+    fn go_on<R: Threads + Sync, G: Gate + Sync>(
+        &mut self,
+        rt: &R,
+        alloc: Global,
+        turns: u64,
+        gate: &G,
+    ) -> Result<bool, NoMemory>
+        requires team { IsTeam self.old }
+        requires few { turns ≤ 1000000 }
+        requires left { count_events self.old.processors.items < turns }
+        ensures team { OnOk result (IsTeam self.new) }
+        ensures machine { self.new.machine ≡ self.old.machine }
+        ensures more { IfOk result (λ on. IsTrue on → count_events self.old.processors.items < count_events self.new.processors.items) }
+        ensures rest { IfOk result (λ on. on ≡ false → AreResting self.new.processors.items) }
+        ensures fewer { OnOk result (count_events self.new.processors.items < turns + self.old.machine.now.cpus) }
+    {
+        if !self.is_idle() {
+            self.work(rt, alloc, turns, gate)?;
+            return Ok(true);
+        }
+        match self.first_deadline() {
+            Some(deadline) => {
+                self.tick(deadline)?;
+                Ok(true)
+            }
+            None => Ok(false),
+        }
+    }
+
+    // How many events there were.
+    fn events(&self) -> u64
+        requires few { count_events self.now.processors.items ≤ 2 ^ 60 }
+        ensures { result ≡ count_events self.now.processors.items }
+    {
+        let _ = &self.machine;
+        events(self.processors.as_slice())
+    }
+
+    // Whether no processor has anything to do, and no letter is under way.
+    fn is_idle(&self) -> bool
+        requires { IsTeam self.now }
+        ensures { IsTrue result ↔ (AreIdle self.now.processors.items × HaveHandledAll self.now.processors.items) }
+    {
+        self.all_handled && are_idle(self.processors.as_slice())
+    }
+
+    // The least deadline of all, in ticks.
+    fn first_deadline(&self) -> Option<u64>
+        requires team { IsTeam self.now }
+        requires few { count_events self.now.processors.items ≤ 1000000 }
+        ensures value { result ≡ first_deadline self.now.processors.items }
+        ensures near { IfSome result (λ deadline. deadline < (count_events self.now.processors.items + 1) * 2 ^ 42) }
+    {
+        let _ = &self.machine;
+        first_deadline(self.processors.as_slice())
+    }
+
+    // A round: each processor takes at most its share of the turns that are left.
+    fn work<R: Threads + Sync, G: Gate + Sync>(
+        &mut self,
+        rt: &R,
+        alloc: Global,
+        turns: u64,
+        gate: &G,
+    ) -> Result<(), NoMemory>
+        requires team { IsTeam self.old }
+        requires few { turns ≤ 1000000 }
+        requires left { count_events self.old.processors.items < turns }
+        requires busy { AreIdle self.old.processors.items × HaveHandledAll self.old.processors.items → ⊥ }
+        ensures team { OnOk result (IsTeam self.new) }
+        ensures machine { self.new.machine ≡ self.old.machine }
+        ensures more { OnOk result (count_events self.old.processors.items < count_events self.new.processors.items) }
+        ensures fewer { OnOk result (count_events self.new.processors.items < turns + self.old.machine.now.cpus) }
+    {
+        law_core_run();
+        let share = share(turns - self.events(), self.machine.cpus());
+        work_together(rt, self.processors.as_mut_slice(), share, gate);
+        let all_handled = come_to_rest(alloc, &mut self.processors)?;
+        check_stops(self.processors.as_slice())?;
+        self.all_handled = all_handled;
+        Ok(())
+    }
+
+    // All clocks below it go on to this deadline.
+    fn tick(&mut self, deadline: u64) -> Result<(), NoMemory>
+        requires team { IsTeam self.old }
+        requires few { count_events self.old.processors.items ≤ 1000000 }
+        requires idle { AreIdle self.old.processors.items × HaveHandledAll self.old.processors.items }
+        requires first { first_deadline self.old.processors.items ≡ Some deadline }
+        requires near { deadline < (count_events self.old.processors.items + 1) * 2 ^ 42 }
+        ensures team { OnOk result (IsTeam self.new) }
+        ensures machine { self.new.machine ≡ self.old.machine }
+        ensures more { OnOk result (count_events self.old.processors.items < count_events self.new.processors.items) }
+        ensures fewer { OnOk result (count_events self.new.processors.items ≤ count_events self.old.processors.items + self.old.machine.now.cpus) }
+    {
+        let _ = self.machine.cpus();
+        tick_all(self.processors.as_mut_slice(), deadline)
+    }
+}
+
+// So many turns divided by the number of processors, rounded up.
+fn share(turns: u64, cpus: u8) -> u64
+    requires few { turns ≤ 1000000 }
+    requires some { 0 < cpus }
+    ensures all { turns ≤ result * cpus }
+    ensures fewer { result * cpus < turns + cpus }
+{
+    turns.div_ceil(u64::from(cpus))
+}
+
+// How many events these processors had.
+fn events(processors: &[Processor<'_>]) -> u64
+    requires few { count_events processors.now ≤ 2 ^ 60 }
+    ensures { result ≡ count_events processors.now }
+{
+    let mut events = 0;
+    for processor in processors {
+        events += processor.log().len() as u64;
+    }
+    events
+}
+
+// Whether none of these processors has anything to do.
+fn are_idle(processors: &[Processor<'_>]) -> bool
+    ensures { IsTrue result ↔ AreIdle processors.now }
+{
+    for processor in processors {
+        if processor.core().busy() {
+            return false;
+        }
+    }
+    true
+}
+
+// The least deadline of these processors, in ticks.
+fn first_deadline(processors: &[Processor<'_>]) -> Option<u64>
+    ensures value { result ≡ first_deadline processors.now }
+    ensures near { (last : ℕ) → ((i : ℕ) (p : ProcessorOfMachine) → slice_get processors.now i ≡ Some p → p.worker.core.local.clock ≤ last) →
+        IfSome result (λ deadline. deadline < last + 2 ^ 42) }
+{
+    let mut first = None;
+    for processor in processors {
+        first = earliest(first, processor.core().least_deadline());
+    }
+    first
+}
+
+// The earlier of two deadlines, where there are any.
+pub(crate) fn earliest(a: Option<u64>, b: Option<u64>) -> Option<u64>
+    ensures { result ≡ earliest a b }
+{
+    match (a, b) {
+        (Some(a), Some(b)) => Some(a.min(b)),
+        (a, None) => a,
+        (None, b) => b,
+    }
+}
+
+// All letters under way are put by where they go to. Answers whether there are none, and none in hand.
+fn come_to_rest(alloc: Global, processors: &mut Vec<Processor<'_>>) -> Result<bool, NoMemory>
+    requires one { AreOneFabric (map (λ p. p.port) processors.old.items) }
+    requires all { are_all (map (λ p. p.port) processors.old.items) ≡ true }
+    ensures same { AreAsBefore processors.old.items processors.new.items }
+    ensures one { AreOneFabric (map (λ p. p.port) processors.new.items) }
+    ensures whole { OnOk result (AreWhole (map (λ p. p.port) processors.new.items)) }
+    ensures handled { IfOk result (λ all. IsTrue all ↔ HaveHandledAll processors.new.items) }
+{
+    match rest(alloc, processors) {
+        Ok(all_handled) => Ok(all_handled),
+        Err(RestFault::NoMemory) => Err(NoMemory),
+        Err(RestFault::Numbers) => unreachable!(),
+    }
+}
+
+// Whether memory was refused to one of these processors. There is no other fault, since all letters are lawful and all stamps are low.
+fn check_stops(processors: &[Processor<'_>]) -> Result<(), NoMemory>
+    requires { (i : ℕ) (p : ProcessorOfMachine) → slice_get processors.now i ≡ Some p → (p.worker.stop ≢ Stop.Mail) × (p.worker.stop ≢ Stop.Stamp) }
+    ensures { OnOk result ((i : ℕ) (p : ProcessorOfMachine) → slice_get processors.now i ≡ Some p → (p.worker.stop ≡ Stop.Used) ⊎ (p.worker.stop ≡ Stop.Idle)) }
+{
+    for processor in processors {
+        check_stop(processor.stop())?;
+    }
+    Ok(())
+}
+
+fn check_stop(stop: Stop) -> Result<(), NoMemory>
+    requires { (stop ≢ Stop.Mail) × (stop ≢ Stop.Stamp) }
+    ensures { OnOk result ((stop ≡ Stop.Used) ⊎ (stop ≡ Stop.Idle)) }
+{
+    match stop {
+        Stop::Used | Stop::Idle => Ok(()),
+        Stop::NoMemory => Err(NoMemory),
+        Stop::Mail | Stop::Stamp => unreachable!(),
+    }
+}
+
+// All clocks below it go on to this value, in ticks.
+fn tick_all(processors: &mut [Processor<'_>], to: u64) -> Result<(), NoMemory>
+    requires low { to < 2 ^ 62 }
+    requires stamps { (i : ℕ) (p : ProcessorOfMachine) → slice_get processors.old i ≡ Some p → can_stamp p.worker.core.local 0 ≡ true }
+    ensures { OnOk result (HaveComeTo to processors.old processors.new) }
+{
+    for place in 0..processors.len() {
+        tick(&mut processors[place], to)?;
+    }
+    Ok(())
+}
+
+// The clock goes on to this value, in ticks, unless it stands there or later.
+fn tick(processor: &mut Processor<'_>, to: u64) -> Result<(), NoMemory>
+    requires low { to < 2 ^ 62 }
+    requires stamp { can_stamp processor.old.worker.core.local 0 ≡ true }
+    ensures { OnOk result (HasComeTo to processor.old processor.new) }
+{
+    if processor.core().clock() >= to {
+        return Ok(());
+    }
+    match processor.tick(to) {
+        Ok(()) => Ok(()),
+        Err(ProcFault::NoMemory) => Err(NoMemory),
+        Err(_) => unreachable!(),
+    }
+}

@@ -1,5 +1,0 @@
-use Rattle.l4_machine.specs.Gathers.{AreOfOne}
-use Rattle.l4_rows.proofs.gathers.gathered.Given as goal
-
-abbrev pub invariant-loop-cpu : goal.invariant-loop-cpu
-invariant-loop-cpu l = AreOfOne l.machine l.processors.items

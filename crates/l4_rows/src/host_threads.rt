@@ -1,0 +1,290 @@
+// Runs of several processors, each in a host thread of its own. Which of its histories such a machine has is up to the host's threads, so the
+// tests look for what each run must have. Where no letter goes between processors there is only one: each takes its turns by itself, with stamps
+// that count its own events.
+use crate::cores::machine_of;
+use crate::gathers::has;
+use l4_audit::audit::check;
+use l4_machine::{Outcome, run};
+use l4_proc::gate::{Gate, Open};
+use l4_trace::traces::trace;
+use l4_types::reports::Ending;
+use std::process::Abort;
+use std::sync::atomic::{AtomicU64, Ordering};
+use std::test::Fail;
+use std::thread;
+use std::thread::Threads;
+
+// A thread calls one of another processor, which answers, again and again.
+const CALLS: &str = "l4 1 64
+cpus 2
+thread 1.1 cpu 0 space 1
+ipc 2.1 2.1 never never
+jump 0
+thread 2.1 cpu 1 space 2
+ipc nil any never never
+ipc last any never never
+jump 1
+";
+
+// A machine of so many processors. The first so many of them have a thread each that goes on for ever.
+fn endless<R: AllocGlobal>(rt: &R, cpus: u8, busy: u8) -> Result<String, Fail> {
+    let mut text = format!(in rt.alloc(); "l4 1 64\ncpus {cpus}\n")?;
+    for cpu in 0..busy {
+        let number = u32::from(cpu) + 1;
+        write!(text, "thread {number}.1 cpu {cpu} space 1\njump 0\n")?;
+    }
+    Ok(text)
+}
+
+// What a run comes to. Tests what every run must have: its history is one of the machine, which leads to the threads and the sends that it
+// reports; and unless it has come to rest it has used up its turns, with at most one more for each other processor.
+fn comes_to<R: AllocGlobal + Abort + Threads + Sync, G: Gate + Sync>(
+    rt: &R,
+    text: &str,
+    turns: u64,
+    gate: &G,
+) -> Outcome {
+    let machine = machine_of(rt, text);
+    let outcome = run(rt, rt.alloc(), &machine, turns, gate)
+        .ok()
+        .expect(rt, "an outcome");
+    let audit = check(rt.alloc(), &machine, outcome.history.as_slice())
+        .ok()
+        .expect(rt, "a history of the machine");
+    assert!(rt; audit.threads.as_slice() == outcome.threads.as_slice());
+    assert!(rt; audit.waiting.as_slice() == outcome.waiting.as_slice());
+    if outcome.ending == Ending::Quiet {
+        assert!(rt; audit.ending == Ending::Quiet);
+    } else {
+        assert!(rt; outcome.turns >= turns);
+    }
+    assert!(rt; outcome.turns.saturating_sub(turns) < u64::from(machine.cpus()));
+    outcome
+}
+
+// Holds turns 1 and 10 of each processor until the same turn of all others was reached.
+#[derive(Drop)]
+struct Meeting {
+    cpus: u64,
+    first: AtomicU64,
+    tenth: AtomicU64,
+    missed: AtomicU64,
+}
+
+impl Meeting {
+    fn meet(&self, at: &AtomicU64) {
+        at.fetch_add(1, Ordering::SeqCst);
+        for look in 0..100_000_000u64 {
+            if at.load(Ordering::SeqCst) >= self.cpus {
+                return;
+            }
+            if look % 256 == 255 {
+                thread::yield_now();
+            }
+        }
+        self.missed.fetch_add(1, Ordering::SeqCst);
+    }
+}
+
+impl Gate for Meeting {
+    fn before(&self, _cpu: u8, turn: u64) {
+        if turn == 1 {
+            self.meet(&self.first);
+        }
+        if turn == 10 {
+            self.meet(&self.tenth);
+        }
+    }
+}
+
+// No clause says that host threads run side by side: where they do not, the looks of a gate that waits for all run out.
+#[test]
+fn both_at_work(rt: HostRuntime) -> Result<(), Fail> {
+    for cpus in [2u8, 16] {
+        let text = endless(&rt, cpus, cpus)?;
+        let gate = Meeting {
+            cpus: u64::from(cpus),
+            first: AtomicU64::new(0),
+            tenth: AtomicU64::new(0),
+            missed: AtomicU64::new(0),
+        };
+        let turns = 10 * u64::from(cpus);
+        let outcome = comes_to(&rt, text.as_str(), turns, &gate);
+        assert_eq!(rt; gate.missed.load(Ordering::SeqCst), 0, "{cpus}");
+        assert_eq!(rt; gate.first.load(Ordering::SeqCst), gate.cpus);
+        assert_eq!(rt; gate.tenth.load(Ordering::SeqCst), gate.cpus);
+        assert_eq!(rt; outcome.turns, turns);
+        assert!(rt; outcome.ending == Ending::Spent);
+    }
+    Ok(())
+}
+
+// Notes the last turn of each of four processors, how often each was asked for again, and how often a turn was left out or fell back.
+#[derive(Drop)]
+struct Noted {
+    last: [AtomicU64; 4],
+    again: [AtomicU64; 4],
+    missed: AtomicU64,
+}
+
+impl Noted {
+    fn new() -> Noted {
+        let none = || AtomicU64::new(0);
+        Noted {
+            last: [none(), none(), none(), none()],
+            again: [none(), none(), none(), none()],
+            missed: none(),
+        }
+    }
+}
+
+impl Gate for Noted {
+    fn before(&self, cpu: u8, turn: u64) {
+        let place = usize::from(cpu);
+        let (Some(last), Some(again)) = (self.last.get(place), self.again.get(place)) else {
+            self.missed.fetch_add(1, Ordering::SeqCst);
+            return;
+        };
+        let before = last.swap(turn, Ordering::SeqCst);
+        if turn == before {
+            again.fetch_add(1, Ordering::SeqCst);
+        } else if turn.checked_sub(before) != Some(1) {
+            self.missed.fetch_add(1, Ordering::SeqCst);
+        }
+    }
+}
+
+// Of 1,000 turns each processor may take 250 in the first round. One has nothing to do, so 250 are left, of which each may take 63, and then of 61
+// each 16, of 13 each 4, and of one each one.
+#[test]
+fn each_turn_is_asked_for_once(rt: HostRuntime) -> Result<(), Fail> {
+    let text = endless(&rt, 4, 3)?;
+    let gate = Noted::new();
+    let outcome = comes_to(&rt, text.as_str(), 1_000, &gate);
+    assert_eq!(rt; outcome.turns, 1_002);
+    assert_eq!(rt; gate.missed.load(Ordering::SeqCst), 0);
+    for cpu in 0..3 {
+        assert_eq!(rt; gate.last[cpu].load(Ordering::SeqCst), 334, "{cpu}");
+        assert_eq!(rt; gate.again[cpu].load(Ordering::SeqCst), 0, "{cpu}");
+    }
+    // It tries its first turn, and never gets as far as to try another one.
+    assert_eq!(rt; gate.last[3].load(Ordering::SeqCst), 1);
+    Ok(())
+}
+
+#[test]
+fn turns_are_used_up(rt: HostRuntime) -> Result<(), Fail> {
+    for cpus in [1u8, 2, 3, 16] {
+        let text = endless(&rt, cpus, cpus)?;
+        for turns in [1, 2, 15, 16, 17, 1_000] {
+            let outcome = comes_to(&rt, text.as_str(), turns, &Open);
+            assert!(rt; outcome.ending == Ending::Spent, "{cpus} {turns}");
+            // Each turn is a step here. Where there is one processor, there are as many as were asked for.
+            assert_eq!(rt; outcome.history.len() as u64, outcome.turns);
+            assert!(rt; cpus > 1 || outcome.turns == turns);
+        }
+    }
+    for turns in [1, 2, 99, 100] {
+        let outcome = comes_to(&rt, CALLS, turns, &Open);
+        assert!(rt; outcome.ending == Ending::Spent, "{turns}");
+    }
+    Ok(())
+}
+
+// Whether the wait or the send comes first is up to the threads. The sender's processor has five events: two instructions, the send, the letter that
+// it was taken, and the end. That of the receiver has the wait, the end, and where the wait comes first, one in which the send is queued and taken;
+// else two.
+#[test]
+fn a_word_arrives_in_each_run(rt: HostRuntime) {
+    let delivered = "\ndeliver 1.1#1 2.1 1.1 1.1 74001 a\n";
+    let report =
+        "thread 1.1 ended 0 nil nil 0 a\nthread 2.1 ended 0 1.1 1.1 74001 a\nending quiet\n";
+    for _ in 0..20 {
+        let outcome = comes_to(&rt, crate::processors::ACROSS, 1_000, &Open);
+        let lines = spelled(&rt, &outcome);
+        assert_eq!(rt; lines.as_str().matches(delivered).count(), 1);
+        assert_eq!(rt; lines.as_str().matches("deliver ").count(), 1);
+        let at_once = lines.as_str().contains("queue 1.1#1\ndeliver ");
+        let turns = if at_once { 8 } else { 9 };
+        has(&rt, &outcome, lines.as_str(), report, turns);
+    }
+}
+
+// The lines of the steps of an outcome.
+fn spelled<R: AllocGlobal + Abort>(rt: &R, outcome: &Outcome) -> String {
+    let lines = trace(rt.alloc(), outcome.history.as_slice())
+        .ok()
+        .expect(rt, "a trace");
+    String::from_utf8(lines).ok().expect(rt, "lines")
+}
+
+// The clock of a processor goes on where nobody waits for time there too. No letter goes, so there is one history.
+#[test]
+fn all_clocks_go_on_to_the_least_deadline(rt: HostRuntime) {
+    let one = "l4 1 64
+cpus 2
+thread 1.1 cpu 0 space 1
+ipc nil any never 5
+";
+    let lines = "wait 1.1\ntick 1 5\ntick 0 5\nrtimeout 1.1\nlocal 1.1\n";
+    let report = "thread 1.1 ended 3 nil nil 8000\nending quiet\n";
+    let outcome = comes_to(&rt, one, 100, &Open);
+    has(&rt, &outcome, lines, report, 5);
+    let both = "l4 1 64
+cpus 2
+thread 1.1 cpu 0 space 1
+ipc nil any never 5
+thread 2.1 cpu 1 space 2
+ipc nil any never 9
+";
+    let lines = "wait 1.1
+wait 2.1
+tick 0 5
+tick 1 5
+rtimeout 1.1
+tick 1 9
+local 1.1
+rtimeout 2.1
+tick 0 9
+local 2.1
+";
+    let report = "thread 1.1 ended 3 nil nil 8000\nthread 2.1 ended 3 nil nil 8000\nending quiet\n";
+    let outcome = comes_to(&rt, both, 100, &Open);
+    has(&rt, &outcome, lines, report, 10);
+    // The ticks count as turns, and are not parted.
+    let outcome = comes_to(&rt, both, 3, &Open);
+    has(
+        &rt,
+        &outcome,
+        "wait 1.1\nwait 2.1\ntick 0 5\ntick 1 5\n",
+        "thread 1.1 receiving 0 nil nil 0\nthread 2.1 receiving 0 nil nil 0\nending spent\n",
+        4,
+    );
+}
+
+// Makes processor 1 look 1,000 times before each turn.
+#[derive(Drop)]
+struct Slow {
+    looks: AtomicU64,
+}
+
+impl Gate for Slow {
+    fn before(&self, cpu: u8, _turn: u64) {
+        if cpu != 1 {
+            return;
+        }
+        for _ in 0..1_000u32 {
+            self.looks.load(Ordering::SeqCst);
+        }
+    }
+}
+
+#[test]
+fn one_that_is_slow_is_waited_for(rt: HostRuntime) {
+    let gate = Slow {
+        looks: AtomicU64::new(0),
+    };
+    let outcome = comes_to(&rt, CALLS, 1_000, &gate);
+    assert!(rt; outcome.ending == Ending::Spent);
+    assert!(rt; outcome.turns == 1_000 || outcome.turns == 1_001);
+}

@@ -1,0 +1,131 @@
+"""Gives the program machine texts, traces and schedules that somebody spoilt, and judges its status and its lines."""
+
+import collections
+import os
+import random
+import re
+import subprocess
+import sys
+
+SEED = 20_261_124
+TURNS = "300"
+KINDS = "BadLine|BadNumber|BadId|BadCpu|TypedItems|DoubleId|TooManyThreads|TooManyInstructions|BadTarget|TooLong"
+FAULTS = re.compile(rf"l4run: (line \d+: (?:{KINDS})|schedule item \d+|turns out of range|trace line \d+|refused at step \d+)\n")
+PASSED = re.compile(rb"passed \d+ (quiet|spent)\n")
+QUIET, FAULT, SPENT = 0, 1, 3
+
+NUMBERS = ["0", "1", "63", "64", "15", "16", "17", "0x3f", "18446744073709551615", "18446744073709551616", "4294967296", "-1", "0x", "00", "1.", ""]
+WORDS = ["never", "zero", "nil", "any", "anylocal", "last", "S", "R", "SR", "1.1", "2.1", "3.65", "1.64", "1.0", "#0000000000000001", ";", "cpu", "end", "tick"]
+BYTES = [0, 9, 10, 13, 32, 59, 127, 128, 255]
+
+
+def machine(dice):
+    """A small machine, most of whose threads talk."""
+    threads, cpus = dice.randint(1, 5), dice.choice([1, 1, 2, 3, 16])
+    lines = ["l4 1 64", f"cpus {cpus}"]
+
+    def thread():
+        return f"{dice.randint(1, threads)}.1"
+
+    for number in range(1, threads + 1):
+        lines.append(f"thread {number}.1 cpu {dice.randrange(cpus)} space {dice.randint(1, 2)}")
+        script = dice.randint(0, 6)
+        for _ in range(script):
+            lines.append(dice.choice([
+                f"ipc {thread()} nil {dice.choice(['never', 'zero', '3'])} never",
+                f"ipc nil {dice.choice(['any', 'anylocal', thread()])} never {dice.choice(['never', 'zero', '4'])}",
+                f"ipc {thread()} {thread()} never 5",
+                "ipc last any never never",
+                f"set {dice.randint(1, 63)} {dice.getrandbits(64)}",
+                f"tag {dice.randint(0, 9) << 16 | dice.choice([0, 0x1000]) | dice.randint(0, 5)}",
+                f"exregs {thread()} {dice.choice(['S', 'R', 'SR'])}",
+                f"delete {thread()}",
+                f"vs {thread()}",
+                f"jump {dice.randrange(script)}",
+            ]))
+    return "\n".join(lines) + "\n"
+
+
+def spoilt(dice, told):
+    """The same bytes with some of them, or some words or lines, changed, cut, doubled or exchanged."""
+    told = bytearray(told)
+    for _ in range(dice.choice([1, 1, 1, 2, 5])):
+        if not told:
+            break
+        match dice.randrange(7):
+            case 0:
+                told[dice.randrange(len(told))] = dice.choice(BYTES + [dice.randrange(256)])
+            case 1:
+                del told[dice.randrange(len(told)) :]
+            case 2:
+                at = dice.randrange(len(told))
+                del told[at : at + dice.randint(1, 8)]
+            case 3:
+                told.insert(dice.randrange(len(told)), dice.choice(BYTES))
+            case 4:
+                lines = told.split(b"\n")
+                a, b = dice.randrange(len(lines)), dice.randrange(len(lines))
+                lines[a], lines[b] = lines[b], lines[a]
+                told = bytearray(b"\n".join(lines))
+            case 5:
+                lines = told.split(b"\n")
+                at = dice.randrange(len(lines))
+                lines.insert(at, lines[at])
+                told = bytearray(b"\n".join(lines))
+            case 6:
+                words = re.split(rb"([ \n])", bytes(told))
+                words[dice.randrange(len(words))] = dice.choice(NUMBERS + WORDS).encode()
+                told = bytearray(b"".join(words))
+    return bytes(told)
+
+
+def schedule(dice):
+    items = [dice.choice(["0", "0", "0", "1", "2", "t0", "t1", "t2", "15", "t15"]) for _ in range(dice.randint(0, 40))]
+    told = ",".join(items).encode()
+    if dice.random() < 0.5:
+        told = spoilt(dice, told).replace(b"\0", b"").decode("utf-8", "ignore").encode()
+    return told.decode()
+
+
+def judged(words, seen, lines):
+    """Runs the program, counts what it answers, and ends where that is nothing it may answer."""
+    told = subprocess.run(words, stdout=subprocess.PIPE, stderr=subprocess.PIPE)
+    out, faults = told.stdout, told.stderr.decode("utf-8", "replace")
+    if told.returncode == FAULT:
+        fault = FAULTS.fullmatch(faults)
+        right = not out and fault
+        kind = re.sub(r"\d+", "N", fault[1]) if fault else "?"
+    else:
+        right = told.returncode in (QUIET, SPENT) and not faults and lines(out)
+        kind = f"status {told.returncode}"
+    if not right:
+        sys.exit(f"{words}: status {told.returncode}: {faults or out[:200]}")
+    seen[kind] += 1
+    return out if told.returncode != FAULT else None
+
+
+def write(name, told):
+    with open(name, "wb") as file:
+        file.write(told)
+
+
+def main(program, folder, count, part):
+    name, trace = f"{folder}/hostile-{part}.l4", f"{folder}/hostile-{part}.trace"
+    seen = {about: collections.Counter() for about in ("texts", "traces", "schedules")}
+    dice = random.Random(SEED + part)
+    for _ in range(count):
+        text = machine(dice).encode()
+        write(name, spoilt(dice, text))
+        judged([program, "run", name, "--turns", TURNS], seen["texts"], lambda out: True)
+        write(name, text)
+        judged([program, "replay", name, "--schedule=" + schedule(dice)], seen["schedules"], lambda out: True)
+        told = judged([program, "run", name, "--turns", TURNS], collections.Counter(), lambda out: True)
+        write(trace, spoilt(dice, told or b"tick 0 1\n"))
+        judged([program, "audit", name, trace], seen["traces"], PASSED.fullmatch)
+    for about, kinds in seen.items():
+        for kind, number in kinds.items():
+            print(f"{about}\t{kind}\t{number}")
+
+
+if __name__ == "__main__":
+    main(sys.argv[1], sys.argv[2], int(sys.argv[3]), int(sys.argv[4]))

@@ -10,5 +10,3 @@ mod records;
 pub mod sink;
 pub mod step_ref;
 pub mod steps;
-#[cfg(test)]
-mod tests;

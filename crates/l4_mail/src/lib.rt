@@ -9,6 +9,4 @@ mod outlets;
 pub mod ports;
 pub mod rests;
 mod takes;
-#[cfg(test)]
-mod tests;
 mod ways;

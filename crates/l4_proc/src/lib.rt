@@ -7,7 +7,5 @@ pub mod log;
 pub mod processor;
 pub mod resting;
 pub mod stops;
-#[cfg(test)]
-mod tests;
 pub mod together;
 pub mod worker;

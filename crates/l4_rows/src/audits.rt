@@ -1,7 +1,8 @@
 // Audits of traces, by the words of a command line. What the other tests print is audited with each of them.
-use crate::program::{Broken, PING, PING_TRACE, does_into, does_on};
+use crate::program::{Broken, does_into, does_on};
 use crate::receives::{CLOSED, CLOSED_TRACE};
 use crate::ticks::WAITS;
+use l4_samples::{PING, PING_TRACE};
 use std::process::Abort;
 use std::test::Fail;
 use std::thread::Threads;

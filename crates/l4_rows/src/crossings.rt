@@ -1,6 +1,6 @@
 // Audits of traces of several processors.
 use crate::audits::tells;
-use crate::processors::{ACROSS, ACROSS_TRACE};
+use l4_samples::{ACROSS, ACROSS_TRACE};
 use std::test::Fail;
 
 const DELIVERED: &str = "deliver 1.1#1 2.1 1.1 1.1 74001 a\n";

@@ -1,6 +1,7 @@
 // Faults, each with its line.
-use crate::program::{Broken, Full, PING, PING_TRACE, does_into, shows};
+use crate::program::{Broken, Full, does_into, shows};
 use l4_jobs::fault::{Fault, report};
+use l4_samples::{PING, PING_TRACE};
 use std::process::Abort;
 use std::test::Fail;
 use std::thread::Threads;

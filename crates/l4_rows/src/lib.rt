@@ -1,9 +1,6 @@
-//! Tests that go the program's whole way: from the words of a command line and a machine text to the exit status and to what is written. And tests
-//! of the calls of single crates, which stand here since a crate with tests of its own is proved twice.
+//! Tests that go the program's whole way: from the words of a command line and a machine text to the exit status and to what is written.
 #![tactic(auto)]
 
-#[cfg(test)]
-mod arena;
 #[cfg(test)]
 mod audits;
 #[cfg(test)]
@@ -11,17 +8,9 @@ mod calls;
 #[cfg(test)]
 mod codes;
 #[cfg(test)]
-mod cores;
-#[cfg(test)]
 mod crossings;
 #[cfg(test)]
-mod deadlines;
-#[cfg(test)]
 mod faults;
-#[cfg(test)]
-mod gathers;
-#[cfg(test)]
-mod host_threads;
 #[cfg(test)]
 mod letters;
 #[cfg(test)]
@@ -48,11 +37,5 @@ mod texts;
 mod ticks;
 #[cfg(test)]
 mod times;
-#[cfg(test)]
-mod traces;
-#[cfg(test)]
-mod unlawful;
-#[cfg(test)]
-mod values;
 #[cfg(test)]
 mod words;

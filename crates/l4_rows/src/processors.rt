@@ -1,27 +1,6 @@
 // Replays on machines of several processors.
 use crate::program::{replays, shows};
-
-/// A thread that sends a word, and on another processor one that waits for anybody.
-pub(crate) const ACROSS: &str = "l4 1 64
-cpus 2
-thread 1.1 cpu 0 space 1
-set 1 10
-tag 0x70001
-ipc 2.1 nil never never
-thread 2.1 cpu 1 space 2
-ipc nil any never never
-";
-
-/// The trace of a replay in which the wait comes first.
-pub(crate) const ACROSS_TRACE: &str = "wait 2.1
-local 1.1
-local 1.1
-begin 1.1#1
-queue 1.1#1
-deliver 1.1#1 2.1 1.1 1.1 74001 a
-local 1.1
-local 2.1
-";
+use l4_samples::{ACROSS, ACROSS_TRACE};
 
 /// A send of five microseconds, and on another processor a thread that waits for anybody.
 const TIMED: &str = "l4 1 64

@@ -7,34 +7,6 @@ use std::io::{Read, Write};
 use std::process::Abort;
 use std::thread::Threads;
 
-/// The two header lines and the two threads of the first path.
-pub(crate) const PING: &str = "l4 1 64
-cpus 1
-thread 1.1 cpu 0 space 1
-set 1 10
-tag 0x70001
-ipc 2.1 nil never never
-thread 2.1 cpu 0 space 2
-ipc nil any never never
-";
-
-/// The trace of its run.
-pub(crate) const PING_TRACE: &str = "local 1.1
-wait 2.1
-local 1.1
-begin 1.1#1
-queue 1.1#1
-deliver 1.1#1 2.1 1.1 1.1 70001 a
-local 2.1
-local 1.1
-";
-
-/// Its report.
-pub(crate) const PING_REPORT: &str = "thread 1.1 ended 0 nil nil 0 a
-thread 2.1 ended 0 1.1 1.1 70001 a
-ending quiet
-";
-
 /// What comes of a command line: the exit status, and what is written to the output and to the faults.
 #[derive(Drop)]
 pub(crate) struct Done {

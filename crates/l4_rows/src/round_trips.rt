@@ -1,7 +1,7 @@
 // Runs and replays whose traces are read back and audited.
-use crate::program::{PING, PING_TRACE};
 use l4_proc::gate::Open;
 use l4_round_trips::{audited_replay, audited_run};
+use l4_samples::{PING, PING_TRACE};
 use l4_script::machine::Machine;
 use l4_types::reports::{Ending, State};
 use std::test::Fail;

@@ -1,5 +1,6 @@
 // Runs and their traces and reports.
-use crate::program::{PING, PING_REPORT, PING_TRACE, shows};
+use crate::program::shows;
+use l4_samples::{PING, PING_REPORT, PING_TRACE};
 
 const NO_THREAD: &str = "l4 1 64\ncpus 1\n";
 

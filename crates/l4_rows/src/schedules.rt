@@ -1,5 +1,6 @@
 // Replays of a schedule.
-use crate::program::{PING, PING_REPORT, PING_TRACE, shows};
+use crate::program::shows;
+use l4_samples::{PING, PING_REPORT, PING_TRACE};
 use std::test::Fail;
 
 const OUT_OF_RANGE: (u8, &str, &str) = (1, "", "l4run: turns out of range\n");

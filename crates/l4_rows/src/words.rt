@@ -1,5 +1,6 @@
 // The words of the command line: help, and wrong usage.
-use crate::program::{Full, PING, does, does_into, shows};
+use crate::program::{Full, does, does_into, shows};
+use l4_samples::PING;
 use std::test::Fail;
 
 #[test]

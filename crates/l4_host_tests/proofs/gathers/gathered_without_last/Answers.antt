@@ -3,7 +3,7 @@ use Rattle.std.specs.Prelude.{slice_get}
 use Rattle.std.specs.Option.{option_to_list}
 use Rattle.l4_proc.proofs.Rested.{one_of_first}
 use Rattle.l4_machine.specs.Gathers.{AreOfOne}
-use Rattle.l4_rows.proofs.gathers.gathered_without_last.Goals as goal
+use Rattle.l4_host_tests.proofs.gathers.gathered_without_last.Goals as goal
 
 still_there : {A : Type 0} (xs ys : List A) (i : ℕ) (x : A) → slice_get xs i ≡ Some x → slice_get (xs ++ ys) i ≡ Some x
 still_there [] ys i x at = absurd cc

@@ -1,7 +1,7 @@
 use Rattle.std.proofs.Common.{subst, arith}
 use Rattle.l4_proc.specs.Working.{HasGoneOn}
 use Rattle.l4_machine.proofs.InOneHand.{assembled, one_gone_on}
-use Rattle.l4_rows.proofs.gathers.worked.Goals as goal
+use Rattle.l4_host_tests.proofs.gathers.worked.Goals as goal
 
 pub loop-cpu-init : goal.loop-cpu-init
 loop-cpu-init c = assembled c.args.machine.now c.in-Ok.processors.items c.in-Ok.ensures

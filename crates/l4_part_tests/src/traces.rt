@@ -1,5 +1,6 @@
 // Lines of traces, read and written.
 use arrayvec::ArrayVec;
+use l4_samples::PING_TRACE;
 use l4_trace::fault::TraceFault;
 use l4_trace::lines::write_event;
 use l4_trace::reading::read_events;
@@ -118,8 +119,6 @@ fn line_is_whole_or_missing(rt: HostRuntime) -> Result<(), Fail> {
 // To be run with each allocation refused in turn.
 #[test]
 fn text_is_read_or_memory_is_refused(rt: HostRuntime) {
-    let read = read_events(rt.alloc(), crate::program::PING_TRACE.as_bytes()).map(
-        |steps| steps.len(),
-    );
+    let read = read_events(rt.alloc(), PING_TRACE.as_bytes()).map(|steps| steps.len());
     assert!(rt; matches!(read, Ok(8) | Err(TraceFault::NoMemory)));
 }

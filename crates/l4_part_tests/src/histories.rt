@@ -1,7 +1,7 @@
-use super::history::History;
-use super::sink::tell;
-use super::step_ref::StepRef;
 use arrayvec::ArrayVec;
+use l4_history::history::History;
+use l4_history::sink::tell;
+use l4_history::step_ref::StepRef;
 use l4_types::errors::NoMemory;
 use l4_types::ids::GlobalId;
 use l4_types::messages::Message;

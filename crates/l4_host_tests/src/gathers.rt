@@ -8,21 +8,12 @@ use l4_proc::assembly::assemble;
 use l4_proc::gate::Open;
 use l4_proc::processor::Processor;
 use l4_proc::stops::Stop;
+use l4_samples::ACROSS;
 use l4_script::machine::Machine;
 use l4_trace::traces::trace;
 use std::alloc::Global;
 use std::process::Abort;
 use std::test::Fail;
-
-const CROSSING: &str = "l4 1 64
-cpus 2
-thread 1.1 cpu 0 space 1
-set 1 10
-tag 0x70001
-ipc 2.1 nil never never
-thread 2.1 cpu 1 space 2
-ipc nil any never never
-";
 
 const QUEUED: &str = "l4 1 64
 cpus 2
@@ -135,7 +126,7 @@ pub(crate) fn has<R: AllocGlobal + Abort>(
 
 #[test]
 fn two_logs_make_one_history(rt: HostRuntime) -> Result<(), Fail> {
-    let machine = Machine::parse(rt.alloc(), CROSSING.as_bytes())
+    let machine = Machine::parse(rt.alloc(), ACROSS.as_bytes())
         .ok()
         .ok_or("a machine")?;
     let shares = [(1, 1), (0, 3), (1, 1), (0, 2), (1, 1)];
@@ -166,7 +157,7 @@ fn full_rings_hold_nothing_back(rt: HostRuntime) -> Result<(), Fail> {
 // None of two is there.
 #[test]
 fn nobody_is_not_all(rt: HostRuntime) -> Result<(), Fail> {
-    let machine = Machine::parse(rt.alloc(), CROSSING.as_bytes())
+    let machine = Machine::parse(rt.alloc(), ACROSS.as_bytes())
         .ok()
         .ok_or("a machine")?;
     assert!(rt; gather(rt.alloc(), &machine, Vec::new(rt.alloc())).is_err());

@@ -2,30 +2,19 @@ ghost use Rattle.std.specs.Prelude.{map};
 ghost use Rattle.l4_mail.specs.Ports.{AreOneFabric};
 ghost use Rattle.l4_proc.specs.Logs.{IsClosed};
 
-use crate::assembly::assemble;
-use crate::gate::{Gate, Open};
-use crate::log::Log;
-use crate::processor::Processor;
-use crate::resting::rest;
-use crate::stops::Stop;
-use crate::together::work_together;
 use l4_mail::rests::RestFault;
+use l4_proc::assembly::assemble;
+use l4_proc::gate::{Gate, Open};
+use l4_proc::log::Log;
+use l4_proc::processor::Processor;
+use l4_proc::resting::rest;
+use l4_proc::stops::Stop;
+use l4_proc::together::work_together;
+use l4_samples::{ACROSS, endless};
 use l4_script::machine::Machine;
-use std::alloc::{AllocError, Global};
 use std::sync::atomic::{AtomicU64, Ordering};
 use std::test::*;
 use std::thread;
-
-// A thread sends a word to one of another processor.
-const TEXT: &str = "l4 1 64
-cpus 2
-thread 1.1 cpu 0 space 1
-set 1 10
-tag 0x70001
-ipc 2.1 nil never never
-thread 2.1 cpu 1 space 2
-ipc nil any never never
-";
 
 // A thread waits for five ticks.
 const TIMED: &str = "l4 1 64
@@ -52,7 +41,7 @@ fn has_stamps(log: &Log, stamps: &[u64]) -> bool
 // Three letters: the send, and that it was delivered. A processor that takes no letter, or that never moves one on, keeps all contracts.
 #[test]
 fn a_message_crosses(rt: HostRuntime) -> Result<(), Fail> {
-    let machine = Machine::parse(rt.alloc(), TEXT.as_bytes())
+    let machine = Machine::parse(rt.alloc(), ACROSS.as_bytes())
         .ok()
         .expect(&rt, "a machine");
     let mut processors = assemble(rt.alloc(), &machine, 64)?;
@@ -88,19 +77,6 @@ fn a_clock_goes_on(rt: HostRuntime) -> Result<(), Fail> {
     assert!(&rt; has_stamps(processors[0].log(), &[1, 2, 3, 4]));
     assert!(&rt; !processors[0].in_hand());
     Ok(())
-}
-
-// A machine of so many processors, each with a thread that goes on for ever.
-fn endless(alloc: Global, cpus: u8) -> Result<String, AllocError> {
-    let mut text = format!(in alloc; "l4 1 64\ncpus {cpus}\n")?;
-    for cpu in 0..cpus {
-        text.push_str(format!(in alloc;
-            "thread {}.1 cpu {cpu} space 1\njump 0\n",
-            u32::from(cpu) + 1
-        )?
-        .as_str())?;
-    }
-    Ok(text)
 }
 
 // Holds turns 1 and 10 of each processor until the same turn of all others was reached.
@@ -142,7 +118,7 @@ impl Gate for Meeting {
 #[test]
 fn both_at_work(rt: HostRuntime) -> Result<(), Fail> {
     for cpus in [2u8, 16] {
-        let text = endless(rt.alloc(), cpus)?;
+        let text = endless(rt.alloc(), cpus, cpus)?;
         let machine = Machine::parse(rt.alloc(), text.as_bytes())
             .ok()
             .expect(&rt, "a machine");
@@ -174,7 +150,7 @@ fn turns_at(processors: &[Processor<'_>], at: usize) -> u64 {
 // No clause says that a letter comes, so there is a limit to how often it is waited for.
 #[test]
 fn a_message_crosses_between_threads(rt: HostRuntime) -> Result<(), Fail> {
-    let machine = Machine::parse(rt.alloc(), TEXT.as_bytes())
+    let machine = Machine::parse(rt.alloc(), ACROSS.as_bytes())
         .ok()
         .expect(&rt, "a machine");
     let mut processors = assemble(rt.alloc(), &machine, 64)?;
@@ -210,7 +186,7 @@ fn drop_last(processors: &mut Vec<Processor<'_>>)
 // The send is put by at its receiver's processor, which queues it, begins to receive, delivers it, and ends its thread.
 #[test]
 fn letters_come_to_rest(rt: HostRuntime) -> Result<(), Fail> {
-    let machine = Machine::parse(rt.alloc(), TEXT.as_bytes())
+    let machine = Machine::parse(rt.alloc(), ACROSS.as_bytes())
         .ok()
         .expect(&rt, "a machine");
     let mut processors = assemble(rt.alloc(), &machine, 1)?;

@@ -1,9 +1,9 @@
 ghost use Rattle.std.specs.Prelude.{◌≡◌};
 ghost use Rattle.l4_mail.specs.Ports.{place};
 
-use crate::fabric::fabric;
-use crate::ports::Port;
-use crate::rests::{RestFault, rest};
+use l4_mail::fabric::fabric;
+use l4_mail::ports::Port;
+use l4_mail::rests::{RestFault, rest};
 use l4_types::ids::GlobalId;
 use l4_types::letters::{Content, Letter};
 use std::test::*;

@@ -1,11 +1,12 @@
 // Runs of several processors, each in a host thread of its own. Which of its histories such a machine has is up to the host's threads, so the
 // tests look for what each run must have. Where no letter goes between processors there is only one: each takes its turns by itself, with stamps
 // that count its own events.
-use crate::cores::machine_of;
 use crate::gathers::has;
 use l4_audit::audit::check;
 use l4_machine::{Outcome, run};
 use l4_proc::gate::{Gate, Open};
+use l4_samples::{ACROSS, CALLS, endless};
+use l4_script::machine::Machine;
 use l4_trace::traces::trace;
 use l4_types::reports::Ending;
 use std::process::Abort;
@@ -13,28 +14,6 @@ use std::sync::atomic::{AtomicU64, Ordering};
 use std::test::Fail;
 use std::thread;
 use std::thread::Threads;
-
-// A thread calls one of another processor, which answers, again and again.
-const CALLS: &str = "l4 1 64
-cpus 2
-thread 1.1 cpu 0 space 1
-ipc 2.1 2.1 never never
-jump 0
-thread 2.1 cpu 1 space 2
-ipc nil any never never
-ipc last any never never
-jump 1
-";
-
-// A machine of so many processors. The first so many of them have a thread each that goes on for ever.
-fn endless<R: AllocGlobal>(rt: &R, cpus: u8, busy: u8) -> Result<String, Fail> {
-    let mut text = format!(in rt.alloc(); "l4 1 64\ncpus {cpus}\n")?;
-    for cpu in 0..busy {
-        let number = u32::from(cpu) + 1;
-        write!(text, "thread {number}.1 cpu {cpu} space 1\njump 0\n")?;
-    }
-    Ok(text)
-}
 
 // What a run comes to. Tests what every run must have: its history is one of the machine, which leads to the threads and the sends that it
 // reports; and unless it has come to rest it has used up its turns, with at most one more for each other processor.
@@ -44,7 +23,9 @@ fn comes_to<R: AllocGlobal + Abort + Threads + Sync, G: Gate + Sync>(
     turns: u64,
     gate: &G,
 ) -> Outcome {
-    let machine = machine_of(rt, text);
+    let machine = Machine::parse(rt.alloc(), text.as_bytes())
+        .ok()
+        .expect(rt, "a machine");
     let outcome = run(rt, rt.alloc(), &machine, turns, gate)
         .ok()
         .expect(rt, "an outcome");
@@ -101,7 +82,7 @@ impl Gate for Meeting {
 #[test]
 fn both_at_work(rt: HostRuntime) -> Result<(), Fail> {
     for cpus in [2u8, 16] {
-        let text = endless(&rt, cpus, cpus)?;
+        let text = endless(rt.alloc(), cpus, cpus)?;
         let gate = Meeting {
             cpus: u64::from(cpus),
             first: AtomicU64::new(0),
@@ -158,7 +139,7 @@ impl Gate for Noted {
 // each 16, of 13 each 4, and of one each one.
 #[test]
 fn each_turn_is_asked_for_once(rt: HostRuntime) -> Result<(), Fail> {
-    let text = endless(&rt, 4, 3)?;
+    let text = endless(rt.alloc(), 4, 3)?;
     let gate = Noted::new();
     let outcome = comes_to(&rt, text.as_str(), 1_000, &gate);
     assert_eq!(rt; outcome.turns, 1_002);
@@ -175,7 +156,7 @@ fn each_turn_is_asked_for_once(rt: HostRuntime) -> Result<(), Fail> {
 #[test]
 fn turns_are_used_up(rt: HostRuntime) -> Result<(), Fail> {
     for cpus in [1u8, 2, 3, 16] {
-        let text = endless(&rt, cpus, cpus)?;
+        let text = endless(rt.alloc(), cpus, cpus)?;
         for turns in [1, 2, 15, 16, 17, 1_000] {
             let outcome = comes_to(&rt, text.as_str(), turns, &Open);
             assert!(rt; outcome.ending == Ending::Spent, "{cpus} {turns}");
@@ -200,7 +181,7 @@ fn a_word_arrives_in_each_run(rt: HostRuntime) {
     let report =
         "thread 1.1 ended 0 nil nil 0 a\nthread 2.1 ended 0 1.1 1.1 74001 a\nending quiet\n";
     for _ in 0..20 {
-        let outcome = comes_to(&rt, crate::processors::ACROSS, 1_000, &Open);
+        let outcome = comes_to(&rt, ACROSS, 1_000, &Open);
         let lines = spelled(&rt, &outcome);
         assert_eq!(rt; lines.as_str().matches(delivered).count(), 1);
         assert_eq!(rt; lines.as_str().matches("deliver ").count(), 1);

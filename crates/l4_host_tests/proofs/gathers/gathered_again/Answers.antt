@@ -3,7 +3,7 @@ use Rattle.l4_mail.specs.Ports.{Account, Place, account, place, AreLinked}
 use Rattle.l4_proc.specs.declared.processor.Processor.{Processor}
 use Rattle.l4_proc.proofs.Rested.{port_of}
 use Rattle.l4_machine.proofs.InOneHand.{all_same}
-use Rattle.l4_rows.proofs.gathers.gathered_again.Goals as goal
+use Rattle.l4_host_tests.proofs.gathers.gathered_again.Goals as goal
 
 -- Ports with the same accounts stand at the same places.
 places_same : (olds news : List Processor) → map (λ (p : Processor). account p.port) news ≡ map (λ (p : Processor). account p.port) olds →

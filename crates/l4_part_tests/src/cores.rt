@@ -4,6 +4,7 @@ ghost use Rattle.std.specs.Prelude.{◌<◌};
 use arrayvec::ArrayVec;
 use l4_core::processor::values::Turn;
 use l4_core::processor::{Core, Fault};
+use l4_samples::ACROSS;
 use l4_script::machine::Machine;
 use l4_trace::lines::write_event;
 use l4_types::ids::GlobalId;
@@ -367,7 +368,7 @@ fn a_letter_may_find_nothing_left_to_do(rt: HostRuntime) {
 
 #[test]
 fn two_processors_talk_by_letters(rt: HostRuntime) {
-    let machine = machine_of(&rt, crate::processors::ACROSS);
+    let machine = machine_of(&rt, ACROSS);
     let mut home = core(&rt, &machine, 0);
     let mut other = core(&rt, &machine, 1);
     takes_turn(&rt, &mut other, 1, "wait 2.1\n", &[]);

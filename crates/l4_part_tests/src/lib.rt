@@ -1,0 +1,19 @@
+//! Tests of the calls of single crates. They stand here since a crate with tests of its own is proved twice.
+#![tactic(auto)]
+
+#[cfg(test)]
+mod arena;
+#[cfg(test)]
+mod cores;
+#[cfg(test)]
+mod deadlines;
+#[cfg(test)]
+mod histories;
+#[cfg(test)]
+mod ports;
+#[cfg(test)]
+mod traces;
+#[cfg(test)]
+mod unlawful;
+#[cfg(test)]
+mod values;

@@ -26,7 +26,7 @@ pub struct Outcome {
     pub threads: Vec<ThreadView>,
     /// Whether anything is left to do.
     pub ending: Ending,
-    /// How many turns were taken.
+    /// How many turns were taken, ticks and letters handled among them.
     pub turns: u64,
 }
 
@@ -41,7 +41,7 @@ pub struct CompactOutcome {
     pub threads: Vec<ThreadView>,
     /// Whether anything is left to do.
     pub ending: Ending,
-    /// How many turns were taken.
+    /// How many turns were taken, ticks and letters handled among them.
     pub turns: u64,
 }
 

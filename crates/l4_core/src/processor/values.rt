@@ -1,4 +1,5 @@
-//! Turns, ticks and letters handled, with what is told as a value.
+//! Turns, ticks and letters handled, with what is told as a value: for callers that have no place to tell steps in. A processor at work has one, its
+//! log, and calls none of these.
 ghost use Rattle.std.specs.Prelude.{◌≡◌, ◌↔◌, ◌⊎◌, IfErr, IfOk, IsErrOf, IsSome, None, OnErr, [], false, true};
 ghost use Rattle.l4_core_model.specs.Mail.{handle};
 ghost use Rattle.l4_core_model.specs.Turns.{advance, can_stamp};

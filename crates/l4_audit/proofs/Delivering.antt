@@ -13,7 +13,7 @@ use Rattle.l4_model.specs.Steps.{after_deliver}
 use Rattle.l4_model.proofs.Chains.{some_is, get-map, map-changed_same}
 use Rattle.l4_model.proofs.Places.{and_true, same_id_is, eqb_same, known, known_send, id_of, sender_found, receiver_there}
 use Rattle.l4_core_model.specs.Letters.{Delivered}
-use Rattle.l4_core_model.specs.Local.{ended}
+use Rattle.l4_core_model.specs.Local.{after_decision}
 use Rattle.l4_history.specs.declared.step_ref.DeliveryRef.{DeliveryRef}
 use Rattle.l4_script.proofs.Finding.{declared_at}
 use Rattle.l4_audit.specs.Audited.{Audited, with_world}
@@ -29,7 +29,7 @@ changed_where g f h (x ∷ xs) (suc i) y at e = ap (λ zs. x ∷ zs) (changed_wh
 same_receives : (d p : Message) (tag : ℕ) (t : Thread) → d.shown ≡ p.shown → d.actual ≡ p.actual → d.words ≡ p.words → receives d tag t ≡ receives p tag t
 same_receives d p tag t a b c = rw (a, b, c) refl
 
-same_end : (send : Send) (now : ℕ) (t : Thread) → t.send ≡ Some send → ended Delivered now t ≡ delivered send now t
+same_end : (send : Send) (now : ℕ) (t : Thread) → t.send ≡ Some send → after_decision Delivered now t ≡ delivered send now t
 same_end send now t e = rw e refl
 
 pub is_found : (m : Machine) (w : World) (id : GlobalId) (t : Found) → found m w id ≡ Some t → IsFound m t
@@ -79,8 +79,8 @@ delivers_now m a v d p r receive is to receiving first tells ends =
     let has : slice_get (map (λ (t : Thread). t.send) u.threads) s ≡ Some (Some p.send) =
     ap (λ xs. slice_get xs s) (map-changed_same (λ (t : Thread). t.send) (receives p.send.message tag) (λ t. refl) w.threads r.at)
     ∙ get-map (λ (t : Thread). t.send) w.threads s p.sender.now known.sender.now ∙ ap Some known.send in
-    let ended_so : change u s (ended Delivered p.sender.clock) ≡ change u s (delivered p.send p.sender.clock) =
+    let ended_so : change u s (after_decision Delivered p.sender.clock) ≡ change u s (delivered p.send p.sender.clock) =
     ap (λ ts. record u { threads = ts })
-    (changed_where (λ (t : Thread). t.send) (ended Delivered p.sender.clock) (delivered p.send p.sender.clock) u.threads s (Some p.send) has (λ t e. same_end p.send p.sender.clock t e)) in
-    let final : v.world ≡ change u s (delivered p.send p.sender.clock) = ap (λ (x : Audited). x.world) ends ∙ ap (λ x. change x s (ended Delivered p.sender.clock)) got ∙ ended_so in
+    (changed_where (λ (t : Thread). t.send) (after_decision Delivered p.sender.clock) (delivered p.send p.sender.clock) u.threads s (Some p.send) has (λ t e. same_end p.send p.sender.clock t e)) in
+    let final : v.world ≡ change u s (delivered p.send p.sender.clock) = ap (λ (x : Audited). x.world) ends ∙ ap (λ x. change x s (after_decision Delivered p.sender.clock)) got ∙ ended_so in
     chain ∙ ap Some (sym final)

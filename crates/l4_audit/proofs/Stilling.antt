@@ -5,7 +5,7 @@ use Rattle.std.specs.List.{list_all}
 use Rattle.std.specs.Option.{option_map}
 use Rattle.l4_model.proofs.Chains.{some_is}
 use Rattle.l4_model.specs.Words.{GlobalId}
-use Rattle.l4_model.specs.Machine.{Machine, place_of}
+use Rattle.l4_model.specs.Machine.{Machine, place_of, is_place}
 use Rattle.l4_model.specs.World.{Send, Receive, Asked, World, Name, is_ready, is_deleted, is_alive, receive_now}
 use Rattle.l4_model.specs.Rules.{Act, RunsAlone, Sends, Receives, Orders, received_tag, is_cross}
 use Rattle.l4_model.specs.Conditions.{Found, found, found_by, Pending, undecided, receiver_of, act_of, is_waiting, first_accepted, is_nobody, is_no_destination, is_timed_out, ◌>>=◌, ◌>>◌}
@@ -15,7 +15,7 @@ use Rattle.l4_model.proofs.Places.{id_of, eqb_same}
 use Rattle.l4_core_model.proofs.Changed.{same_ids, same_bytes}
 use Rattle.l4_thread.specs.Parts.{Block}
 use Rattle.l4_audit.specs.Audited.{Audited, with_world}
-use Rattle.l4_audit.specs.Stillness.{may_obey, may_stop, is_place, is_taken, may_arrive, may_decide, may_send, is_still_found}
+use Rattle.l4_audit.specs.Stillness.{may_obey, may_stop, is_taken, may_arrive, may_decide, may_send, is_still_found}
 use Rattle.l4_audit.proofs.Writing.{audited}
 
 -- Late clocks

@@ -8,7 +8,7 @@ use Rattle.l4_model.specs.Rules.{received_tag, is_cross}
 use Rattle.l4_model.specs.Effects.{receives}
 use Rattle.l4_model.specs.Conditions.{Found, Pending}
 use Rattle.l4_core_model.specs.Letters.{Delivered}
-use Rattle.l4_core_model.specs.Local.{ended}
+use Rattle.l4_core_model.specs.Local.{after_decision}
 use Rattle.l4_history.specs.declared.step_ref.DeliveryRef.{DeliveryRef}
 
 -- A thread that was found by its id has what is declared of this id.
@@ -26,4 +26,4 @@ is_delivery m d p r =
 
 -- The message goes over from its sender to its receiver.
 abbrev pub taken_over : (sender receiver : ℕ) → DeliveryRef → (now : ℕ) → World → World
-taken_over s r d now w = change (change (unqueued w s) r (receives d.message (received_tag d.cross d.message))) s (ended Delivered now)
+taken_over s r d now w = change (change (unqueued w s) r (receives d.message (received_tag d.cross d.message))) s (after_decision Delivered now)

@@ -1,6 +1,6 @@
 -- Where a thread can be in for no step but by a tick, with the clocks as they are.
-use Rattle.std.specs.Prelude.{ℕ, Bool, false, ◌==◌, not, ◌&&◌, ◌||◌, Option, Some, None, is_some, is_none}
-use Rattle.l4_model.specs.Machine.{Machine, place_of}
+use Rattle.std.specs.Prelude.{ℕ, Bool, false, not, ◌&&◌, ◌||◌, Option, Some, None, is_some, is_none}
+use Rattle.l4_model.specs.Machine.{Machine, place_of, is_place}
 use Rattle.l4_model.specs.World.{Receive, Send, Asked, World, is_ready, is_deleted, is_alive, receive_now}
 use Rattle.l4_model.specs.Conditions.{Found, found_by, Pending, receiver_of, is_waiting, first_accepted, is_nobody, is_no_destination, is_timed_out}
 use Rattle.l4_model.specs.Steps.{receive_passed}
@@ -16,10 +16,6 @@ may_stop m w t None = false
 may_stop m w t (Some receive) =
     t.now.cancel_receive
     || ((receive_passed t t.now.phase || is_nobody receive.from (found_by m w receive.from)) && is_none (first_accepted m w t receive.from))
-
-abbrev pub is_place : Option ℕ → ℕ → Bool
-is_place None i = false
-is_place (Some j) i = j == i
 
 -- A sender is the first in its list that the receiver accepts.
 abbrev pub is_taken : Machine → World → Found → (sender : ℕ) → Option Receive → Bool

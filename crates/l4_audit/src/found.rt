@@ -3,12 +3,12 @@ ghost use Rattle.std.specs.Prelude.{◌≡◌, ◌<◌, ◌≤◌, false, is_som
 ghost use Rattle.std.specs.Option.{option_map};
 ghost use Rattle.l4_model.specs.Machine.{Machine, declaration_of, same_cpu};
 ghost use Rattle.l4_model.specs.World.{is_ready, is_deleted, receive_now};
-ghost use Rattle.l4_model.specs.Conditions.{instruction, act_of, may_still_accept, call_accepts};
+ghost use Rattle.l4_model.specs.Conditions.{instruction, act_of, may_still_accept, call_accepts, is_elsewhere};
 ghost use Rattle.l4_model.specs.Rules.{accepts, destination, ask_act};
 ghost use Rattle.l4_model.specs.Steps.{runs_alone, send_of, receive_of, order_of, receive_passed};
 ghost use Rattle.l4_types.specs.StepView.{what_of};
 ghost use Rattle.l4_audit.specs.Delivering.{IsFound};
-ghost use Rattle.l4_audit.specs.Phases.{has_phase, is_elsewhere};
+ghost use Rattle.l4_audit.specs.Phases.{has_phase};
 ghost use Rattle.l4_script.specs.Scripts.{instr_of, to_of};
 ghost use Rattle.l4_thread.specs.Ipcs.{may_show};
 ghost use Rattle.l4_thread.specs.Requests.{is_end};
@@ -26,9 +26,13 @@ use std::marker::Model;
 /// A thread: its place in the order of declaration, what the machine declares of it, what it is now, and the clock of its processor.
 #[derive(Drop)]
 pub struct Found<'a> {
+    /// Its number in the order of declaration, counted from 0.
     pub place: usize,
+    /// What the machine declares of it.
     pub declared: &'a Declaration,
+    /// What it is now.
     pub tcb: &'a Tcb,
+    /// The clock of its processor, in ticks.
     pub clock: u64,
 }
 
@@ -272,7 +276,9 @@ impl<'a> Found<'a> {
 /// An undecided send, with its sender.
 #[derive(Drop)]
 pub struct Pending<'a> {
+    /// The thread that began it.
     pub sender: Found<'a>,
+    /// The send itself, in its sender's block.
     pub send: SendRef<'a>,
 }
 

@@ -6,7 +6,7 @@ use Rattle.l4_model.specs.Effects.{begins}
 use Rattle.l4_model.specs.Steps as steps
 use Rattle.l4_core_model.specs.Plain as plain
 use Rattle.l4_core_model.specs.Local.{Local, comes_to, destination_place, last_name, thread}
-use Rattle.l4_core_model.specs.Acts.{acts, goes_to, tells}
+use Rattle.l4_core_model.specs.Acts.{acts, send_goes_to, tells}
 use Rattle.l4_core_model.proofs.Changed.{get-changed}
 use Rattle.l4_thread.specs.declared.phases.Began.TheVariants.{Send as BeganSend}
 use Rattle.l4_thread.specs.Ipcs.{began_of}
@@ -40,7 +40,7 @@ new_sender p q i a core hand is began =
     }
 
 pub act_sends : (p q u : Processor) (i : ℕ) (a : Act) (before middle after : Told) → AreCore p → IsAtHand p i → BeganSend ≡ began_of a → q ≡ with_local p (begun_by a i p.local) → middle ≡ with_step (steps.Begin (last_name q.machine q.local i)) before →
-    ((send : Send) → (thread q.local i).send ≡ Some send → Does (goes_to q.machine q.cpu i send (destination_place q.machine send.to)) q u middle after) → Does (acts p.machine p.cpu i a) p u before after
+    ((send : Send) → (thread q.local i).send ≡ Some send → Does (send_goes_to q.machine q.cpu i send (destination_place q.machine send.to)) q u middle after) → Does (acts p.machine p.cpu i a) p u before after
 act_sends p q u i a before middle after core hand began is adds goes =
     let s = sends_of a began in
     let at = begun_at p q i a s.0 s.1 is in
@@ -53,6 +53,6 @@ act_sends p q u i a before middle after core hand began is adds goes =
       cpu = doing.cpu ∙ ap (λ (x : Processor). x.cpu) at;
       stamp = doing.stamp ∙ ap (λ (x : Processor). x.local.stamp) at;
       kept = doing.kept ∙ ap (λ (t : Told). t.before) adds;
-      work = doing.work ∙ ap (λ (x : Processor). goes_to x.machine x.cpu i s.0 (destination_place x.machine s.0.to) (work q.local middle)) at
-          ∙ ap (goes_to p.machine p.cpu i s.0 (destination_place p.machine s.0.to)) begun ∙ ap (λ (b : Act). acts p.machine p.cpu i b (work p.local before)) (sym s.1);
+      work = doing.work ∙ ap (λ (x : Processor). send_goes_to x.machine x.cpu i s.0 (destination_place x.machine s.0.to) (work q.local middle)) at
+          ∙ ap (send_goes_to p.machine p.cpu i s.0 (destination_place p.machine s.0.to)) begun ∙ ap (λ (b : Act). acts p.machine p.cpu i b (work p.local before)) (sym s.1);
     }

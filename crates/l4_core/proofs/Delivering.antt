@@ -7,7 +7,7 @@ use Rattle.l4_model.specs.Effects.{receives}
 use Rattle.l4_model.specs.Steps as steps
 use Rattle.l4_core_model.specs.Letters.{Delivered}
 use Rattle.l4_core_model.specs.Local.{declared, is_own, last_name, thread, comes_to}
-use Rattle.l4_core_model.specs.Acts.{Work, delivers, delivers_message, delivers_send, ends}
+use Rattle.l4_core_model.specs.Acts.{Work, delivers, delivers_message, delivers_send, decides_send}
 use Rattle.l4_core_model.proofs.Fit.{get_other}
 use Rattle.l4_history.specs.declared.step_ref.DeliveryRef.{DeliveryRef}
 use Rattle.l4_history.specs.Seen.{delivered}
@@ -39,7 +39,7 @@ delivered_is p r i send x has = ap (λ o. delivers_send p.machine p.cpu r i o x)
 
 pub deliver_does : (p q u : Processor) (r i : ℕ) (before middle after : Told) (d : DeliveryRef) (tag : ℕ) → AreCore p → IsReceiver p r → IsSender p i →
     d.name ≡ last_name p.machine p.local i → d.receiver ≡ (declared p.machine r).id → option_map (λ (s : Send). s.message) (thread p.local i).send ≡ Some d.message → d.message.actual ≡ (declared p.machine i).id → d.cross ≡ not (is_own p.machine p.cpu i) →
-    tag ≡ received_tag d.cross d.message → middle ≡ with_step (delivered d) before → q ≡ with_local p (comes_to r (receives_from (thread p.local i).send tag) p.local) → Does (ends q.machine q.cpu Delivered i) q u middle after →
+    tag ≡ received_tag d.cross d.message → middle ≡ with_step (delivered d) before → q ≡ with_local p (comes_to r (receives_from (thread p.local i).send tag) p.local) → Does (decides_send q.machine q.cpu Delivered i) q u middle after →
     Does (delivers p.machine p.cpu r i) p u before after
 deliver_does p q u r i before middle after d tag core receiver sender named to carries from crossing tagged tells passed doing =
     let s = message_in (thread p.local i).send d.message carries in
@@ -60,5 +60,5 @@ deliver_does p q u r i before middle after d tag core receiver sender named to c
       cpu = doing.cpu ∙ ap (λ (x : Processor). x.cpu) is;
       stamp = doing.stamp ∙ ap (λ (x : Processor). x.local.stamp) is;
       kept = doing.kept ∙ ap (λ (t : Told). t.before) tells;
-      work = doing.work ∙ ap (λ (x : Processor). ends x.machine x.cpu Delivered i (work q.local middle)) is ∙ ap (ends p.machine p.cpu Delivered i) here ∙ sym whole;
+      work = doing.work ∙ ap (λ (x : Processor). decides_send x.machine x.cpu Delivered i (work q.local middle)) is ∙ ap (decides_send p.machine p.cpu Delivered i) here ∙ sym whole;
     }

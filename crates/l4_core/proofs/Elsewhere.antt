@@ -8,7 +8,7 @@ use Rattle.l4_core_model.specs.Local.{declared, undeclared}
 use Rattle.l4_types.specs.Ids.{global_of}
 use Rattle.l4_core_model.proofs.Standing.{place_within}
 use Rattle.l4_script.proofs.Finding.{declared_at}
-use Rattle.l4_core.specs.Covered.{is_elsewhere}
+use Rattle.l4_model.specs.Conditions.{is_elsewhere}
 
 declaration_is : (m : Machine) (id : GlobalId) (i : ℕ) → place_of m id ≡ Some i → declaration_of m id ≡ Some (declared m i)
 declaration_is m id i e =

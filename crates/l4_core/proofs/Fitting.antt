@@ -13,7 +13,7 @@ use Rattle.l4_script.specs.Scripts.{instr_of}
 use Rattle.l4_core_model.specs.Plain as plain
 use Rattle.l4_core_model.specs.Acts.{split_receiver}
 use Rattle.l4_core_model.specs.Letters.{Result, Delivered, Refused, TimedOut, Nobody, Cancelled, Dropped}
-use Rattle.l4_core_model.specs.Local.{Local, declared, is_own, thread, ended, was_delivered, was_dropped, stand_in, stands_in, is_gone_now}
+use Rattle.l4_core_model.specs.Local.{Local, declared, is_own, thread, after_decision, was_delivered, was_dropped, stand_in, stands_in, is_gone_now}
 use Rattle.l4_core_model.specs.Mail.{is_ordering}
 use Rattle.l4_thread.specs.Changes.{change_of}
 use Rattle.l4_thread.specs.declared.changes.Change.{Change}
@@ -192,7 +192,7 @@ keeps-was_dropped t = by (is_deleted t.phase) refl
     by true e = record { sends = inr refl; begun = refl; dead = refl }
     by false e = record { sends = inr refl; begun = refl; dead = sym e }
 
-pub keeps-ended : (d : Result) (now : ℕ) (t : Thread) → Keeps t (ended d now t)
+pub keeps-ended : (d : Result) (now : ℕ) (t : Thread) → Keeps t (after_decision d now t)
 keeps-ended Delivered now t = keeps-was_delivered t.send now t
 keeps-ended (Refused TimedOut) now t = keeps-refused 2 t
 keeps-ended (Refused Nobody) now t = keeps-refused 4 t
@@ -229,7 +229,7 @@ refused_send code t = by (is_deleted t.phase)
     by true e = cc
     by false e = cc
 
-ended_send : (d : Result) (now : ℕ) (t : Thread) → is_some (ended d now t).send ≡ true → ⊥
+ended_send : (d : Result) (now : ℕ) (t : Thread) → is_some (after_decision d now t).send ≡ true → ⊥
 ended_send Delivered now t e = by t.send refl e
   where
     goes : (receive : Option Receive) → is_some (goes_on receive now t).send ≡ true → ⊥
@@ -331,7 +331,7 @@ next-was_delivered : (o : Option Send) (now : ℕ) (t : Thread) → HasNext t �
 next-was_delivered None now t h = h
 next-was_delivered (Some send) now t h = λ e. absurd (next-delivered send now t e)
 
-next-ended : (d : Result) (now : ℕ) (t : Thread) → HasNext t → HasNext (ended d now t)
+next-ended : (d : Result) (now : ℕ) (t : Thread) → HasNext t → HasNext (after_decision d now t)
 next-ended Delivered now t h = next-was_delivered t.send now t h
 next-ended (Refused TimedOut) now t h = λ e. absurd (next-fails 2 (decided t) e)
 next-ended (Refused Nobody) now t h = λ e. absurd (next-fails 4 (decided t) e)

@@ -7,7 +7,8 @@ use Rattle.l4_model.specs.Machine.{Machine, is_declared}
 use Rattle.l4_model.specs.World.{Message, Phase, Ready, Sending, Receiving, Ordering, Ended, Deleted, Thread, changed, is_deleted, opening_thread}
 use Rattle.l4_model.specs.Effects.{obeyed}
 use Rattle.l4_model.specs.Conditions.{◌>>=◌, ◌>>◌}
-use Rattle.l4_core_model.specs.Local.{Local, changes, comes_to, entered, settles, stand_in, stands_in, thread}
+use Rattle.l4_core.specs.Settling.{settles}
+use Rattle.l4_core_model.specs.Local.{Local, changes, comes_to, entered, stand_in, stands_in, thread}
 use Rattle.l4_core_model.specs.Plain.{is_queued}
 use Rattle.l4_core_model.specs.Acts.{Work, refuses, split_place, split_receiver}
 use Rattle.l4_core_model.specs.Mail.{handle, handled, own_place, foreign_place, is_ordering, waits_here, withdraws_here}

@@ -4,7 +4,8 @@ use Rattle.l4_model.specs.World.{Send}
 use Rattle.l4_model.specs.Steps.{Queue}
 use Rattle.l4_core_model.specs.Plain as plain
 use Rattle.l4_core_model.specs.Local.{last_name, relists}
-use Rattle.l4_core_model.specs.Acts.{Work, delivers, delivers_if_first, entry, first_acceptable, is_place, queues_send}
+use Rattle.l4_model.specs.Machine.{is_place}
+use Rattle.l4_core_model.specs.Acts.{Work, delivers, delivers_if_first, entry, first_acceptable, queues_send}
 use Rattle.l4_core.specs.Processor.{Processor, with_local}
 use Rattle.l4_core.specs.Tellings.{Told, with_step}
 use Rattle.l4_core.specs.Turning.{work, Does}

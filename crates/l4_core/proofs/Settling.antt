@@ -7,7 +7,8 @@ use Rattle.std.proofs.lemmas.Bool.{eqb-true}
 use Rattle.l4_model.specs.Machine.{Machine}
 use Rattle.l4_model.specs.World.{Phase, Ready, Sending, Receiving, Ordering, Ended, Deleted, Thread, changed, opening_thread, is_ready}
 use Rattle.l4_core_model.specs.Plain as plain
-use Rattle.l4_core_model.specs.Local.{Local, declared, is_own, thread, changes, settles, comes_to, relists, readied}
+use Rattle.l4_core.specs.Settling.{settles}
+use Rattle.l4_core_model.specs.Local.{Local, declared, is_own, thread, changes, comes_to, relists, readied}
 use Rattle.l4_core_model.specs.Acts.{split_receiver}
 use Rattle.l4_core_model.specs.Mail.{is_ordering}
 use Rattle.l4_core_model.specs.Turns.{has_told, clock_is}

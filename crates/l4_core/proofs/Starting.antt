@@ -10,7 +10,8 @@ use Rattle.l4_model.specs.Conditions.{act_of, instruction}
 use Rattle.l4_model.specs.Effects.{begins, waits}
 use Rattle.l4_core_model.specs.Plain.{Plain}
 use Rattle.l4_core_model.specs.Mail.{is_ordering}
-use Rattle.l4_core_model.specs.Local.{Local, declared, undeclared, thread, held, changes, settles, comes_to}
+use Rattle.l4_core.specs.Settling.{settles}
+use Rattle.l4_core_model.specs.Local.{Local, declared, undeclared, thread, held, changes, comes_to}
 use Rattle.l4_thread.specs.Parts.{Block}
 use Rattle.l4_thread.specs.declared.phases.Began.{Began}
 use Rattle.l4_thread.specs.declared.phases.Began.TheVariants.{Nothing}

@@ -4,7 +4,8 @@ use Rattle.l4_model.specs.Machine.{Machine}
 use Rattle.l4_model.specs.World.{Thread, changed, opening_thread}
 use Rattle.l4_model.proofs.Chains.{set_changed}
 use Rattle.l4_core_model.specs.Plain.{Plain}
-use Rattle.l4_core_model.specs.Local.{Local, thread, changes, settles, comes_to}
+use Rattle.l4_core.specs.Settling.{settles}
+use Rattle.l4_core_model.specs.Local.{Local, thread, changes, comes_to}
 use Rattle.l4_thread.specs.Parts.{Block}
 use Rattle.l4_core.specs.Processor.{Processor, with_local}
 use Rattle.l4_core.specs.Settled.{IsSettled}

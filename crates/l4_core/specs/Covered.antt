@@ -1,8 +1,8 @@
 -- Sets of places that leave none out: of those of this processor's threads with a duty, and of those where a send of timeout zero waits.
-use Rattle.std.specs.Prelude.{◌≡◌, ℕ, ◌<◌, Bool, true, false, if◌then◌else◌, ◌&&◌, not, Option, Some, None, List, find, slice_index_or}
+use Rattle.std.specs.Prelude.{◌≡◌, ℕ, ◌<◌, Bool, true, false, if◌then◌else◌, ◌&&◌, Option, Some, None, List, find, slice_index_or}
 use Rattle.std.specs.Option.{option_map}
-use Rattle.l4_model.specs.Words.{GlobalId, Id, AnyThread, GlobalThread}
-use Rattle.l4_model.specs.Machine.{Machine, is_declared, same_cpu}
+use Rattle.l4_model.specs.Words.{Id, AnyThread}
+use Rattle.l4_model.specs.Machine.{Machine}
 use Rattle.l4_model.specs.World.{Receive, Send, Thread, is_deleted, receive_now}
 use Rattle.l4_model.specs.Conditions.{is_zero, is_nobody}
 use Rattle.l4_core_model.specs.Plain.{Waiting, list_of, first_taken}
@@ -50,11 +50,6 @@ pub record IsCovered (duties zeros : List ℕ) (p : Processor) : Type 0 where
 
 abbrev pub names_nobody : Machine → Local → Id → Bool
 names_nobody m l id = is_nobody id (held_by m l id)
-
--- The id is that of a declared thread of another processor than the caller's.
-abbrev pub is_elsewhere : Machine → (caller : GlobalId) → Id → Bool
-is_elsewhere m caller (GlobalThread t) = is_declared m t && not (same_cpu m t caller)
-is_elsewhere m caller _ = false
 
 -- The first send of timeout zero that waits at a place and may be refused.
 abbrev pub first_refusable : Machine → Local → ℕ → Option Waiting

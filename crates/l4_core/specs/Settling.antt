@@ -1,8 +1,8 @@
--- The two parts of settling a thread in its phase.
+-- Settling a thread in its phase, and the two parts of it.
 use Rattle.std.specs.Prelude.{ℕ}
 use Rattle.l4_model.specs.World.{Thread}
 use Rattle.l4_core_model.specs.Plain.{Plain, without_block}
-use Rattle.l4_core_model.specs.Local.{readied, armed_for, armed_period}
+use Rattle.l4_core_model.specs.Local.{Local, thread, entered, readied, armed_for, armed_period}
 
 -- Its old deadline goes, and that of its phase is armed.
 abbrev pub rearms : Thread → (clock place : ℕ) → Plain → Plain
@@ -11,3 +11,7 @@ rearms t clock place s = record s { armed = armed_for (armed_period t.phase t.se
 -- It stands last among the ready ones, where it can run.
 abbrev pub readies : Thread → (place : ℕ) → Plain → Plain
 readies t place s = record s { ready = readied t.phase place s.ready }
+
+-- It has come to the phase that it is in.
+abbrev pub settles : (place : ℕ) → Local → Local
+settles i l = record l { lists = entered (thread l i) l.clock i l.lists }

@@ -6,7 +6,7 @@ use Rattle.l4_model.specs.World.{Message, is_deleted}
 use Rattle.l4_model.specs.Effects.{obeyed}
 use Rattle.l4_model.specs.Conditions.{◌>>=◌, ◌>>◌}
 use Rattle.l4_core_model.specs.Letters.{OrderDoneLetter}
-use Rattle.l4_core_model.specs.Local.{Local, declared, is_own, thread, changes, comes_to, ended, stand_in, stands_in, is_gone_now}
+use Rattle.l4_core_model.specs.Local.{Local, declared, is_own, thread, changes, comes_to, after_decision, stand_in, stands_in, is_gone_now}
 use Rattle.l4_core_model.specs.Acts.{Work, ◌▷◌, does, posts, arrives, refuses, obeys, split_place}
 use Rattle.l4_core_model.specs.Mail.{own_place, foreign_place, is_ordering, waits_here}
 use Rattle.l4_types.specs.declared.letters.Refusal.{Refusal}
@@ -63,7 +63,7 @@ task_of m cpu l (content.OrderDone caller) = do
 
 abbrev pub does_task : Machine → (cpu : ℕ) → Task → Work → Work
 does_task m cpu (Arrive r i name to message zero_timeout) x = x ▷ does (changes i (stands_in name.k (stand_in to message zero_timeout))) ▷ arrives m cpu r i
-does_task m cpu (End i decision) x = x ▷ does (comes_to i (ended (decision_of decision) x.local.clock))
+does_task m cpu (End i decision) x = x ▷ does (comes_to i (after_decision (decision_of decision) x.local.clock))
 does_task m cpu (Refuse i refusal) x = refuses m cpu (refusal_of_send refusal) i x
 does_task m cpu Leave x = x
 does_task m cpu (NoteGone i) x = x ▷ does (changes i is_gone_now)

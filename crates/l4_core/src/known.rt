@@ -1,7 +1,7 @@
 //! What one processor knows: its threads, their lists, its clock, and of other processors' threads what it was told.
 ghost use Rattle.std.specs.Prelude.{◌≡◌, ◌<◌, ◌≤◌, ◌+◌, ◌^◌, Some, length, false, is_some, map, replicate, IfOk, IfSome, slice_get};
 ghost use Rattle.std.specs.Option.{option_map};
-ghost use Rattle.l4_model.specs.Machine.{place_of};
+ghost use Rattle.l4_model.specs.Machine.{place_of, is_place};
 ghost use Rattle.l4_model.specs.World.{Send, is_deleted, opening_thread, receive_now};
 ghost use Rattle.l4_model.specs.Conditions.{instruction};
 ghost use Rattle.l4_model.specs.Rules.{accepts, ask_act};
@@ -11,7 +11,7 @@ ghost use Rattle.l4_thread.specs.Requests.{is_end};
 ghost use Rattle.l4_core.specs.Asking.{admitted_act};
 ghost use Rattle.l4_core_model.specs.Plain.{due_block, is_queued};
 ghost use Rattle.l4_core_model.specs.Local.{declared, destination_place, held, is_own, last_name, opening_local, thread};
-ghost use Rattle.l4_core_model.specs.Acts.{entry, first_acceptable, is_place, split_place};
+ghost use Rattle.l4_core_model.specs.Acts.{entry, first_acceptable, split_place};
 ghost use Rattle.l4_core_model.specs.Turns.{can_stamp};
 ghost use Rattle.l4_core.specs.Covered.{is_zero_send};
 ghost use Rattle.l4_core.specs.Opening.{lists_below, opening_lists};

@@ -2,11 +2,11 @@
 use Rattle.std.proofs.Common.{[], ◌≡◌, ◌≢◌, ℕ, ◌+◌, ◌<◌, Bool, true, false, cond, Option, Some, None, List, ◌∷◌, refl, ap, ◌∙◌, subst, arith}
 use Rattle.std.specs.Prelude.{is_some, ◌&&◌, ◌==◌, nat_lt}
 use Rattle.std.specs.List.{AllByRecursion}
-use Rattle.l4_model.specs.Machine.{Machine}
+use Rattle.l4_model.specs.Machine.{Machine, is_place}
 use Rattle.l4_model.specs.World.{Thread, Receive, Phase, Ready, Sending, Receiving, Ordering, Ended, Deleted, receive_now}
 use Rattle.l4_model.specs.Conditions.{◌>>=◌, ◌>>◌}
 use Rattle.l4_model.proofs.Chains.{some_is}
-use Rattle.l4_core_model.specs.Acts.{first_of_list, is_place}
+use Rattle.l4_core_model.specs.Acts.{first_of_list}
 use Rattle.l4_core_model.specs.Turns.{DeliversFirst, first_some, next_untold}
 use Rattle.l4_core_model.proofs.Apart.{apart}
 use Rattle.std.proofs.lemmas.Bool.{eqb-true, ltb-true}

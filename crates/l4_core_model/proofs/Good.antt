@@ -6,7 +6,7 @@ use Rattle.l4_model.specs.Effects.{phase_after, runs, waits, begins, fails, deci
 use Rattle.l4_model.proofs.Chains.{cond_both, cond_keeps}
 use Rattle.l4_model.specs.Reached.{Suits}
 use Rattle.l4_core_model.specs.Letters.{Refusal, TimedOut, Nobody, Cancelled, Dropped, Refused, Delivered}
-use Rattle.l4_core_model.specs.Local.{ended, was_delivered, was_dropped}
+use Rattle.l4_core_model.specs.Local.{after_decision, was_delivered, was_dropped}
 use Rattle.l4_core_model.proofs.Fit.{IsGood, SendIsSince, PhaseIsSince}
 
 -- which phases have neither a send nor an order
@@ -114,13 +114,13 @@ delivered_good clock t send has g =
     (λ alive. goes_on_good clock send.receive t (sender_none clock t send has alive g))
     (λ gone. deleted_good clock (decided t) (deleted_is t.phase gone) refl)
 
-pub ended_refused_good : (clock : ℕ) (refusal : Refusal) (t : Thread) (send : Send) → t.send ≡ Some send → IsGood clock t → IsGood clock (ended (Refused refusal) clock t)
+pub ended_refused_good : (clock : ℕ) (refusal : Refusal) (t : Thread) (send : Send) → t.send ≡ Some send → IsGood clock t → IsGood clock (after_decision (Refused refusal) clock t)
 ended_refused_good clock TimedOut t send has g = refused_good clock 2 t send has g
 ended_refused_good clock Nobody t send has g = refused_good clock 4 t send has g
 ended_refused_good clock Cancelled t send has g = refused_good clock 6 t send has g
 ended_refused_good clock Dropped t send has g = dropped_good clock t send has g
 
-pub ended_delivered_good : (clock : ℕ) (t : Thread) (send : Send) → t.send ≡ Some send → IsGood clock t → IsGood clock (ended Delivered clock t)
+pub ended_delivered_good : (clock : ℕ) (t : Thread) (send : Send) → t.send ≡ Some send → IsGood clock t → IsGood clock (after_decision Delivered clock t)
 ended_delivered_good clock t send has g = subst (λ o. IsGood clock (was_delivered o clock t)) (sym has) (delivered_good clock t send has g)
 
 pub receives_good : (clock : ℕ) (message : Message) (tag : ℕ) (t : Thread) (receive : Receive) (since : ℕ) → t.phase ≡ Receiving receive since → IsGood clock t → IsGood clock (receives message tag t)
@@ -151,7 +151,7 @@ obeyed_good clock t order has g =
 refused_none : (code : ℕ) (t : Thread) → t.order ≡ None → ((refused code t).send ≡ None) × ((refused code t).order ≡ None)
 refused_none code t done = (cond_both (λ (x : Thread). x.send) None (is_alive t.phase) _ (decided t) refl refl, cond_both (λ (x : Thread). x.order) None (is_alive t.phase) _ (decided t) done done)
 
-pub ended_refused_none : (clock : ℕ) (refusal : Refusal) (t : Thread) → t.order ≡ None → ((ended (Refused refusal) clock t).send ≡ None) × ((ended (Refused refusal) clock t).order ≡ None)
+pub ended_refused_none : (clock : ℕ) (refusal : Refusal) (t : Thread) → t.order ≡ None → ((after_decision (Refused refusal) clock t).send ≡ None) × ((after_decision (Refused refusal) clock t).order ≡ None)
 ended_refused_none clock TimedOut t done = refused_none 2 t done
 ended_refused_none clock Nobody t done = refused_none 4 t done
 ended_refused_none clock Cancelled t done = refused_none 6 t done
@@ -166,5 +166,5 @@ delivered_none clock t send done =
     let on = goes_on_none clock send.receive t done in
     (cond_both (λ (x : Thread). x.send) None (is_alive t.phase) _ (decided t) on.0 refl, cond_both (λ (x : Thread). x.order) None (is_alive t.phase) _ (decided t) on.1 done)
 
-pub ended_delivered_none : (clock : ℕ) (t : Thread) (send : Send) → t.send ≡ Some send → t.order ≡ None → ((ended Delivered clock t).send ≡ None) × ((ended Delivered clock t).order ≡ None)
+pub ended_delivered_none : (clock : ℕ) (t : Thread) (send : Send) → t.send ≡ Some send → t.order ≡ None → ((after_decision Delivered clock t).send ≡ None) × ((after_decision Delivered clock t).order ≡ None)
 ended_delivered_none clock t send has done = subst (λ o. ((was_delivered o clock t).send ≡ None) × ((was_delivered o clock t).order ≡ None)) (sym has) (delivered_none clock t send done)

@@ -1,7 +1,8 @@
 -- What an event does, piece by piece.
-use Rattle.std.specs.Prelude.{ℕ, ◌==◌, Bool, false, if◌then◌else◌, ◌&&◌, Option, Some, None, List, [], ◌∷◌, ◌++◌}
+use Rattle.std.specs.Prelude.{ℕ, Bool, false, if◌then◌else◌, ◌&&◌, Option, Some, None, List, [], ◌∷◌, ◌++◌}
+use Rattle.l4_model.specs.Options.{if_some}
 use Rattle.l4_model.specs.Words.{GlobalId}
-use Rattle.l4_model.specs.Machine.{Machine, What, Delete, same_space, place_of}
+use Rattle.l4_model.specs.Machine.{Machine, What, Delete, same_space, place_of, is_place}
 use Rattle.l4_model.specs.World.{Receive, Message, Send, Asked, Phase, Receiving, is_deleted, Name}
 use Rattle.l4_model.specs.Rules.{RunsAlone, Sends, Receives, Orders, Act, received_tag, is_cross}
 use Rattle.l4_model.specs.Steps.{Step, Local as RanLocal, Begin, Queue, Deliver, Wait, Order, Obey}
@@ -9,7 +10,7 @@ use Rattle.l4_model.specs.Conditions.{Found, instruction, is_zero, is_refusable}
 use Rattle.l4_model.specs.Effects.{runs, begins, waits, fails, decided, receives, asked, orders, obeyed}
 use Rattle.l4_core_model.specs.Plain as plain
 use Rattle.l4_core_model.specs.Letters.{Refusal, TimedOut, Nobody, Result, Delivered, Refused, Cause, Content, SendLetter, DoneLetter, WithdrawLetter, OrderLetter, Letter, refusal_step, cause_of}
-use Rattle.l4_core_model.specs.Local.{Local, declared, is_own, thread, held, destination_place, last_name, changes, relists, comes_to, ended}
+use Rattle.l4_core_model.specs.Local.{Local, declared, is_own, thread, held, destination_place, last_name, changes, relists, comes_to, after_decision}
 
 -- An event under way: the local state, the steps told so far, and the letters posted, each with the processor that it goes to.
 pub record Work : Type 0 where
@@ -38,14 +39,14 @@ tells_send m step i x = tells (step (last_name m x.local i)) x
 -- Sends
 
 -- The send of the thread at place i is decided here. Its sender goes on, at once where it is of this processor, else by a letter.
-abbrev pub ends : Machine → (cpu : ℕ) → Result → ℕ → Work → Work
-ends m cpu result i x =
+abbrev pub decides_send : Machine → (cpu : ℕ) → Result → ℕ → Work → Work
+decides_send m cpu result i x =
     if is_own m cpu i
-    then (x ▷ does (relists (plain.unqueued i)) ▷ does (comes_to i (ended result x.local.clock)))
+    then (x ▷ does (relists (plain.unqueued i)) ▷ does (comes_to i (after_decision result x.local.clock)))
     else (x ▷ does (relists (plain.unqueued i)) ▷ does (changes i decided) ▷ posts (declared m i).cpu (DoneLetter (last_name m x.local i) result))
 
 abbrev pub refuses : Machine → (cpu : ℕ) → Refusal → ℕ → Work → Work
-refuses m cpu refusal i x = x ▷ tells_send m (refusal_step refusal) i ▷ ends m cpu (Refused refusal) i
+refuses m cpu refusal i x = x ▷ tells_send m (refusal_step refusal) i ▷ decides_send m cpu (Refused refusal) i
 
 -- The message of the sender at place i is delivered to the thread at place r.
 abbrev pub delivers_message : Machine → (cpu r i : ℕ) → Message → (tag : ℕ) → Work → Work
@@ -53,12 +54,11 @@ delivers_message m cpu r i message tag x =
     x
     ▷ tells (Deliver (last_name m x.local i) (declared m r).id message.shown message.actual tag message.words)
     ▷ does (comes_to r (receives message tag))
-    ▷ ends m cpu Delivered i
+    ▷ decides_send m cpu Delivered i
 
 abbrev pub delivers_send : Machine → (cpu r i : ℕ) → Option Send → Work → Work
-delivers_send m cpu r i None x = x
-delivers_send m cpu r i (Some send) x =
-    delivers_message m cpu r i send.message (received_tag (is_cross m (declared m r).id send.message) send.message) x
+delivers_send m cpu r i =
+    if_some (λ send. delivers_message m cpu r i send.message (received_tag (is_cross m (declared m r).id send.message) send.message))
 
 abbrev pub delivers : Machine → (cpu r i : ℕ) → Work → Work
 delivers m cpu r i x = delivers_send m cpu r i (thread x.local i).send x
@@ -70,10 +70,6 @@ first_of_list s r _ = None
 
 abbrev pub first_acceptable : Local → ℕ → Option ℕ
 first_acceptable l r = first_of_list l.lists r (thread l r).phase
-
-abbrev pub is_place : Option ℕ → ℕ → Bool
-is_place None i = false
-is_place (Some j) i = j == i
 
 abbrev pub delivers_if_first : Machine → (cpu r i : ℕ) → Work → Work
 delivers_if_first m cpu r i x = if is_place (first_acceptable x.local r) i then delivers m cpu r i x else x
@@ -87,9 +83,8 @@ zero_refusable m r None = false
 zero_refusable m r (Some send) = is_zero send.period && is_refusable m send (Some r)
 
 abbrev pub queues_send : Machine → (cpu r i : ℕ) → Option Send → Work → Work
-queues_send m cpu r i None x = x
-queues_send m cpu r i (Some send) x =
-    x ▷ tells_send m Queue i ▷ does (relists (plain.queued r (entry m r i send))) ▷ delivers_if_first m cpu r i
+queues_send m cpu r i =
+    if_some (λ send x. x ▷ tells_send m Queue i ▷ does (relists (plain.queued r (entry m r i send))) ▷ delivers_if_first m cpu r i)
 
 -- A send has come to its receiver's processor: it is refused, or queued, and delivered where the receiver waits for it.
 abbrev pub arrives : Machine → (cpu r i : ℕ) → Work → Work
@@ -103,13 +98,13 @@ posts_send m r i send x =
     posts (declared m r).cpu (SendLetter (last_name m x.local i) (declared m r).id send.message (is_zero send.period)) x
 
 -- A begun send goes to its destination.
-abbrev pub goes_to : Machine → (cpu i : ℕ) → Send → Option ℕ → Work → Work
-goes_to m cpu i send None x = refuses m cpu Nobody i x
-goes_to m cpu i send (Some r) x = if is_own m cpu r then arrives m cpu r i x else posts_send m r i send x
+abbrev pub send_goes_to : Machine → (cpu i : ℕ) → Send → Option ℕ → Work → Work
+send_goes_to m cpu i send None x = refuses m cpu Nobody i x
+send_goes_to m cpu i send (Some r) x = if is_own m cpu r then arrives m cpu r i x else posts_send m r i send x
 
 abbrev pub begins_send : Machine → (cpu i : ℕ) → Send → Work → Work
 begins_send m cpu i send x =
-    x ▷ does (comes_to i (begins send)) ▷ tells_send m Begin i ▷ goes_to m cpu i send (destination_place m send.to)
+    x ▷ does (comes_to i (begins send)) ▷ tells_send m Begin i ▷ send_goes_to m cpu i send (destination_place m send.to)
 
 -- The split send of a thread of this processor: its receiver is of another.
 abbrev pub split_receiver : Machine → (cpu : ℕ) → Option Send → Option ℕ
@@ -124,8 +119,7 @@ abbrev pub split_place : Machine → (cpu : ℕ) → Local → ℕ → Option �
 split_place m cpu l i = split_receiver m cpu (thread l i).send
 
 abbrev pub withdraws : Machine → Cause → (i : ℕ) → Option ℕ → Work → Work
-withdraws m cause i None x = x
-withdraws m cause i (Some r) x = posts (declared m r).cpu (WithdrawLetter (last_name m x.local i) (declared m r).id cause) x
+withdraws m cause i = if_some (λ r x. posts (declared m r).cpu (WithdrawLetter (last_name m x.local i) (declared m r).id cause) x)
 
 -- Receive phases that fail
 
@@ -140,8 +134,7 @@ asks Delete i l = comes_to i (asked Delete) (relists (plain.dropped i) l)
 asks what i l = changes i (asked what) l
 
 abbrev pub withdraws_for : Machine → (cpu j : ℕ) → Option Cause → Work → Work
-withdraws_for m cpu j None x = x
-withdraws_for m cpu j (Some cause) x = withdraws m cause j (split_place m cpu x.local j) x
+withdraws_for m cpu j = if_some (λ cause x. withdraws m cause j (split_place m cpu x.local j) x)
 
 -- What the caller asks for is done to the thread at place j. A deleted thread's send is not withdrawn again.
 abbrev pub obeys : Machine → (cpu : ℕ) → (caller : GlobalId) → What → (j : ℕ) → Work → Work
@@ -150,10 +143,10 @@ obeys m cpu caller what j x =
     else (x ▷ tells (Obey caller) ▷ does (asks what j) ▷ withdraws_for m cpu j (cause_of what))
 
 abbrev pub order_goes_to : Machine → (cpu i : ℕ) → Asked → Option ℕ → Work → Work
-order_goes_to m cpu i order None x = x
-order_goes_to m cpu i order (Some j) x =
+order_goes_to m cpu i order =
+    if_some (λ j x.
     if is_own m cpu j then (x ▷ obeys m cpu (declared m i).id order.what j ▷ does (comes_to i obeyed))
-    else posts (declared m j).cpu (OrderLetter (declared m i).id order.target order.what) x
+    else posts (declared m j).cpu (OrderLetter (declared m i).id order.target order.what) x)
 
 abbrev pub gives_order : Machine → (cpu i : ℕ) → Asked → Work → Work
 gives_order m cpu i order x =

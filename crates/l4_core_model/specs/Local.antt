@@ -2,6 +2,7 @@
 use Rattle.std.specs.Prelude.{ℕ, ◌+◌, ◌==◌, Bool, if◌then◌else◌, Option, Some, None, List, [], ◌∷◌, ◌++◌, map, filter, length, slice_index_or}
 use Rattle.std.specs.Option.{option_map}
 use Rattle.std.specs.List.{range_with_len}
+use Rattle.l4_model.specs.Options.{if_some}
 use Rattle.l4_model.specs.Words.{GlobalId, Id, GlobalThread, Period}
 use Rattle.l4_model.specs.Machine.{Declaration, Machine, place_of}
 use Rattle.l4_model.specs.World.{Message, Send, Phase, Ready, Sending, Receiving, Deleted, Thread, changed, opening_thread, is_alive, Name}
@@ -11,9 +12,10 @@ use Rattle.l4_core_model.specs.Plain as plain
 use Rattle.l4_core_model.specs.Letters.{TimedOut, Nobody, Cancelled, Dropped, Result, Delivered, Refused}
 
 -- Places are those of the order of declaration, of all threads of the machine. Of a thread of this processor
--- `threads` has all that is known at its home. Of another's it has what is known here: whether it is deleted, and the send
--- that waits here in its place, whose number is then the thread's count. `told` is the first processor that may not yet know of
--- a thread's deletion: all below it but this one were told.
+-- `threads` has all that is known at its home. Another's is a stand-in: its phase says whether it is known here as deleted, its
+-- send is the one that waits here in its place, and its count is the number of that send, or of the last one. Its other fields
+-- say nothing of the thread. `told` is the first processor that may not yet know of a thread's deletion: all below it but this one
+-- were told.
 pub record Local : Type 0 where
   pub threads : List Thread
   pub lists : plain.Plain
@@ -91,8 +93,8 @@ abbrev pub readied : Phase → (place : ℕ) → List ℕ → List ℕ
 readied Ready i ready = ready ++ i ∷ []
 readied _ i ready = ready
 
--- A thread has come to the phase that it is in: it stands last among the ready ones, or its old deadline goes and that of
--- its phase is armed.
+-- A thread has come to the phase that it is in: its old deadline goes, that of its phase is armed where it has one, and it stands
+-- last among the ready ones where it can run.
 abbrev pub entered : Thread → (clock place : ℕ) → plain.Plain → plain.Plain
 entered t clock i s =
     record s {
@@ -103,25 +105,20 @@ entered t clock i s =
 abbrev pub comes_to : ℕ → (Thread → Thread) → Local → Local
 comes_to i f l = record l { threads = changed f l.threads i; lists = entered (f (thread l i)) l.clock i l.lists }
 
--- The same in two parts, as code does it: a thread changes, and then it is settled.
-abbrev pub settles : ℕ → Local → Local
-settles i l = record l { lists = entered (thread l i) l.clock i l.lists }
-
 abbrev pub was_delivered : Option Send → (now : ℕ) → Thread → Thread
-was_delivered None now t = t
-was_delivered (Some send) now t = delivered send now t
+was_delivered send now = if_some (λ s. delivered s now) send
 
 -- A living thread whose send was dropped goes on with its registers as they are.
 abbrev pub was_dropped : Thread → Thread
 was_dropped t = if is_alive t.phase then record (decided t) { phase = Ready } else decided t
 
 -- What becomes of a thread whose send was decided.
-abbrev pub ended : Result → (now : ℕ) → Thread → Thread
-ended Delivered now t = was_delivered t.send now t
-ended (Refused TimedOut) now t = refused 2 t
-ended (Refused Nobody) now t = refused 4 t
-ended (Refused Cancelled) now t = refused 6 t
-ended (Refused Dropped) now t = was_dropped t
+abbrev pub after_decision : Result → (now : ℕ) → Thread → Thread
+after_decision Delivered now t = was_delivered t.send now t
+after_decision (Refused TimedOut) now t = refused 2 t
+after_decision (Refused Nobody) now t = refused 4 t
+after_decision (Refused Cancelled) now t = refused 6 t
+after_decision (Refused Dropped) now t = was_dropped t
 
 -- A send of another processor's thread stands here in its place. Of its period only zero is known.
 abbrev pub stand_in : (receiver : GlobalId) → Message → (zero_timeout : Bool) → Send

@@ -7,7 +7,7 @@ use Rattle.l4_model.specs.Effects.{obeyed}
 use Rattle.l4_model.specs.Conditions.{◌>>=◌, ◌>>◌}
 use Rattle.l4_core_model.specs.Plain as plain
 use Rattle.l4_core_model.specs.Letters.{Cause, Content, SendLetter, DoneLetter, WithdrawLetter, GoneLetter, OrderLetter, OrderDoneLetter, Letter, refusal_of}
-use Rattle.l4_core_model.specs.Local.{Local, declared, is_own, thread, changes, comes_to, ended, stand_in, stands_in, is_gone_now}
+use Rattle.l4_core_model.specs.Local.{Local, declared, is_own, thread, changes, comes_to, after_decision, stand_in, stands_in, is_gone_now}
 use Rattle.l4_core_model.specs.Acts.{Work, ◌▷◌, does, posts, arrives, refuses, obeys, split_place}
 use Rattle.l4_core_model.specs.Turns.{opened}
 
@@ -48,7 +48,7 @@ handled m cpu (DoneLetter s result) x = do
   i ← own_place m cpu s.thread
   is_some (split_place m cpu x.local i)
   (thread x.local i).context.begun == s.k
-  Some (x ▷ does (comes_to i (ended result x.local.clock)))
+  Some (x ▷ does (comes_to i (after_decision result x.local.clock)))
 handled m cpu (WithdrawLetter s receiver cause) x = do
   r ← own_place m cpu receiver
   i ← foreign_place m cpu s.thread

@@ -1,6 +1,7 @@
 -- Runs by a given schedule, and runs in rounds.
 use Rattle.std.specs.Prelude.{ℕ, zero, suc, ◌-◌, nat_lt, nat_le, min, length, Bool, if◌then◌else◌, Option, Some, None, List, [], ◌∷◌, map, slice_get}
 use Rattle.std.specs.Option.{option_map}
+use Rattle.l4_model.specs.Options.{if_some}
 use Rattle.l4_model.specs.Machine.{Machine}
 use Rattle.l4_model.specs.Conditions.{◌>>=◌}
 use Rattle.l4_core_model.specs.Runs.{System, processors, letters, Happening, Handles, Turns, Ticks, Happened, happens, Run, then_event, opening_run, is_empty}
@@ -19,8 +20,7 @@ next_turn m g cpu = turn_of cpu (first_poster g cpu (processors m))
 
 -- An event that is not possible leaves a run as it is.
 abbrev pub or_stays : Run → Option Happened → Run
-or_stays r None = r
-or_stays r (Some h) = then_event r h
+or_stays r h = if_some (λ e run. then_event run e) h r
 
 abbrev pub attempts : Machine → Run → Happening → Run
 attempts m r e = or_stays r (happens m r.system e)
@@ -70,8 +70,7 @@ earliest_deadline m g = earliest_of (map (least_deadline g) (processors m))
 
 -- All clocks below the earliest deadline are advanced to it.
 abbrev pub ticks_to : Machine → Run → Option ℕ → Run
-ticks_to m r None = r
-ticks_to m r (Some deadline) = attempts_all m r (map (λ cpu. Ticks cpu deadline) (processors m))
+ticks_to m r deadline = if_some (λ d run. attempts_all m run (map (λ cpu. Ticks cpu d) (processors m))) deadline r
 
 abbrev pub ticks : Machine → Run → Run
 ticks m r = ticks_to m r (earliest_deadline m r.system)

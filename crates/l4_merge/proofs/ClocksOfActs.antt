@@ -1,7 +1,7 @@
 -- Each act of an event keeps the clock of its processor.
 use Rattle.std.proofs.Common.{◌≡◌, ℕ, Option, Some, None, refl, ◌∙◌}
 use Rattle.l4_model.specs.Words.{GlobalId}
-use Rattle.l4_model.specs.Machine.{Machine, What, CancelSend, CancelReceive, CancelBoth, Delete, place_of}
+use Rattle.l4_model.specs.Machine.{Machine, What, CancelSend, CancelReceive, CancelBoth, Delete, place_of, is_place}
 use Rattle.l4_model.specs.World.{Message, Send, Asked, is_deleted}
 use Rattle.l4_model.specs.Effects.{orders}
 use Rattle.l4_model.specs.Rules.{Act, RunsAlone, Sends, Receives, Orders}
@@ -10,8 +10,8 @@ use Rattle.l4_model.proofs.Chains.{cond_keeps}
 use Rattle.l4_core_model.specs.Plain as plain
 use Rattle.l4_core_model.specs.Letters.{Result, Refusal, Refused, Nobody, TimedOut, Delivered, Cause, cause_of}
 use Rattle.l4_core_model.specs.Local.{Local, declared, is_own, thread, held, destination_place, comes_to, relists}
-use Rattle.l4_core_model.specs.Acts.{Work, ◌▷◌, tells, does, tells_send, entry, ends, refuses, delivers_message, delivers_send}
-use Rattle.l4_core_model.specs.Acts.{delivers, first_acceptable, is_place, delivers_if_first, queues_send, arrives, zero_refusable, goes_to}
+use Rattle.l4_core_model.specs.Acts.{Work, ◌▷◌, tells, does, tells_send, entry, decides_send, refuses, delivers_message, delivers_send}
+use Rattle.l4_core_model.specs.Acts.{delivers, first_acceptable, delivers_if_first, queues_send, arrives, zero_refusable, send_goes_to}
 use Rattle.l4_core_model.specs.Acts.{begins_send, withdraws, asks, withdraws_for, obeys, order_goes_to, gives_order, acts}
 
 -- The clock of an event under way.
@@ -24,7 +24,7 @@ KeepsClock act = (x : Work) → HasClock x.local.clock (act x)
 
 -- sends
 
-ends_clock : (m : Machine) (cpu : ℕ) (result : Result) (i : ℕ) → KeepsClock (ends m cpu result i)
+ends_clock : (m : Machine) (cpu : ℕ) (result : Result) (i : ℕ) → KeepsClock (decides_send m cpu result i)
 ends_clock m cpu result i x = cond_keeps (HasClock x.local.clock) (is_own m cpu i) _ _ (λ yes. refl) (λ no. refl)
 
 pub refuses_clock : (m : Machine) (cpu : ℕ) (refusal : Refusal) (i : ℕ) → KeepsClock (refuses m cpu refusal i)
@@ -55,7 +55,7 @@ arrives_clock m cpu r i x =
     (λ alive. cond_keeps (HasClock x.local.clock) (zero_refusable m (held m x.local r) (thread x.local i).send) _ _
     (λ zero. refuses_clock m cpu TimedOut i x) (λ waits. queues_send_clock m cpu r i (thread x.local i).send x))
 
-goes_to_clock : (m : Machine) (cpu i : ℕ) (send : Send) (to : Option ℕ) → KeepsClock (goes_to m cpu i send to)
+goes_to_clock : (m : Machine) (cpu i : ℕ) (send : Send) (to : Option ℕ) → KeepsClock (send_goes_to m cpu i send to)
 goes_to_clock m cpu i send None x = refuses_clock m cpu Nobody i x
 goes_to_clock m cpu i send (Some r) x =
     cond_keeps (HasClock x.local.clock) (is_own m cpu r) _ _ (λ yes. arrives_clock m cpu r i x) (λ no. refl)

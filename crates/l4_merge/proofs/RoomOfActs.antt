@@ -5,7 +5,7 @@ use Rattle.std.specs.Option.{IfSome}
 use Rattle.std.proofs.lemmas.Bool.{cases_lt}
 use Rattle.std.proofs.lemmas.List.{length-append, get_or_past}
 use Rattle.l4_model.specs.Words.{GlobalId}
-use Rattle.l4_model.specs.Machine.{Machine, What, place_of}
+use Rattle.l4_model.specs.Machine.{Machine, What, place_of, is_place}
 use Rattle.l4_model.specs.World.{Message, Send, Asked, is_deleted}
 use Rattle.l4_model.specs.Effects.{orders}
 use Rattle.l4_model.specs.Rules.{Act, RunsAlone, Sends, Receives, Orders}
@@ -15,8 +15,8 @@ use Rattle.l4_core_model.specs.Plain as plain
 use Rattle.l4_core_model.specs.Letters.{Letter, Result, Refusal, Refused, Nobody, TimedOut, Delivered, Cause, Content, cause_of}
 use Rattle.l4_core_model.specs.Local.{Local, undeclared, declared, is_own, thread, held, destination_place, comes_to, relists}
 use Rattle.l4_core_model.specs.Runs.{IsMachine}
-use Rattle.l4_core_model.specs.Acts.{Work, ◌▷◌, tells, does, tells_send, entry, posts, ends, refuses, delivers_message, delivers_send}
-use Rattle.l4_core_model.specs.Acts.{delivers, first_acceptable, is_place, delivers_if_first, queues_send, arrives, zero_refusable, goes_to}
+use Rattle.l4_core_model.specs.Acts.{Work, ◌▷◌, tells, does, tells_send, entry, posts, decides_send, refuses, delivers_message, delivers_send}
+use Rattle.l4_core_model.specs.Acts.{delivers, first_acceptable, delivers_if_first, queues_send, arrives, zero_refusable, send_goes_to}
 use Rattle.l4_core_model.specs.Acts.{begins_send, split_receiver, withdraws, fails_receive, withdraws_for, obeys, order_goes_to, gives_order, acts}
 use Rattle.l4_core_model.proofs.Apart.{apart}
 use Rattle.l4_merge.proofs.Lists.{all-append}
@@ -80,7 +80,7 @@ posts_fits {m = m} {cpu = cpu} {l = l} {x = x} to content elsewhere h = record {
 
 -- sends
 
-ends_fits : (m : Machine) (cpu : ℕ) (result : Result) (i : ℕ) → Fits m cpu 0 1 (ends m cpu result i)
+ends_fits : (m : Machine) (cpu : ℕ) (result : Result) (i : ℕ) → Fits m cpu 0 1 (decides_send m cpu result i)
 ends_fits m cpu result i x h =
     cond_keeps (HasRoom m cpu 0 0) (is_own m cpu i) _ _ (λ yes. with_local (at_end h)) (λ no. posts_fits _ _ (home_elsewhere m cpu i no) (with_local h))
 
@@ -114,7 +114,7 @@ arrives_fits m cpu r i x h =
     (λ alive. cond_keeps (HasRoom m cpu 0 0) (zero_refusable m (held m x.local r) (thread x.local i).send) _ _
     (λ zero. refuses_fits m cpu TimedOut i x fewer) (λ waits. queues_send_fits m cpu r i (thread x.local i).send x h))
 
-goes_to_fits : (m : Machine) (cpu i : ℕ) (send : Send) (to : Option ℕ) → Fits m cpu 2 1 (goes_to m cpu i send to)
+goes_to_fits : (m : Machine) (cpu i : ℕ) (send : Send) (to : Option ℕ) → Fits m cpu 2 1 (send_goes_to m cpu i send to)
 goes_to_fits m cpu i send None x h = refuses_fits m cpu Nobody i x (less (omega arith) (omega arith) h)
 goes_to_fits m cpu i send (Some r) x h =
     cond_keeps (HasRoom m cpu 0 0) (is_own m cpu r) _ _ (λ yes. arrives_fits m cpu r i x h)

@@ -2,7 +2,7 @@
 use Rattle.std.proofs.Common.{◌≡◌, ℕ, Option, Some, None, refl, ◌∙◌}
 use Rattle.std.specs.List.{AllByRecursion}
 use Rattle.l4_model.specs.Words.{GlobalId}
-use Rattle.l4_model.specs.Machine.{Machine, What, CancelSend, CancelReceive, CancelBoth, Delete, place_of}
+use Rattle.l4_model.specs.Machine.{Machine, What, CancelSend, CancelReceive, CancelBoth, Delete, place_of, is_place}
 use Rattle.l4_model.specs.World.{Message, Send, Asked, is_deleted}
 use Rattle.l4_model.specs.Effects.{orders}
 use Rattle.l4_model.specs.Rules.{Act, RunsAlone, Sends, Receives, Orders}
@@ -11,8 +11,8 @@ use Rattle.l4_model.proofs.Chains.{cond_keeps}
 use Rattle.l4_core_model.specs.Plain as plain
 use Rattle.l4_core_model.specs.Letters.{Letter, Result, Refusal, Refused, Nobody, TimedOut, Delivered, Cause, Content, cause_of}
 use Rattle.l4_core_model.specs.Local.{Local, declared, is_own, thread, held, destination_place, comes_to, relists}
-use Rattle.l4_core_model.specs.Acts.{Work, ◌▷◌, tells, does, tells_send, entry, posts, ends, refuses, delivers_message, delivers_send}
-use Rattle.l4_core_model.specs.Acts.{delivers, first_acceptable, is_place, delivers_if_first, queues_send, arrives, zero_refusable, goes_to}
+use Rattle.l4_core_model.specs.Acts.{Work, ◌▷◌, tells, does, tells_send, entry, posts, decides_send, refuses, delivers_message, delivers_send}
+use Rattle.l4_core_model.specs.Acts.{delivers, first_acceptable, delivers_if_first, queues_send, arrives, zero_refusable, send_goes_to}
 use Rattle.l4_core_model.specs.Acts.{begins_send, withdraws, fails_receive, asks, withdraws_for, obeys, order_goes_to, gives_order, acts}
 use Rattle.l4_merge.proofs.Lists.{all-append}
 
@@ -31,7 +31,7 @@ posts_stamped cpu content s x h =
 
 -- sends
 
-ends_stamped : (m : Machine) (cpu : ℕ) (result : Result) (i : ℕ) → KeepsStamp (ends m cpu result i)
+ends_stamped : (m : Machine) (cpu : ℕ) (result : Result) (i : ℕ) → KeepsStamp (decides_send m cpu result i)
 ends_stamped m cpu result i s x h =
     cond_keeps (IsStamped s) (is_own m cpu i) _ _ (λ yes. record { local = h.local; letters = h.letters })
     (λ no. posts_stamped _ _ s _ (record { local = h.local; letters = h.letters }))
@@ -65,7 +65,7 @@ arrives_stamped m cpu r i s x h =
     (λ alive. cond_keeps (IsStamped s) (zero_refusable m (held m x.local r) (thread x.local i).send) _ _
     (λ zero. refuses_stamped m cpu TimedOut i s x h) (λ waits. queues_send_stamped m cpu r i (thread x.local i).send s x h))
 
-goes_to_stamped : (m : Machine) (cpu i : ℕ) (send : Send) (to : Option ℕ) → KeepsStamp (goes_to m cpu i send to)
+goes_to_stamped : (m : Machine) (cpu i : ℕ) (send : Send) (to : Option ℕ) → KeepsStamp (send_goes_to m cpu i send to)
 goes_to_stamped m cpu i send None s x h = refuses_stamped m cpu Nobody i s x h
 goes_to_stamped m cpu i send (Some r) s x h =
     cond_keeps (IsStamped s) (is_own m cpu r) _ _ (λ yes. arrives_stamped m cpu r i s x h) (λ no. posts_stamped _ _ s x h)

@@ -13,7 +13,7 @@ use Rattle.l4_model.proofs.Chains.{bind_then, guard_then, some_is, cond_keeps}
 use Rattle.l4_core_model.specs.Plain as plain
 use Rattle.l4_core_model.specs.Letters.{Content, SendLetter, DoneLetter, WithdrawLetter, GoneLetter, OrderLetter, OrderDoneLetter}
 use Rattle.l4_core_model.specs.Letters.{refusal_of, Cause, ByTimeout, Dropped, Nobody, Cancelled, TimedOut}
-use Rattle.l4_core_model.specs.Local.{Local, declared, held, thread, relists, changes, comes_to, stands_in, stand_in, ended, is_gone_now}
+use Rattle.l4_core_model.specs.Local.{Local, declared, held, thread, relists, changes, comes_to, stands_in, stand_in, after_decision, is_gone_now}
 use Rattle.l4_core_model.specs.Acts.{Work, ◌▷◌, tells, does, split_place}
 use Rattle.l4_core_model.specs.Turns.{Duty, DropsOwn, RefusesFirst, TellsGone, CancelsOwn, CancelsReceive, DeliversFirst, ClosesReceive, RefusesZero}
 use Rattle.l4_core_model.specs.Turns.{Choice, ByDuty, ByDue, ByReady, choice, does_duty, times_out, does_choice}
@@ -91,7 +91,7 @@ handled_stamped m cpu (DoneLetter name result) s x y h is =
     bind_then (own_place m cpu name.thread) _ y is λ i _ is.
     guard_then (is_some (split_place m cpu x.local i)) _ y is λ _ is.
     guard_then ((thread x.local i).context.begun == name.k) _ y is λ _ is.
-    is_of s (x ▷ does (comes_to i (ended result x.local.clock))) y (record { local = h.local; letters = h.letters }) is
+    is_of s (x ▷ does (comes_to i (after_decision result x.local.clock))) y (record { local = h.local; letters = h.letters }) is
 handled_stamped m cpu (WithdrawLetter name receiver cause) s x y h is =
     bind_then (own_place m cpu receiver) _ y is λ r _ is.
     bind_then (foreign_place m cpu name.thread) _ y is λ i _ is.

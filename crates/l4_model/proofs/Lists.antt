@@ -6,7 +6,7 @@ use Rattle.std.proofs.lemmas.Bool.Decides.{nat_tests}
 use Rattle.std.specs.Prelude.{slice_get, ◌==◌, not, ◌||◌, ◌⊎◌, IsSomeAnd}
 use Rattle.std.specs.List.{filter}
 use Rattle.l4_model.specs.Machine.{Machine, Declaration, place_of}
-use Rattle.l4_model.specs.World.{World, Send, changed, opening, unqueued, is_queued, Name}
+use Rattle.l4_model.specs.World.{World, Send, changed, opening, unqueued, is_queued, Name, is_in, list_at}
 use Rattle.l4_model.specs.Steps.{Step, Local, Begin, Queue, Deliver, Wait, SendTimeout, ReceiveTimeout, SendNobody, ReceiveNobody, SendCancel, ReceiveCancel, Drop, Order, Obey, Tick, next}
 use Rattle.l4_model.specs.Conditions.{Pending, undecided}
 use Rattle.l4_model.proofs.Chains.{some_is, get-map, get-changed_other}
@@ -15,7 +15,7 @@ use Rattle.l4_model.proofs.Sound.{AreSound}
 use Rattle.l4_model.proofs.Accounted.{idle}
 use Rattle.l4_model.proofs.Inversions.{local_taken, begin_taken, QueueTaken, queue_taken, deliver_taken, wait_taken, send_timeout_taken, send_nobody_taken, send_cancel_taken, drop_taken, receive_timeout_taken, receive_nobody_taken, receive_cancel_taken, order_taken, obey_taken, tick_taken}
 use Rattle.l4_model.proofs.Places.{known_send, found_place}
-use Rattle.l4_model.specs.Reached.{place_to, is_in, list_at, IsOnce}
+use Rattle.l4_model.specs.Reached.{place_to, IsOnce}
 
 or_false : (a b : Bool) → (a || b) ≡ false → (a ≡ false) × (b ≡ false)
 or_false true b h = cc

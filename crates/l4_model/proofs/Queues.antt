@@ -9,7 +9,7 @@ use Rattle.std.specs.List.{AllByRecursion, cons_option}
 use Rattle.std.specs.Option.{option_map}
 use Rattle.l4_model.specs.Words.{GlobalId}
 use Rattle.l4_model.specs.Machine.{Machine, Declaration, place_of}
-use Rattle.l4_model.specs.World.{World, Send, changed, opening, Name}
+use Rattle.l4_model.specs.World.{World, Send, changed, opening, Name, list_at}
 use Rattle.l4_model.specs.Steps.{Step, Begin, Queue, Deliver, SendTimeout, SendNobody, SendCancel, Drop, next}
 use Rattle.l4_model.specs.Conditions.{Pending, undecided, ◌>>=◌, ◌>>◌}
 use Rattle.l4_model.specs.History.{run}
@@ -22,7 +22,7 @@ use Rattle.l4_model.proofs.Inversions.{QueueTaken}
 use Rattle.l4_model.proofs.Lists.{ListEffect, Unlists, list_effect, without}
 use Rattle.l4_model.proofs.Sizes.{Sized, step_sized}
 use Rattle.l4_model.proofs.Places.{known_send, place_id, receiver_place, found_place}
-use Rattle.l4_model.specs.Reached.{place_to, list_at}
+use Rattle.l4_model.specs.Reached.{place_to}
 
 -- What a name says of a list: its sender's place, where it is undecided and sent to the list's thread.
 abbrev pub goes : Machine → ℕ → Option Send → Bool

@@ -1,20 +1,10 @@
 -- Looking threads and sends up in a world, and the tests that make a step possible.
-use Rattle.std.specs.Prelude.{ℕ, ◌+◌, Bool, if◌then◌else◌, ◌==◌, not, ◌&&◌, false, Option, Some, None, find, slice_get, true, [], slice_index, nat_le, slice_index_or}
+use Rattle.std.specs.Prelude.{ℕ, ◌+◌, Bool, if◌then◌else◌, ◌==◌, not, ◌&&◌, false, Option, Some, None, find, slice_get, true, slice_index, nat_le}
+pub use Rattle.l4_model.specs.Options.{◌>>=◌, ◌>>◌}
 use Rattle.l4_model.specs.Words.{GlobalId, Id, AnyThread, AnyLocalThread, LocalThread, GlobalThread, Period}
 use Rattle.l4_model.specs.Machine.{Instr, Declaration, Machine, place_of, is_declared, same_cpu, instruction_at}
-use Rattle.l4_model.specs.World.{Name, Receive, Send, Phase, Sending, Receiving, Thread, World, is_queued, is_deleted, is_alive}
+use Rattle.l4_model.specs.World.{Name, Receive, Send, Phase, Sending, Receiving, Thread, World, is_queued, list_at, is_deleted, is_alive}
 use Rattle.l4_model.specs.Rules.{accepts, Act, act}
-
--- In a `do` block a line `x ← o` goes on where o has a value, and a line that is a test goes on where it is true.
-infixl 10 ◌>>=◌
-abbrev pub ◌>>=◌ : {A B : Type 0} → Option A → (A → Option B) → Option B
-None >>= f = None
-(Some x) >>= f = f x
-
-infixl 10 ◌>>◌
-abbrev pub ◌>>◌ : {B : Type 0} → Bool → Option B → Option B
-true >> o = o
-false >> o = None
 
 -- Looking a thread or a send up
 
@@ -81,7 +71,7 @@ shows_accepted m from receiver (Some t) = shown_accepted t.send
 
 -- The first waiting send that a receive phase of this thread would accept, by its sender's place.
 abbrev pub first_accepted : Machine → World → Found → Id → Option ℕ
-first_accepted m w r from = find (λ i. shows_accepted m from r.declared.id (slice_get w.threads i)) (slice_index_or w.waiting r.at [])
+first_accepted m w r from = find (λ i. shows_accepted m from r.declared.id (slice_get w.threads i)) (list_at w.waiting r.at)
 
 -- It is not declared, or deleted.
 abbrev pub is_gone : Option Found → Bool
@@ -114,15 +104,15 @@ abbrev pub receive_accepts : Machine → Option Receive → (shown receiver : Gl
 receive_accepts m None shown receiver = false
 receive_accepts m (Some receive) shown receiver = accepts m receive.from shown receiver
 
--- The call that a receiver is in sends to a declared thread of another processor than its own, and its receive phase would
--- accept this sender.
+-- The id is that of a declared thread of another processor than the caller's.
+abbrev pub is_elsewhere : Machine → (caller : GlobalId) → Id → Bool
+is_elsewhere m caller (GlobalThread t) = is_declared m t && not (same_cpu m t caller)
+is_elsewhere m caller _ = false
+
+-- The call that a receiver is in goes to another processor, and its receive phase would accept this sender.
 abbrev pub call_accepts : Machine → Found → Option Send → GlobalId → Bool
 call_accepts m r None shown = false
-call_accepts m r (Some call) shown = is_elsewhere call.to && receive_accepts m call.receive shown r.declared.id
-  where
-    is_elsewhere : Id → Bool
-    is_elsewhere (GlobalThread t) = is_declared m t && not (same_cpu m t r.declared.id)
-    is_elsewhere _ = false
+call_accepts m r (Some call) shown = is_elsewhere m r.declared.id call.to && receive_accepts m call.receive shown r.declared.id
 
 -- A receiver accepts this sender now, or may once its call is decided.
 abbrev pub may_still_accept : Machine → Found → GlobalId → Phase → Bool

@@ -1,3 +1,4 @@
+pub mod Options
 pub mod Words
 pub mod Machine
 pub mod World

@@ -44,6 +44,11 @@ pub record Machine : Type 0 where
 abbrev pub place_of : Machine → GlobalId → Option ℕ
 place_of m id = position (λ d. same_id d.id id) m.threads
 
+-- It is this place.
+abbrev pub is_place : Option ℕ → ℕ → Bool
+is_place None i = false
+is_place (Some j) i = j == i
+
 abbrev pub declaration_of : Machine → GlobalId → Option Declaration
 declaration_of m id = find (λ d. same_id d.id id) m.threads
 

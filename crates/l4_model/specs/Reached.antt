@@ -1,9 +1,9 @@
 -- What is true of every world that a history reaches.
-use Rattle.std.specs.Prelude.{ℕ, ◌^◌, ◌<◌, ◌≤◌, ◌≡◌, Bool, ◌==◌, true, false, Option, Some, None, is_some, IfSome, IsSomeAnd, List, [], ◌∷◌, length, slice_get, slice_index, slice_index_or}
-use Rattle.std.specs.List.{AllByRecursion, list_any}
+use Rattle.std.specs.Prelude.{ℕ, ◌^◌, ◌<◌, ◌≤◌, ◌≡◌, true, false, Option, Some, None, is_some, IfSome, IsSomeAnd, List, [], ◌∷◌, length, slice_get, slice_index}
+use Rattle.std.specs.List.{AllByRecursion}
 use Rattle.l4_model.specs.Words.{GlobalId, Id, GlobalThread}
 use Rattle.l4_model.specs.Machine.{Machine, Declaration, place_of, is_declared}
-use Rattle.l4_model.specs.World.{Send, Asked, Phase, Ready, Sending, Receiving, Ordering, Ended, Deleted, Thread, World}
+use Rattle.l4_model.specs.World.{Send, Asked, Phase, Ready, Sending, Receiving, Ordering, Ended, Deleted, Thread, World, is_in, list_at}
 use Rattle.l4_model.specs.Effects.{has_receive_phase}
 
 -- The undecided send and the undone order that go with a phase: a thread that is alive has a send exactly while it is
@@ -41,14 +41,6 @@ pub record ThreadFacts (m : Machine) (d : Declaration) (now : ℕ) (t : Thread) 
 abbrev pub place_to : Machine → Id → Option ℕ
 place_to m (GlobalThread t) = place_of m t
 place_to m _ = None
-
--- A sender stands in a list, by its place.
-abbrev pub is_in : ℕ → List ℕ → Bool
-is_in i xs = list_any (λ x. i == x) xs
-
--- The list of the thread at a place.
-abbrev pub list_at : List (List ℕ) → ℕ → List ℕ
-list_at lists j = slice_index_or lists j []
 
 -- A list has no place twice.
 abbrev pub IsOnce : List ℕ → Type 0

@@ -1,5 +1,5 @@
 -- What a machine is at one moment.
-use Rattle.std.specs.Prelude.{ℕ, Bool, ◌==◌, not, false, Option, Some, None, List, zero, suc, true, [], ◌∷◌, ◌++◌, map, filter, replicate}
+use Rattle.std.specs.Prelude.{ℕ, Bool, ◌==◌, not, false, Option, Some, None, List, zero, suc, true, [], ◌∷◌, ◌++◌, map, filter, replicate, slice_index_or}
 use Rattle.std.specs.List.{list_any}
 use Rattle.l4_model.specs.Words.{GlobalId, Id, NilThread, Period}
 use Rattle.l4_model.specs.Machine.{What, Machine}
@@ -95,10 +95,18 @@ changed f (x ∷ xs) (suc i) = x ∷ changed f xs i
 abbrev pub change : World → ℕ → (Thread → Thread) → World
 change w i f = record w { threads = changed f w.threads i }
 
+-- A sender stands in a list, by its place.
+abbrev pub is_in : ℕ → List ℕ → Bool
+is_in i xs = list_any (λ x. i == x) xs
+
+-- The list of the thread at a place.
+abbrev pub list_at : List (List ℕ) → ℕ → List ℕ
+list_at lists j = slice_index_or lists j []
+
 -- Lists of waiting senders: whether a sender stands in one of them, the lists after it was appended to one, and
 -- after it was taken out.
 abbrev pub is_queued : List (List ℕ) → ℕ → Bool
-is_queued lists i = list_any (list_any (λ x. i == x)) lists
+is_queued lists i = list_any (is_in i) lists
 
 abbrev pub queued : World → (receiver sender : ℕ) → World
 queued w r i = record w { waiting = changed (λ xs. xs ++ i ∷ []) w.waiting r }

@@ -2,7 +2,7 @@
 use Rattle.std.specs.Prelude.{ℕ, Bool, true, false, not}
 use Rattle.l4_model.specs.World.{Thread}
 use Rattle.l4_model.specs.Effects.{runs, fails, orders, obeyed}
-use Rattle.l4_core_model.specs.Local.{ended}
+use Rattle.l4_core_model.specs.Local.{after_decision}
 use Rattle.l4_types.specs.Codes.{code_of}
 use Rattle.l4_types.specs.LetterView.{decision_of}
 use Rattle.l4_script.specs.Scripts.{instr_of}
@@ -14,7 +14,7 @@ use Rattle.l4_thread.specs.declared.changes.Change.TheVariants.{Run, Fail, EndSe
 abbrev pub change_of : Change → (now : ℕ) → Thread → Thread
 change_of (Run instr) now t = runs (instr_of instr) t
 change_of (Fail error) now t = fails (code_of error) t
-change_of (EndSend decision) now t = ended (decision_of decision) now t
+change_of (EndSend decision) now t = after_decision (decision_of decision) now t
 change_of (GiveOrder order) now t = orders order t
 change_of Obey now t = obeyed t
 

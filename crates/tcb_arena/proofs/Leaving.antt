@@ -6,7 +6,8 @@ use Rattle.l4_core_model.specs.Plain.{Waiting, Plain, list_of}
 use Rattle.tcb_arena.specs.declared.Sender.{Sender}
 use Rattle.tcb_arena.specs.Due.{Due}
 use Rattle.tcb_arena.specs.Left.{names_from, names_from_any, names_left}
-use Rattle.tcb_arena.specs.Rings.{Lists, list_at, is_in, AreSound}
+use Rattle.l4_model.specs.World.{is_in}
+use Rattle.tcb_arena.specs.Rings.{Lists, list_at, AreSound}
 use Rattle.tcb_arena.specs.Shown.{waiting_at, shown_lists}
 use Rattle.tcb_arena.proofs.Finding.{drop_at, drop_past}
 use Rattle.tcb_arena.proofs.Showing.{list-shown}

@@ -1,6 +1,7 @@
 -- The names that are left to a walk along one of several lists.
 use Rattle.std.specs.Prelude.{◌≡◌, ℕ, ◌==◌, List, [], ◌∷◌, if◌then◌else◌, slice_get, Option, Some, None}
-use Rattle.tcb_arena.specs.Rings.{Lists, list_at, is_in, AreSound}
+use Rattle.l4_model.specs.World.{is_in}
+use Rattle.tcb_arena.specs.Rings.{Lists, list_at, AreSound}
 
 -- The names of a list from one on.
 abbrev pub names_from : ℕ → List ℕ → List ℕ

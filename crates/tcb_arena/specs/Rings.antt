@@ -1,6 +1,7 @@
 -- What a contract sees of a `Rings`: for each head the plain list of the names that stand there.
 use Rattle.std.specs.Prelude.{◌≡◌, ℕ, ◌-◌, ◌<◌, ◌≤◌, ◌==◌, Bool, true, not, List, [], ◌∷◌, ◌++◌, length, if◌then◌else◌, slice_index, slice_index_or, slice_set, slice_get, Some, drop, replicate, map, filter, refl, zero, suc}
 use Rattle.std.specs.List.{list_any, range_with_len, IsDistinct}
+use Rattle.l4_model.specs.World.{is_in}
 use Rattle.std.specs.Coded.{Coded, code_by, coded×, coded_ℕ, coded_list}
 
 -- How many names there are, and the names of each head, in order.
@@ -20,10 +21,7 @@ head_count s = length s.lists
 abbrev pub list_at : Lists → ℕ → List ℕ
 list_at s head = slice_index_or s.lists head []
 
--- Whether a name stands in a list, and in one of several.
-abbrev pub is_in : ℕ → List ℕ → Bool
-is_in name xs = list_any (λ y. name == y) xs
-
+-- Whether a name stands in one of several lists.
 abbrev pub is_in_any : ℕ → List (List ℕ) → Bool
 is_in_any name = list_any (is_in name)
 

@@ -3,7 +3,7 @@ ghost use Rattle.std.specs.Prelude.{◌≡◌, ◌<◌, ◌^◌, ◌+◌, IsSome
 ghost use Rattle.l4_model.specs.Rules.{received_tag};
 ghost use Rattle.l4_model.specs.World.{change, is_queued, queued, unqueued};
 ghost use Rattle.l4_model.specs.Effects.{runs, fails, receives, decided, orders, asked, obeyed};
-ghost use Rattle.l4_core_model.specs.Local.{ended};
+ghost use Rattle.l4_core_model.specs.Local.{after_decision};
 ghost use Rattle.l4_types.specs.Codes.{code_of};
 ghost use Rattle.l4_types.specs.LetterView.{decision_of};
 ghost use Rattle.l4_types.specs.StepView.{what_of};
@@ -72,7 +72,7 @@ impl World {
     /// The send of a thread is decided, at this clock of its processor.
     pub fn end_send(&mut self, place: usize, decision: Decision, now: u64)
         requires { place < length self.old.world.threads }
-        ensures { self.new ≡ with_world self.old (change self.old.world place (ended (decision_of decision) now)) }
+        ensures { self.new ≡ with_world self.old (change self.old.world place (after_decision (decision_of decision) now)) }
     {
         self.threads[place].end_send(decision, now);
     }

@@ -2,7 +2,7 @@
 ghost use Rattle.std.specs.Prelude.{◌≡◌, ◌<◌, length};
 ghost use Rattle.l4_model.specs.World.{change, unqueued};
 ghost use Rattle.l4_model.specs.Steps.{next, Queue, SendTimeout, SendNobody, SendCancel, Drop as Drops};
-ghost use Rattle.l4_core_model.specs.Local.{ended};
+ghost use Rattle.l4_core_model.specs.Local.{after_decision};
 ghost use Rattle.l4_types.specs.LetterView.{decision_of};
 ghost use Rattle.l4_types.specs.declared.letters.Decision.TheVariants.{Refused};
 ghost use Rattle.l4_audit.specs.Audited.{IsOf, Makes, with_world};
@@ -37,7 +37,7 @@ impl World {
     fn refuse(&mut self, machine: &Machine, sender: usize, refusal: Refusal, now: u64)
         requires of { IsOf machine.now self.old }
         requires within { sender < length self.old.world.threads }
-        ensures { self.new ≡ with_world self.old (change (unqueued self.old.world sender) sender (ended (decision_of (Refused refusal)) now)) }
+        ensures { self.new ≡ with_world self.old (change (unqueued self.old.world sender) sender (after_decision (decision_of (Refused refusal)) now)) }
     {
         let _ = machine;
         self.unqueue(sender);

@@ -2,12 +2,12 @@
 ghost use Rattle.std.specs.Prelude.{◌≡◌, ◌<◌, true, false, None, Some, find, length, slice_index_or};
 ghost use Rattle.std.specs.Option.{option_map};
 ghost use Rattle.l4_model.specs.World.{is_deleted, receive_now};
-ghost use Rattle.l4_model.specs.Conditions.{may_still_accept, call_accepts};
+ghost use Rattle.l4_model.specs.Conditions.{may_still_accept, call_accepts, is_elsewhere};
 ghost use Rattle.l4_core_model.specs.Plain.{is_queued, list_of};
 ghost use Rattle.l4_core_model.specs.Local.{declared, held, thread};
 ghost use Rattle.l4_core_model.specs.Acts.{zero_refusable};
 ghost use Rattle.l4_core.specs.Choosing.{duty_of, IsFound};
-ghost use Rattle.l4_core.specs.Covered.{deleted_duty, duty_at, first_refusable, first_zero, is_elsewhere, living_duty, names_nobody, receive_duty, untold_of, Covers, CoversZeros};
+ghost use Rattle.l4_core.specs.Covered.{deleted_duty, duty_at, first_refusable, first_zero, living_duty, names_nobody, receive_duty, untold_of, Covers, CoversZeros};
 ghost use Rattle.l4_core.specs.Turning.{IsOwnOf};
 
 use crate::known::Known;

@@ -2,9 +2,9 @@
 ghost use Rattle.std.specs.Prelude.{◌≡◌, ◌<◌, ◌+◌, ◌^◌, IfSome, false, length};
 ghost use Rattle.std.specs.Option.{option_map};
 ghost use Rattle.l4_types.specs.PeriodView.{period_of, IsTimely};
-ghost use Rattle.l4_core_model.specs.Local.{thread, relists, settles};
+ghost use Rattle.l4_core_model.specs.Local.{thread, relists};
 ghost use Rattle.l4_core.specs.Processor.{with_local};
-ghost use Rattle.l4_core.specs.Settling.{rearms, readies};
+ghost use Rattle.l4_core.specs.Settling.{rearms, readies, settles};
 ghost use Rattle.l4_core.specs.Turning.{IsOwnOf};
 ghost use Rattle.tcb_arena.specs.Blocks.{is_ready as is_ready_in};
 

@@ -1,7 +1,7 @@
 //! What a processor does with a letter from another one.
 ghost use Rattle.std.specs.Prelude.{◌≡◌, ◌<◌, ◌≤◌, ◌↔◌, ◌⊎◌, IfErr, IfOk, IsErrOf, IsSome, None, OnErr, false};
 ghost use Rattle.l4_model.specs.Effects.{obeyed};
-ghost use Rattle.l4_core_model.specs.Local.{comes_to, ended};
+ghost use Rattle.l4_core_model.specs.Local.{comes_to, after_decision};
 ghost use Rattle.l4_core_model.specs.Mail.{handle};
 ghost use Rattle.l4_core_model.specs.Turns.{can_stamp};
 ghost use Rattle.l4_types.specs.LetterView.{decision_of, letter_of};
@@ -105,7 +105,7 @@ impl Core<'_> {
     // The send of a thread of this processor was decided at its receiver's.
     fn end_split(&mut self, place: usize, decision: Decision)
         requires { IsSplit self.old place }
-        ensures { self.new ≡ with_local self.old (comes_to place (ended (decision_of decision) self.old.local.clock) self.old.local) }
+        ensures { self.new ≡ with_local self.old (comes_to place (after_decision (decision_of decision) self.old.local.clock) self.old.local) }
     {
         let _few = self.known.len();
         self.come_to(place, &Change::EndSend(decision));

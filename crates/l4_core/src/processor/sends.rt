@@ -3,7 +3,7 @@ ghost use Rattle.std.specs.Prelude.{◌≡◌, ◌<◌, ◌≤◌, ◌+◌, Some
 ghost use Rattle.l4_model.specs.World.{Send};
 ghost use Rattle.l4_core_model.specs.Letters.{refusal_step};
 ghost use Rattle.l4_core_model.specs.Local.{thread, is_own};
-ghost use Rattle.l4_core_model.specs.Acts.{arrives, delivers, ends, goes_to, posts_send, queues_send, refuses, split_place, withdraws};
+ghost use Rattle.l4_core_model.specs.Acts.{arrives, delivers, decides_send, send_goes_to, posts_send, queues_send, refuses, split_place, withdraws};
 ghost use Rattle.l4_core_model.specs.Local.{destination_place};
 ghost use Rattle.l4_types.specs.LetterView.{refusal_of_send, decision_of, cause_of_withdrawal};
 ghost use Rattle.l4_history.specs.Seen.{seen};
@@ -75,7 +75,7 @@ impl Core<'_> {
     fn end_send<S: Sink>(&mut self, place: usize, decision: Decision, told: &mut Told<S>)
         requires sender { IsSender self.old place }
         requires slots { 0 < told.old.slots }
-        ensures { Does (ends self.old.machine self.old.cpu (decision_of decision) place) self.old self.new told.old told.new }
+        ensures { Does (decides_send self.old.machine self.old.cpu (decision_of decision) place) self.old self.new told.old told.new }
     {
         if self.known.is_own(place) {
             self.unqueue_send(place);
@@ -95,7 +95,7 @@ impl Core<'_> {
         requires room { 2 ≤ told.old.room }
         requires slots { 0 < told.old.slots }
         ensures { (send : Send) → (thread self.old.local sender).send ≡ Some send →
-            Does (goes_to self.old.machine self.old.cpu sender send (destination_place self.old.machine send.to)) self.old self.new told.old told.new }
+            Does (send_goes_to self.old.machine self.old.cpu sender send (destination_place self.old.machine send.to)) self.old self.new told.old told.new }
     {
         match self.known.destination(sender) {
             Some(receiver) if self.known.is_own(receiver) => self.arrive(receiver, sender, told),

@@ -4,11 +4,11 @@ use Rattle.std.specs.Prelude.{◌==◌, not, slice_get}
 use Rattle.std.proofs.lemmas.Bool.{eqb-true}
 use Rattle.std.proofs.lemmas.List.{map_push}
 use Rattle.std.proofs.lemmas.List.Elements.{filter-append}
-use Rattle.l4_model.specs.Machine.{Machine, place_of}
+use Rattle.l4_model.specs.Machine.{Machine, place_of, is_place}
 use Rattle.l4_model.specs.World.{World, Send}
 use Rattle.l4_model.proofs.Chains.{some_is}
 use Rattle.l4_core_model.specs.Letters.{Content, Letter}
-use Rattle.l4_core_model.specs.Acts.{Work, ◌▷◌, posts, is_place}
+use Rattle.l4_core_model.specs.Acts.{Work, ◌▷◌, posts}
 use Rattle.l4_core_model.specs.Runs.{Posted, posted, is_between, letters, without_first}
 use Rattle.l4_core_model.proofs.Changed.{same_nat}
 use Rattle.l4_core_model.proofs.Fit.{NotIn}

@@ -4,8 +4,7 @@ use Rattle.std.specs.Prelude.{◌==◌, not, nat_le, slice_index_or}
 use Rattle.std.specs.List.{AllByRecursion}
 use Rattle.l4_model.specs.Machine.{Machine}
 use Rattle.l4_model.specs.Words.{Period}
-use Rattle.l4_model.specs.World.{Thread, World, Phase, Ready, Sending, Receiving, Ordering, Ended, Deleted, change}
-use Rattle.l4_model.specs.Reached.{list_at}
+use Rattle.l4_model.specs.World.{Thread, World, Phase, Ready, Sending, Receiving, Ordering, Ended, Deleted, change, list_at}
 use Rattle.l4_core_model.specs.Plain as plain
 use Rattle.l4_core_model.specs.Local.{Local, thread, changes, comes_to, readied, armed_for, armed_period}
 use Rattle.l4_core_model.specs.Acts.{Work, ◌▷◌, does}

@@ -3,7 +3,7 @@ use Rattle.std.proofs.Common.{◌≡◌, ℕ, ◌<◌, true, Option, Some, None,
 use Rattle.std.specs.Prelude.{is_some}
 use Rattle.std.specs.List.{AllByRecursion}
 use Rattle.l4_model.specs.Words.{GlobalId}
-use Rattle.l4_model.specs.Machine.{Machine, What, place_of, is_declared}
+use Rattle.l4_model.specs.Machine.{Machine, What, place_of, is_declared, is_place}
 use Rattle.l4_model.specs.World.{Send, Asked, Message, is_deleted}
 use Rattle.l4_model.specs.Rules.{Act, RunsAlone, Sends, Receives, Orders, received_tag, is_cross}
 use Rattle.l4_model.specs.Steps.{Begin, Queue, Obey, Order}
@@ -12,7 +12,7 @@ use Rattle.l4_model.proofs.Chains.{cond_keeps, some_is}
 use Rattle.l4_core_model.specs.Plain as plain
 use Rattle.l4_core_model.specs.Letters.{DoneLetter, Refusal, TimedOut, Nobody, Result, Delivered, Refused, Cause, Content, Letter, refusal_step, cause_of}
 use Rattle.l4_core_model.specs.Local.{last_name, changes, declared, is_own, thread, held, destination_place, relists, comes_to}
-use Rattle.l4_core_model.specs.Acts.{Work, ◌▷◌, tells, does, posts, tells_send, ends, refuses, delivers, delivers_send, delivers_message, is_place, first_acceptable, zero_refusable, entry, queues_send, arrives, goes_to, begins_send, split_place, split_receiver, withdraws, asks, withdraws_for, obeys, order_goes_to, gives_order, acts}
+use Rattle.l4_core_model.specs.Acts.{Work, ◌▷◌, tells, does, posts, tells_send, decides_send, refuses, delivers, delivers_send, delivers_message, first_acceptable, zero_refusable, entry, queues_send, arrives, send_goes_to, begins_send, split_place, split_receiver, withdraws, asks, withdraws_for, obeys, order_goes_to, gives_order, acts}
 use Rattle.l4_core_model.specs.Runs.{IsMachine}
 use Rattle.l4_core_model.proofs.Lists.{all-append}
 use Rattle.l4_core_model.proofs.Standing.{place_within, destination_within}
@@ -50,7 +50,7 @@ posts_addressed m to content x about lt a =
 
 -- Sends
 
-ends_addressed : (m : Machine) (cpu i : ℕ) (result : Result) (x : Work) → IsThread m i → IsAddressed m x → IsAddressed m (ends m cpu result i x)
+ends_addressed : (m : Machine) (cpu i : ℕ) (result : Result) (x : Work) → IsThread m i → IsAddressed m x → IsAddressed m (decides_send m cpu result i x)
 ends_addressed m cpu i result x t a = cond_keeps (IsAddressed m) (is_own m cpu i) _ _
     (λ own. a)
     (λ other. posts_addressed m (declared m i).cpu (DoneLetter (last_name m x.local i) result)
@@ -88,7 +88,7 @@ begins_addressed m cpu i send x t a = by (destination_place m send.to) refl
     y : Work
     y = x ▷ does (comes_to i (begins send)) ▷ tells_send m Begin i
 
-    by : (o : Option ℕ) → destination_place m send.to ≡ o → IsAddressed m (goes_to m cpu i send o y)
+    by : (o : Option ℕ) → destination_place m send.to ≡ o → IsAddressed m (send_goes_to m cpu i send o y)
     by None to = refuses_addressed m cpu i Nobody y t a
     by (Some r) to = cond_keeps (IsAddressed m) (is_own m cpu r) _ _ (λ own. arrives_addressed m cpu r i y t a)
         (λ other. posts_addressed m (declared m r).cpu _ y (is_known m i t) (t.machine.homed r (destination_within m send.to r to)) a)

@@ -7,7 +7,7 @@ use Rattle.l4_model.specs.Effects.{asked, decided, goes_on, obeyed}
 use Rattle.l4_model.proofs.Chains.{cond_both}
 use Rattle.l4_model.specs.Reached.{Suits}
 use Rattle.l4_core_model.specs.Letters.{Result, Delivered, Refused, TimedOut, Nobody, Cancelled, Dropped}
-use Rattle.l4_core_model.specs.Local.{ended, was_delivered}
+use Rattle.l4_core_model.specs.Local.{after_decision, was_delivered}
 use Rattle.l4_split.proofs.Relation.Rows.{IsLeft, AgreesIn, Agrees}
 use Rattle.l4_split.proofs.Relation.Agreement.{same_agrees, ended_deleted}
 use Rattle.l4_split.proofs.Sends.Deciding.{ended_none, ended_begun}
@@ -94,7 +94,7 @@ asked_agrees CancelBoth world t a = cancelled_agrees CancelBoth world t (λ e. c
 -- While the decision of its send is under way: to be asked and to hear of it can be done in any order.
 
 asked_ended : (what : What) (result : Result) (clock : ℕ) (t : Thread) (send : Send) → (what ≡ Delete → ⊥) → t.phase ≡ Sending → t.send ≡ Some send →
-    asked what (ended result clock t) ≡ ended result clock (asked what t)
+    asked what (after_decision result clock t) ≡ after_decision result clock (asked what t)
 asked_ended Delete result clock t send ne is has = absurd (ne refl)
 asked_ended CancelSend (Refused TimedOut) clock t send ne is has = rw is refl
 asked_ended CancelSend (Refused Nobody) clock t send ne is has = rw is refl
@@ -110,17 +110,17 @@ asked_ended CancelBoth (Refused Cancelled) clock t send ne is has = rw is refl
 asked_ended CancelBoth (Refused Dropped) clock t send ne is has = rw is refl
 asked_ended CancelSend Delivered clock t send ne is has = by send.receive refl
   where
-    by : (o : Option Receive) → send.receive ≡ o → asked CancelSend (ended Delivered clock t) ≡ ended Delivered clock (asked CancelSend t)
+    by : (o : Option Receive) → send.receive ≡ o → asked CancelSend (after_decision Delivered clock t) ≡ after_decision Delivered clock (asked CancelSend t)
     by None e = rw (has, is, e) refl
     by (Some receive) e = rw (has, is, e) refl
 asked_ended CancelReceive Delivered clock t send ne is has = by send.receive refl
   where
-    by : (o : Option Receive) → send.receive ≡ o → asked CancelReceive (ended Delivered clock t) ≡ ended Delivered clock (asked CancelReceive t)
+    by : (o : Option Receive) → send.receive ≡ o → asked CancelReceive (after_decision Delivered clock t) ≡ after_decision Delivered clock (asked CancelReceive t)
     by None e = rw (has, is, e) refl
     by (Some receive) e = rw (has, is, e) refl
 asked_ended CancelBoth Delivered clock t send ne is has = by send.receive refl
   where
-    by : (o : Option Receive) → send.receive ≡ o → asked CancelBoth (ended Delivered clock t) ≡ ended Delivered clock (asked CancelBoth t)
+    by : (o : Option Receive) → send.receive ≡ o → asked CancelBoth (after_decision Delivered clock t) ≡ after_decision Delivered clock (asked CancelBoth t)
     by None e = rw (has, is, e) refl
     by (Some receive) e = rw (has, is, e) refl
 
@@ -141,7 +141,7 @@ delivered_wish None clock t send has = cc
 delivered_wish (Some s) clock t send has =
     cond_both (λ (u : Thread). u.cancel_send) false (is_alive t.phase) (goes_on s.receive clock t) (decided t) (goes_on_wish s.receive clock t) refl
 
-ended_wish : (result : Result) (clock : ℕ) (t : Thread) (send : Send) → t.send ≡ Some send → (ended result clock t).cancel_send ≡ false
+ended_wish : (result : Result) (clock : ℕ) (t : Thread) (send : Send) → t.send ≡ Some send → (after_decision result clock t).cancel_send ≡ false
 ended_wish Delivered clock t send has = delivered_wish t.send clock t send has
 ended_wish (Refused TimedOut) clock t send has = cond_both (λ (u : Thread). u.cancel_send) false (is_alive t.phase) _ (decided t) refl refl
 ended_wish (Refused Nobody) clock t send has = cond_both (λ (u : Thread). u.cancel_send) false (is_alive t.phase) _ (decided t) refl refl
@@ -153,33 +153,33 @@ send_asked what t = ap (λ (s : Status). s.send) (status-asked what t)
 
 -- A thread is asked while the answer to its send is under way: they agree again once it hears.
 pub asked_while_decided : (what : What) (result : Result) (clock : ℕ) (world t : Thread) (send : Send) → t.send ≡ Some send → t.order ≡ None →
-    Suits t.phase (Some send) t.order → Agrees world (ended result clock t) → Agrees (asked what world) (ended result clock (asked what t))
+    Suits t.phase (Some send) t.order → Agrees world (after_decision result clock t) → Agrees (asked what world) (after_decision result clock (asked what t))
 asked_while_decided what result clock world t send has order suits a = by what t.phase refl suits
   where
     cancelled : (what : What) → (what ≡ Delete → ⊥) → (p : Phase) → t.phase ≡ p → Suits p (Some send) t.order →
-        Agrees (asked what world) (ended result clock (asked what t))
+        Agrees (asked what world) (after_decision result clock (asked what t))
     cancelled what ne Ready is s = cc
     cancelled what ne Sending is s =
-        subst (Agrees (asked what world)) (asked_ended what result clock t send ne is has) (asked_agrees what world (ended result clock t) a)
+        subst (Agrees (asked what world)) (asked_ended what result clock t send ne is has) (asked_agrees what world (after_decision result clock t) a)
     cancelled what ne (Receiving receive since) is s = cc
     cancelled what ne Ordering is s = cc
     cancelled what ne Ended is s = cc
     cancelled what ne Deleted is s =
-        let before : ended result clock t ≡ decided t = ended_deleted result clock t send is has in
-        let after : ended result clock (asked what t) ≡ decided (asked what t) =
+        let before : after_decision result clock t ≡ decided t = ended_deleted result clock t send is has in
+        let after : after_decision result clock (asked what t) ≡ decided (asked what t) =
         ended_deleted result clock (asked what t) send (asked_phase what t ne ∙ is) (send_asked what t ∙ has) in
-        subst (Agrees (asked what world)) (ap (asked what) before ∙ asked_decided what t ne is ∙ sym after) (asked_agrees what world (ended result clock t) a)
+        subst (Agrees (asked what world)) (ap (asked what) before ∙ asked_decided what t ne is ∙ sym after) (asked_agrees what world (after_decision result clock t) a)
 
-    by : (what : What) (p : Phase) → t.phase ≡ p → Suits p (Some send) t.order → Agrees (asked what world) (ended result clock (asked what t))
+    by : (what : What) (p : Phase) → t.phase ≡ p → Suits p (Some send) t.order → Agrees (asked what world) (after_decision result clock (asked what t))
     by Delete p is s =
-        let after : ended result clock (asked Delete t) ≡ decided (asked Delete t) = ended_deleted result clock (asked Delete t) send refl has in
+        let after : after_decision result clock (asked Delete t) ≡ decided (asked Delete t) = ended_deleted result clock (asked Delete t) send refl has in
         let none = ended_none result clock t send has order in
         let left : Agrees (asked Delete world) (decided (asked Delete t)) = record {
           deleted = refl;
-          begun = agrees_begun world (ended result clock t) a ∙ ended_begun result clock t;
-          send = agrees_send world (ended result clock t) a ∙ none.0;
-          order = agrees_order world (ended result clock t) a ∙ none.1 ∙ sym order;
-          cancel_send = agrees_wish world (ended result clock t) a ∙ ended_wish result clock t send has;
+          begun = agrees_begun world (after_decision result clock t) a ∙ ended_begun result clock t;
+          send = agrees_send world (after_decision result clock t) a ∙ none.0;
+          order = agrees_order world (after_decision result clock t) a ∙ none.1 ∙ sym order;
+          cancel_send = agrees_wish world (after_decision result clock t) a ∙ ended_wish result clock t send has;
         } in
         subst (Agrees (asked Delete world)) (sym after) left
     by CancelSend p is s = cancelled CancelSend (λ e. cc) p is s

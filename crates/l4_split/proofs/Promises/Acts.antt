@@ -4,7 +4,7 @@ use Rattle.std.proofs.Common.{◌≡◌, ℕ, ◌<◌, true, Option, Some, None,
 use Rattle.std.specs.List.{AllByRecursion}
 use Rattle.std.proofs.lemmas.Bool.{eqb-true}
 use Rattle.l4_model.specs.Words.{GlobalId}
-use Rattle.l4_model.specs.Machine.{Machine, Instr}
+use Rattle.l4_model.specs.Machine.{Machine, Instr, is_place}
 use Rattle.l4_model.specs.World.{Receive, Send, Phase, Ready, Sending, Receiving, Ordering, Ended, Deleted, is_ready, is_deleted}
 use Rattle.l4_model.specs.Rules.{received_tag, is_cross}
 use Rattle.l4_model.specs.Steps.{Step, Local as RanLocal, Begin, Queue, Deliver, Wait}
@@ -13,8 +13,8 @@ use Rattle.l4_model.specs.Effects.{runs, begins, waits, fails, decided, receives
 use Rattle.l4_model.proofs.Chains.{cond_keeps}
 use Rattle.l4_core_model.specs.Plain as plain
 use Rattle.l4_core_model.specs.Letters.{Refusal, TimedOut, Nobody, Result, Delivered, Refused, DoneLetter, SendLetter, refusal_step}
-use Rattle.l4_core_model.specs.Local.{Local, declared, is_own, thread, held, destination_place, last_name, relists, changes, comes_to, ended}
-use Rattle.l4_core_model.specs.Acts.{Work, ◌▷◌, tells, does, posts, tells_send, ends, refuses, delivers_send, delivers, first_of_list, first_acceptable, is_place, entry, zero_refusable, queues_send, arrives, posts_send, goes_to, begins_send, fails_receive, runs_alone_at, waits_at}
+use Rattle.l4_core_model.specs.Local.{Local, declared, is_own, thread, held, destination_place, last_name, relists, changes, comes_to, after_decision}
+use Rattle.l4_core_model.specs.Acts.{Work, ◌▷◌, tells, does, posts, tells_send, decides_send, refuses, delivers_send, delivers, first_of_list, first_acceptable, entry, zero_refusable, queues_send, arrives, posts_send, send_goes_to, begins_send, fails_receive, runs_alone_at, waits_at}
 use Rattle.l4_core_model.specs.Runs.{Posted}
 use Rattle.l4_core_model.proofs.Apart.{apart}
 use Rattle.l4_split.proofs.Relation.Views.{Scene, home, amid}
@@ -30,9 +30,9 @@ StaysPromised m cpu s x = Promised m [] (amid cpu s x)
 -- A decision
 
 pub ends_here : (m : Machine) (cpu i : ℕ) (result : Result) (s : Scene) (x : Work) → cpu < m.cpus → home m i ≡ cpu → Promised m (i ∷ []) (amid cpu s x) →
-    StaysPromised m cpu s (x ▷ does (relists (plain.unqueued i)) ▷ does (comes_to i (ended result x.local.clock)))
+    StaysPromised m cpu s (x ▷ does (relists (plain.unqueued i)) ▷ does (comes_to i (after_decision result x.local.clock)))
 ends_here m cpu i result s x processor here p =
-    comes_keeps m cpu i [] s (x ▷ does (relists (plain.unqueued i))) (ended result x.local.clock) processor here
+    comes_keeps m cpu i [] s (x ▷ does (relists (plain.unqueued i))) (after_decision result x.local.clock) processor here
     (ended_afresh result x.local.clock (thread x.local i))
     (relists_keeps m cpu (i ∷ []) s x (plain.unqueued i) processor refl p)
 
@@ -49,7 +49,7 @@ ends_away m cpu i result except s x processor away p =
 
 -- A decision on this processor, wherever the sender is of.
 ends_keeps : (m : Machine) (cpu i : ℕ) (result : Result) (s : Scene) (x : Work) → cpu < m.cpus → StaysPromised m cpu s x →
-    StaysPromised m cpu s (ends m cpu result i x)
+    StaysPromised m cpu s (decides_send m cpu result i x)
 ends_keeps m cpu i result s x processor p = cond_keeps (StaysPromised m cpu s) (is_own m cpu i) _ _
     (λ own. ends_here m cpu i result s x processor (eqb-true (home m i) cpu own) (leaves_one m i [] (amid cpu s x) p))
     (λ other. ends_away m cpu i result [] s x processor (apart (home m i) cpu other) p)
@@ -119,7 +119,7 @@ begins_keeps m cpu i send s x processor here ready none p = by (destination_plac
     q : StaysPromised m cpu s y
     q = comes_on m cpu i s x (begins send) processor here (begins_afresh send (thread x.local i) ready) p
 
-    by : (o : Option ℕ) → StaysPromised m cpu s (goes_to m cpu i send o y)
+    by : (o : Option ℕ) → StaysPromised m cpu s (send_goes_to m cpu i send o y)
     by None = refuses_keeps m cpu i Nobody s y processor q
     by (Some r) = cond_keeps (StaysPromised m cpu s) (is_own m cpu r) (arrives m cpu r i y) (posts_send m r i send y)
         (λ own. arrives_keeps m cpu r i s y processor (eqb-true (home m r) cpu own) q)

@@ -4,7 +4,7 @@ use Rattle.l4_split.proofs.Relation.Whereabouts.{where_then, not_both}
 use Rattle.l4_core_model.specs.Local.{destination_place, Local, thread, held, last_name, relists, comes_to}
 use Rattle.l4_split.proofs.Lists.{any_kept, any_list}
 use Rattle.std.proofs.Common.{◌≡◌, ℕ, true, [], ap, sym, ◌∙◌, subst, ◌+◌, ◌<◌, Bool, false, cond, Some, List, ◌∷◌, filter, refl, arith}
-use Rattle.l4_model.specs.Machine.{Machine, place_of}
+use Rattle.l4_model.specs.Machine.{Machine, place_of, is_place}
 use Rattle.l4_model.specs.World.{World, Send, Name, is_ready}
 use Rattle.l4_core_model.specs.Plain as plain
 use Rattle.l4_core_model.proofs.Apart.{same_or_apart}
@@ -19,7 +19,7 @@ use Rattle.l4_model.specs.Rules.{Act, RunsAlone, Sends, Receives, Orders}
 use Rattle.l4_model.specs.Conditions.{act_of}
 use Rattle.l4_model.specs.Effects.{begins}
 use Rattle.l4_core_model.specs.Letters.{Content, SendLetter, DoneLetter, WithdrawLetter, GoneLetter, OrderLetter, OrderDoneLetter}
-use Rattle.l4_core_model.specs.Acts.{Work, ◌▷◌, does, is_place, acts}
+use Rattle.l4_core_model.specs.Acts.{Work, ◌▷◌, does, acts}
 use Rattle.l4_core_model.specs.Turns.{Choice, ByDuty, ByDue, ByReady, does_choice, turn, opened}
 use Rattle.l4_core_model.specs.Runs.{Posted, IsMachine}
 use Rattle.l4_core_model.proofs.Changed.{same_nat}

@@ -10,7 +10,7 @@ use Rattle.l4_model.specs.Machine.{Machine, is_declared}
 use Rattle.l4_model.specs.World.{Name, World, Send, Thread, Phase, Ready, Sending, Receiving, Ordering, Ended, Deleted, is_deleted}
 use Rattle.l4_model.proofs.Chains.{bind_then, guard_then, some_is}
 use Rattle.l4_core_model.specs.Letters.{Content, SendLetter, DoneLetter, WithdrawLetter, GoneLetter, OrderLetter, OrderDoneLetter, Letter}
-use Rattle.l4_core_model.specs.Local.{declared, thread, changes, comes_to, stands_in, stand_in, is_gone_now, ended}
+use Rattle.l4_core_model.specs.Local.{declared, thread, changes, comes_to, stands_in, stand_in, is_gone_now, after_decision}
 use Rattle.l4_core_model.specs.Acts.{Work, ◌▷◌, does, split_place, obeys}
 use Rattle.l4_core_model.specs.Mail.{own_place, foreign_place, is_ordering, handled}
 use Rattle.l4_core_model.specs.Runs.{Posted, letters}
@@ -59,7 +59,7 @@ letter_keeps m from cpu letter s w x (DoneLetter name result) h first content pr
     guard_then ((thread y.local i).context.begun == name.k) _ x rest λ number rest.
     let at = own_place_is m cpu name.thread i own in
     let p = opened_keeps m cpu letter.stamp [] s h.processor promised in
-    let f : Thread → Thread = ended result y.local.clock in
+    let f : Thread → Thread = after_decision result y.local.clock in
     subst (StaysPromised m cpu (without from cpu s)) (some_is _ x rest) (taken_keeps m from cpu letter s (y ▷ does (comes_to i f)) h.first (record {
       gone = λ j to lt g. absurd (subst (IsGoneIn (declared m j).id to (record { from = from; to = cpu; letter = letter })) content g);
       answer = λ j r send lt has to away answer.

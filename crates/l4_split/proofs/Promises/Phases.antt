@@ -5,7 +5,7 @@ use Rattle.l4_model.specs.Machine.{Instr, End}
 use Rattle.l4_model.specs.Effects.{phase_after, runs, begins, waits, fails, decided, refused, receives, goes_on, delivered, orders, obeyed}
 use Rattle.l4_model.proofs.Chains.{cond_both, cond_keeps}
 use Rattle.l4_core_model.specs.Letters.{TimedOut, Nobody, Cancelled, Dropped, Result, Delivered, Refused}
-use Rattle.l4_core_model.specs.Local.{was_delivered, was_dropped, ended}
+use Rattle.l4_core_model.specs.Local.{was_delivered, was_dropped, after_decision}
 use Rattle.l4_split.proofs.Promises.Locals.{StartsAfresh}
 
 -- From a phase that has no wish
@@ -84,7 +84,7 @@ goes_on_undone : (receive : Option Receive) (now : ℕ) (t : Thread) → IsUndon
 goes_on_undone None now t = (refl, refl)
 goes_on_undone (Some receive) now t = (refl, refl)
 
-pub ended_afresh : (result : Result) (now : ℕ) (t : Thread) → StartsAfresh t (ended result now t)
+pub ended_afresh : (result : Result) (now : ℕ) (t : Thread) → StartsAfresh t (after_decision result now t)
 ended_afresh Delivered now t = by t.send refl
   where
     by : (o : Option Send) → t.send ≡ o → StartsAfresh t (was_delivered o now t)
@@ -97,7 +97,7 @@ ended_afresh (Refused Cancelled) now t = undone_afresh t (refused 6 t) (refused_
 ended_afresh (Refused Dropped) now t =
     undone_afresh t (was_dropped t) (cond_keeps IsUndone (is_alive t.phase) _ (decided t) (λ living. (refl, refl)) (λ dead. (refl, refl)))
 
-pub ended_none : (result : Result) (now : ℕ) (t : Thread) → (ended result now t).send ≡ None
+pub ended_none : (result : Result) (now : ℕ) (t : Thread) → (after_decision result now t).send ≡ None
 ended_none Delivered now t = by t.send refl
   where
     by : (o : Option Send) → t.send ≡ o → (was_delivered o now t).send ≡ None

@@ -1,14 +1,14 @@
 -- What is promised is kept by a duty, a due timeout and an instruction.
 use Rattle.std.proofs.Common.{◌≡◌, ℕ, ◌<◌, true, false, Option, Some, None, List, [], ◌∷◌, refl, ap, sym, ◌∙◌, subst}
 use Rattle.std.specs.Prelude.{is_some}
-use Rattle.l4_model.specs.Machine.{Machine}
+use Rattle.l4_model.specs.Machine.{Machine, is_place}
 use Rattle.l4_model.specs.World.{Send, Phase, Ready, Sending, Receiving, Ordering, Ended, Deleted, receive_now}
 use Rattle.l4_model.specs.Steps.{ReceiveTimeout, ReceiveNobody, ReceiveCancel, SendTimeout}
 use Rattle.l4_model.proofs.Chains.{cond_keeps}
 use Rattle.l4_core_model.specs.Plain as plain
 use Rattle.l4_core_model.specs.Letters.{TimedOut, Nobody, Cancelled, Dropped, Refused, ByTimeout}
 use Rattle.l4_core_model.specs.Local.{Local, is_own, thread, relists, armed_period}
-use Rattle.l4_core_model.specs.Acts.{Work, ◌▷◌, tells_send, does, is_place}
+use Rattle.l4_core_model.specs.Acts.{Work, ◌▷◌, tells_send, does}
 use Rattle.l4_core_model.specs.Turns.{Duty, DropsOwn, RefusesFirst, TellsGone, CancelsOwn, CancelsReceive, DeliversFirst, ClosesReceive, RefusesZero, does_duty, times_out, opened, clock_is}
 use Rattle.l4_core_model.proofs.Changed.{same_nat}
 use Rattle.l4_core_model.proofs.Apart.{apart}

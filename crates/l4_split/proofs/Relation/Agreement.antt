@@ -4,7 +4,7 @@ use Rattle.l4_model.specs.World.{Thread, Send, Receive, Message, Phase, Ready, S
 use Rattle.l4_model.specs.Effects.{fails, decided, receives, goes_on}
 use Rattle.l4_model.specs.Reached.{Suits}
 use Rattle.l4_core_model.specs.Letters.{Result, Delivered, Refused, TimedOut, Nobody, Cancelled, Dropped, Content, SendLetter, DoneLetter, WithdrawLetter, GoneLetter, OrderLetter, OrderDoneLetter}
-use Rattle.l4_core_model.specs.Local.{ended, was_delivered}
+use Rattle.l4_core_model.specs.Local.{after_decision, was_delivered}
 use Rattle.l4_core_model.specs.Runs.{Posted}
 use Rattle.l4_split.proofs.Relation.Rows.{IsEarlier, IsLeft, AgreesIn, Agrees, learns, learned}
 
@@ -51,7 +51,7 @@ fails_agrees code receive since world t is a = ap (fails code) (receiving_is rec
 -- A send is decided
 
 -- A deleted thread only loses its send.
-pub ended_deleted : (result : Result) (clock : ℕ) (t : Thread) (send : Send) → t.phase ≡ Deleted → t.send ≡ Some send → ended result clock t ≡ decided t
+pub ended_deleted : (result : Result) (clock : ℕ) (t : Thread) (send : Send) → t.phase ≡ Deleted → t.send ≡ Some send → after_decision result clock t ≡ decided t
 ended_deleted Delivered clock t send gone has = rw (has, gone) refl
 ended_deleted (Refused TimedOut) clock t send gone has = rw gone refl
 ended_deleted (Refused Nobody) clock t send gone has = rw gone refl
@@ -62,12 +62,12 @@ decided_left : (world t : Thread) → t.phase ≡ Deleted → IsLeft world t →
 decided_left world t gone a = record { deleted = a.deleted; begun = a.begun; send = refl; order = a.order; cancel_send = refl }
 
 pub ended_agrees : (result : Result) (clock : ℕ) (world t : Thread) (send : Send) → t.send ≡ Some send → Suits t.phase (Some send) t.order → Agrees world t →
-    Agrees (ended result clock world) (ended result clock t)
+    Agrees (after_decision result clock world) (after_decision result clock t)
 ended_agrees result clock world t send has suits a = by t.phase refl suits a
   where
-    by : (p : Phase) → t.phase ≡ p → Suits p (Some send) t.order → AgreesIn p world t → Agrees (ended result clock world) (ended result clock t)
+    by : (p : Phase) → t.phase ≡ p → Suits p (Some send) t.order → AgreesIn p world t → Agrees (after_decision result clock world) (after_decision result clock t)
     by Ready is s a = cc
-    by Sending is s a = same_agrees (ended result clock world) (ended result clock t) (ap (ended result clock) a)
+    by Sending is s a = same_agrees (after_decision result clock world) (after_decision result clock t) (ap (after_decision result clock) a)
     by (Receiving receive since) is s a = cc
     by Ordering is s a = cc
     by Ended is s a = cc
@@ -76,7 +76,7 @@ ended_agrees result clock world t send has suits a = by t.phase refl suits a
         let here : Agrees (decided world) (decided t) = subst (λ p. AgreesIn p (decided world) (decided t)) (sym is) left in
         let at = ended_deleted result clock t send is has in
         let there = ended_deleted result clock world send a.deleted (a.send ∙ has) in
-        subst (λ u. Agrees u (ended result clock t)) (sym there) (subst (Agrees (decided world)) (sym at) here)
+        subst (λ u. Agrees u (after_decision result clock t)) (sym there) (subst (Agrees (decided world)) (sym at) here)
 
 -- Home hears of it later
 
@@ -94,7 +94,7 @@ was_delivered_later (Some send) now later world t le a = by (is_alive t.phase) a
     by true a = goes_on_later send.receive now later world t le a
     by false a = a
 
-ended_later : (result : Result) (now later : ℕ) (world t : Thread) → now ≤ later → Agrees world (ended result now t) → Agrees world (ended result later t)
+ended_later : (result : Result) (now later : ℕ) (world t : Thread) → now ≤ later → Agrees world (after_decision result now t) → Agrees world (after_decision result later t)
 ended_later Delivered now later world t le a = was_delivered_later t.send now later world t le a
 ended_later (Refused TimedOut) now later world t le a = a
 ended_later (Refused Nobody) now later world t le a = a

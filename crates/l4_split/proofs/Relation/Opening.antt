@@ -10,8 +10,7 @@ use Rattle.std.specs.List.{range_with_len, AllByRecursion}
 use Rattle.std.proofs.lemmas.List.{length-map, get_or-replicate, length-replicate, get_or_past}
 use Rattle.std.proofs.lemmas.Bool.{eqb-true, cases_lt}
 use Rattle.l4_model.specs.Machine.{Machine}
-use Rattle.l4_model.specs.World.{opening, opening_thread, Send}
-use Rattle.l4_model.specs.Reached.{list_at}
+use Rattle.l4_model.specs.World.{opening, opening_thread, Send, list_at}
 use Rattle.l4_core_model.specs.Plain as plain
 use Rattle.l4_core_model.specs.Local.{Local, is_own, own_places, opening_local}
 use Rattle.l4_core_model.specs.Runs.{opening_system, IsMachine}

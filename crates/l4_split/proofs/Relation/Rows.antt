@@ -8,7 +8,7 @@ use Rattle.l4_model.specs.Conditions.{is_zero, has_passed}
 use Rattle.l4_model.specs.Effects.{obeyed}
 use Rattle.l4_core_model.specs.Plain as plain
 use Rattle.l4_core_model.specs.Letters.{Cause, ByTimeout, ByCancel, ByDeletion, Content, SendLetter, DoneLetter, WithdrawLetter, GoneLetter, OrderLetter, OrderDoneLetter}
-use Rattle.l4_core_model.specs.Local.{declared, destination_place, armed_period, armed_for, readied, ended, stand_in}
+use Rattle.l4_core_model.specs.Local.{declared, destination_place, armed_period, armed_for, readied, after_decision, stand_in}
 use Rattle.l4_core_model.specs.Acts.{entry}
 use Rattle.l4_core_model.specs.Runs.{Posted}
 use Rattle.l4_core_model.proofs.Fit.{IsGood}
@@ -42,7 +42,7 @@ Agrees world t = AgreesIn t.phase world t
 
 -- The thread as its home will have it once the letter that is under way to it is handled, with the clock that home has now.
 abbrev pub learns : Content → (clock : ℕ) → Thread → Thread
-learns (DoneLetter s result) clock t = ended result clock t
+learns (DoneLetter s result) clock t = after_decision result clock t
 learns (OrderDoneLetter caller) clock t = obeyed t
 learns _ clock t = t
 

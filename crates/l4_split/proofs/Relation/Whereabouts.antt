@@ -1,6 +1,6 @@
 -- What is shown of a thread wherever its send or order is, row by row.
 use Rattle.l4_model.specs.World.{Name, Send, Thread}
-use Rattle.l4_core_model.specs.Local.{ended}
+use Rattle.l4_core_model.specs.Local.{after_decision}
 use Rattle.l4_model.specs.Rules.{ordered, sent}
 use Rattle.l4_model.specs.Words.{GlobalId}
 use Rattle.l4_core_model.specs.Runs.{Posted, done}
@@ -19,7 +19,7 @@ pub where_then : {G : Type 0} (m : Machine) (i : ℕ) (v : View) → Known m i v
     Agrees v.world (v.kept (home m i)).thread → G) →
     ((p : Posted) → locators v.mail ≡ p ∷ [] → IsSent m i (seats m i v) p → Agrees v.world (v.kept (home m i)).thread → G) →
     ((p : Posted) (s : Name) (result : Result) → locators v.mail ≡ p ∷ [] → p.letter.content ≡ DoneLetter s result → IsDecided m i (seats m i v) p s →
-    Agrees v.world (ended result (v.kept (home m i)).clock (v.kept (home m i)).thread) → G) →
+    Agrees v.world (after_decision result (v.kept (home m i)).clock (v.kept (home m i)).thread) → G) →
     ((p : Posted) → locators v.mail ≡ p ∷ [] → IsOrdered m i (seats m i v) p → Agrees v.world (v.kept (home m i)).thread → G) →
     ((p : Posted) (caller : GlobalId) → locators v.mail ≡ p ∷ [] → p.letter.content ≡ OrderDoneLetter caller → IsObeyed m i (seats m i v) p →
     Agrees v.world (obeyed (v.kept (home m i)).thread) → G) → G

@@ -7,7 +7,7 @@ use Rattle.l4_model.specs.Effects.{decided}
 use Rattle.l4_model.specs.Reached.{Suits}
 use Rattle.l4_core_model.specs.Plain as plain
 use Rattle.l4_core_model.specs.Letters.{Result, DoneLetter}
-use Rattle.l4_core_model.specs.Local.{declared, thread, last_name, changes, relists, readied, ended}
+use Rattle.l4_core_model.specs.Local.{declared, thread, last_name, changes, relists, readied, after_decision}
 use Rattle.l4_core_model.specs.Acts.{Work, ◌▷◌, does, posts}
 use Rattle.l4_core_model.specs.Runs.{Posted, posted, IsMachine}
 use Rattle.l4_core_model.proofs.Changed.{get-changed}
@@ -42,7 +42,7 @@ answers m i result x =
 
 pub decided_away : (m : Machine) (cpu i : ℕ) (except : List ℕ) (s : Scene) (w : World) (x : Work) (result : Result) (send : Send) (g : Thread → Thread) →
     IsAway m cpu i →
-    IsSendAt m cpu i send (view m (amid cpu s x) w i) → g (world_thread w i) ≡ ended result (at_home m i (view m (amid cpu s x) w i)).clock (world_thread w i) →
+    IsSendAt m cpu i send (view m (amid cpu s x) w i) → g (world_thread w i) ≡ after_decision result (at_home m i (view m (amid cpu s x) w i)).clock (world_thread w i) →
     RelatesExcept m (Matches m) (i ∷ except) (amid cpu s x) w →
     RelatesExcept m (Matches m) except (amid cpu s (answers m i result x)) (change (unqueued w i) i g)
 decided_away m cpu i except s w x result send g here at is rel =
@@ -113,8 +113,8 @@ decided_away m cpu i except s w x result send g here at is rel =
     } in
     takes_in m i except (amid cpu s a) (change u i g) relates (record {
       known = located_known m i after p keeps locator row
-          (subst (λ (k : Kept). Agrees after.world (ended result k.clock k.thread)) (sym home_same)
-          (subst (λ t. Agrees t (ended result (at_home m i v).clock (at_home m i v).thread)) (sym (world ∙ is)) learns));
+          (subst (λ (k : Kept). Agrees after.world (after_decision result k.clock k.thread)) (sym home_same)
+          (subst (λ t. Agrees t (after_decision result (at_home m i v).clock (at_home m i v).thread)) (sym (world ∙ is)) learns));
       ready = subst (λ (k : Kept). k.ready ≡ readied k.thread.phase i []) (sym home_same)
           (at.out ∙ sym (sender_unready i (at_home m i v).thread.phase send (at_home m i v).thread.order suits));
     })

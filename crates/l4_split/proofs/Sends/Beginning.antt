@@ -11,7 +11,7 @@ use Rattle.l4_model.specs.Effects.{begins}
 use Rattle.l4_model.specs.Reached.{Suits}
 use Rattle.l4_core_model.specs.Letters.{SendLetter}
 use Rattle.l4_core_model.specs.Local.{declared, thread, held, is_own, destination_place, last_name, comes_to}
-use Rattle.l4_core_model.specs.Acts.{Work, ◌▷◌, tells, does, posts_send, arrives, goes_to, begins_send}
+use Rattle.l4_core_model.specs.Acts.{Work, ◌▷◌, tells, does, posts_send, arrives, send_goes_to, begins_send}
 use Rattle.l4_core_model.specs.Runs.{Posted, posted}
 use Rattle.l4_core_model.proofs.Changed.{same_nat, get-changed}
 use Rattle.l4_core_model.proofs.Good.{begins_good}
@@ -144,7 +144,7 @@ begins_send_goes m cpu i s w x send processor e r sends since not_nil = by (dest
     hand : IsInHand m cpu i s w (begun m i send x) send
     hand = begin_goes m cpu i s w x send processor e r sends since
 
-    by : (o : Option ℕ) → destination_place m send.to ≡ o → Goes m cpu s w [] (goes_to m cpu i send o (begun m i send x))
+    by : (o : Option ℕ) → destination_place m send.to ≡ o → Goes m cpu s w [] (send_goes_to m cpu i send o (begun m i send x))
     by None to = nowhere_goes m cpu i s w (begun m i send x) send hand.has to not_nil
     by (Some q) to = split (is_own m cpu q) refl
       where

@@ -7,7 +7,7 @@ use Rattle.l4_model.specs.Conditions.{is_zero}
 use Rattle.l4_model.proofs.Chains.{some_is}
 use Rattle.l4_model.specs.Reached.{Suits}
 use Rattle.l4_core_model.specs.Letters.{Result, SendLetter, DoneLetter}
-use Rattle.l4_core_model.specs.Local.{declared, thread, changes, comes_to, readied, ended, stand_in, stands_in}
+use Rattle.l4_core_model.specs.Local.{declared, thread, changes, comes_to, readied, after_decision, stand_in, stands_in}
 use Rattle.l4_core_model.specs.Acts.{Work, ◌▷◌, does, arrives}
 use Rattle.l4_core_model.specs.Runs.{Posted}
 use Rattle.l4_core_model.proofs.Standing.{destination_within}
@@ -61,10 +61,10 @@ unchanged (t ∷ ts) (suc i) = ap (λ us. t ∷ us) (unchanged ts i)
 -- The answer to a send comes home: the world is as it was, and home agrees with it again.
 pub done_relates : (m : Machine) (cpu i : ℕ) (s : Scene) (w : World) (x : Work) (before : View) (p : Posted) (name : Name) (result : Result) → IsHere m cpu i →
     p.letter.content ≡ DoneLetter name result → IsTakenOut m i before (view m (amid cpu s x) w i) p →
-    RelatesExcept m (Matches m) (i ∷ []) (amid cpu s x) w → RelatesExcept m (Matches m) [] (amid cpu s (x ▷ does (comes_to i (ended result x.local.clock)))) w
+    RelatesExcept m (Matches m) (i ∷ []) (amid cpu s x) w → RelatesExcept m (Matches m) [] (amid cpu s (x ▷ does (comes_to i (after_decision result x.local.clock)))) w
 done_relates m cpu i s w x before p name result here content t rel =
     let v : View = view m (amid cpu s x) w i in
-    let f : Thread → Thread = ended result x.local.clock in
+    let f : Thread → Thread = after_decision result x.local.clock in
     let row : IsDecided m i (seats m i before) p name = subst (RowOf m i (seats m i before) p) content (taken_row m i before v p t) in
     let was : at_home m i before ≡ kept x.local i = sym (ap (λ (f : ℕ → Kept). f (home m i)) t.kept) ∙ home_is m cpu i s x w here.home in
     let has : (thread x.local i).send ≡ Some row.goes.send = sym (ap (λ (k : Kept). k.thread.send) was) ∙ row.goes.has in
@@ -73,7 +73,7 @@ done_relates m cpu i s w x before p name result here content t rel =
     let suits : Suits (thread x.local i).phase (Some row.goes.send) (thread x.local i).order =
     subst (λ o. Suits (thread x.local i).phase o (thread x.local i).order) has good.suits in
     let none = ended_none result x.local.clock (thread x.local i) row.goes.send has order in
-    let agrees : Agrees before.world (f (thread x.local i)) = subst (λ (k : Kept). Agrees before.world (ended result k.clock k.thread)) was
+    let agrees : Agrees before.world (f (thread x.local i)) = subst (λ (k : Kept). Agrees before.world (after_decision result k.clock k.thread)) was
     (subst (λ c. Agrees before.world (learns c (at_home m i before).clock (at_home m i before).thread)) content (taken_agrees m i before v p t)) in
     let c = comes m cpu i [] s w x f (λ t. t) here rel in
     let q : IsQuiet m i v (kept x.local i) f (λ t. t) = record {

@@ -7,7 +7,7 @@ use Rattle.l4_model.proofs.Chains.{cond_both, cond_keeps}
 use Rattle.l4_model.specs.Reached.{Suits}
 use Rattle.l4_core_model.specs.Plain as plain
 use Rattle.l4_core_model.specs.Letters.{Result, Delivered, Refused, TimedOut, Nobody, Cancelled, Dropped}
-use Rattle.l4_core_model.specs.Local.{thread, destination_place, relists, comes_to, readied, ended, was_delivered}
+use Rattle.l4_core_model.specs.Local.{thread, destination_place, relists, comes_to, readied, after_decision, was_delivered}
 use Rattle.l4_core_model.specs.Acts.{Work, ◌▷◌, does}
 use Rattle.l4_core_model.proofs.Fit.{IsGood}
 use Rattle.l4_core_model.proofs.Good.{ended_refused_good, ended_delivered_good, ended_refused_none, ended_delivered_none}
@@ -51,12 +51,12 @@ sender_unready i Deleted send order s = refl
 
 -- What becomes of its thread
 
-pub ended_good : (result : Result) (clock : ℕ) (t : Thread) (send : Send) → t.send ≡ Some send → IsGood clock t → IsGood clock (ended result clock t)
+pub ended_good : (result : Result) (clock : ℕ) (t : Thread) (send : Send) → t.send ≡ Some send → IsGood clock t → IsGood clock (after_decision result clock t)
 ended_good Delivered clock t send has g = ended_delivered_good clock t send has g
 ended_good (Refused refusal) clock t send has g = ended_refused_good clock refusal t send has g
 
 pub ended_none : (result : Result) (clock : ℕ) (t : Thread) (send : Send) → t.send ≡ Some send → t.order ≡ None →
-    ((ended result clock t).send ≡ None) × ((ended result clock t).order ≡ None)
+    ((after_decision result clock t).send ≡ None) × ((after_decision result clock t).order ≡ None)
 ended_none Delivered clock t send has done = ended_delivered_none clock t send has done
 ended_none (Refused refusal) clock t send has done = ended_refused_none clock refusal t done
 
@@ -83,7 +83,7 @@ delivered_fresh clock t (Some s) send has =
     cond_keeps (IsFreshThread clock) (is_alive t.phase) (goes_on s.receive clock t) (decided t) (λ alive. goes_on_fresh clock s.receive t)
     (λ gone. gone_fresh clock t.phase gone)
 
-pub ended_fresh : (result : Result) (clock : ℕ) (t : Thread) (send : Send) → t.send ≡ Some send → IsFreshThread clock (ended result clock t)
+pub ended_fresh : (result : Result) (clock : ℕ) (t : Thread) (send : Send) → t.send ≡ Some send → IsFreshThread clock (after_decision result clock t)
 ended_fresh Delivered clock t send has = delivered_fresh clock t t.send send has
 ended_fresh (Refused TimedOut) clock t send has =
     cond_keeps (IsFreshThread clock) (is_alive t.phase) _ (decided t) (λ alive. tt) (λ gone. gone_fresh clock t.phase gone)
@@ -104,7 +104,7 @@ delivered_begun (Some send) clock t =
     cond_both (λ (u : Thread). u.context.begun) t.context.begun (is_alive t.phase) (goes_on send.receive clock t) (decided t)
     (goes_on_begun send.receive clock t) refl
 
-pub ended_begun : (result : Result) (clock : ℕ) (t : Thread) → (ended result clock t).context.begun ≡ t.context.begun
+pub ended_begun : (result : Result) (clock : ℕ) (t : Thread) → (after_decision result clock t).context.begun ≡ t.context.begun
 ended_begun Delivered clock t = delivered_begun t.send clock t
 ended_begun (Refused TimedOut) clock t = cond_both (λ (u : Thread). u.context.begun) t.context.begun (is_alive t.phase) _ (decided t) refl refl
 ended_begun (Refused Nobody) clock t = cond_both (λ (u : Thread). u.context.begun) t.context.begun (is_alive t.phase) _ (decided t) refl refl
@@ -112,11 +112,11 @@ ended_begun (Refused Cancelled) clock t = cond_both (λ (u : Thread). u.context.
 ended_begun (Refused Dropped) clock t = cond_both (λ (u : Thread). u.context.begun) t.context.begun (is_alive t.phase) _ (decided t) refl refl
 
 pub ended_stays_true : (result : Result) (k : Kept) (i : ℕ) (send : Send) → k.thread.send ≡ Some send → k.thread.order ≡ None →
-    StaysTrue k (come i (ended result k.clock) k)
+    StaysTrue k (come i (after_decision result k.clock) k)
 ended_stays_true result k i send has order = record {
   deleted = λ gone. ap (λ (t : Thread). t.phase) (ended_deleted result k.clock k.thread send gone has) ∙ gone;
   begun = let same = ended_begun result k.clock k.thread in omega arith;
-  causes = λ cause same old. of_none _ (ended result k.clock k.thread).send (ended_none result k.clock k.thread send has order).0;
+  causes = λ cause same old. of_none _ (after_decision result k.clock k.thread).send (ended_none result k.clock k.thread send has order).0;
 }
 
 -- What is kept of it says nothing of lists.
@@ -139,17 +139,17 @@ kept_with_lists m i v h = record {
 
 pub decided_here : (m : Machine) (cpu i : ℕ) (except : List ℕ) (s : Scene) (w : World) (x : Work) (result : Result) (send : Send) (g : Thread → Thread) →
     IsHere m cpu i →
-    IsSendAt m cpu i send (view m (amid cpu s x) w i) → g (world_thread w i) ≡ ended result (at_home m i (view m (amid cpu s x) w i)).clock (world_thread w i) →
+    IsSendAt m cpu i send (view m (amid cpu s x) w i) → g (world_thread w i) ≡ after_decision result (at_home m i (view m (amid cpu s x) w i)).clock (world_thread w i) →
     RelatesExcept m (Matches m) (i ∷ except) (amid cpu s x) w →
-    RelatesExcept m (Matches m) except (amid cpu s (x ▷ does (relists (plain.unqueued i)) ▷ does (comes_to i (ended result x.local.clock))))
+    RelatesExcept m (Matches m) except (amid cpu s (x ▷ does (relists (plain.unqueued i)) ▷ does (comes_to i (after_decision result x.local.clock))))
     (change (unqueued w i) i g)
 decided_here m cpu i except s w x result send g here at is relates =
     let v : View = view m (amid cpu s x) w i in
     let y : Work = x ▷ does (relists (plain.unqueued i)) in
     let u : World = unqueued w i in
-    let f : Thread → Thread = ended result x.local.clock in
+    let f : Thread → Thread = after_decision result x.local.clock in
     let was : at_home m i v ≡ kept x.local i = home_is m cpu i s x w here.home in
-    let clock = ap (λ (k : Kept). ended result k.clock v.world) was in
+    let clock = ap (λ (k : Kept). after_decision result k.clock v.world) was in
     let has : (thread x.local i).send ≡ Some send = sym (ap (λ (k : Kept). k.thread.send) was) ∙ at.has in
     let order : (thread x.local i).order ≡ None = sym (ap (λ (k : Kept). k.thread.order) was) ∙ at.order in
     let good : IsGood x.local.clock (thread x.local i) = subst (λ (k : Kept). IsGood k.clock k.thread) was at.kept.at_home.good in

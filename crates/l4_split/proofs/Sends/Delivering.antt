@@ -1,7 +1,7 @@
 -- The first waiting send that a receiver accepts is delivered to it; so is a send in hand that arrives where it is waited for.
 use Rattle.std.proofs.Common.{◌≡◌, ℕ, ◌<◌, Some, None, [], length, refl, ap, sym, ◌∙◌, subst, arith, true, inl, inr}
 use Rattle.l4_model.specs.Words.{Id}
-use Rattle.l4_model.specs.Machine.{Machine}
+use Rattle.l4_model.specs.Machine.{Machine, is_place}
 use Rattle.l4_model.specs.World.{Thread, World, Send, Receive, Message, Phase, Ready, Receiving, Deleted, change, unqueued, opening_thread, is_deleted, is_alive}
 use Rattle.l4_model.specs.Conditions.{first_accepted}
 use Rattle.l4_model.specs.History.{run}
@@ -10,8 +10,8 @@ use Rattle.l4_model.specs.Rules.{takes, received_tag, is_cross}
 use Rattle.l4_model.specs.Effects.{receives, delivered}
 use Rattle.l4_core_model.specs.Plain as plain
 use Rattle.l4_core_model.specs.Letters.{Delivered, TimedOut, Nobody}
-use Rattle.l4_core_model.specs.Local.{Local, declared, thread, destination_place, last_name, comes_to, readied, ended, was_delivered, held, relists}
-use Rattle.l4_core_model.specs.Acts.{Work, ◌▷◌, tells, does, delivers, delivers_send, delivers_message, refuses, entry, first_acceptable, is_place, delivers_if_first, zero_refusable, queues_send, arrives}
+use Rattle.l4_core_model.specs.Local.{Local, declared, thread, destination_place, last_name, comes_to, readied, after_decision, was_delivered, held, relists}
+use Rattle.l4_core_model.specs.Acts.{Work, ◌▷◌, tells, does, delivers, delivers_send, delivers_message, refuses, entry, first_acceptable, delivers_if_first, zero_refusable, queues_send, arrives}
 use Rattle.l4_core_model.proofs.Changed.{same_nat, same_ids, same_bytes, part-changed_at}
 use Rattle.l4_core_model.proofs.Fit.{IsGood}
 use Rattle.l4_core_model.proofs.Choosing.{accepts_is}
@@ -126,7 +126,7 @@ message_goes m cpu r i s w x receive since send here processor e is first at lt 
     let has : (world_thread w1 i).send ≡ Some send =
     part-changed_at (λ (t : Thread). t.send) f (λ t. refl) now.threads r i opening_thread ∙ agrees_send (world_thread now i) _ at.agrees ∙ at.has in
     let same_clock : (at_home m i (view m (amid cpu s x1) w1 i)).clock ≡ clock = put_same (λ l. l.clock) cpu (home m i) x.local x1.local s.locals refl in
-    let ended_is : g (world_thread w1 i) ≡ ended Delivered (at_home m i (view m (amid cpu s x1) w1 i)).clock (world_thread w1 i) =
+    let ended_is : g (world_thread w1 i) ≡ after_decision Delivered (at_home m i (view m (amid cpu s x1) w1 i)).clock (world_thread w1 i) =
     ap (λ k. delivered send k (world_thread w1 i)) (sym same_clock)
     ∙ sym (ap (λ o. was_delivered o (at_home m i (view m (amid cpu s x1) w1 i)).clock (world_thread w1 i)) has) in
     let steps = ends_steps m cpu i x1 Delivered in

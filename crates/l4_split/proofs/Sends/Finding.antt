@@ -10,8 +10,8 @@ use Rattle.l4_model.specs.Conditions.{Found, found, found_at, found_by, undecide
 use Rattle.l4_model.proofs.Chains.{cond_both}
 use Rattle.l4_core_model.specs.Letters.{Result}
 use Rattle.l4_core_model.specs.Plain as plain
-use Rattle.l4_core_model.specs.Local.{declared, undeclared, thread, destination_place, is_own, last_name, relists, comes_to, ended}
-use Rattle.l4_core_model.specs.Acts.{Work, ◌▷◌, does, ends}
+use Rattle.l4_core_model.specs.Local.{declared, undeclared, thread, destination_place, is_own, last_name, relists, comes_to, after_decision}
+use Rattle.l4_core_model.specs.Acts.{Work, ◌▷◌, does, decides_send}
 use Rattle.l4_core_model.specs.Runs.{IsMachine}
 use Rattle.l4_core_model.proofs.Changed.{same_nat}
 use Rattle.l4_core_model.proofs.Apart.{apart}
@@ -105,13 +105,13 @@ pending_is m cpu i send except s x w machine lt rel at =
 -- It is decided here, wherever its home is.
 pub ends_relates : (m : Machine) (cpu i : ℕ) (except : List ℕ) (s : Scene) (w : World) (x : Work) (result : Result) (send : Send) (g : Thread → Thread) →
     IsMachine m → cpu < m.cpus → i < length m.threads →
-    IsSendAt m cpu i send (view m (amid cpu s x) w i) → g (world_thread w i) ≡ ended result (at_home m i (view m (amid cpu s x) w i)).clock (world_thread w i) →
+    IsSendAt m cpu i send (view m (amid cpu s x) w i) → g (world_thread w i) ≡ after_decision result (at_home m i (view m (amid cpu s x) w i)).clock (world_thread w i) →
     RelatesExcept m (Matches m) (i ∷ except) (amid cpu s x) w →
-    RelatesExcept m (Matches m) except (amid cpu s (ends m cpu result i x)) (change (unqueued w i) i g)
+    RelatesExcept m (Matches m) except (amid cpu s (decides_send m cpu result i x)) (change (unqueued w i) i g)
 ends_relates m cpu i except s w x result send g machine processor lt at is rel = by (is_own m cpu i) refl
   where
     here : Work
-    here = x ▷ does (relists (plain.unqueued i)) ▷ does (comes_to i (ended result x.local.clock))
+    here = x ▷ does (relists (plain.unqueued i)) ▷ does (comes_to i (after_decision result x.local.clock))
 
     by : (b : Bool) → (home m i == cpu) ≡ b → RelatesExcept m (Matches m) except (amid cpu s (cond b here (answers m i result x))) (change (unqueued w i) i g)
     by true h = decided_here m cpu i except s w x result send g (record { machine = machine; within = lt; home = eqb-true (home m i) cpu h }) at is rel
@@ -119,7 +119,7 @@ ends_relates m cpu i except s w x result send g machine processor lt at is rel =
         (record { machine = machine; processor = processor; within = lt; away = apart (home m i) cpu h }) at is rel
 
 -- Nothing is told by it.
-pub ends_steps : (m : Machine) (cpu i : ℕ) (x : Work) (result : Result) → (ends m cpu result i x).steps ≡ x.steps
+pub ends_steps : (m : Machine) (cpu i : ℕ) (x : Work) (result : Result) → (decides_send m cpu result i x).steps ≡ x.steps
 ends_steps m cpu i x result =
-    cond_both (λ (y : Work). y.steps) x.steps (is_own m cpu i) (x ▷ does (relists (plain.unqueued i)) ▷ does (comes_to i (ended result x.local.clock)))
+    cond_both (λ (y : Work). y.steps) x.steps (is_own m cpu i) (x ▷ does (relists (plain.unqueued i)) ▷ does (comes_to i (after_decision result x.local.clock)))
     (answers m i result x) refl refl

@@ -11,7 +11,7 @@ use Rattle.l4_model.proofs.Chains.{cond_both, some_is}
 use Rattle.l4_model.specs.Reached.{Suits}
 use Rattle.l4_core_model.specs.Plain as plain
 use Rattle.l4_core_model.specs.Letters.{Result, Delivered, Refused, TimedOut, Nobody, Cancelled, Dropped, Content, SendLetter, DoneLetter, WithdrawLetter, GoneLetter, OrderLetter, OrderDoneLetter}
-use Rattle.l4_core_model.specs.Local.{Local, thread, destination_place, last_name, relists, readied, ended, was_delivered}
+use Rattle.l4_core_model.specs.Local.{Local, thread, destination_place, last_name, relists, readied, after_decision, was_delivered}
 use Rattle.l4_core_model.specs.Acts.{Work, ◌▷◌, tells, does, entry}
 use Rattle.l4_core_model.specs.Runs.{Posted}
 use Rattle.l4_core_model.proofs.Apart.{same_or_apart}
@@ -49,7 +49,7 @@ delivered_alive None clock t alive = alive
 delivered_alive (Some send) clock t alive =
     cond_both (λ (u : Thread). is_alive u.phase) true (is_alive t.phase) (goes_on send.receive clock t) (decided t) (goes_on_alive send.receive clock t) alive
 
-ended_alive : (result : Result) (clock : ℕ) (t : Thread) → is_alive t.phase ≡ true → is_alive (ended result clock t).phase ≡ true
+ended_alive : (result : Result) (clock : ℕ) (t : Thread) → is_alive t.phase ≡ true → is_alive (after_decision result clock t).phase ≡ true
 ended_alive Delivered clock t alive = delivered_alive t.send clock t alive
 ended_alive (Refused TimedOut) clock t alive = rw alive refl
 ended_alive (Refused Nobody) clock t alive = rw alive refl

@@ -12,7 +12,7 @@ use Rattle.l4_model.specs.Conditions.{Found, is_refusable, may_still_accept, cal
 use Rattle.l4_model.specs.Effects.{refused, obeyed, goes_on}
 use Rattle.l4_model.specs.Reached.{Suits}
 use Rattle.l4_core_model.specs.Letters.{Result, Delivered, Refused, TimedOut, Nobody, Cancelled, Dropped}
-use Rattle.l4_core_model.specs.Local.{declared, undeclared, destination_place, ended, was_dropped}
+use Rattle.l4_core_model.specs.Local.{declared, undeclared, destination_place, after_decision, was_dropped}
 use Rattle.l4_core_model.proofs.Standing.{place_within}
 use Rattle.l4_core_model.proofs.Choosing.{both}
 use Rattle.l4_split.proofs.Lists.{other_is}
@@ -112,7 +112,7 @@ alive_refusable m r clock send t h = (both (is_alive t.phase) _ h).0
 -- where its own call was decided
 decided_refusable : (m : Machine) (r clock : ℕ) (send : Send) (result : Result) (t world : Thread) → place_of m (declared m r).id ≡ Some r →
     (call : Send) (q : ℕ) → t.send ≡ Some call → destination_place m call.to ≡ Some q → (home m q ≡ home m r → ⊥) → Suits t.phase t.send t.order →
-    Agrees world (ended result clock t) →
+    Agrees world (after_decision result clock t) →
     is_refusable m send (Some (seen m r clock t)) ≡ true → is_refusable m send (Some (seen m r clock world)) ≡ true
 decided_refusable m r clock send result t world here call q has to split suits a h = by result a
   where
@@ -140,13 +140,13 @@ decided_refusable m r clock send result t world here call q has to split suits a
     dropped_ready : (was_dropped t).phase ≡ Ready
     dropped_ready = rw alive refl
 
-    by : (result : Result) → Agrees world (ended result clock t) → is_refusable m send (Some (seen m r clock world)) ≡ true
+    by : (result : Result) → Agrees world (after_decision result clock t) → is_refusable m send (Some (seen m r clock world)) ≡ true
     by (Refused TimedOut) a = fallen (refused 2 t) (refused_ready 2) a
     by (Refused Nobody) a = fallen (refused 4 t) (refused_ready 4) a
     by (Refused Cancelled) a = fallen (refused 6 t) (refused_ready 6) a
     by (Refused Dropped) a = fallen (was_dropped t) dropped_ready a
     by Delivered a =
-        let delivered_is : ended Delivered clock t ≡ goes_on call.receive clock t = rw (has, alive) refl in
+        let delivered_is : after_decision Delivered clock t ≡ goes_on call.receive clock t = rw (has, alive) refl in
         goes_on_refusable m r q clock clock send call t world here to split sending has (subst (Agrees world) delivered_is a) h
 
 obeyed_refusable : (m : Machine) (r clock : ℕ) (send : Send) (t world : Thread) → Agrees world (obeyed t) →

@@ -13,7 +13,7 @@ use Rattle.l4_model.specs.History.{run}
 use Rattle.l4_model.specs.Steps.{next}
 use Rattle.l4_model.specs.Effects.{refused, obeyed}
 use Rattle.l4_core_model.specs.Letters.{Refusal, TimedOut, Nobody, Refused, refusal_step}
-use Rattle.l4_core_model.specs.Local.{declared, thread, held, destination_place, last_name, ended}
+use Rattle.l4_core_model.specs.Local.{declared, thread, held, destination_place, last_name, after_decision}
 use Rattle.l4_core_model.specs.Acts.{Work, ◌▷◌, tells, refuses, zero_refusable}
 use Rattle.l4_core_model.specs.Runs.{IsMachine}
 use Rattle.l4_split.proofs.Relation.Views.{Scene, Kept, View, view, world_thread, home, amid}
@@ -36,7 +36,7 @@ pub record HasSend (m : Machine) (cpu i : ℕ) (s : Scene) (w : World) (x : Work
 -- A send on this processor may be refused where the world allows the step.
 pub refuses_goes : (m : Machine) (cpu i : ℕ) (s : Scene) (w : World) (x : Work) (refusal : Refusal) (send : Send) (g : Thread → Thread) →
     (h : HasSend m cpu i s w x send) →
-    g (world_thread h.goes.now i) ≡ ended (Refused refusal) (at_home m i (view m (amid cpu s x) h.goes.now i)).clock (world_thread h.goes.now i) →
+    g (world_thread h.goes.now i) ≡ after_decision (Refused refusal) (at_home m i (view m (amid cpu s x) h.goes.now i)).clock (world_thread h.goes.now i) →
     next m h.goes.now (refusal_step refusal (last_name m x.local i)) ≡ Some (change (unqueued h.goes.now i) i g) →
     Goes m cpu s w [] (refuses m cpu refusal i x)
 refuses_goes m cpu i s w x refusal send g h is possible =
@@ -65,7 +65,7 @@ deleted_known m r v known gone = where_then m r v known
     (λ send quiet has row a. left t gone a)
     (λ p is row a. left t gone a)
     (λ p name result is content row a.
-    left (ended result clock t) (ap (λ (u : Thread). u.phase) (ended_deleted result clock t row.goes.send gone row.goes.has) ∙ gone) a)
+    left (after_decision result clock t) (ap (λ (u : Thread). u.phase) (ended_deleted result clock t row.goes.send gone row.goes.has) ∙ gone) a)
     (λ p is row a. left t gone a)
     (λ p caller is content row a. left (obeyed t) obeyed_gone a)
   where

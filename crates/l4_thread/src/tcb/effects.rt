@@ -5,7 +5,7 @@ ghost use Rattle.l4_model.specs.Words.{word_of_tag};
 ghost use Rattle.l4_model.specs.Machine.{Machine};
 ghost use Rattle.l4_model.specs.Rules.{act};
 ghost use Rattle.l4_model.specs.Effects.{runs, fails, receives, refused, decided, delivered, goes_on, asked, asked_send, asked_receive, has_receive_phase, orders, obeyed};
-ghost use Rattle.l4_core_model.specs.Local.{ended, is_gone_now, stand_in, stands_in, was_delivered, was_dropped};
+ghost use Rattle.l4_core_model.specs.Local.{after_decision, is_gone_now, stand_in, stands_in, was_delivered, was_dropped};
 ghost use Rattle.l4_types.specs.Codes.{code_of};
 ghost use Rattle.l4_types.specs.PeriodView.{period_of, IsTimely};
 ghost use Rattle.l4_types.specs.StepView.{what_of};
@@ -152,7 +152,7 @@ impl Tcb {
     /// Its send is decided, at this clock of its processor in ticks. After a delivery the receive phase of the same Ipc begins at
     /// once. A deleted thread keeps its registers.
     pub fn end_send(&mut self, decision: Decision, now: u64)
-        ensures { self.new ≡ record self.old { thread = ended (decision_of decision) now self.old.thread } }
+        ensures { self.new ≡ record self.old { thread = after_decision (decision_of decision) now self.old.thread } }
     {
         match decision {
             Decision::Delivered => self.end_delivered(now),

@@ -2,7 +2,8 @@ use Rattle.std.proofs.Common.{◌≡◌, List, length, refl, sym, ap, ◌∙◌,
 use Rattle.std.proofs.lemmas.List.{length-set, places, with_items_is}
 use Rattle.l4_model.specs.Words.{word_of_tag}
 use Rattle.l4_model.specs.Effects.{receives}
-use Rattle.l4_core_model.specs.Local.{comes_to, settles, thread}
+use Rattle.l4_core.specs.Settling.{settles}
+use Rattle.l4_core_model.specs.Local.{comes_to, thread}
 use Rattle.l4_thread.specs.Parts.{Block}
 use Rattle.l4_core.specs.Changing.{receives_from}
 use Rattle.l4_core.specs.Parts.{local_of, AreCore, IsKept}

@@ -3,7 +3,8 @@ use Rattle.l4_model.specs.World.{Send}
 use Rattle.l4_model.specs.Steps.{Queue}
 use Rattle.l4_core_model.specs.Plain.{Waiting, is_queued}
 use Rattle.l4_core_model.specs.Local.{thread, last_name}
-use Rattle.l4_core_model.specs.Acts.{entry, first_acceptable, is_place}
+use Rattle.l4_model.specs.Machine.{is_place}
+use Rattle.l4_core_model.specs.Acts.{entry, first_acceptable}
 use Rattle.l4_core.specs.Processor.{Processor}
 use Rattle.l4_core.specs.Tellings.{with_step}
 use Rattle.l4_core.specs.Turning.{IsNotSplit, IsSender}

@@ -27,7 +27,8 @@ use Rattle.l4_split.proofs.Promises.Choosing.{turn_keeps}
 use Rattle.l4_split.proofs.Letters.Lawful.{all_lawful, first_lawful, AreAddressed}
 use Rattle.l4_core_model.proofs.Changed.{length-changed}
 use Rattle.l4_split.proofs.Relation.Rows.{Matches}
-use Rattle.l4_split.specs.Laws.{IsLawfulRun, LettersAreLawful}
+use Rattle.l4_split.specs.Laws.{IsLawfulRun, LettersAreLawful, IsToldAtHome}
+use Rattle.l4_split.proofs.AtHome.{told_at_home}
 use Rattle.l4_split.proofs.Relation.Opening.{opening_promised, opening_relates}
 use Rattle.l4_model.specs.Steps.{Tick}
 use Rattle.l4_model.specs.Conditions.{◌>>=◌}
@@ -163,4 +164,6 @@ run_lawful m r machine f = record {
   lawful = lawful m (told r.events) f.world f.reaches;
   letters = letters_lawful m r machine f;
   still = λ rest w at. subst (IsStill m) (some_is f.world w (sym f.reaches ∙ at)) (rest_still m r machine f rest);
+  at_home = λ handled undeleted w at. subst (IsToldAtHome m r.system.locals) (some_is f.world w (sym f.reaches ∙ at))
+      (told_at_home m r.system f.world machine f.counted f.relates handled undeleted);
 }

@@ -7,5 +7,6 @@ pub mod Turns
 pub mod Letters
 pub mod Promises
 pub mod Rest
+pub mod AtHome
 pub mod Events
 pub mod Law

@@ -1,13 +1,16 @@
 -- What is true of the core runs of a machine of any number of processors, whatever is done in which order.
-use Rattle.std.specs.Prelude.{◌≡◌, ℕ, true, Some, is_some, IsSomeAnd, List, slice_get}
-use Rattle.std.specs.List.{AllByRecursion}
-use Rattle.l4_model.specs.Machine.{Machine}
-use Rattle.l4_model.specs.World.{World}
-use Rattle.l4_model.specs.History.{IsHistory, reached}
+use Rattle.std.specs.Prelude.{◌≡◌, ℕ, Bool, ◌==◌, false, true, Option, None, Some, is_some, IsSomeAnd, List, [], length, map, filter_map, slice_get}
+use Rattle.std.specs.List.{AllByRecursion, range_with_len}
+use Rattle.l4_model.specs.Words.{Id}
+use Rattle.l4_model.specs.Machine.{Machine, place_of}
+use Rattle.l4_model.specs.Steps.{Step}
+use Rattle.l4_model.specs.World.{Name, Thread, World, opening_thread}
+use Rattle.l4_model.specs.Conditions.{◌>>=◌, ◌>>◌}
+use Rattle.l4_model.specs.History.{IsHistory, Report, State, IsDeleted, begun_name, reached, report_of, view, waiting}
 use Rattle.l4_model.specs.Laws.{IsLawful}
 use Rattle.l4_model.specs.Still.{IsStill}
 use Rattle.l4_core_model.specs.Letters.{Letter}
-use Rattle.l4_core_model.specs.Local.{Local}
+use Rattle.l4_core_model.specs.Local.{Local, declared, thread}
 use Rattle.l4_core_model.specs.Mail.{handle}
 use Rattle.l4_core_model.specs.Runs.{System, Posted, letters, Happening, Run, core_run, opening_run, told, at_rest}
 
@@ -28,6 +31,61 @@ RestIsStill m =
     (happenings : List Happening) (r : Run) → core_run m (opening_run m) happenings ≡ Some r →
     (w : World) × ((reached m (told r.events) ≡ Some w) × (at_rest m r.system ≡ true → IsStill m w))
 
+-- A thread as its own processor has it.
+abbrev pub thread_of : (i : ℕ) → Option Local → Thread
+thread_of i None = opening_thread
+thread_of i (Some l) = thread l i
+
+abbrev pub home_thread : Machine → List Local → (i : ℕ) → Thread
+home_thread m locals i = thread_of i (slice_get locals (declared m i).cpu)
+
+-- What a report says of it there.
+abbrev pub home_report : Machine → List Local → (i : ℕ) → Report
+home_report m locals i = report_of (declared m i).id (home_thread m locals i)
+
+-- The reports of all threads so, in order of declaration.
+abbrev pub home_reports : Machine → List Local → List Report
+home_reports m locals = map (home_report m locals) (range_with_len 0 (length m.threads))
+
+-- Where a thread's send of this number goes, while it is undecided.
+abbrev pub destination_of : (k : ℕ) → Thread → Option Id
+destination_of k t = do
+  t.context.begun == k
+  send ← t.send
+  Some send.to
+
+-- A begun send that is undecided on its sender's processor, with its destination.
+abbrev pub home_waiting : Machine → List Local → Step → Option (Name × Id)
+home_waiting m locals step = do
+  s ← begun_name step
+  i ← place_of m s.thread
+  to ← destination_of s.k (home_thread m locals i)
+  Some (s, to)
+
+abbrev pub is_deleted_state : State → Bool
+is_deleted_state IsDeleted = true
+is_deleted_state _ = false
+
+abbrev pub IsUndeleted : Report → Type 0
+IsUndeleted r = is_deleted_state r.state ≡ false
+
+-- A world looks as the processors have their own threads, and so do the sends that wait in it, whichever steps led to it.
+pub record IsToldAtHome (m : Machine) (locals : List Local) (w : World) : Type 0 where
+  pub view : view m w ≡ home_reports m locals
+  pub waiting : (h : List Step) → waiting m w h ≡ filter_map (home_waiting m locals) h
+
+-- Of no pair of processors is a letter under way.
+abbrev pub AreAllHandled : System → Type 0
+AreAllHandled g = (from cpu : ℕ) → letters g.mail from cpu ≡ []
+
+-- Where no letter is under way and no thread is deleted, the processors know of their own threads what the world has of them that the
+-- history reaches. (A deleted thread keeps the registers that it had when its processor deleted it. That its send had failed before may
+-- not have been known there yet.)
+abbrev pub IsKnownAtHome : Machine → Run → Type 0
+IsKnownAtHome m r =
+    AreAllHandled r.system → AllByRecursion IsUndeleted (home_reports m r.system.locals) →
+    (w : World) → reached m (told r.events) ≡ Some w → IsToldAtHome m r.system.locals w
+
 -- All that is proved of a core run.
 pub record IsLawfulRun (m : Machine) (r : Run) : Type 0 where
   -- what its events tell is a history: each step is possible at the world that the earlier ones reach
@@ -38,3 +96,5 @@ pub record IsLawfulRun (m : Machine) (r : Run) : Type 0 where
   pub letters : LettersAreLawful m r.system
   -- and where the run is at rest, nothing but clocks can go on in the world that its history reaches
   pub still : at_rest m r.system ≡ true → (w : World) → reached m (told r.events) ≡ Some w → IsStill m w
+  -- where no letter is under way and no thread is deleted, that world looks as the processors have their own threads
+  pub at_home : IsKnownAtHome m r

@@ -4,7 +4,9 @@ ghost use Rattle.std.specs.Option.{option_map};
 ghost use Rattle.l4_model.specs.Machine.{place_of, is_place};
 ghost use Rattle.l4_model.specs.World.{Send, is_deleted, opening_thread, receive_now};
 ghost use Rattle.l4_model.specs.Conditions.{instruction};
+ghost use Rattle.l4_model.specs.History.{report_of};
 ghost use Rattle.l4_model.specs.Rules.{accepts, ask_act};
+ghost use Rattle.l4_types.specs.ReportView.{report_of_view};
 ghost use Rattle.l4_types.specs.StepView.{what_of};
 ghost use Rattle.l4_script.specs.Scripts.{instr_of};
 ghost use Rattle.l4_thread.specs.Requests.{is_end};
@@ -25,6 +27,7 @@ use l4_thread::sends::{Receive, SendRef};
 use l4_thread::tcb::Tcb;
 use l4_types::errors::NoMemory;
 use l4_types::ids::{GlobalId, ThreadId};
+use l4_types::reports::ThreadView;
 use l4_types::steps::{CLOCKS, Name, What};
 use l4_types::times::Period;
 use std::alloc::Global;
@@ -200,6 +203,22 @@ impl<'m> Known<'m> {
         &self.threads[place]
     }
 
+    /// The report of a thread, as far as it is known here.
+    pub(crate) fn view(&self, place: usize) -> ThreadView
+        requires { place < length self.now.machine.threads }
+        ensures { report_of_view result ≡ report_of (declared self.now.machine place).id (thread self.now.local place) }
+    {
+        self.tcb(place).view()
+    }
+
+    /// How many sends a thread began.
+    pub(crate) fn begun(&self, place: usize) -> u64
+        requires { place < length self.now.machine.threads }
+        ensures { result ≡ (thread self.now.local place).context.begun }
+    {
+        self.tcb(place).thread().begun()
+    }
+
     /// Whether a thread was deleted, as far as is known here.
     pub(crate) fn is_deleted(&self, place: usize) -> bool
         requires { place < length self.now.machine.threads }
@@ -239,7 +258,7 @@ impl<'m> Known<'m> {
         ensures { result ≡ last_name self.now.machine self.now.local place }
     {
         let _ = &self.machine;
-        Name::new(self.id(place), self.tcb(place).thread().begun()).unwrap()
+        Name::new(self.id(place), self.begun(place)).unwrap()
     }
 
     /// The message that a thread sends.

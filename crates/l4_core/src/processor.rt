@@ -1,10 +1,12 @@
 //! One processor: its turns and its clock.
 ghost use Rattle.std.specs.Prelude.{◌≡◌, ◌+◌, ◌<◌, IfOk, IfSome, is_some, ◌^◌, length, slice_get, true, ℕ, ◌||◌, ◌==◌};
 ghost use Rattle.std.specs.Option.{option_map};
-ghost use Rattle.l4_core_model.specs.Local.{is_own, opening_local, thread};
+ghost use Rattle.l4_model.specs.History.{report_of};
+ghost use Rattle.l4_core_model.specs.Local.{declared, is_own, opening_local, thread};
 ghost use Rattle.l4_core_model.specs.Plain.{due_block};
 ghost use Rattle.l4_core_model.specs.Runs.{IsMachine};
 ghost use Rattle.l4_core_model.specs.Turns.{advance, can_stamp, choice, is_busy, next_stamp};
+ghost use Rattle.l4_types.specs.ReportView.{report_of_view};
 ghost use Rattle.l4_core.specs.Choosing.{choice_of, IsFound, IsPossible};
 ghost use Rattle.l4_core.specs.Processor.{with_local};
 ghost use Rattle.l4_core.specs.Tellings.{IsOpen};
@@ -20,6 +22,8 @@ use crate::told::Told;
 use l4_history::sink::Sink;
 use l4_script::machine::Machine;
 use l4_types::errors::NoMemory;
+use l4_types::ids::ThreadId;
+use l4_types::reports::ThreadView;
 use std::alloc::Global;
 use std::marker::Model;
 
@@ -144,6 +148,30 @@ impl<'m> Core<'m> {
             return true;
         }
         self.known.has_due() || self.known.first_ready().is_some()
+    }
+
+    /// The report of the thread at this place, as far as it is known here: of a thread of this processor, what it has come to.
+    pub fn view(&self, place: usize) -> ThreadView
+        requires { place < length self.now.machine.threads }
+        ensures { report_of_view result ≡ report_of (declared self.now.machine place).id (thread self.now.local place) }
+    {
+        self.known.view(place)
+    }
+
+    /// How many sends the thread at this place began, as far as it is known here.
+    pub fn begun(&self, place: usize) -> u64
+        requires { place < length self.now.machine.threads }
+        ensures { result ≡ (thread self.now.local place).context.begun }
+    {
+        self.known.begun(place)
+    }
+
+    /// Where the undecided send of the thread at this place goes, where it has one, as far as it is known here.
+    pub fn destination(&self, place: usize) -> Option<ThreadId>
+        requires { place < length self.now.machine.threads }
+        ensures { result ≡ option_map (λ send. send.to) (thread self.now.local place).send }
+    {
+        self.known.send_of(place).map(|send| send.to())
     }
 
     // An event begins. `letter_stamp` is that of the letter that it handles, 0 where there is none. Answers its stamp.

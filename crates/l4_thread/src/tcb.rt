@@ -2,11 +2,11 @@
 ghost use Rattle.std.specs.Prelude.{◌≡◌};
 ghost use Rattle.std.specs.Option.{option_copied};
 ghost use Rattle.l4_model.specs.World.{opening_thread, is_ready, is_sending, is_deleted, receive_now};
-ghost use Rattle.l4_model.specs.History.{state_of};
+ghost use Rattle.l4_model.specs.History.{report_of, state_of};
 ghost use Rattle.l4_core_model.specs.Local.{armed_period, period_of_send};
 ghost use Rattle.l4_core_model.specs.Mail.{is_ordering};
 ghost use Rattle.l4_types.specs.PeriodView.{period_of, IsTimely};
-ghost use Rattle.l4_types.specs.ReportView.{state_of_view};
+ghost use Rattle.l4_types.specs.ReportView.{report_of_view, state_of_view};
 ghost use Rattle.l4_thread.specs.PhaseView.{since_of};
 
 mod effects;
@@ -17,7 +17,7 @@ use crate::sends::{Receive, Send, SendRef, Words};
 use crate::thread::Thread;
 use arrayvec::ArrayVec;
 use l4_types::ids::GlobalId;
-use l4_types::reports::State;
+use l4_types::reports::{State, ThreadView};
 use l4_types::times::Period;
 use std::marker::Model;
 
@@ -177,6 +177,17 @@ impl Tcb {
             Phase::Ordering => State::Ordering,
             Phase::Ended => State::Ended,
             Phase::Deleted => State::Deleted,
+        }
+    }
+
+    /// Its report.
+    pub fn view(&self) -> ThreadView
+        ensures { report_of_view result ≡ report_of self.now.id self.now.thread }
+    {
+        ThreadView {
+            id: self.id(),
+            state: self.state(),
+            regs: *self.thread.regs(),
         }
     }
 

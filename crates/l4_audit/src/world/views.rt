@@ -2,7 +2,7 @@
 ghost use Rattle.std.specs.Prelude.{◌≡◌, IfOk, map};
 ghost use Rattle.std.specs.Option.{option_map};
 ghost use Rattle.l4_model.specs.Conditions.{undecided};
-ghost use Rattle.l4_model.specs.History.{report_of, view, waiting, waiting_name};
+ghost use Rattle.l4_model.specs.History.{view, waiting, waiting_name};
 ghost use Rattle.l4_types.specs.ReportView.{report_of_view};
 ghost use Rattle.l4_history.specs.Seen.{seen};
 ghost use Rattle.l4_audit.specs.Audited.{IsOf};
@@ -11,23 +11,11 @@ use crate::world::World;
 use l4_history::history::History;
 use l4_history::step_ref::StepRef;
 use l4_script::machine::Machine;
-use l4_thread::tcb::Tcb;
 use l4_types::errors::NoMemory;
 use l4_types::ids::ThreadId;
 use l4_types::reports::ThreadView;
 use l4_types::steps::Name;
 use std::alloc::Global;
-
-// The report of one thread.
-fn view_of(tcb: &Tcb) -> ThreadView
-    ensures { report_of_view result ≡ report_of tcb.now.id tcb.now.thread }
-{
-    ThreadView {
-        id: tcb.id(),
-        state: tcb.state(),
-        regs: *tcb.thread().regs(),
-    }
-}
 
 impl World {
     /// The report of each thread, in order of declaration.
@@ -38,7 +26,7 @@ impl World {
         let _ = machine;
         let mut views = Vec::new(alloc);
         for tcb in &self.threads {
-            views.push(view_of(tcb))?;
+            views.push(tcb.view())?;
         }
         Ok(views)
     }

@@ -1,5 +1,4 @@
-use Rattle.std.proofs.Common.{◌<◌, sym, subst, ap, ◌∙◌}
-use Rattle.l4_model.specs.World.{Thread}
+use Rattle.std.proofs.Common.{◌<◌, sym, subst}
 use Rattle.l4_core.specs.Parts.{AreCore}
 use Rattle.l4_core.proofs.Sending.{counted}
 use Rattle.l4_core.proofs.known.Known.last_name.Goals as goal
@@ -8,5 +7,4 @@ pub unwrap-requires : goal.unwrap-requires
 unwrap-requires c =
     let core = subst AreCore c.self.view_is c.self.invariant.core in
     let positive = counted _ _ _ (core.settled.sent c.args.place) c.requires.sends in
-    let begun = c.begun.ensures ∙ ap (λ x. x.context.begun) c.thread.ensures ∙ ap (λ (t : Thread). t.context.begun) c.tcb.ensures.thread in
-    c.new.ensures.when.1 (subst (λ n. 0 < n) (sym begun) positive)
+    c.new.ensures.when.1 (subst (λ n. 0 < n) (sym c.begun.ensures) positive)

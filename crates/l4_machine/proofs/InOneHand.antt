@@ -259,7 +259,7 @@ rests m ps all have whole r = record {
         (subst (λ cpu. is_at_rest p.worker.core.machine cpu p.worker.core.local ≡ true) f.number (r.each f.at p f.here)))
 
 -- Nothing is left behind what was handled.
-nothing_left : (handled more : List Letter) → handled ++ more ≡ handled → more ≡ []
+pub nothing_left : (handled more : List Letter) → handled ++ more ≡ handled → more ≡ []
 nothing_left handled more is = append_cancel_left handled more [] (is ∙ sym (append-nil handled))
 
 none_mapped : (xs ys : List own.Letter) → map letter_of (xs ++ ys) ≡ [] → (xs ≡ []) × (ys ≡ [])

@@ -3,6 +3,7 @@ pub mod Endings
 pub mod Founds
 pub mod InOneHand
 pub mod Happening
+pub mod Cores
 pub mod InLogs
 pub mod Inboxes
 pub mod Members

@@ -1,5 +1,7 @@
 -- The outcome of a core run, and what the laws say of it.
 use Rattle.std.proofs.Common.{◌≡◌, ◌↔◌, ℕ, true, Some, List, map, length, take, ap, sym, subst, ◌∙◌, arith}
+use Rattle.std.specs.Prelude.{filter_map}
+use Rattle.std.specs.List.{AllByRecursion}
 use Rattle.std.proofs.lemmas.List.{take_all}
 use Rattle.l4_model.specs.Machine.{Machine}
 use Rattle.l4_model.specs.World.{World}
@@ -7,15 +9,15 @@ use Rattle.l4_model.specs.History.{IsHistory, IsFirstFault, reached, view, waiti
 use Rattle.l4_model.specs.Steps.{Step}
 use Rattle.l4_model.specs.Laws.{IsLawful}
 use Rattle.l4_model.proofs.Chains.{some_is}
-use Rattle.l4_core_model.specs.Runs.{Run, merged, told, at_rest}
-use Rattle.l4_split.specs.Laws.{IsLawfulRun}
+use Rattle.l4_core_model.specs.Local.{Local}
+use Rattle.l4_core_model.specs.Runs.{Run, told, at_rest}
+use Rattle.l4_split.specs.Laws.{AreAllHandled, IsLawfulRun, IsToldAtHome, IsUndeleted, home_reports, home_waiting}
 use Rattle.l4_types.specs.declared.reports.Ending.TheVariants.{Quiet}
 use Rattle.l4_types.specs.ReportView.{report_of_view}
 use Rattle.l4_audit.specs.declared.audit.Audit.{Audit}
 use Rattle.l4_audit.specs.Audits.{Passes}
 use Rattle.l4_machine.specs.declared.outcome.CompactOutcome.{CompactOutcome}
-use Rattle.l4_machine.specs.Outcomes.{IsOutcomeOf, IsSound, compact_findings_of, in_order}
-use Rattle.l4_machine.specs.CoreRuns.{HasLawfulMergedRun}
+use Rattle.l4_machine.specs.Outcomes.{IsOutcomeOf, IsSound, compact_findings_of}
 
 -- A history has no first fault.
 pub no_fault : (m : Machine) (h : List Step) (place : ℕ) → IsHistory m h → IsFirstFault m h place → ⊥
@@ -48,17 +50,31 @@ is_outcome m h o audit r sound told_is steps passes waiting threads turns quiet 
     world : (w : World) → reached m o.history.steps ≡ Some w → p.world ≡ w
     world w is = some_is p.world w (sym p.reached_by ∙ is)
 
--- A core run in the order told, and in order of stamp.
-pub sound : (m : Machine) (r : Run) → IsLawfulRun m r → IsSound m r
-sound m r l = record { possible = l.history; lawful = l.lawful; still = l.still }
+-- The same where no audit was made, but the processors were asked.
+pub is_outcome_at_home : (m : Machine) (locals : List Local) (h : List Step) (o : CompactOutcome) (r : Run) → IsSound m r → r.system.locals ≡ locals → AreAllHandled r.system →
+    AllByRecursion IsUndeleted (map report_of_view o.threads.items) → map report_of_view o.threads.items ≡ home_reports m locals →
+    o.waiting.items ≡ filter_map (home_waiting m locals) h → h ≡ told r.events → o.history.steps ≡ h → o.turns ≡ length r.events →
+    (o.ending ≡ Quiet) ↔ (at_rest m r.system ≡ true) → IsOutcomeOf m r (compact_findings_of o)
+is_outcome_at_home m locals h o r sound here handled undeleted threads waiting told_is steps turns quiet = record {
+  history = same;
+  possible = subst (IsHistory m) (sym same) sound.possible;
+  lawful = subst (IsLawful m) (sym same) sound.lawful;
+  waiting = λ w is. waiting ∙ ap (filter_map (home_waiting m locals)) (sym steps) ∙ sym ((told_by w is).waiting o.history.steps);
+  threads = λ w is. threads ∙ sym (told_by w is).view;
+  turns = turns;
+  quiet = quiet;
+  still = λ e w is. sound.still (quiet.0 e) w (ap (λ xs. reached m xs) (sym same) ∙ is);
+}
+  where
+    same : o.history.steps ≡ told r.events
+    same = steps ∙ told_is
 
-pub sound_in_order : (m : Machine) (r : Run) → HasLawfulMergedRun m r → IsSound m (in_order r)
-sound_in_order m r has =
-    let other = has.0 in
-    let l = has.1.lawful in
-    let events : other.events ≡ merged r.events = has.1.reordered.events in
-    record {
-      possible = subst (λ es. IsHistory m (told es)) events l.history;
-      lawful = subst (λ es. IsLawful m (told es)) events l.lawful;
-      still = λ rest w is. l.still (has.1.reordered.rest ∙ rest) w (ap (λ es. reached m (told es)) events ∙ is);
-    }
+    alive : AllByRecursion IsUndeleted (home_reports m r.system.locals)
+    alive = subst (λ ls. AllByRecursion IsUndeleted (home_reports m ls)) (sym here) (subst (AllByRecursion IsUndeleted) threads undeleted)
+
+    told_by : (w : World) → reached m o.history.steps ≡ Some w → IsToldAtHome m locals w
+    told_by w is = subst (λ ls. IsToldAtHome m ls w) here (sound.at_home handled alive w (ap (λ xs. reached m xs) (sym same) ∙ is))
+
+-- What the laws say of a core run.
+pub sound : (m : Machine) (r : Run) → IsLawfulRun m r → IsSound m r
+sound m r l = record { at_home = l.at_home; possible = l.history; lawful = l.lawful; still = l.still }

@@ -10,6 +10,7 @@ use Rattle.l4_merge.specs.Merges.{is_at_rest, SortAsMerged, IsWholeRun}
 use Rattle.l4_mail.specs.Ports.{place, AreOneFabric, IsApart}
 use Rattle.l4_mail.specs.declared.rests.RestFault.{RestFault}
 use Rattle.l4_mail.specs.declared.rests.RestFault.TheVariants as rest_fault
+use Rattle.l4_core.specs.Processor.{Processor as Core}
 use Rattle.l4_proc.specs.Logs.{events}
 use Rattle.l4_proc.specs.Rests.{HaveHandledAll}
 use Rattle.l4_proc.specs.Working.{past}
@@ -22,6 +23,9 @@ use Rattle.l4_machine.specs.declared.outcome.RunFault.TheVariants as run_fault
 -- The processor of this number among these.
 abbrev pub with_number : (cpu : ℕ) → List Processor → Option Processor
 with_number cpu ps = find (λ p. p.worker.core.cpu == cpu) ps
+
+abbrev pub core_of : Processor → Core
+core_of p = p.worker.core
 
 -- The events of the processor of this number.
 abbrev pub events_of : Option Processor → List Event

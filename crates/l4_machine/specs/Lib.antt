@@ -1,6 +1,7 @@
 pub mod CoreRuns
 pub mod Entries
 pub mod Gathers
+pub mod Homes
 pub mod Outcomes
 pub mod Parts
 pub mod Stations

@@ -10,6 +10,7 @@ use Rattle.l4_model.specs.Still.{IsStill}
 use Rattle.l4_core_model.specs.Runs.{Run, merged, told, at_rest}
 use Rattle.l4_core_model.specs.Schedules.{run, replay}
 use Rattle.l4_merge.specs.Rounds.{IsInRounds}
+use Rattle.l4_split.specs.Laws.{IsKnownAtHome}
 use Rattle.l4_types.specs.declared.reports.Ending.{Ending}
 use Rattle.l4_types.specs.declared.reports.Ending.TheVariants.{Quiet}
 use Rattle.l4_types.specs.StepView.{step_of}
@@ -99,6 +100,7 @@ IsCompactReplay m schedule o = IsOutcomeOf m (replay m schedule) (compact_findin
 
 -- What the laws say of a core run in any order.
 pub record IsSound (m : Machine) (r : Run) : Type 0 where
+  pub at_home : IsKnownAtHome m r
   pub possible : IsHistory m (told r.events)
   pub lawful : IsLawful m (told r.events)
   pub still : at_rest m r.system ≡ true → (w : World) → reached m (told r.events) ≡ Some w → IsStill m w

@@ -10,7 +10,7 @@ use Rattle.l4_core_model.specs.Laws.{IsCoreRun}
 use Rattle.l4_machine.specs.declared.events.Part.{Part}
 use Rattle.l4_machine.specs.declared.station.Station as program
 use Rattle.l4_machine.specs.Parts.{events_of}
-use Rattle.l4_machine.specs.Stations.{Station, station_of, room_for, letters_from, with_letter, deadline_of, IsResting}
+use Rattle.l4_machine.specs.Stations.{Station, station_of, room_for, letters_from, with_letter, deadline_of, HasNoMail, IsResting}
 
 -- The processors with the letters that have come to them, and the events so far, as parts of their steps.
 pub record UnderWay : Type 0 where
@@ -60,6 +60,10 @@ deadline_at (Some s) = deadline_of s
 -- Each processor is at rest, with no letter.
 abbrev pub AreResting : List Station → Type 0
 AreResting ss = (cpu : ℕ) (s : Station) → slice_get ss cpu ≡ Some s → IsResting s
+
+-- None of them has a letter.
+abbrev pub HaveNoMail : List Station → Type 0
+HaveNoMail ss = (cpu : ℕ) (s : Station) → slice_get ss cpu ≡ Some s → HasNoMail s
 
 -- A station is that of a processor of the machine.
 pub record IsStation (m : Machine) (cpu : ℕ) (s : Station) : Type 0 where

@@ -1,15 +1,19 @@
 //! A core run under way: all processors of a machine, the letters between them, and the events so far.
 ghost use Rattle.std.specs.Prelude.{ℕ, ◌≡◌, ◌<◌, ◌≤◌, ◌↔◌, ◌^◌, [], IfOk, IsTrue, OnErr, OnOk, length, map, slice_get, slice_index_or};
-ghost use Rattle.l4_core_model.specs.Runs.{IsMachine, Ticks, opening_run, opening_system};
+ghost use Rattle.l4_model.specs.Machine.{Machine as MachineOfModel};
+ghost use Rattle.l4_core_model.specs.Runs.{IsMachine, Run, Ticks, opening_run, opening_system};
 ghost use Rattle.l4_core_model.specs.Schedules.{attempts, next_turn};
 ghost use Rattle.l4_types.specs.declared.reports.Ending.TheVariants.{Quiet};
 ghost use Rattle.l4_core.specs.Tellings.{posted_of};
 ghost use Rattle.l4_machine.specs.Stations.{station_of};
-ghost use Rattle.l4_machine.specs.UnderWay.{with_letters, deadline_at, room_at, AreResting, AreRoomy, CanPost, GoesOn, HasRun, HaveGrown, IsRun, IsSystem, KnowPoster};
+ghost use Rattle.l4_machine.specs.Homes.{IsAtHome};
+ghost use Rattle.l4_machine.specs.UnderWay.{with_letters, deadline_at, room_at, AreResting, AreRoomy, CanPost, GoesOn, HasRun, HaveGrown, HaveNoMail, IsRun, IsSystem, KnowPoster};
 
 use crate::events::{Part, begin_event, end_event};
+use crate::homes::AtHome;
 use crate::laws::law_core_run;
 use crate::station::Station;
+use l4_core::processor::Core;
 use l4_core::told::{MOST_LETTERS, Told};
 use l4_history::history::History;
 use l4_script::machine::Machine;
@@ -140,6 +144,24 @@ impl<'m> CoreRun<'m> {
         }
     }
 
+    /// Whether no letter is under way.
+    pub(crate) fn has_handled_all(&self) -> bool
+        ensures { IsTrue result → HaveNoMail self.now.stations }
+    {
+        let _ = &self.parts;
+        have_no_mail(self.stations.as_slice())
+    }
+
+    /// What the threads have come to, as their own processors have them.
+    pub(crate) fn at_home(&self, alloc: Global) -> Result<AtHome, NoMemory>
+        requires { HasRun self.now }
+        ensures { (m : MachineOfModel) (r : Run) → IsRun m r self.now → IfOk result (IsAtHome m r.system.locals) }
+    {
+        let _ = self.machine.cpus();
+        let cores = cores_of(alloc, self.stations.as_slice())?;
+        AtHome::new(alloc, self.machine, cores.as_slice())
+    }
+
     /// The history in the order told.
     pub(crate) fn into_history(self) -> History
         ensures { result.steps ≡ self.entry.steps }
@@ -216,4 +238,30 @@ fn are_at_rest(stations: &[Station<'_>]) -> bool
         }
     }
     true
+}
+
+// Whether none of these processors has a letter.
+fn have_no_mail(stations: &[Station<'_>]) -> bool
+    ensures { IsTrue result → HaveNoMail (map station_of stations.now) }
+{
+    for station in stations {
+        if !station.has_no_mail() {
+            return false;
+        }
+    }
+    true
+}
+
+// The processors themselves.
+fn cores_of<'a, 'm>(
+    alloc: Global,
+    stations: &'a [Station<'m>],
+) -> Result<Vec<&'a Core<'m>>, NoMemory>
+    ensures { IfOk result (λ cores. map (λ c. c.now) cores.items ≡ map (λ s. s.core) stations.now) }
+{
+    let mut cores = Vec::new(alloc);
+    for station in stations {
+        cores.push(station.core())?;
+    }
+    Ok(cores)
 }

@@ -1,4 +1,6 @@
 //! The outcome of processors that worked in threads of their caller's.
+ghost use Rattle.std.specs.List.{range_with_len};
+ghost use Rattle.std.specs.Option.{option_map};
 ghost use Rattle.std.specs.Prelude.{ℕ, ◌≡◌, ◌↔◌, ◌⊎◌, false, true, map, slice_get, IfErr, IfOk, IsErrOf, IsTrue, Some};
 ghost use Rattle.l4_mail.specs.Ports.{AreWhole};
 ghost use Rattle.l4_mail.specs.Rests.{are_all};
@@ -6,12 +8,15 @@ ghost use Rattle.l4_merge.specs.Merges.{is_at_rest};
 ghost use Rattle.l4_proc.specs.Rests.{AreAsBefore, HaveHandledAll};
 ghost use Rattle.l4_proc.specs.declared.processor.Processor.{Processor as ProcessorOfMachine};
 ghost use Rattle.l4_types.specs.declared.reports.Ending.TheVariants.{Quiet};
-ghost use Rattle.l4_machine.specs.Gathers.{AreOfOne, AreResting, HaveNumbers, IsGathered};
+ghost use Rattle.l4_machine.specs.Gathers.{core_of, pasts_of, with_number, AreOfOne, AreResting, HaveNumbers, IsGathered};
+ghost use Rattle.l4_machine.specs.Homes.{IsAtHome};
 ghost use Rattle.l4_machine.specs.Outcomes.{compact_findings_of, findings_of};
 
+use crate::homes::AtHome;
 use crate::laws::law_core_run;
-use crate::merging::merged_history;
+use crate::merging::{merged_history, place_of};
 use crate::outcome::{CompactOutcome, Outcome, RunFault, outcome_of};
+use l4_core::processor::Core;
 use l4_mail::rests::RestFault;
 use l4_merge::law_merge;
 use l4_proc::processor::Processor;
@@ -92,7 +97,46 @@ fn rested_outcome(
     law_merge();
     let (history, events) = merged_history(alloc, processors, machine.cpus())?;
     let ending = ending(processors, all_handled);
-    outcome_of(alloc, machine, history, ending, events as u64)
+    let at_home = at_home(alloc, machine, processors)?;
+    outcome_of(
+        alloc,
+        machine,
+        history,
+        at_home,
+        all_handled,
+        ending,
+        events as u64,
+    )
+}
+
+/// What the threads have come to, as their own processors have them.
+pub(crate) fn at_home(
+    alloc: Global,
+    machine: &Machine,
+    processors: &[Processor<'_>],
+) -> Result<AtHome, NoMemory>
+    requires one { AreOfOne machine.now processors.now }
+    requires numbers { HaveNumbers machine.now.cpus processors.now }
+    ensures { IfOk result (IsAtHome machine.now (map (λ past. past.local) (pasts_of machine.now processors.now))) }
+{
+    let cores = cores_of(alloc, processors, machine.cpus())?;
+    AtHome::new(alloc, machine, cores.as_slice())
+}
+
+// The cores of these processors, in the order of their numbers.
+fn cores_of<'a, 'm>(
+    alloc: Global,
+    processors: &'a [Processor<'m>],
+    cpus: u8,
+) -> Result<Vec<&'a Core<'m>>, NoMemory>
+    requires { HaveNumbers cpus processors.now }
+    ensures { IfOk result (λ cores. map (λ c. Some c.now) cores.items ≡ map (λ cpu. option_map core_of (with_number cpu processors.now)) (range_with_len 0 cpus)) }
+{
+    let mut cores = Vec::new(alloc);
+    for cpu in 0..cpus {
+        cores.push(processors[place_of(processors, cpu)].core())?;
+    }
+    Ok(cores)
 }
 
 /// `Quiet` where nothing is to be done, armed or under way. Whether all letters are handled was found by a rest.

@@ -4,6 +4,7 @@
 mod core_run;
 mod events;
 mod gathering;
+mod homes;
 mod laws;
 mod merging;
 mod outcome;

@@ -36,7 +36,7 @@ pub(crate) fn merged_history(
     ensures events { (m : MachineOfModel) → m.cpus ≡ cpus → IfOk result (λ r. r.1 ≡ length (all_events (pasts_of m processors.now))) }
 {
     let mut entries = all_entries(alloc, processors, cpus)?;
-    sort(&mut entries);
+    sort(&mut entries)?;
     let history = copied(alloc, processors, entries.as_slice())?;
     Ok((history, entries.as_slice().len()))
 }
@@ -91,8 +91,8 @@ fn all_entries(
     Ok(entries)
 }
 
-// Where the processor of this number stands.
-fn place_of(processors: &[Processor<'_>], cpu: u8) -> usize
+/// Where the processor of this number stands.
+pub(crate) fn place_of(processors: &[Processor<'_>], cpu: u8) -> usize
     requires { is_some (with_number cpu processors.now) ≡ true }
     ensures { slice_get processors.now result ≡ with_number cpu processors.now }
 {
@@ -130,12 +130,13 @@ fn add_entries(
     Ok(())
 }
 
-// Puts events in order of stamp and processor.
-fn sort(entries: &mut Vec<Entry>)
+// Puts events in order of stamp and processor. Those of each log are in order already, and a stable sort only merges what is.
+fn sort(entries: &mut Vec<Entry>) -> Result<(), NoMemory>
     ensures permutation { IsPermutation entries.old.items entries.new.items }
-    ensures sorted { IsSortedBy entry_is_earlier entries.new.items }
+    ensures sorted { OnOk result (IsSortedBy entry_is_earlier entries.new.items) }
 {
-    entries.sort_unstable_by_key(|entry| (entry.stamp, entry.cpu));
+    entries.sort_by_key(|entry| (entry.stamp, entry.cpu))?;
+    Ok(())
 }
 
 // The steps of these events, one event behind the other.

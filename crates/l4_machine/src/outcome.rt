@@ -1,11 +1,14 @@
 //! What a run comes to.
-ghost use Rattle.std.specs.Prelude.{◌≡◌, ◌↔◌, IfOk, length, true};
+ghost use Rattle.std.specs.Prelude.{◌≡◌, ◌↔◌, IfOk, List, length, true};
 ghost use Rattle.l4_model.specs.History.{IsHistory};
+ghost use Rattle.l4_core_model.specs.Local.{Local};
 ghost use Rattle.l4_core_model.specs.Runs.{Run, at_rest, told};
 ghost use Rattle.l4_types.specs.declared.reports.Ending.TheVariants.{Quiet};
+ghost use Rattle.l4_machine.specs.Homes.{EndsIn, IsAtHome};
 ghost use Rattle.l4_machine.specs.Outcomes.{IsOutcomeOf, IsSound, compact_findings_of, findings_of};
 ghost use Rattle.l4_machine.specs.declared.outcome.RunFault.TheVariants.{NoMemory as RunNoMemory};
 
+use crate::homes::AtHome;
 use l4_audit::audit::{AuditFault, check_history};
 use l4_history::history::History;
 use l4_script::machine::Machine;
@@ -81,8 +84,38 @@ impl From<NoMemory> for RunFault {
     }
 }
 
-/// The outcome of a run with this history, ending and number of turns. What the threads have come to is what an audit finds.
+/// The outcome of a run with this history, ending and number of turns. Where no letter is under way and no thread is deleted, the threads have
+/// come to what their own processors have, and else to what an audit finds: of a deleted thread, and of one that is to learn something by a
+/// letter, the history may say what its processor does not know.
 pub(crate) fn outcome_of(
+    alloc: Global,
+    machine: &Machine,
+    history: History,
+    at_home: AtHome,
+    all_handled: bool,
+    ending: Ending,
+    turns: u64,
+) -> Result<CompactOutcome, NoMemory>
+    requires { IsHistory machine.now history.steps }
+    ensures { IfOk result (λ o. (r : Run) (locals : List Local) → IsSound machine.now r → IsAtHome machine.now locals at_home → EndsIn r locals all_handled →
+        history.steps ≡ told r.events → turns ≡ length r.events → (ending ≡ Quiet) ↔ (at_rest machine.now r.system ≡ true) →
+        IsOutcomeOf machine.now r (compact_findings_of o)) }
+{
+    if all_handled && at_home.are_undeleted() {
+        let waiting = at_home.waiting(alloc, machine, &history)?;
+        return Ok(CompactOutcome {
+            history,
+            waiting,
+            threads: at_home.threads,
+            ending,
+            turns,
+        });
+    }
+    audited_outcome(alloc, machine, history, ending, turns)
+}
+
+// The same where an audit finds what the threads have come to.
+fn audited_outcome(
     alloc: Global,
     machine: &Machine,
     history: History,

@@ -92,8 +92,18 @@ fn outcome_of_entries(
     take_all(&mut run, machine, schedule)?;
     let turns = run.events();
     let ending = run.ending();
+    let all_handled = run.has_handled_all();
+    let at_home = run.at_home(alloc)?;
     let history = run.into_history();
-    Ok(outcome_of(alloc, machine, history, ending, turns as u64)?)
+    Ok(outcome_of(
+        alloc,
+        machine,
+        history,
+        at_home,
+        all_handled,
+        ending,
+        turns as u64,
+    )?)
 }
 
 /// Replays a schedule of at most 1,000,000 entries on a machine, on one thread of the host. The number of a processor, 0 to 15, is an entry for

@@ -4,7 +4,7 @@ ghost use Rattle.l4_core_model.specs.Local.{opening_local};
 ghost use Rattle.l4_core_model.specs.Turns.{can_stamp};
 ghost use Rattle.l4_types.specs.LetterView.{letter_of};
 ghost use Rattle.l4_core.specs.Tellings.{IsOpen};
-ghost use Rattle.l4_machine.specs.Stations.{deadline_of, room_for, station_of, with_letter, CanGoOn, GoesOnTo, HasPosted, IsResting, PostsFirst, TakesTurn};
+ghost use Rattle.l4_machine.specs.Stations.{deadline_of, room_for, station_of, with_letter, CanGoOn, GoesOnTo, HasNoMail, HasPosted, IsResting, PostsFirst, TakesTurn};
 
 use l4_core::processor::Core;
 use l4_core::told::Told;
@@ -95,6 +95,21 @@ impl<'m> Station<'m> {
         self.core.least_deadline()
     }
 
+    /// The processor.
+    pub(crate) fn core(&self) -> &Core<'m>
+        ensures { result.now ≡ (station_of self.now).core }
+    {
+        let _ = &self.inbox;
+        &self.core
+    }
+
+    /// Whether each letter that has come is handled.
+    pub(crate) fn has_no_mail(&self) -> bool
+        ensures { IsTrue result ↔ HasNoMail (station_of self.now) }
+    {
+        self.first_poster().is_none()
+    }
+
     /// Whether the processor has nothing to do, no deadline and no letter.
     pub(crate) fn is_at_rest(&self) -> bool
         ensures { IsTrue result ↔ IsResting (station_of self.now) }
@@ -102,7 +117,7 @@ impl<'m> Station<'m> {
         if self.core.busy() || self.core.least_deadline().is_some() {
             return false;
         }
-        self.first_poster().is_none()
+        self.has_no_mail()
     }
 
     // The lowest processor that letters have come from.

@@ -10,7 +10,7 @@ ghost use Rattle.l4_machine.specs.Gathers.{AreResting, IsGathered};
 ghost use Rattle.l4_machine.specs.Outcomes.{compact_findings_of};
 ghost use Rattle.l4_machine.specs.Teams.{count_events, deadline_of, first_deadline, AreIdle, HasComeTo, HaveComeTo, IsTeam};
 
-use crate::gathering::ending;
+use crate::gathering::{at_home, ending};
 use crate::laws::law_core_run;
 use crate::merging::into_merged_history;
 use crate::outcome::{CompactOutcome, outcome_of};
@@ -89,8 +89,17 @@ impl<'m> Team<'m> {
         law_core_run();
         let _ = self.machine.cpus();
         let ending = ending(self.processors.as_slice(), self.all_handled);
+        let at_home = at_home(alloc, self.machine, self.processors.as_slice())?;
         let (history, events) = into_merged_history(alloc, self.machine, self.processors)?;
-        outcome_of(alloc, self.machine, history, ending, events as u64)
+        outcome_of(
+            alloc,
+            self.machine,
+            history,
+            at_home,
+            self.all_handled,
+            ending,
+            events as u64,
+        )
     }
 
     // A round of turns, or where nothing else is to be done the clocks go on to the least deadline. Answers whether there was one.

@@ -1,9 +1,12 @@
-use Rattle.std.proofs.Common.{length, ap, sym, ◌∙◌, subst}
+use Rattle.std.proofs.Common.{List, length, map, ap, sym, ◌∙◌, subst}
 use Rattle.std.proofs.lemmas.Result.{IfOk-weaker}
 use Rattle.l4_model.specs.History.{IsHistory}
 use Rattle.l4_machine.specs.Outcomes.{compact_findings_of}
 use Rattle.l4_machine.specs.Gathers.{pasts_of}
-use Rattle.l4_merge.specs.Pasts.{all_events}
+use Rattle.l4_core_model.specs.Local.{Local}
+use Rattle.l4_merge.specs.Pasts.{Past, all_events}
+use Rattle.l4_machine.specs.Homes.{EndsIn}
+use Rattle.l4_machine.proofs.Cores.{handled_there}
 use Rattle.l4_machine.proofs.Outcomes.{sound}
 use Rattle.l4_machine.proofs.InOneHand.{whole_pasts, gathered_history, is_gathered, quiet}
 use Rattle.l4_machine.proofs.gathering.rested_outcome.Goals as goal
@@ -28,9 +31,14 @@ returns c =
     let told_is = gathered_history m ps run.0 c.in_ok-history.history.steps run.1 (c.law_merge.ensures.sorted m (pasts_of m ps) whole)
     (c.in_ok-history.ensures.history m (sym c.cpus.ensures.value)) in
     let lawful = c.law_core_run.ensures.lawful m run.0 c.cpus.ensures.lawful run.1.core_run in
+    let locals : List Local = map (λ (past : Past). past.local) (pasts_of m ps) in
+    let ends : EndsIn run.0 locals c.args.all_handled = record {
+      here = run.1.ends.locals;
+      handled = λ e. handled_there m ps run.0 c.requires.one c.requires.numbers c.requires.whole run.1.ends (c.requires.handled.0 e);
+    } in
     let count = c.in_ok-history.ensures.events m (sym c.cpus.ensures.value) in
     IfOk-weaker c.outcome_of.result _ _
-    (λ o is. is_gathered m ps run.0 (compact_findings_of o) run.1 (is run.0 (sound m run.0 lawful) told_is
+    (λ o is. is_gathered m ps run.0 (compact_findings_of o) run.1 (is run.0 locals (sound m run.0 lawful) c.in_ok-at_home.ensures ends told_is
     (count ∙ sym (ap length run.1.events ∙ c.law_merge.ensures.count (all_events (pasts_of m ps))))
     (quiet m ps run.0 c.ending-ending.result c.requires.one c.requires.numbers c.requires.whole (c.law_merge.ensures.rest m (pasts_of m ps) run.0 run.1.ends)
     c.ending-ending.ensures)))

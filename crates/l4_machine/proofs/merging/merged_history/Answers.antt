@@ -15,7 +15,7 @@ pub returns-clause-history : goal.returns-clause-history
 returns-clause-history c = λ m count.
     let same = ap (λ (xs : List Entry). told (map (event_at c.args.processors.now) xs)) c.as_slice.ensures.value in
     is_merge m c.args.processors.now c.args.cpus c.in_ok-entries.entries.items c.sort.new.entries.items c.in_ok-history.history.steps count
-    c.in_ok-entries.ensures.events c.sort.ensures.permutation c.sort.ensures.sorted (c.in_ok-history.ensures ∙ same)
+    c.in_ok-entries.ensures.events c.sort.ensures.permutation c.in_ok-sort.ensures.sorted (c.in_ok-history.ensures ∙ same)
 
 pub returns-clause-events : goal.returns-clause-events
 returns-clause-events c = λ m count.

@@ -7,4 +7,4 @@ use Rattle.l4_machine.proofs.merging.sort.Goals as goal
 pub returns-clause-sorted : goal.returns-clause-sorted
 returns-clause-sorted c =
     let key : Entry → ℕ × ℕ = λ e. (e.stamp, e.cpu) in
-    by_key _ (c.sort_unstable_by_key.ensures.sorted key (answers_always _ _ _ (λ f a r g h. search rules)))
+    by_key _ (c.in_ok-sort_by_key.ensures.sorted key (answers_always _ _ _ (λ f a r g h. search rules)))

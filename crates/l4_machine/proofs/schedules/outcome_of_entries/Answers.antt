@@ -1,11 +1,18 @@
-use Rattle.std.proofs.Common.{sym, ◌∙◌, subst}
+use Rattle.std.proofs.Common.{refl, sym, ◌∙◌, subst}
 use Rattle.l4_model.specs.History.{IsHistory}
 use Rattle.l4_core_model.specs.Runs.{opening_run}
 use Rattle.l4_core_model.specs.Schedules.{replay}
+use Rattle.l4_machine.specs.Homes.{EndsIn, IsAtHome}
+use Rattle.l4_machine.proofs.Cores.{stations_handled}
 use Rattle.l4_machine.proofs.Replays.{as_many}
 use Rattle.l4_machine.proofs.Endings.{rests, are_resting}
 use Rattle.l4_machine.proofs.Outcomes.{sound}
 use Rattle.l4_machine.proofs.schedules.outcome_of_entries.Goals as goal
+
+pub at_home-requires : goal.at_home-requires
+at_home-requires c =
+    let m = c.args.machine.now in
+    (m, (replay m c.args.schedule.now, c.in_ok-take_all.ensures.ok m (opening_run m) c.in_ok-run.ensures))
 
 pub outcome_of-requires : goal.outcome_of-requires
 outcome_of-requires c =
@@ -21,6 +28,8 @@ returns-clause-ok c =
     let r = replay m c.args.schedule.now in
     let i = c.in_ok-take_all.ensures.ok m (opening_run m) c.in_ok-run.ensures in
     let s = sound m r (c.law_core_run.ensures.lawful m r i.lawful i.core_run) in
-    c.in_ok-outcome_of.ensures r s (c.into_history-history.ensures ∙ i.told)
+    let home : IsAtHome m r.system.locals c.in_ok-at_home.at_home = c.in_ok-at_home.ensures m r i in
+    let ends : EndsIn r r.system.locals c.has_handled_all-all_handled.result = record { here = refl; handled = λ e. stations_handled m r.system _ i.system (c.has_handled_all-all_handled.ensures e) } in
+    c.in_ok-outcome_of.ensures r r.system.locals s home ends (c.into_history-history.ensures ∙ i.told)
     (c.events-turns.ensures ∙ as_many m r _ i)
     (λ e. rests m r.system _ i.system (c.ending-ending.ensures.0 e), λ e. c.ending-ending.ensures.1 (are_resting m r.system _ i.system e))

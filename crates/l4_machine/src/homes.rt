@@ -1,0 +1,158 @@
+//! What the threads of a machine have come to, as their own processors have them.
+ghost use Rattle.std.specs.Prelude.{◌≡◌, ◌<◌, IfOk, IsTrue, Some, filter_map, length, map, slice_get};
+ghost use Rattle.std.specs.List.{AllByRecursion};
+ghost use Rattle.l4_core_model.specs.Local.{declared};
+ghost use Rattle.l4_types.specs.ReportView.{report_of_view};
+ghost use Rattle.l4_history.specs.Seen.{seen};
+ghost use Rattle.l4_split.specs.Laws.{IsUndeleted, home_reports};
+ghost use Rattle.l4_machine.specs.Homes.{locals_of, sent_at_home, sent_to, sent_waiting, AreAllOf, IsAtHome};
+
+use l4_core::processor::Core;
+use l4_history::history::History;
+use l4_history::step_ref::StepRef;
+use l4_script::machine::Machine;
+use l4_types::errors::NoMemory;
+use l4_types::ids::ThreadId;
+use l4_types::reports::{State, ThreadView};
+use l4_types::steps::Name;
+use std::alloc::Global;
+
+/// The last send that a thread began: how many it had begun then, and where it goes while it is undecided.
+#[derive(Clone, Copy)]
+pub(crate) struct LastSend {
+    k: u64,
+    to: Option<ThreadId>,
+}
+
+/// What the threads of a machine have come to, in order of declaration, as their own processors have them.
+#[derive(Drop)]
+pub(crate) struct AtHome {
+    pub(crate) threads: Vec<ThreadView>,
+    sends: Vec<LastSend>,
+}
+
+impl AtHome {
+    /// What the threads have come to on these processors, which are all of the machine, in the order of their numbers.
+    pub(crate) fn new(
+        alloc: Global,
+        machine: &Machine,
+        cores: &[&Core<'_>],
+    ) -> Result<AtHome, NoMemory>
+        requires { AreAllOf machine.now (map (λ c. c.now) cores.now) }
+        ensures { IfOk result (IsAtHome machine.now (locals_of (map (λ c. c.now) cores.now))) }
+    {
+        Ok(AtHome {
+            threads: threads(alloc, machine, cores)?,
+            sends: last_sends(alloc, machine, cores)?,
+        })
+    }
+
+    /// Whether none of the threads is deleted.
+    pub(crate) fn are_undeleted(&self) -> bool
+        ensures { IsTrue result → AllByRecursion IsUndeleted (map report_of_view self.now.threads.items) }
+    {
+        let _ = &self.sends;
+        are_undeleted(self.threads.as_slice())
+    }
+
+    /// The begun sends of a history that are undecided, in order of beginning, with their destinations.
+    pub(crate) fn waiting(
+        &self,
+        alloc: Global,
+        machine: &Machine,
+        history: &History,
+    ) -> Result<Vec<(Name, ThreadId)>, NoMemory>
+        ensures { IfOk result (λ sends. sends.items ≡ filter_map (sent_waiting machine.now self.now.sends.items) history.now.steps) }
+    {
+        let mut sends = Vec::new(alloc);
+        for step in history.steps() {
+            if let Some(send) = self.waiting_send(machine, &step) {
+                sends.push(send)?;
+            }
+        }
+        Ok(sends)
+    }
+
+    // The send that a step begins, where it is undecided, and its destination.
+    fn waiting_send(&self, machine: &Machine, step: &StepRef<'_>) -> Option<(Name, ThreadId)>
+        ensures { result ≡ sent_waiting machine.now self.now.sends.items (seen step.now) }
+    {
+        match step {
+            StepRef::Begin(name) => {
+                let place = machine.place_of(name.thread())?;
+                let to = self.destination(place, name.k())?;
+                Some((*name, to))
+            }
+            _ => None,
+        }
+    }
+
+    // Where the send of this number of the thread at this place goes, while it is undecided.
+    fn destination(&self, place: usize, k: u64) -> Option<ThreadId>
+        ensures { result ≡ sent_to k (slice_get self.now.sends.items place) }
+    {
+        match self.sends.get(place) {
+            Some(last) if last.k == k => last.to,
+            _ => None,
+        }
+    }
+}
+
+// The processor of the thread at this place.
+fn home<'a, 'm>(machine: &Machine, cores: &[&'a Core<'m>], place: usize) -> &'a Core<'m>
+    requires cores { AreAllOf machine.now (map (λ c. c.now) cores.now) }
+    requires place { place < length machine.now.threads }
+    ensures core { slice_get (map (λ c. c.now) cores.now) (declared machine.now place).cpu ≡ Some result.now }
+    ensures machine { result.now.machine ≡ machine.now }
+{
+    let cpu = machine.threads()[place].cpu();
+    cores[usize::from(cpu)]
+}
+
+// The reports of all threads.
+fn threads(
+    alloc: Global,
+    machine: &Machine,
+    cores: &[&Core<'_>],
+) -> Result<Vec<ThreadView>, NoMemory>
+    requires { AreAllOf machine.now (map (λ c. c.now) cores.now) }
+    ensures { IfOk result (λ views. map report_of_view views.items ≡ home_reports machine.now (locals_of (map (λ c. c.now) cores.now))) }
+{
+    let mut views = Vec::new(alloc);
+    for place in 0..machine.threads().len() {
+        views.push(home(machine, cores, place).view(place))?;
+    }
+    Ok(views)
+}
+
+// The last sends of all threads.
+fn last_sends(
+    alloc: Global,
+    machine: &Machine,
+    cores: &[&Core<'_>],
+) -> Result<Vec<LastSend>, NoMemory>
+    requires { AreAllOf machine.now (map (λ c. c.now) cores.now) }
+    ensures { IfOk result (λ sends. sends.items ≡ sent_at_home machine.now (locals_of (map (λ c. c.now) cores.now))) }
+{
+    let mut sends = Vec::new(alloc);
+    for place in 0..machine.threads().len() {
+        let core = home(machine, cores, place);
+        sends.push(LastSend {
+            k: core.begun(place),
+            to: core.destination(place),
+        })?;
+    }
+    Ok(sends)
+}
+
+// Whether none of these threads is deleted.
+fn are_undeleted(threads: &[ThreadView]) -> bool
+    ensures { IsTrue result → AllByRecursion IsUndeleted (map report_of_view threads.now) }
+{
+    for thread in threads {
+        if thread.state == State::Deleted {
+            return false;
+        }
+    }
+    true
+}

@@ -23,6 +23,12 @@ SEVERAL = {
     "512 pairs across 16 processors": (texts.MOST_CPUS, texts.MOST_THREADS // 2, 16_000, 48_000),
 }
 
+# Each with its number of processors, its threads for a machine of so many, and how many times as fast it is to be as on one, with four cores of the host.
+SIDE_BY_SIDE = [
+    ("64 threads on each of 4 processors, that call each other", 4, lambda cpus: texts.among_themselves(4, 64, cpus), 2.5),
+    ("two threads that call each other across 2 processors", 2, lambda cpus: texts.across(1, cpus), 0.2),
+]
+
 
 def instructions_a_turn(words, first, counted):
     """The instructions of a turn, on the average of those after the first ones. `words` says how so many turns are taken."""
@@ -69,6 +75,20 @@ def show_several(bench):
         row(name, *(f"{count:,.0f}" for count in counts), *peaks(bench, file, text))
 
 
+def turns_a_second(words):
+    """The most turns a second of the longest run, taken of the least time."""
+    return MOST_TURNS / least_seconds([words(MOST_TURNS)], TIMED_RUNS, SPENT)[0]
+
+
+def show_side_by_side(bench):
+    """The turns a second of machines of several processors, and of the same threads on one."""
+    table("The same threads on several processors and on one", "turns a second, several", "one", "times as fast (to be at least)")
+    for name, cpus, threads, least in SIDE_BY_SIDE:
+        rates = [turns_a_second(run(bench, f"side-{number}.l4", texts.machine(threads(number), number), True)) for number in (cpus, 1)]
+        row(name, *(f"{rate:,.0f}" for rate in rates), f"{rates[0] / rates[1]:.2f} ({least})")
+
+
 bench = Bench(*sys.argv[1:])
 show_one(bench)
 show_several(bench)
+show_side_by_side(bench)

@@ -115,6 +115,13 @@ def across(count, cpus):
     return [each for pair in range(count) for each in calling(2 * pair + 1, 2 * pair + 2, 1, (pair % cpus, (pair + 1) % cpus))]
 
 
+def among_themselves(cpus, threads, machine_cpus):
+    """So many processors with so many threads each, in pairs of which one calls the other; none calls one of another processor. On a machine of one
+    processor all are its own."""
+    groups = [(cpu, cpu * threads + client) for cpu in range(cpus) for client in range(1, threads, 2)]
+    return [each for cpu, client in groups for each in calling(client, client + 1, 1, (cpu % machine_cpus,) * 2)]
+
+
 def crowd(count):
     """Threads that send to one receiver for ever."""
     senders = [thread(number, [f"ipc {count + 1}.1 nil never never", "jump 0"]) for number in range(1, count + 1)]

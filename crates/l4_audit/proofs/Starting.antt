@@ -1,6 +1,6 @@
 -- A thread begins the first phase of its Ipc.
 use Rattle.std.proofs.Common.{◌≡◌, ℕ, ◌<◌, ◌+◌, ◌^◌, zero, suc, length, get_or, set, map, Bool, true, false, Option, Some, List, [], ◌∷◌, refl, ap, sym, ◌∙◌, arith, subst}
-use Rattle.std.specs.Prelude.{slice_get, ◌==◌, IsSomeAnd, slice_index_or, is_some, not}
+use Rattle.std.specs.Prelude.{slice_get, ◌==◌, IsSome, IsSomeAnd, slice_index_or, is_some, not}
 use Rattle.std.specs.Option.{option_map}
 use Rattle.std.proofs.lemmas.List.{length-map}
 use Rattle.std.proofs.lemmas.Option.{slice_get-map, get_or_from_slice_get}
@@ -13,9 +13,11 @@ use Rattle.l4_model.specs.Conditions.{Found, found, act_of, instruction}
 use Rattle.l4_model.specs.Steps.{send_of, receive_of, after_begin, after_wait}
 use Rattle.l4_model.proofs.Chains.{some_is}
 use Rattle.l4_model.proofs.Places.{known}
+use Rattle.l4_types.specs.Ids.{global_of}
 use Rattle.l4_thread.specs.Parts.{Block}
 use Rattle.l4_thread.specs.Ipcs.{may_show, starts}
 use Rattle.l4_thread.specs.Requests.{asks_to_send, is_end}
+use Rattle.l4_thread.proofs.Asking.{shown_is_global}
 use Rattle.l4_audit.specs.Phases.{is_nil}
 use Rattle.l4_audit.specs.Audited.{Audited, IsOf, with_world, id_at}
 use Rattle.l4_audit.specs.Starting.{starts_at, IsStarting, CanStart}
@@ -31,20 +33,41 @@ thread_there [] i b lt at = absurd (omega arith)
 thread_there (x ∷ bs) zero b lt at = ap (λ (y : Block). Some y.thread) (sym at)
 thread_there (x ∷ bs) (suc i) b lt at = thread_there bs i b (omega arith) at
 
+-- The block at a place where a thread can start.
+record StartsHere (m : Machine) (a : Audited) (place : ℕ) (i : Instr) (permitted : Bool) (old : Block) : Type 0 where
+  within : place < length a.world.threads
+  id : id_at a place ≡ old.id
+  thread : IsStarting m (id_at a place) i permitted old.thread
+
+starts_here : (m : Machine) (bs : List Block) (ws : List (List ℕ)) (cs : List ℕ) (a : Audited) (place : ℕ) (i : Instr) (permitted : Bool) (old : Block) → audited bs ws cs ≡ a →
+    CanStart m a place i permitted → old ≡ get_or bs place old → StartsHere m a place i permitted old
+starts_here m bs ws cs a place i permitted old is can at =
+    let lt : place < length a.world.threads = is_within (IsStarting m (id_at a place) i permitted) a.world.threads place can in
+    let size : length bs ≡ length a.world.threads = sym (length-map bs (λ (b : Block). b.thread)) ∙ ap (λ (x : Audited). length x.world.threads) is in
+    let there : slice_get a.world.threads place ≡ Some old.thread = ap (λ (x : Audited). slice_get x.world.threads place) (sym is) ∙ thread_there bs place old (omega (arith, size)) at in
+    record {
+      within = lt;
+      id = ap (λ (x : Audited). id_at x place) (sym is) ∙ id_there bs place old (global_id 0 1) (omega (arith, size)) at;
+      thread = subst (λ o. IsSomeAnd o (IsStarting m (id_at a place) i permitted)) there can;
+    }
+
+-- An originator that may be shown is named by a global id.
+pub start_shown : (m : Machine) (bs : List Block) (ws : List (List ℕ)) (cs : List ℕ) (a : Audited) (place : ℕ) (i : Instr) (permitted : Bool) (old : Block) → audited bs ws cs ≡ a →
+    CanStart m a place i permitted → old ≡ get_or bs place old → permitted ≡ true → IsSome (global_of old.thread.context.actual)
+start_shown m bs ws cs a place i permitted old is can at shown =
+    let here = starts_here m bs ws cs a place i permitted old is can at in
+    shown_is_global m (id_at a place) old.thread.context.actual (sym here.thread.shows ∙ shown)
+
 pub started : (m : Machine) (bs : List Block) (ws : List (List ℕ)) (cs : List ℕ) (a : Audited) (place : ℕ) (i : Instr) (permitted : Bool) (now : ℕ) (old new : Block) → audited bs ws cs ≡ a →
     CanStart m a place i permitted → old ≡ get_or bs place old →
     ((n : Machine) → permitted ≡ may_show n old.id old.thread.context.actual → new ≡ record old { thread = starts (act n old.id now old.thread.context i) now old.thread }) →
     audited (set bs place new) ws cs ≡ with_world a (change a.world place (starts_at m (id_at a place) now i))
 started m bs ws cs a place i permitted now old new is can at gives =
-    let lt : place < length a.world.threads = is_within (IsStarting m (id_at a place) i permitted) a.world.threads place can in
-    let size : length bs ≡ length a.world.threads = sym (length-map bs (λ (b : Block). b.thread)) ∙ ap (λ (x : Audited). length x.world.threads) is in
-    let there : slice_get a.world.threads place ≡ Some old.thread = ap (λ (x : Audited). slice_get x.world.threads place) (sym is) ∙ thread_there bs place old (omega (arith, size)) at in
-    let here : IsStarting m (id_at a place) i permitted old.thread = subst (λ o. IsSomeAnd o (IsStarting m (id_at a place) i permitted)) there can in
-    let ids : id_at a place ≡ old.id = ap (λ (x : Audited). id_at x place) (sym is) ∙ id_there bs place old (global_id 0 1) (omega (arith, size)) at in
-    let shows : permitted ≡ may_show m old.id old.thread.context.actual = here.shows ∙ ap (λ id. may_show m id old.thread.context.actual) ids in
+    let here = starts_here m bs ws cs a place i permitted old is can at in
+    let shows : permitted ≡ may_show m old.id old.thread.context.actual = here.thread.shows ∙ ap (λ id. may_show m id old.thread.context.actual) here.id in
     let e : new ≡ record old { thread = starts_at m (id_at a place) now i old.thread } =
-    gives m shows ∙ ap (λ id. record old { thread = starts (act m id now old.thread.context i) now old.thread }) (sym ids) in
-    written bs ws cs a place (starts_at m (id_at a place) now i) old new is lt at e
+    gives m shows ∙ ap (λ id. record old { thread = starts (act m id now old.thread.context i) now old.thread }) (sym here.id) in
+    written bs ws cs a place (starts_at m (id_at a place) now i) old new is here.within at e
 
 -- Of a thread that was found.
 

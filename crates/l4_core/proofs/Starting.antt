@@ -1,6 +1,6 @@
 -- An ipc begins its first phase.
 use Rattle.std.proofs.Common.{◌≡◌, ℕ, zero, suc, ◌<◌, Bool, true, false, cond, is_some, [], ◌∷◌, inl, List, map, length, get_or, set, refl, ap, sym, ◌∙◌, subst, arith}
-use Rattle.std.specs.Prelude.{slice_index_or}
+use Rattle.std.specs.Prelude.{slice_index_or, IsSome}
 use Rattle.l4_model.specs.Words.{GlobalId, Id, NilThread, AnyThread, AnyLocalThread, LocalThread, GlobalThread}
 use Rattle.l4_model.specs.Machine as model
 use Rattle.l4_model.specs.Machine.{Declaration, Machine, Instr}
@@ -9,6 +9,7 @@ use Rattle.l4_model.specs.Rules.{Act, RunsAlone, Sends, Receives, Orders, act, a
 use Rattle.l4_model.specs.Conditions.{act_of, instruction}
 use Rattle.l4_model.specs.Effects.{begins, waits}
 use Rattle.l4_core_model.specs.Plain.{Plain}
+use Rattle.l4_types.specs.Ids.{global_of}
 use Rattle.l4_core_model.specs.Mail.{is_ordering}
 use Rattle.l4_core.specs.Settling.{settles}
 use Rattle.l4_core_model.specs.Local.{Local, declared, undeclared, thread, held, changes, comes_to}
@@ -16,6 +17,7 @@ use Rattle.l4_thread.specs.Parts.{Block}
 use Rattle.l4_thread.specs.declared.phases.Began.{Began}
 use Rattle.l4_thread.specs.declared.phases.Began.TheVariants.{Nothing}
 use Rattle.l4_thread.specs.Ipcs.{may_show, starts, began_of}
+use Rattle.l4_thread.proofs.Asking.{shown_is_global}
 use Rattle.l4_core.specs.Processor.{Processor, with_local}
 use Rattle.l4_core.specs.Parts.{ids_of, local_of, IsKept}
 use Rattle.l4_core.specs.Settled.{MaySend}
@@ -77,6 +79,13 @@ shows m cpu bs s told clock stamp i old permitted p view k lt at e =
     e ∙ ap (λ (q : Processor). may_show q.machine (declared q.machine i).id (thread q.local i).context.actual) (sym view)
     ∙ ap (λ g. may_show m g (thread (local_of bs s told clock stamp) i).context.actual) (sym (block_id m cpu bs s told clock stamp i old k lt at))
     ∙ ap (λ (t : Thread). may_show m old.id t.context.actual) (sym (block_thread m cpu bs s told clock stamp i old k lt at))
+
+-- An originator that may be shown is named by a global id.
+pub start_shown : (m : Machine) (cpu : ℕ) (bs : List Block) (s : Plain) (told : List ℕ) (clock stamp i : ℕ) (old : Block) (permitted : Bool) (p : Processor) → here m cpu bs s told clock stamp ≡ p → IsKept m cpu bs s told clock stamp → i < length p.machine.threads → old ≡ get_or bs i old →
+    permitted ≡ may_show p.machine (declared p.machine i).id (thread p.local i).context.actual → permitted ≡ true → IsSome (global_of old.thread.context.actual)
+start_shown m cpu bs s told clock stamp i old permitted p view k within at e is =
+    let lt : i < length m.threads = subst (λ (q : Processor). i < length q.machine.threads) (sym view) within in
+    shown_is_global m old.id old.thread.context.actual (sym (shows m cpu bs s told clock stamp i old permitted p view k lt at e) ∙ is)
 
 same_act : (m : Machine) (cpu : ℕ) (bs : List Block) (s : Plain) (told : List ℕ) (clock stamp i : ℕ) (instr : Instr) (old : Block) (p : Processor) → here m cpu bs s told clock stamp ≡ p → IsKept m cpu bs s told clock stamp → i < length m.threads → old ≡ get_or bs i old →
     instr ≡ instruction (held p.machine p.local i) → act m old.id clock old.thread.context instr ≡ act_of m (held m (local_of bs s told clock stamp) i)

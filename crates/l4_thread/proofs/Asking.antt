@@ -1,6 +1,6 @@
 -- An Ipc of one thread, told whether it may show its originator, is that of the machine.
 use Rattle.std.proofs.Common.{ℕ, List, ◌≡◌, Bool, true, false, refl}
-use Rattle.std.specs.Prelude.{◌/◌, ◌%◌, ◌^◌, ◌==◌, ◌&&◌, if◌then◌else◌, Option, Some, None, is_some}
+use Rattle.std.specs.Prelude.{◌/◌, ◌%◌, ◌^◌, ◌==◌, ◌&&◌, if◌then◌else◌, IsSome, Option, Some, None, is_some}
 use Rattle.l4_model.specs.Words.{Period, GlobalId, Id, NilThread, AnyThread, AnyLocalThread, LocalThread, GlobalThread}
 use Rattle.l4_model.specs.Machine.{Machine, same_space, Instr, Set, Copy, Add, Tag, Vs, Ipc, Ask, Jump, OnErr, End}
 use Rattle.l4_model.specs.World.{Context, Message, Receive, Thread, Sending}
@@ -31,6 +31,14 @@ originator_is m sender c = by_id c.actual ((register c 0 / 2 ^ 12) % 2 == 1)
     by_id AnyLocalThread asks = nobody_if asks None
     by_id (LocalThread word) asks = nobody_if asks None
     by_id (GlobalThread t) asks = shown_if (same_space m t sender) asks t
+
+-- Only an originator that is named by a global id may be shown.
+pub shown_is_global : (m : Machine) (sender : GlobalId) (actual : Id) → may_show m sender actual ≡ true → IsSome (global_of actual)
+shown_is_global m sender NilThread shown = cc
+shown_is_global m sender AnyThread shown = cc
+shown_is_global m sender AnyLocalThread shown = cc
+shown_is_global m sender (LocalThread word) shown = cc
+shown_is_global m sender (GlobalThread t) shown = refl
 
 pub message_is : (m : Machine) (sender : GlobalId) (c : Context) → message_if (may_show m sender c.actual) sender c ≡ message_of m sender c
 message_is m sender c = rw (originator_is m sender c)

@@ -1,5 +1,5 @@
 //! What happens to a thread.
-ghost use Rattle.std.specs.Prelude.{◌≡◌, ◌<◌, ◌^◌, ◌+◌, ℕ, List, true, false, None, IfSome, length};
+ghost use Rattle.std.specs.Prelude.{◌≡◌, ◌<◌, ◌^◌, ◌+◌, ℕ, List, true, false, None, IfSome, IsSome, length};
 ghost use Rattle.std.specs.Option.{option_map};
 ghost use Rattle.l4_model.specs.Words.{word_of_tag};
 ghost use Rattle.l4_model.specs.Machine.{Machine};
@@ -7,6 +7,7 @@ ghost use Rattle.l4_model.specs.Rules.{act};
 ghost use Rattle.l4_model.specs.Effects.{runs, fails, receives, refused, decided, delivered, goes_on, asked, asked_send, asked_receive, has_receive_phase, orders, obeyed};
 ghost use Rattle.l4_core_model.specs.Local.{after_decision, is_gone_now, stand_in, stands_in, was_delivered, was_dropped};
 ghost use Rattle.l4_types.specs.Codes.{code_of};
+ghost use Rattle.l4_types.specs.Ids.{global_of};
 ghost use Rattle.l4_types.specs.PeriodView.{period_of, IsTimely};
 ghost use Rattle.l4_types.specs.StepView.{what_of};
 ghost use Rattle.l4_types.specs.LetterView.{decision_of};
@@ -86,10 +87,12 @@ impl Tcb {
     }
 
     /// Begins the first phase of an Ipc, at this clock of its processor in ticks, and tells which one. `permitted` says whether the
-    /// thread may show the originator that its VirtualSender names. Of no phase, and of other instructions, nothing changes.
+    /// thread may show the originator that its VirtualSender names, so only of a global id. Of no phase, and of other instructions, nothing
+    /// changes.
     pub fn ipc(&mut self, instr: &Instr, permitted: bool, now: u64) -> Began
         requires room { is_end (instr_of instr.now) ≡ false → self.old.thread.context.place + 1 < 2 ^ 64 }
         requires count { asks_to_send self.old.thread.context (instr_of instr.now) ≡ true → self.old.thread.context.begun + 1 < 2 ^ 64 }
+        requires shown { permitted ≡ true → IsSome (global_of self.old.thread.context.actual) }
         ensures thread { (m : Machine) → permitted ≡ may_show m self.old.id self.old.thread.context.actual →
             self.new ≡ record self.old { thread = starts (act m self.old.id now self.old.thread.context (instr_of instr.now)) now self.old.thread } }
         ensures began { (m : Machine) → permitted ≡ may_show m self.old.id self.old.thread.context.actual →

@@ -1,5 +1,10 @@
-use Rattle.l4_core.proofs.Starting.{start_kept, start_began, start_is}
+use Rattle.l4_core.proofs.Starting.{start_kept, start_began, start_is, start_shown}
 use Rattle.l4_core.proofs.known.Known.start.Goals as goal
+
+pub ipc-requires-clause-shown : goal.ipc-requires-clause-shown
+ipc-requires-clause-shown c =
+    let s = c.self.inside in
+    start_shown s.machine.now s.cpu s.threads.items s.lists s.told.items s.clock s.stamp c.args.place c.index_mut.result.now c.may_show_originator-permitted.result c.args.self.now c.self.view_is c.self.invariant c.requires.hand.own.within c.index_mut.ensures.value c.may_show_originator-permitted.ensures
 
 pub invariant_of-self : goal.invariant_of-self
 invariant_of-self c =

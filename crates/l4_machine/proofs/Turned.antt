@@ -218,14 +218,14 @@ no_stamp_fault m ps r i p come whole few at why = by p.worker.hand refl
     by : (hand : Option (ℕ × Letter)) → p.worker.hand ≡ hand → ⊥
     by None is =
         let low = low_stamp p.worker.core.local.stamp 0 (length r.events) own (omega arith) few in
-        let no : can_stamp p.worker.core.local 0 ≡ false = ap (λ h. can_stamp p.worker.core.local (stamp_in_hand h)) (sym is) ∙ why in
+        let no : can_stamp p.worker.core.local 0 ≡ false = ap (λ h. can_stamp p.worker.core.local (stamp_in_hand h)) (sym is) ∙ why.full in
         let both = sym low ∙ no in
         cc
     by (Some x) is =
         let first = (in_hand_first m ps r i p x come whole at is).first in
         let its = letter_stamp m r x.0 i (letter_of x.1) (is_core_run m r come.rounds) first in
         let low = low_stamp p.worker.core.local.stamp x.1.stamp (length r.events) own its few in
-        let no : can_stamp p.worker.core.local x.1.stamp ≡ false = ap (λ h. can_stamp p.worker.core.local (stamp_in_hand h)) (sym is) ∙ why in
+        let no : can_stamp p.worker.core.local x.1.stamp ≡ false = ap (λ h. can_stamp p.worker.core.local (stamp_in_hand h)) (sym is) ∙ why.full in
         let both = sym low ∙ no in
         cc
 

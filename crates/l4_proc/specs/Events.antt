@@ -1,9 +1,9 @@
 -- One event of a processor at work.
-use Rattle.std.specs.Prelude.{◌≡◌, ℕ, ◌++◌, false, Option, Some, None, List, map}
+use Rattle.std.specs.Prelude.{◌≡◌, ℕ, ◌++◌, false, IsSome, Option, Some, None, List, map}
 use Rattle.l4_core_model.specs.Letters as letters
 use Rattle.l4_core_model.specs.Mail.{handle}
 use Rattle.l4_core_model.specs.Turns.{turn, can_stamp}
-use Rattle.l4_merge.specs.Deeds.{LocalEvent, Handled, Turned, letters_with}
+use Rattle.l4_merge.specs.Deeds.{LocalEvent, Handled, Turned, letters_with, work_of}
 use Rattle.l4_types.specs.LetterView.{letter_of}
 use Rattle.l4_types.specs.declared.letters.Letter.{Letter}
 use Rattle.l4_core.specs.Processor.{Processor}
@@ -33,11 +33,16 @@ pub record HasUnlawful (p : Processor) (hand : Option (ℕ × Letter)) : Type 0 
   pub here : hand ≡ Some letter
   pub unlawful : handle p.machine p.cpu p.local (letter_of letter.1) ≡ None
 
+-- The letter in hand is lawful here, or there is none and there is a turn, but the next stamp is not below its limit.
+pub record HasNoStamp (p : Processor) (hand : Option (ℕ × Letter)) : Type 0 where
+  pub due : IsSome (work_of p.machine p.cpu p.local (event_in_hand hand))
+  pub full : can_stamp p.local (stamp_in_hand hand) ≡ false
+
 -- Why a processor does not go on by itself.
 abbrev pub IsRefused : Processor → (hand : Option (ℕ × Letter)) → Stop → Type 0
 IsRefused p hand stop.Idle = HasNone p hand
 IsRefused p hand stop.Mail = HasUnlawful p hand
-IsRefused p hand stop.Stamp = can_stamp p.local (stamp_in_hand hand) ≡ false
+IsRefused p hand stop.Stamp = HasNoStamp p hand
 IsRefused p hand stop.Used = ⊥
 IsRefused p hand stop.NoMemory = ⊥
 

@@ -125,8 +125,8 @@ impl<'m> Processor<'m> {
     /// turn. The gate is asked before each attempt.
     ///
     /// `Used`: so many were taken. `Idle`: there is nothing to do, and no letter has come. `NoMemory`: memory was refused. `Mail`: the letter in
-    /// hand is not lawful here. `Stamp`: the next stamp would reach 2^62. Then the last turn was not taken; a letter that was taken stays in
-    /// hand, and is handled first by the next call.
+    /// hand is not lawful here. `Stamp`: it is lawful, or there is none and a turn, and the next stamp would reach 2^62. Then the last turn was
+    /// not taken; a letter that was taken stays in hand, and is handled first by the next call.
     pub fn work<G: Gate>(&mut self, turns: u64, gate: &G) -> Stop
         ensures on { HasGoneOn self.old self.new }
         ensures turned { HasTurned self.old.worker.core.machine self.old.worker.core.cpu (past self.old) (past self.new) }

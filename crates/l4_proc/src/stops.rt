@@ -12,7 +12,7 @@ pub enum Stop {
     NoMemory,
     /// The letter in hand is not lawful here.
     Mail,
-    /// The next stamp would reach 2^62.
+    /// There is a turn or a lawful letter in hand, and the next stamp would reach 2^62.
     Stamp,
 }
 

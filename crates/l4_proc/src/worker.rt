@@ -1,5 +1,5 @@
 //! A processor without its port.
-ghost use Rattle.std.specs.Prelude.{◌≡◌, ◌⊎◌, false, IfErr, IfOk, IsErrOf, None, OnErr};
+ghost use Rattle.std.specs.Prelude.{◌≡◌, ◌⊎◌, ◌↔◌, false, IfErr, IfOk, IsErrOf, IsSome, None, OnErr};
 ghost use Rattle.l4_core_model.specs.Mail.{handle};
 ghost use Rattle.l4_core_model.specs.Turns.{can_stamp, turn};
 ghost use Rattle.l4_types.specs.LetterView.{letter_of};
@@ -29,8 +29,9 @@ fn handle(core: &mut Core<'_>, letter: &Letter, told: &mut Told<History>) -> Res
     requires open { IsOpen told.old }
     ensures ok { IfOk result (λ stamp. IsEvent (handle core.old.machine core.old.cpu core.old.local (letter_of letter.now)) core.old core.new told.old told.new stamp) }
     ensures err { OnErr result ((core.new ≡ core.old) × (told.new ≡ told.old)) }
-    ensures mail { IsErrOf result Stop.Mail → handle core.old.machine core.old.cpu core.old.local (letter_of letter.now) ≡ None }
-    ensures stamp { IsErrOf result Stop.Stamp → can_stamp core.old.local letter.now.stamp ≡ false }
+    ensures mail { IsErrOf result Stop.Mail ↔ (handle core.old.machine core.old.cpu core.old.local (letter_of letter.now) ≡ None) }
+    ensures stamp { IsErrOf result Stop.Stamp ↔
+        (IsSome (handle core.old.machine core.old.cpu core.old.local (letter_of letter.now)) × (can_stamp core.old.local letter.now.stamp ≡ false)) }
     ensures faults { IfErr result (λ stop. (stop ≡ Stop.Mail) ⊎ (stop ≡ Stop.Stamp)) }
 {
     match core.handle_into(letter, told) {
@@ -45,8 +46,8 @@ fn turn(core: &mut Core<'_>, told: &mut Told<History>) -> Result<u64, Stop>
     requires open { IsOpen told.old }
     ensures ok { IfOk result (λ stamp. IsEvent (turn core.old.machine core.old.cpu core.old.local) core.old core.new told.old told.new stamp) }
     ensures err { OnErr result ((core.new ≡ core.old) × (told.new ≡ told.old)) }
-    ensures idle { IsErrOf result Stop.Idle → turn core.old.machine core.old.cpu core.old.local ≡ None }
-    ensures stamp { IsErrOf result Stop.Stamp → can_stamp core.old.local 0 ≡ false }
+    ensures idle { IsErrOf result Stop.Idle ↔ (turn core.old.machine core.old.cpu core.old.local ≡ None) }
+    ensures stamp { IsErrOf result Stop.Stamp ↔ (IsSome (turn core.old.machine core.old.cpu core.old.local) × (can_stamp core.old.local 0 ≡ false)) }
     ensures faults { IfErr result (λ stop. (stop ≡ Stop.Idle) ⊎ (stop ≡ Stop.Stamp)) }
 {
     if !core.busy() {

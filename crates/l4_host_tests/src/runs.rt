@@ -15,9 +15,9 @@ use std::test::Fail;
 use std::thread;
 use std::thread::Threads;
 
-// What a run comes to. Tests what every run must have: its history is one of the machine, which leads to the threads and the sends that it
-// reports; and unless it has come to rest it has used up its turns, with at most one more for each other processor.
-fn comes_to<R: AllocGlobal + Abort + Threads + Sync, G: Gate + Sync>(
+/// What a run comes to. Tests what every run must have: its history is one of the machine, which leads to the threads and the sends that it
+/// reports; and unless it has come to rest it has used up its turns, with at most one more for each other processor.
+pub(crate) fn comes_to<R: AllocGlobal + Abort + Threads + Sync, G: Gate + Sync>(
     rt: &R,
     text: &str,
     turns: u64,

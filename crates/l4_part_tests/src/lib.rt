@@ -12,6 +12,8 @@ mod histories;
 #[cfg(test)]
 mod ports;
 #[cfg(test)]
+mod texts;
+#[cfg(test)]
 mod traces;
 #[cfg(test)]
 mod unlawful;

@@ -59,7 +59,7 @@ cpus 2
 thread 1.1 cpu 0 space 1
 ipc 2.1 2.1 never never
 jump 0
-thread 2.1 cpu 1 space 2
+thread 2.1 cpu 1 space 1
 ipc nil any never never
 ipc last any never never
 jump 1

@@ -1,0 +1,156 @@
+// Runs of 16 processors under gates that hold some of them back, as the host by itself would hardly do. Whatever a gate does, the run comes to its
+// end, and its history is one of the machine. A gate holds nobody for ever: it looks so often, and then lets go.
+use crate::runs::comes_to;
+use l4_proc::gate::Gate;
+use std::sync::atomic::{AtomicU64, Ordering};
+use std::test::Fail;
+use std::thread;
+
+const CPUS: u8 = 16;
+
+// So many turns has each processor in the first round.
+const SHARE: u64 = 100;
+
+const TURNS: u64 = 1_600;
+
+// On each processor a thread that calls the server of the next one, a server, and one that cancels what goes on two processors further and calls
+// the server there.
+fn busy_machine<R: AllocGlobal>(rt: &R) -> Result<String, Fail> {
+    let mut text = format!(in rt.alloc(); "l4 1 64\ncpus {CPUS}\n")?;
+    for cpu in 0..16u32 {
+        let next = 100 + (cpu + 1) % 16;
+        let (other, server) = (1 + (cpu + 2) % 16, 100 + (cpu + 2) % 16);
+        writeln!(text, "thread {}.1 cpu {cpu} space 1", cpu + 1)?;
+        writeln!(text, "ipc {next}.1 {next}.1 never never\nadd 1 1\njump 0")?;
+        writeln!(text, "thread {}.1 cpu {cpu} space 1", 100 + cpu)?;
+        writeln!(
+            text,
+            "ipc nil any never never\nipc last any 7 never\njump 1"
+        )?;
+        writeln!(text, "thread {}.1 cpu {cpu} space 1", 200 + cpu)?;
+        writeln!(text, "exregs {other}.1 SR\nipc {server}.1 {server}.1 5 9")?;
+        writeln!(text, "exregs {server}.1 S\njump 0")?;
+    }
+    Ok(text)
+}
+
+// Looks until the number has come to this value, at most so often. Answers whether it has.
+fn look_for(number: &AtomicU64, value: u64, looks: u32) -> bool {
+    for look in 0..looks {
+        if number.load(Ordering::SeqCst) >= value {
+            return true;
+        }
+        if look % 64 == 63 {
+            thread::yield_now();
+        }
+    }
+    false
+}
+
+// Stops one processor for 10,000 looks before each turn.
+#[derive(Drop)]
+struct Stopped {
+    cpu: u8,
+    looks: AtomicU64,
+}
+
+impl Gate for Stopped {
+    fn before(&self, cpu: u8, _turn: u64) {
+        if cpu == self.cpu {
+            for _ in 0..10_000u32 {
+                self.looks.load(Ordering::SeqCst);
+            }
+        }
+    }
+}
+
+#[test]
+fn one_is_stopped_at_every_turn(rt: HostRuntime) -> Result<(), Fail> {
+    let text = busy_machine(&rt)?;
+    for cpu in [0, 7, 15] {
+        let looks = AtomicU64::new(0);
+        let outcome = comes_to(&rt, text.as_str(), TURNS, &Stopped { cpu, looks });
+        assert!(rt; outcome.turns >= TURNS, "{cpu}");
+    }
+    Ok(())
+}
+
+// Lets one processor take its share alone. The others may begin when it has tried its last turn, or finds nothing and tries a turn again.
+#[derive(Drop)]
+struct Alone {
+    cpu: u8,
+    last: AtomicU64,
+    open: AtomicU64,
+    missed: AtomicU64,
+}
+
+impl Alone {
+    fn new(cpu: u8) -> Alone {
+        Alone {
+            cpu,
+            last: AtomicU64::new(0),
+            open: AtomicU64::new(0),
+            missed: AtomicU64::new(0),
+        }
+    }
+}
+
+impl Gate for Alone {
+    fn before(&self, cpu: u8, turn: u64) {
+        if cpu == self.cpu {
+            if self.last.swap(turn, Ordering::SeqCst) == turn || turn >= SHARE {
+                self.open.store(1, Ordering::SeqCst);
+            }
+        } else if !look_for(&self.open, 1, 100_000_000) {
+            self.missed.fetch_add(1, Ordering::SeqCst);
+        }
+    }
+}
+
+#[test]
+fn each_has_its_share_alone_first(rt: HostRuntime) -> Result<(), Fail> {
+    let text = busy_machine(&rt)?;
+    for cpu in 0..CPUS {
+        let gate = Alone::new(cpu);
+        let outcome = comes_to(&rt, text.as_str(), TURNS, &gate);
+        assert!(rt; outcome.turns >= TURNS, "{cpu}");
+        assert_eq!(rt; gate.missed.load(Ordering::SeqCst), 0, "{cpu}");
+    }
+    Ok(())
+}
+
+// Lets the processors take one turn after the other, at odd turns in the order of their numbers, at even ones against it. One that has nothing to do
+// is not waited for.
+#[derive(Drop)]
+struct Reversed {
+    place: AtomicU64,
+}
+
+impl Gate for Reversed {
+    fn before(&self, cpu: u8, turn: u64) {
+        let cpus = u64::from(CPUS);
+        let number = u64::from(cpu);
+        let within = if turn % 2 == 1 {
+            number
+        } else {
+            cpus.saturating_sub(number + 1)
+        };
+        let place = turn.saturating_mul(cpus).saturating_add(within);
+        look_for(&self.place, place, 1_000);
+        self.place
+            .fetch_max(place.saturating_add(1), Ordering::SeqCst);
+    }
+}
+
+#[test]
+fn the_order_is_turned_round_at_each_turn(rt: HostRuntime) -> Result<(), Fail> {
+    let text = busy_machine(&rt)?;
+    for _ in 0..4 {
+        let gate = Reversed {
+            place: AtomicU64::new(u64::from(CPUS)),
+        };
+        let outcome = comes_to(&rt, text.as_str(), TURNS, &gate);
+        assert!(rt; outcome.turns >= TURNS);
+    }
+    Ok(())
+}

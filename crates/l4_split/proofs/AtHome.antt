@@ -64,9 +64,9 @@ reports_from f h (d ∷ ds) (w ∷ ws) first size ids alike =
     let here : f first ≡ d = subst (λ k. f k ≡ d) (omega arith) (sym (ids 0 (omega arith))) in
     let one : IsAlike w (h first) = subst (λ k. IsAlike w (h k)) (omega arith) (alike 0 (omega arith)) in
     let later_ids : (i : ℕ) → i < length ds → slice_index_or ds i undeclared ≡ f (first + 1 + i) =
-        λ i lt. subst (λ k. slice_index_or ds i undeclared ≡ f k) (omega arith) (ids (suc i) (omega (arith, lt))) in
+    λ i lt. subst (λ k. slice_index_or ds i undeclared ≡ f k) (omega arith) (ids (suc i) (omega (arith, lt))) in
     let later : (i : ℕ) → i < length ds → IsAlike (slice_index_or ws i opening_thread) (h (first + 1 + i)) =
-        λ i lt. subst (λ k. IsAlike (slice_index_or ws i opening_thread) (h k)) (omega arith) (alike (suc i) (omega (arith, lt))) in
+    λ i lt. subst (λ k. IsAlike (slice_index_or ws i opening_thread) (h k)) (omega arith) (alike (suc i) (omega (arith, lt))) in
     ap₂ (λ r rs. r ∷ rs) (one.report d.id ∙ ap (λ (d : Declaration). report_of d.id (h first)) (sym here))
     (reports_from f h ds ws (first + 1) (omega (arith, size)) later_ids later)
 
@@ -138,10 +138,10 @@ told_at_home m g w machine counted relates handled undeleted = record {
         let v = view m (scene g) w i in
         let agrees : Agrees v.world (learned (locators v.mail) (v.kept (home m i)).clock (v.kept (home m i)).thread) = (relates.places i lt tt).known.agrees in
         let plain : Agrees v.world (v.kept (home m i)).thread =
-            subst (λ mail. Agrees v.world (learned (locators (filter (is_about m i) mail)) (v.kept (home m i)).clock (v.kept (home m i)).thread))
-            (no_letters g handled) agrees in
+        subst (λ mail. Agrees v.world (learned (locators (filter (is_about m i) mail)) (v.kept (home m i)).clock (v.kept (home m i)).thread))
+        (no_letters g handled) agrees in
         subst (IsAlike v.world) (sym here) (agreeing_alike v.world (v.kept (home m i)).thread
-            (subst (λ (t : Thread). is_deleted_state (state_of t.phase) ≡ false) here (alive i lt)) plain)
+        (subst (λ (t : Thread). is_deleted_state (state_of t.phase) ≡ false) here (alive i lt)) plain)
 
     alike_from_0 : (i : ℕ) → i < length m.threads → IsAlike (slice_index_or w.threads i opening_thread) (home_thread m g.locals (0 + i))
     alike_from_0 i lt = subst (λ k. IsAlike (slice_index_or w.threads i opening_thread) (home_thread m g.locals k)) (omega arith) (alike i lt)

@@ -161,8 +161,8 @@ fn tells<R: AllocGlobal + Abort>(
     }
 }
 
-// Tests the next turn.
-fn takes_turn<R: AllocGlobal + Abort>(
+/// Tests the next turn.
+pub(crate) fn takes_turn<R: AllocGlobal + Abort>(
     rt: &R,
     core: &mut Core<'_>,
     stamp: u64,

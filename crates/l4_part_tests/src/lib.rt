@@ -12,6 +12,8 @@ mod histories;
 #[cfg(test)]
 mod ports;
 #[cfg(test)]
+mod refused;
+#[cfg(test)]
 mod texts;
 #[cfg(test)]
 mod traces;

@@ -15,8 +15,8 @@ fn letter(stamp: u64) -> Letter {
     }
 }
 
-// Whether a letter could be posted.
-fn send(port: &mut Port, to: u8, stamp: u64) -> bool
+/// Whether a letter could be posted.
+pub(crate) fn send(port: &mut Port, to: u8, stamp: u64) -> bool
     ensures { place port.new ≡ place port.old }
 {
     if port.reserve().is_err() || !port.has_room(to) {
@@ -26,8 +26,8 @@ fn send(port: &mut Port, to: u8, stamp: u64) -> bool
     true
 }
 
-// Whether the next letter is this one of that processor.
-fn gives(port: &mut Port, poster: u8, stamp: u64) -> bool {
+/// Whether the next letter is this one of that processor.
+pub(crate) fn gives(port: &mut Port, poster: u8, stamp: u64) -> bool {
     port.take()
         .is_some_and(|(from, letter)| from == poster && letter.stamp == stamp)
 }
@@ -69,8 +69,8 @@ fn the_lowest_poster_comes_first(rt: HostRuntime) -> Result<(), Fail> {
     Ok(())
 }
 
-// One letter is in the ring, and one in the outbox.
-fn send_two(port: &mut Port) -> bool
+/// One letter is in the ring, and one in the outbox.
+pub(crate) fn send_two(port: &mut Port) -> bool
     ensures { place port.new ≡ place port.old }
 {
     let sent = send(port, 0, 5) && send(port, 0, 6);

@@ -1,0 +1,221 @@
+// Calls to which memory may be refused. Each is made, and where it was refused made again: then it gives what it would have given, and what it was to
+// change is unchanged. Refused or not, the same comes of it.
+ghost use Rattle.std.specs.Prelude.{map};
+ghost use Rattle.l4_mail.specs.Ports.{AreOneFabric};
+
+use crate::cores::{machine_of, takes_turn};
+use crate::ports::{gives, send, send_two};
+use l4_core::processor::Core;
+use l4_mail::fabric::fabric;
+use l4_mail::ports::Port;
+use l4_mail::rests::{RestFault, rest};
+use l4_samples::{ACROSS, PING_TRACE};
+use l4_script::machine::Machine;
+use l4_script::text::{TextFault, TextFaultKind};
+use l4_trace::fault::TraceFault;
+use l4_trace::lines::write_event;
+use l4_trace::reading::read_events;
+use l4_types::errors::NoMemory;
+use l4_types::steps::Step;
+use std::process::Abort;
+use std::test::Fail;
+use tcb_arena::Arena;
+
+// Prints that a call of this name begins. What refuses memory in a run of these tests can count the growths of each call by these lines.
+fn call_begins<R: Print>(rt: &R, name: &str) {
+    let _printed = println!(rt; "call {name}");
+}
+
+// Prints that the call has come back.
+fn call_ends<R: Print>(rt: &R) {
+    let _printed = println!(rt; "end");
+}
+
+// Of so many threads, each with a script of so many instructions.
+const THREADS: u32 = 40;
+
+const INSTRUCTIONS: usize = 20;
+
+// A text with them.
+fn long_text<R: AllocGlobal>(rt: &R) -> Result<String, Fail> {
+    let mut text = format!(in rt.alloc(); "l4 1 64\ncpus 16\n")?;
+    for number in 0..THREADS {
+        writeln!(text, "thread {number}.1 cpu {} space 1", number % 16)?;
+        for _ in 0..INSTRUCTIONS {
+            text.push_str("add 1 1\n")?;
+        }
+    }
+    Ok(text)
+}
+
+// The machine of the text, read again where memory was refused.
+fn parsed<R: AllocGlobal + Abort + Print>(rt: &R, text: &str) -> Machine {
+    call_begins(rt, "parse");
+    let read = Machine::parse(rt.alloc(), text.as_bytes());
+    call_ends(rt);
+    match read {
+        Ok(machine) => machine,
+        Err(fault) => {
+            let kind = TextFaultKind::NoMemory;
+            assert_eq!(rt; fault, TextFault { line: 0, kind });
+            machine_of(rt, text)
+        }
+    }
+}
+
+#[test]
+fn parse(rt: HostRuntime) -> Result<(), Fail> {
+    let text = long_text(&rt)?;
+    let machine = parsed(&rt, text.as_str());
+    assert_eq!(rt; machine.cpus(), 16);
+    assert_eq!(rt; machine.threads().len(), THREADS as usize);
+    for (place, thread) in machine.threads().iter().enumerate() {
+        assert_eq!(rt; thread.id().number() as usize, place);
+        assert_eq!(rt; thread.script().len(), INSTRUCTIONS);
+    }
+    Ok(())
+}
+
+// The second processor of the machine, made again where memory was refused.
+fn made<'m, R: AllocGlobal + Abort + Print>(rt: &R, machine: &'m Machine) -> Core<'m> {
+    assert!(rt; 1 < machine.cpus());
+    call_begins(rt, "Core::new");
+    let core = Core::new(rt.alloc(), machine, 1);
+    call_ends(rt);
+    match core {
+        Ok(core) => core,
+        Err(NoMemory) => Core::new(rt.alloc(), machine, 1).expect(rt, "memory"),
+    }
+}
+
+#[test]
+fn core_new(rt: HostRuntime) {
+    let machine = machine_of(&rt, ACROSS);
+    let mut core = made(&rt, &machine);
+    takes_turn(&rt, &mut core, 1, "wait 2.1\n", &[]);
+    assert!(rt; !core.busy() && core.clock() == 0 && core.least_deadline().is_none());
+}
+
+#[test]
+fn arena_new(rt: HostRuntime) -> Result<(), Fail> {
+    call_begins(&rt, "Arena::new");
+    let made = Arena::new(rt.alloc(), 40);
+    call_ends(&rt);
+    let arena = match made {
+        Ok(arena) => arena,
+        Err(NoMemory) => Arena::new(rt.alloc(), 40)?,
+    };
+    assert!(rt; arena.least_deadline().is_none());
+    Ok(())
+}
+
+// The steps of the trace, read again where memory was refused.
+fn read<R: AllocGlobal + Abort + Print>(rt: &R, lines: &str) -> Vec<Step> {
+    call_begins(rt, "read_events");
+    let read = read_events(rt.alloc(), lines.as_bytes());
+    call_ends(rt);
+    match read {
+        Ok(steps) => steps,
+        Err(fault) => {
+            assert_eq!(rt; fault, TraceFault::NoMemory);
+            read_events(rt.alloc(), lines.as_bytes())
+                .ok()
+                .expect(rt, "steps")
+        }
+    }
+}
+
+// Writes the line of a step, once more where memory was refused: then nothing was written.
+fn writes<R: Abort + Print>(rt: &R, step: &Step, out: &mut Vec<u8>) {
+    let before = out.len();
+    call_begins(rt, "write_event");
+    let written = write_event(step, out);
+    call_ends(rt);
+    if written.is_err() {
+        assert_eq!(rt; out.len(), before);
+        assert!(rt; write_event(step, out).is_ok());
+    }
+}
+
+#[test]
+fn trace_lines(rt: HostRuntime) -> Result<(), Fail> {
+    let lines = PING_TRACE.repeat(rt.alloc(), 3)?;
+    let steps = read(&rt, lines.as_str());
+    assert_eq!(rt; steps.len(), 24);
+    let mut out = Vec::new(rt.alloc());
+    for step in &steps {
+        writes(&rt, step, &mut out);
+    }
+    assert_eq!(rt; out.as_slice(), lines.as_bytes());
+    Ok(())
+}
+
+#[test]
+fn fabric_of_ports(rt: HostRuntime) -> Result<(), Fail> {
+    call_begins(&rt, "fabric");
+    let made = fabric(rt.alloc(), 4, 2);
+    call_ends(&rt);
+    let mut ports = match made {
+        Ok(ports) => ports,
+        Err(NoMemory) => fabric(rt.alloc(), 4, 2)?,
+    };
+    assert_eq!(rt; ports.len(), 4);
+    assert!(rt; send(&mut ports[3], 0, 5));
+    ports[3].flush();
+    assert!(rt; gives(&mut ports[0], 3, 5));
+    Ok(())
+}
+
+// Room is made again where memory was refused: what was posted before is still there.
+fn reserves<R: Abort + Print>(rt: &R, port: &mut Port) {
+    call_begins(rt, "reserve");
+    let made = port.reserve();
+    call_ends(rt);
+    assert!(rt; made.is_ok() || port.reserve().is_ok());
+    assert!(rt; port.has_room(1));
+}
+
+#[test]
+fn reserve(rt: HostRuntime) -> Result<(), Fail> {
+    let mut ports = fabric(rt.alloc(), 2, 1)?;
+    let mut receiver = ports.pop().ok_or("a port")?;
+    let mut poster = ports.pop().ok_or("a port")?;
+    for stamp in 0..20 {
+        reserves(&rt, &mut poster);
+        assert!(rt; send(&mut poster, 1, stamp));
+    }
+    for stamp in 0..20 {
+        poster.flush();
+        assert!(rt; gives(&mut receiver, 0, stamp));
+    }
+    assert!(rt; receiver.take().is_none());
+    Ok(())
+}
+
+// What is under way to processor 0 from processor 2, looked for again where memory was refused.
+fn rests<R: AllocGlobal + Abort + Print>(rt: &R, ports: &mut Vec<Port>) -> Option<usize>
+    requires { AreOneFabric ports.old.items }
+{
+    call_begins(rt, "rest (ports)");
+    let listed = rest(rt.alloc(), ports.as_mut_slice());
+    call_ends(rt);
+    let list = match listed {
+        Ok(list) => list,
+        Err(fault) => {
+            assert_eq!(rt; fault, RestFault::NoMemory);
+            rest(rt.alloc(), ports.as_mut_slice()).ok()?
+        }
+    };
+    let (poster, receiver, letters) = list.get(4)?;
+    (*poster == 2 && *receiver == 0).then_some(letters.len())
+}
+
+#[test]
+fn ports_rest(rt: HostRuntime) -> Result<(), Fail> {
+    let mut ports = fabric(rt.alloc(), 3, 1)?;
+    assert!(rt; send_two(&mut ports[2]));
+    assert_eq!(rt; rests(&rt, &mut ports), Some(2));
+    let port = ports.get_mut(0).ok_or("a port")?;
+    assert!(rt; gives(port, 2, 5) && gives(port, 2, 6) && port.take().is_none());
+    Ok(())
+}

@@ -1,7 +1,7 @@
 //! Threads and sends as they are looked up in a world.
 ghost use Rattle.std.specs.Prelude.{◌≡◌, ◌<◌, ◌≤◌, false, is_some, length};
 ghost use Rattle.std.specs.Option.{option_map};
-ghost use Rattle.l4_model.specs.Machine.{Machine, declaration_of, same_cpu};
+ghost use Rattle.l4_model.specs.Machine.{Machine, declaration_of, same_cpu, most_instructions};
 ghost use Rattle.l4_model.specs.World.{is_ready, is_deleted, receive_now};
 ghost use Rattle.l4_model.specs.Conditions.{instruction, act_of, may_still_accept, call_accepts, is_elsewhere};
 ghost use Rattle.l4_model.specs.Rules.{accepts, destination, ask_act};
@@ -15,7 +15,7 @@ ghost use Rattle.l4_thread.specs.Requests.{is_end};
 
 use crate::periods::has_passed;
 use l4_script::instructions::{Instr, Ipc, To};
-use l4_script::machine::{Declaration, Machine};
+use l4_script::machine::{Declaration, MOST_INSTRUCTIONS, Machine};
 use l4_thread::orders::Asked;
 use l4_thread::sends::{Receive, SendRef};
 use l4_thread::tcb::Tcb;
@@ -101,7 +101,7 @@ impl<'a> Found<'a> {
     /// Its instruction. A place after the last one of its script is an `end`.
     pub fn instruction(&self) -> Instr
         ensures value { instr_of result ≡ instruction self.now }
-        ensures within { is_end (instr_of result) ≡ false → self.now.now.context.place < 1024 }
+        ensures within { is_end (instr_of result) ≡ false → self.now.now.context.place < most_instructions }
     {
         self.declared
             .instruction(self.tcb.thread().place())
@@ -213,10 +213,10 @@ impl<'a> Found<'a> {
     /// What it asked of another thread, and is not done yet.
     pub fn asked(&self) -> Option<Asked>
         ensures value { result ≡ self.now.now.order }
-        ensures limit { length self.now.declared.script ≤ 1024 }
+        ensures limit { length self.now.declared.script ≤ most_instructions }
     {
         let script = self.declared.script();
-        prove!(script.len() <= 1024);
+        prove!(script.len() <= MOST_INSTRUCTIONS);
         self.tcb.order()
     }
 

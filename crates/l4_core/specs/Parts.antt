@@ -1,7 +1,7 @@
 -- What a processor is made of, and what is kept of it.
 use Rattle.std.specs.Prelude.{◌≡◌, ℕ, ◌<◌, ◌≤◌, List, map, length}
 use Rattle.l4_model.specs.Words.{GlobalId}
-use Rattle.l4_model.specs.Machine.{Machine}
+use Rattle.l4_model.specs.Machine.{Machine, most_threads}
 use Rattle.l4_model.specs.World.{Thread}
 use Rattle.l4_core_model.specs.Plain.{Plain}
 use Rattle.l4_core_model.specs.Local.{Local}
@@ -29,7 +29,7 @@ passed tag sender receiver = record receiver { thread = receives_from sender.thr
 pub record IsCore (m : Machine) (cpu : ℕ) (l : Local) : Type 0 where
   pub machine : IsMachine m
   pub processor : cpu < m.cpus
-  pub few : length m.threads ≤ 1024
+  pub few : length m.threads ≤ most_threads
   pub settled : IsSettled m cpu l
 
 abbrev pub AreCore : Processor → Type 0

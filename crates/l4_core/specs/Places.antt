@@ -1,6 +1,7 @@
 -- Sets of places, as bits of words.
 use Rattle.std.specs.Prelude.{ℕ, ◌≡◌, ◌<◌, ◌+◌, ◌/◌, ◌%◌, ◌==◌, Bool, true, false, not, if◌then◌else◌, zero, suc, List, slice_index_or}
 use Rattle.std.specs.Int.{bit_at}
+use Rattle.l4_model.specs.Machine.{most_threads}
 
 -- A place is in the set where its bit is set.
 abbrev pub has : (words : List ℕ) → ℕ → Bool
@@ -17,7 +18,7 @@ pub record IsLowest (word bit : ℕ) : Type 0 where
 
 -- The least place of a set.
 pub record IsFirst (words : List ℕ) (place : ℕ) : Type 0 where
-  pub within : place < 1024
+  pub within : place < most_threads
   pub there : has words place ≡ true
   pub least : (other : ℕ) → other < place → has words other ≡ false
 

@@ -1,7 +1,7 @@
 -- The local states that a processor comes to.
 use Rattle.std.specs.Prelude.{◌≡◌, ℕ, ◌+◌, ◌<◌, ◌≤◌, ◌^◌, true, Option, Some, None, List, is_some, length, slice_index_or}
 use Rattle.std.specs.List.{AllByRecursion}
-use Rattle.l4_model.specs.Words.{GlobalId}
+use Rattle.l4_model.specs.Words.{GlobalId, clock_limit}
 use Rattle.l4_model.specs.Machine.{Machine}
 use Rattle.l4_model.specs.World.{Send, Phase, Ready, Sending, Deleted}
 use Rattle.l4_core_model.specs.Plain as plain
@@ -59,4 +59,4 @@ pub record IsSettled (m : Machine) (cpu : ℕ) (l : Local) : Type 0 where
   pub ready : (i : ℕ) → is_ready_in l.lists i ≡ true → IsReadied m cpu l i
   pub armed : (i : ℕ) → is_armed_in l.lists i ≡ true → IsOwn m cpu i
   pub near : AreNear l.clock l.lists.armed
-  pub clock : l.clock < 2 ^ 62
+  pub clock : l.clock < clock_limit

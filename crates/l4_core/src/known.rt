@@ -1,11 +1,12 @@
 //! What one processor knows: its threads, their lists, its clock, and of other processors' threads what it was told.
 ghost use Rattle.std.specs.Prelude.{◌≡◌, ◌<◌, ◌≤◌, ◌+◌, ◌^◌, Some, length, false, is_some, map, replicate, IfOk, IfSome, slice_get};
 ghost use Rattle.std.specs.Option.{option_map};
-ghost use Rattle.l4_model.specs.Machine.{place_of, is_place};
+ghost use Rattle.l4_model.specs.Machine.{place_of, is_place, most_processors, most_threads, most_instructions};
 ghost use Rattle.l4_model.specs.World.{Send, is_deleted, opening_thread, receive_now};
 ghost use Rattle.l4_model.specs.Conditions.{instruction};
 ghost use Rattle.l4_model.specs.History.{report_of};
 ghost use Rattle.l4_model.specs.Rules.{accepts, ask_act};
+ghost use Rattle.l4_model.specs.Words.{clock_limit};
 ghost use Rattle.l4_types.specs.ReportView.{report_of_view};
 ghost use Rattle.l4_types.specs.StepView.{what_of};
 ghost use Rattle.l4_script.specs.Scripts.{instr_of};
@@ -88,7 +89,7 @@ impl<'m> Known<'m> {
     /// The clock, in ticks.
     pub(crate) fn clock(&self) -> u64
         ensures value { result ≡ self.now.local.clock }
-        ensures fits { result < 2 ^ 62 }
+        ensures fits { result < clock_limit }
     {
         self.clock
     }
@@ -103,7 +104,7 @@ impl<'m> Known<'m> {
     /// The number of this processor.
     pub(crate) fn cpu(&self) -> u8
         ensures value { result ≡ self.now.cpu }
-        ensures fits { result < 16 }
+        ensures fits { result < most_processors }
         ensures core { AreCore self.now }
     {
         let cpus = self.machine.cpus();
@@ -146,7 +147,7 @@ impl<'m> Known<'m> {
     /// How many threads the machine has, at most 1,024.
     pub(crate) fn len(&self) -> usize
         ensures value { result ≡ length self.now.machine.threads }
-        ensures few { result ≤ 1024 }
+        ensures few { result ≤ most_threads }
         ensures core { AreCore self.now }
     {
         self.machine.threads().len()
@@ -346,7 +347,7 @@ impl<'m> Known<'m> {
     pub(crate) fn instruction(&self, place: usize) -> Instr
         requires { place < length self.now.machine.threads }
         ensures value { instr_of result ≡ instruction (held self.now.machine self.now.local place) }
-        ensures within { is_end (instr_of result) ≡ false → (thread self.now.local place).context.place < 1024 }
+        ensures within { is_end (instr_of result) ≡ false → (thread self.now.local place).context.place < most_instructions }
     {
         self.declared(place)
             .instruction(self.tcb(place).thread().place())

@@ -1,16 +1,21 @@
 //! Sets of places of threads.
 ghost use Rattle.std.specs.Prelude.{◌≡◌, ◌<◌, ◌≤◌, ℕ, false, ◌&&◌, ◌||◌, ◌==◌, not, nat_lt, MatchOption, position};
+ghost use Rattle.l4_model.specs.Machine.{most_threads};
 ghost use Rattle.l4_core.specs.Places.{has, is_filled, IsFirst, IsLowest};
 
+use l4_script::machine::MOST_THREADS;
 use std::marker::Model;
 
 // How many places a word has.
 const WIDTH: usize = 64;
 
+// How many words hold a place for each thread.
+const WORDS: usize = MOST_THREADS / WIDTH;
+
 /// A set of places of threads, each below 1,024. Its least place is found without a look at the others.
 #[derive(Drop)]
 pub struct Places {
-    words: [u64; 16],
+    words: [u64; WORDS],
 }
 
 impl Model for Places {
@@ -26,12 +31,12 @@ impl Places {
     pub fn new() -> Places
         ensures { (place : ℕ) → has result place ≡ false }
     {
-        Places { words: [0; 16] }
+        Places { words: [0; WORDS] }
     }
 
     /// Puts a place in, where it is not in yet.
     pub fn insert(&mut self, place: usize)
-        requires { place < 1024 }
+        requires { place < most_threads }
         ensures { (other : ℕ) → has self.new other ≡ (has self.old other || other == place) }
     {
         self.words[place / WIDTH] |= 1 << (place % WIDTH);
@@ -39,7 +44,7 @@ impl Places {
 
     /// Puts all places below a number in.
     pub fn fill(&mut self, count: usize)
-        requires { count ≤ 1024 }
+        requires { count ≤ most_threads }
         ensures { (other : ℕ) → has self.new other ≡ (has self.old other || nat_lt other count) }
     {
         for place in 0..count {
@@ -56,7 +61,7 @@ impl Places {
 
     /// Takes a place out, where it is in.
     pub fn remove(&mut self, place: usize)
-        requires { place < 1024 }
+        requires { place < most_threads }
         ensures { (other : ℕ) → has self.new other ≡ (has self.old other && not (other == place)) }
     {
         self.words[place / WIDTH] &= !(1 << (place % WIDTH));
@@ -64,7 +69,7 @@ impl Places {
 
     /// Whether a place is in.
     pub fn contains(&self, place: usize) -> bool
-        requires { place < 1024 }
+        requires { place < most_threads }
         ensures { result ≡ has self.now place }
     {
         self.words[place / WIDTH] >> (place % WIDTH) & 1 == 1

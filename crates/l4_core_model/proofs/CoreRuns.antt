@@ -5,7 +5,7 @@ use Rattle.l4_model.specs.Machine.{Machine}
 use Rattle.l4_model.specs.Conditions.{◌>>=◌}
 use Rattle.l4_model.proofs.Chains.{some_is, cond_keeps}
 use Rattle.l4_core_model.specs.Runs.{Happening, Ticks, Happened, happens, processors, Run, then_event, core_run, opening_run}
-use Rattle.l4_core_model.specs.Schedules.{next_turn, or_stays, attempts, attempts_all, entry_event, replays, replay, turns_in_order, round, earliest_deadline, ticks_to, ticks, turns_of, has_gone_on, round_or_ticks, rounds, run}
+use Rattle.l4_core_model.specs.Schedules.{next_turn, or_stays, attempts, attempts_all, Entry, entry_of, entry_event, replays, replay, turns_in_order, round, earliest_deadline, ticks_to, ticks, turns_of, has_gone_on, round_or_ticks, rounds, run}
 use Rattle.l4_core_model.specs.Laws.{IsCoreRun}
 
 core_run-last : (m : Machine) (es : List Happening) (r last : Run) (e : Happening) (h : Happened) → core_run m r es ≡ Some last → happens m last.system e ≡ Some h → core_run m r (es ++ e ∷ []) ≡ Some (then_event last h)
@@ -38,14 +38,14 @@ goes_on m r (Some e) s = by (happens m r.system e) refl
 
 -- by a schedule
 
-replays_is_run : (m : Machine) (schedule : List ℕ) (r : Run) → IsRun m r → IsRun m (replays m r schedule)
+replays_is_run : (m : Machine) (schedule : List Entry) (r : Run) → IsRun m r → IsRun m (replays m r schedule)
 replays_is_run m [] r s = s
 replays_is_run m (entry ∷ entries) r s =
     let o : Option Happening = entry_event m r.system entry in
     replays_is_run m entries (or_stays r (o >>= happens m r.system)) (goes_on m r o s)
 
 pub replay_is_core_run : (m : Machine) (schedule : List ℕ) → IsCoreRun m (replay m schedule)
-replay_is_core_run m schedule = let s = replays_is_run m schedule (opening_run m) (opening_is_run m) in (s.happenings, s.is)
+replay_is_core_run m schedule = let s = replays_is_run m (map entry_of schedule) (opening_run m) (opening_is_run m) in (s.happenings, s.is)
 
 -- in rounds
 

@@ -2,7 +2,7 @@
 use Rattle.std.specs.Prelude.{ℕ, zero, suc, ◌-◌, nat_lt, nat_le, min, length, Bool, if◌then◌else◌, Option, Some, None, List, [], ◌∷◌, map, slice_get}
 use Rattle.std.specs.Option.{option_map}
 use Rattle.l4_model.specs.Options.{if_some}
-use Rattle.l4_model.specs.Machine.{Machine}
+use Rattle.l4_model.specs.Machine.{Machine, most_processors}
 use Rattle.l4_model.specs.Conditions.{◌>>=◌}
 use Rattle.l4_core_model.specs.Runs.{System, processors, letters, Happening, Handles, Turns, Ticks, Happened, happens, Run, then_event, opening_run, is_empty}
 
@@ -32,20 +32,30 @@ attempts_all m r (e ∷ es) = attempts_all m (attempts m r e) es
 abbrev pub least_deadline : System → (cpu : ℕ) → Option ℕ
 least_deadline g cpu = slice_get g.locals cpu >>= λ l. option_map (λ e. e.0) (slice_get l.lists.armed 0)
 
--- Replay: an entry below 16 is a turn of that processor, an entry of 16 and more a tick of the processor of that number less 16
--- to its least deadline. Where there is nothing to do, it leaves the run as it is.
+-- An entry of a schedule: a turn of a processor, or a tick of its clock to its least deadline.
+pub data Entry : Type 0 where
+  TurnOf : (cpu : ℕ) → Entry
+  TickOf : (cpu : ℕ) → Entry
 
-abbrev pub entry_event : Machine → System → (entry : ℕ) → Option Happening
-entry_event m g entry =
-    if nat_lt entry 16 then Some (next_turn m g entry)
-    else option_map (Ticks (entry - 16)) (least_deadline g (entry - 16))
+-- A number below 16 is a turn of that processor, another one a tick of the processor of that number less 16.
+abbrev pub entry_of : (number : ℕ) → Entry
+entry_of number = if nat_lt number most_processors then TurnOf number else TickOf (number - most_processors)
 
-abbrev pub replays : Machine → Run → List ℕ → Run
+-- Replay: where there is nothing to do, an entry leaves the run as it is.
+
+abbrev pub entry_event : Machine → System → Entry → Option Happening
+entry_event m g (TurnOf cpu) = Some (next_turn m g cpu)
+entry_event m g (TickOf cpu) = option_map (Ticks cpu) (least_deadline g cpu)
+
+abbrev pub replays : Machine → Run → List Entry → Run
 replays m r [] = r
 replays m r (entry ∷ entries) = replays m (or_stays r (entry_event m r.system entry >>= happens m r.system)) entries
 
+abbrev pub replay_entries : Machine → List Entry → Run
+replay_entries m entries = replays m (opening_run m) entries
+
 abbrev pub replay : Machine → (schedule : List ℕ) → Run
-replay m schedule = replays m (opening_run m) schedule
+replay m schedule = replay_entries m (map entry_of schedule)
 
 -- Rounds: one turn of each processor, rising. Where a round has no event, the clocks go on to the least deadline of all.
 

@@ -1,6 +1,7 @@
 -- The core's turn: the first duty, else the first due timeout, else one instruction of the first ready thread.
-use Rattle.std.specs.Prelude.{ℕ, ◌+◌, ◌==◌, max, nat_lt, Bool, if◌then◌else◌, ◌^◌, Option, Some, None, is_some, List, [], ◌∷◌, find, slice_index_or, slice_get}
+use Rattle.std.specs.Prelude.{ℕ, ◌+◌, ◌==◌, max, nat_lt, Bool, if◌then◌else◌, Option, Some, None, is_some, List, [], ◌∷◌, find, slice_index_or, slice_get}
 use Rattle.std.specs.Option.{option_map}
+use Rattle.l4_model.specs.Words.{clock_limit}
 use Rattle.l4_model.specs.Machine.{Machine}
 use Rattle.l4_model.specs.World.{is_deleted, receive_now, changed}
 use Rattle.l4_model.specs.Steps.{ReceiveTimeout, ReceiveNobody, ReceiveCancel, Tick}
@@ -16,7 +17,7 @@ abbrev pub next_stamp : (letter_stamp : ℕ) → Local → ℕ
 next_stamp letter_stamp l = max l.stamp letter_stamp + 1
 
 abbrev pub can_stamp : Local → (letter_stamp : ℕ) → Bool
-can_stamp l letter_stamp = nat_lt (next_stamp letter_stamp l) (2 ^ 62)
+can_stamp l letter_stamp = nat_lt (next_stamp letter_stamp l) clock_limit
 
 abbrev pub opened : (letter_stamp : ℕ) → Local → Work
 opened letter_stamp l = record { local = record l { stamp = next_stamp letter_stamp l }; steps = []; letters = [] }
@@ -159,5 +160,5 @@ clock_is to l = record l { clock = to }
 abbrev pub advance : Machine → (cpu : ℕ) → (to : ℕ) → Local → Option Work
 advance m cpu to l = do
   nat_lt l.clock to
-  nat_lt to (2 ^ 62)
+  nat_lt to clock_limit
   Some (opened 0 l ▷ tells (Tick cpu to) ▷ does (clock_is to))

@@ -1,10 +1,10 @@
 -- What the rows of a history tell: its records, the heads of its deliveries, and the words of all of them.
-use Rattle.std.specs.Prelude.{◌≡◌, ℕ, ◌+◌, ◌<◌, ◌≤◌, ◌^◌, ⊤, Bool, true, false, Option, Some, None, List, length, map, take, drop, slice_get, All}
+use Rattle.std.specs.Prelude.{◌≡◌, ℕ, ◌+◌, ◌<◌, ◌≤◌, ◌^◌, ⊤, Bool, true, false, Option, Some, None, List, ◌++◌, length, map, take, drop, slice_get, All}
 use Rattle.l4_history.specs.declared.records.Record.{Record}
 use Rattle.l4_history.specs.declared.records.Record.TheVariants.{Local, Begin, Queue, Deliver, Wait, SendTimeout, ReceiveTimeout, SendNobody, ReceiveNobody, SendCancel, ReceiveCancel, Drop, Order, Obey, Tick}
 use Rattle.l4_history.specs.declared.records.Head.{Head}
 use Rattle.l4_history.specs.declared.step_ref.DeliveryRef.{DeliveryRef}
-use Rattle.l4_model.specs.Words.{global_id}
+use Rattle.l4_model.specs.Words.{global_id, register_count}
 use Rattle.l4_model.specs.World.{Message}
 use Rattle.l4_model.specs.Rules.{received_tag}
 use Rattle.l4_model.specs.Steps as steps
@@ -14,6 +14,10 @@ use Rattle.l4_types.specs.StepView.{what_of}
 pub record Told : Type 0 where
   pub steps : List steps.Step
   pub room : ℕ
+
+-- Steps behind those that were told before.
+abbrev pub HasMore : (old new : List steps.Step) → Type 0
+HasMore old new = (more : List steps.Step) × (new ≡ old ++ more)
 
 abbrev pub message_of : List ℕ → Head → Message
 message_of words h =
@@ -47,14 +51,14 @@ told records heads words = map (step_at heads words) records
 -- A head whose words lie in a row of so many words.
 pub record IsHead (words : ℕ) (h : Head) : Type 0 where
   pub within : h.start + h.count ≤ words
-  pub count : h.count < 64
+  pub count : h.count < register_count
   pub label : h.label < 2 ^ 48
 
 -- The head of a delivery whose words begin at a place of the row.
 pub record IsHeadOf (d : DeliveryRef) (start : ℕ) (h : Head) : Type 0 where
   pub begins : h.start ≡ start
   pub count : h.count ≡ length d.message.words
-  pub few : h.count < 64
+  pub few : h.count < register_count
   pub label : h.label < 2 ^ 48
   pub delivery : record { name = h.name; receiver = h.receiver; message = record { label = h.label; words = d.message.words; propagated = h.propagated; shown = h.shown; actual = h.actual }; cross = h.cross } ≡ d
 

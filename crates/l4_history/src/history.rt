@@ -1,7 +1,8 @@
 //! The history of a machine.
-ghost use Rattle.std.specs.Prelude.{◌≡◌, ◌<◌, ◌≤◌, ◌-◌, ◌^◌, [], ◌∷◌, ◌++◌, ◌↔◌, All, OnOk, OnErr, IfOk, Some, IsTrue, length, map, take, drop, slice_get, false};
+ghost use Rattle.std.specs.Prelude.{◌≡◌, ◌<◌, ◌≤◌, ◌-◌, ◌^◌, [], ◌∷◌, ◌++◌, ◌↔◌, All, OnOk, OnErr, IfOk, IfSome, Some, IsTrue, length, map, take, drop, slice_get, false};
+ghost use Rattle.l4_model.specs.History.{begun_name};
 ghost use Rattle.l4_types.specs.StepView.{step_of};
-ghost use Rattle.l4_history.specs.Rows.{IsHead, IsHeadOf, delivery_at, is_delivery, step_at};
+ghost use Rattle.l4_history.specs.Rows.{HasMore, IsHead, IsHeadOf, delivery_at, is_delivery, step_at};
 ghost use Rattle.l4_history.specs.Seen.{delivered, seen};
 
 use crate::message_ref::MessageRef;
@@ -10,15 +11,13 @@ use crate::sink::tell;
 use crate::step_ref::{DeliveryRef, StepRef};
 use crate::steps::Steps;
 use l4_types::errors::NoMemory;
-use l4_types::steps::Step;
+use l4_types::messages::MOST_WORDS;
+use l4_types::steps::{Name, Step};
 use std::alloc::Global;
 use std::marker::Model;
 
 /// An event has at most so many steps.
 pub const EVENT_STEPS: usize = 3;
-
-/// A message has at most so many words.
-pub const MESSAGE_WORDS: usize = 63;
 
 // Room is made for so many steps at once, since to ask each time costs more than a push.
 const CHUNK_STEPS: usize = 64;
@@ -103,7 +102,7 @@ impl History {
         if self.room < EVENT_STEPS {
             self.records.reserve(CHUNK_STEPS)?;
             self.heads.reserve(CHUNK_STEPS)?;
-            self.words.reserve(CHUNK_STEPS * MESSAGE_WORDS)?;
+            self.words.reserve(CHUNK_STEPS * MOST_WORDS)?;
             self.room = CHUNK_STEPS;
         }
         Ok(())
@@ -165,6 +164,39 @@ impl History {
         self.room -= 1;
     }
 
+    // Appends the step at a place of another history, as it is stored there.
+    fn push_stored(&mut self, other: &History, place: usize)
+        requires room { 0 < self.old.room }
+        requires within { place < length other.now.steps }
+        ensures { IfSome (slice_get other.now.steps place) (λ step. self.new ≡ record { steps = self.old.steps ++ step ∷ []; room = self.old.room - 1 }) }
+    {
+        match other.records[place] {
+            Record::Deliver(at) => self.push_delivery(&delivery(&other.heads, &other.words, at)),
+            whole => self.push_whole(whole),
+        }
+    }
+
+    // Appends the steps from one place of another history up to another, counted from 0.
+    fn extend_between(&mut self, other: &History, start: usize, end: usize) -> Result<(), NoMemory>
+        requires { end ≤ length other.now.steps }
+        ensures ok { OnOk result (self.new.steps ≡ self.old.steps ++ drop start (take end other.now.steps)) }
+        ensures err { OnErr result (HasMore self.old.steps self.new.steps) }
+    {
+        for place in start..end {
+            self.reserve()?;
+            self.push_stored(other, place);
+        }
+        Ok(())
+    }
+
+    /// Appends steps of another history. Where memory is refused, some of them may have been appended.
+    pub fn extend(&mut self, steps: &Steps<'_>) -> Result<(), NoMemory>
+        ensures ok { OnOk result (self.new.steps ≡ self.old.steps ++ steps.now) }
+        ensures err { OnErr result (HasMore self.old.steps self.new.steps) }
+    {
+        self.extend_between(steps.history, steps.next, steps.end)
+    }
+
     /// Its steps in order.
     pub fn steps(&self) -> Steps<'_>
         ensures { result ≡ self.now.steps }
@@ -181,6 +213,17 @@ impl History {
             history: self,
             next: start,
             end,
+        }
+    }
+
+    /// The send that the i-th step begins, counted from 0. None where it begins none.
+    pub fn begun(&self, i: usize) -> Option<Name>
+        requires { i < length self.now.steps }
+        ensures { IfSome (slice_get self.now.steps i) (λ step. result ≡ begun_name step) }
+    {
+        match self.records[i] {
+            Record::Begin(name) => Some(name),
+            _ => None,
         }
     }
 

@@ -1,5 +1,6 @@
 //! A message that is only looked at.
 ghost use Rattle.std.specs.Prelude.{◌≡◌, ◌^◌, ◌<◌, length, false};
+ghost use Rattle.l4_model.specs.Words.{register_count};
 ghost use Rattle.l4_types.specs.Flags.{flags_of};
 
 use arrayvec::ArrayVec;
@@ -21,13 +22,14 @@ pub struct MessageRef<'a> {
 
 impl<'a> Model for MessageRef<'a> {
     ghost use Rattle.std.specs.Prelude.{◌<◌, ◌^◌, length};
+    ghost use Rattle.l4_model.specs.Words.{register_count};
     ghost use Rattle.l4_model.specs.World.{Message as ModelMessage};
 
     ghost Value = { ModelMessage };
 
     ghost view = { λ m. record { label = m.label; words = m.words.now; propagated = m.propagated; shown = m.shown; actual = m.actual } };
 
-    ghost invariant = { λ m. (m.label < 2 ^ 48) × (length m.words.now < 64) };
+    ghost invariant = { λ m. (m.label < 2 ^ 48) × (length m.words.now < register_count) };
 }
 
 impl<'a> From<&'a Message> for MessageRef<'a> {
@@ -55,7 +57,7 @@ impl<'a> MessageRef<'a> {
         actual: GlobalId,
     ) -> MessageRef<'a>
         requires label { label < 2 ^ 48 }
-        requires words { length words.now < 64 }
+        requires words { length words.now < register_count }
         ensures { result ≡ record { label = label; words = words.now; propagated = propagated; shown = shown; actual = actual } }
     {
         MessageRef {
@@ -85,7 +87,7 @@ impl<'a> MessageRef<'a> {
     /// The untyped words, at most 63.
     pub fn words(&self) -> &'a [u64]
         ensures value { result.now ≡ self.now.words }
-        ensures fits { length result.now < 64 }
+        ensures fits { length result.now < register_count }
     {
         self.words
     }

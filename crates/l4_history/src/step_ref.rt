@@ -64,8 +64,11 @@ pub enum StepRef<'a> {
     Drop(Name),
     /// The caller asked for a cancellation or the deletion of the target.
     Order {
+        /// The thread that asked.
         caller: GlobalId,
+        /// The thread that it is to be done to.
         target: GlobalId,
+        /// What is to be done.
         what: What,
     },
     /// What this caller asked for was done.

@@ -13,9 +13,9 @@ const SHARE: u64 = 100;
 
 const TURNS: u64 = 1_600;
 
-// On each processor a thread that calls the server of the next one, a server, and one that cancels what goes on two processors further and calls
-// the server there.
-fn busy_machine<R: AllocGlobal>(rt: &R) -> Result<String, Fail> {
+/// On each of 16 processors a thread that calls the server of the next one, a server, and one that cancels what goes on two processors further and
+/// calls the server there.
+pub(crate) fn busy_machine<R: AllocGlobal>(rt: &R) -> Result<String, Fail> {
     let mut text = format!(in rt.alloc(); "l4 1 64\ncpus {CPUS}\n")?;
     for cpu in 0..16u32 {
         let next = 100 + (cpu + 1) % 16;

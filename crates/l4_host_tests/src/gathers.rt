@@ -1,6 +1,7 @@
 // Processors that a caller puts to work itself, and what they come to together.
 ghost use Rattle.std.specs.Prelude.{◌<◌, ◌≤◌, IfSome};
 ghost use Rattle.l4_machine.specs.Gathers.{AreOfOne};
+ghost use Rattle.l4_proc.specs.Working.{HasGoneOn};
 
 use l4_jobs::report_lines::write_report;
 use l4_machine::{Outcome, RunFault, gather};
@@ -8,7 +9,7 @@ use l4_proc::assembly::assemble;
 use l4_proc::gate::Open;
 use l4_proc::processor::Processor;
 use l4_proc::stops::Stop;
-use l4_samples::ACROSS;
+use l4_samples::{ACROSS, call_begins, call_ends};
 use l4_script::machine::Machine;
 use l4_trace::traces::trace;
 use std::alloc::Global;
@@ -39,10 +40,28 @@ thread 3.1 cpu 2 space 1
 jump 0
 ";
 
-// The processors of a machine, which have taken turns one after the other: each time so many of one of them. None where one does not take as
-// many.
-fn worked<'m>(
-    alloc: Global,
+// A processor takes so many turns, those that are left by a second call where memory was refused. Answers whether it has taken all.
+fn takes<R: Print>(rt: &R, processor: &mut Processor<'_>, turns: u64) -> bool
+    ensures { HasGoneOn processor.old processor.new }
+{
+    let last = processor.turns().saturating_add(turns);
+    call_begins(rt, "work");
+    let stop = processor.work(turns, &Open);
+    call_ends(rt);
+    // Nothing of a turn that was not taken is in the log.
+    let whole = processor.log().len() as u64 == processor.turns();
+    let stop = if stop == Stop::NoMemory {
+        processor.work(last.saturating_sub(processor.turns()), &Open)
+    } else {
+        stop
+    };
+    whole && stop == Stop::Used
+}
+
+/// The processors of a machine, which have taken turns one after the other: each time so many of one of them. None where one does not take as
+/// many.
+pub(crate) fn worked<'m, R: AllocGlobal + Print>(
+    rt: &R,
     machine: &'m Machine,
     room: usize,
     shares: &[(usize, u64)],
@@ -50,14 +69,14 @@ fn worked<'m>(
     requires { (0 < room) × (room ≤ 65536) }
     ensures { IfSome result (λ processors. AreOfOne machine.now processors.items) }
 {
-    let Ok(mut processors) = assemble(alloc, machine, room) else {
+    let Ok(mut processors) = assemble(rt.alloc(), machine, room) else {
         return None;
     };
     for (cpu, turns) in shares {
         if *cpu >= processors.len() {
             return None;
         }
-        if processors[*cpu].work(*turns, &Open) != Stop::Used {
+        if !takes(rt, &mut processors[*cpu], *turns) {
             return None;
         }
     }
@@ -65,29 +84,32 @@ fn worked<'m>(
 }
 
 // What they come to.
-fn gathered(
-    alloc: Global,
+fn gathered<R: AllocGlobal + Print>(
+    rt: &R,
     machine: &Machine,
     room: usize,
     shares: &[(usize, u64)],
 ) -> Option<Outcome>
     requires { (0 < room) × (room ≤ 65536) }
 {
-    let processors = worked(alloc, machine, room, shares)?;
-    gather(alloc, machine, processors).ok()
+    let processors = worked(rt, machine, room, shares)?;
+    gathered_again(rt, machine, processors)
 }
 
-// What they come to where the call is made again for want of memory.
-fn gathered_again(
-    alloc: Global,
+/// What they come to, by a second call where memory was refused.
+pub(crate) fn gathered_again<R: AllocGlobal + Print>(
+    rt: &R,
     machine: &Machine,
     processors: Vec<Processor<'_>>,
 ) -> Option<Outcome>
     requires { AreOfOne machine.now processors.items }
 {
-    match gather(alloc, machine, processors) {
+    call_begins(rt, "gather");
+    let gathered = gather(rt.alloc(), machine, processors);
+    call_ends(rt);
+    match gathered {
         Ok(outcome) => Some(outcome),
-        Err((RunFault::NoMemory, back)) => gather(alloc, machine, back).ok(),
+        Err((RunFault::NoMemory, back)) => gather(rt.alloc(), machine, back).ok(),
         Err(_) => None,
     }
 }
@@ -130,7 +152,7 @@ fn two_logs_make_one_history(rt: HostRuntime) -> Result<(), Fail> {
         .ok()
         .ok_or("a machine")?;
     let shares = [(1, 1), (0, 3), (1, 1), (0, 2), (1, 1)];
-    let outcome = gathered(rt.alloc(), &machine, 64, &shares).ok_or("an outcome")?;
+    let outcome = gathered(&rt, &machine, 64, &shares).ok_or("an outcome")?;
     let lines =
         "local 1.1\nwait 2.1\nlocal 1.1\nbegin 1.1#1\nqueue 1.1#1\ndeliver 1.1#1 2.1 1.1 1.1 74001 a\nlocal 2.1\nlocal 1.1\n";
     let report =
@@ -145,7 +167,7 @@ fn full_rings_hold_nothing_back(rt: HostRuntime) -> Result<(), Fail> {
     let machine = Machine::parse(rt.alloc(), QUEUED.as_bytes())
         .ok()
         .ok_or("a machine")?;
-    let outcome = gathered(rt.alloc(), &machine, 1, &[(0, 3), (1, 3)]).ok_or("an outcome")?;
+    let outcome = gathered(&rt, &machine, 1, &[(0, 3), (1, 3)]).ok_or("an outcome")?;
     let lines =
         "begin 1.1#1\nbegin 2.1#1\nqueue 1.1#1\nbegin 3.1#1\nwait 4.1\ndeliver 1.1#1 4.1 1.1 1.1 4000\n";
     let report =
@@ -171,9 +193,7 @@ fn one_of_them_is_missing(rt: HostRuntime) -> Result<(), Fail> {
     let machine = Machine::parse(rt.alloc(), TOGETHER.as_bytes())
         .ok()
         .ok_or("a machine")?;
-    let processors = worked(rt.alloc(), &machine, 1, &[(1, 2), (2, 1), (0, 2)]).ok_or(
-        "processors",
-    )?;
+    let processors = worked(&rt, &machine, 1, &[(1, 2), (2, 1), (0, 2)]).ok_or("processors")?;
     let (fault, back) = gathered_without_last(rt.alloc(), &machine, processors).ok_or("a fault")?;
     assert_eq!(rt; fault, RunFault::Strangers);
     assert_eq!(rt; back.len(), 2);
@@ -183,26 +203,4 @@ fn one_of_them_is_missing(rt: HostRuntime) -> Result<(), Fail> {
         assert_eq!(rt; back[place].log().len(), 2);
     }
     Ok(())
-}
-
-// To be run with each allocation refused in turn: the processors come back, and the same call comes to the same then. Where memory is refused
-// to those that make them, nothing is to be gathered.
-#[test]
-fn what_memory_was_refused_for_is_gathered_again(rt: HostRuntime) {
-    let Ok(machine) = Machine::parse(rt.alloc(), QUEUED.as_bytes()) else {
-        return;
-    };
-    let shares = [(0, 3), (1, 3)];
-    let Some(first) = gathered(rt.alloc(), &machine, 1, &shares) else {
-        return;
-    };
-    let Some(processors) = worked(rt.alloc(), &machine, 1, &shares) else {
-        return;
-    };
-    let again = gathered_again(rt.alloc(), &machine, processors).expect(&rt, "an outcome");
-    assert!(rt; again.history.as_slice() == first.history.as_slice());
-    assert!(rt; again.waiting.as_slice() == first.waiting.as_slice());
-    assert!(rt; again.threads.as_slice() == first.threads.as_slice());
-    assert!(rt; again.ending == first.ending);
-    assert_eq!(rt; again.turns, first.turns);
 }

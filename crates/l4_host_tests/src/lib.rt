@@ -8,4 +8,8 @@ mod gathers;
 #[cfg(test)]
 mod processors;
 #[cfg(test)]
+mod refused;
+#[cfg(test)]
+mod rooms;
+#[cfg(test)]
 mod runs;

@@ -23,8 +23,8 @@ thread 1.1 cpu 0 space 1
 ipc nil any never 5
 ";
 
-// Whether the events of a log have these stamps.
-fn has_stamps(log: &Log, stamps: &[u64]) -> bool
+/// Whether the events of a log have these stamps.
+pub(crate) fn has_stamps(log: &Log, stamps: &[u64]) -> bool
     requires { IsClosed log.now }
 {
     if log.len() != stamps.len() {
@@ -165,8 +165,8 @@ fn a_message_crosses_between_threads(rt: HostRuntime) -> Result<(), Fail> {
     Ok(())
 }
 
-// Whether the processor at this place takes turns until it finds nothing.
-fn runs_idle(processors: &mut Vec<Processor<'_>>, at: usize) -> bool
+/// Whether the processor at this place takes turns until it finds nothing.
+pub(crate) fn runs_idle(processors: &mut Vec<Processor<'_>>, at: usize) -> bool
     requires { AreOneFabric (map (λ p. p.port) processors.old.items) }
     ensures { AreOneFabric (map (λ p. p.port) processors.new.items) }
 {

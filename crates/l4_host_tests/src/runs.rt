@@ -15,8 +15,7 @@ use std::test::Fail;
 use std::thread;
 use std::thread::Threads;
 
-/// What a run comes to. Tests what every run must have: its history is one of the machine, which leads to the threads and the sends that it
-/// reports; and unless it has come to rest it has used up its turns, with at most one more for each other processor.
+/// What a run comes to, which is tested for what every run must have.
 pub(crate) fn comes_to<R: AllocGlobal + Abort + Threads + Sync, G: Gate + Sync>(
     rt: &R,
     text: &str,
@@ -29,18 +28,32 @@ pub(crate) fn comes_to<R: AllocGlobal + Abort + Threads + Sync, G: Gate + Sync>(
     let outcome = run(rt, rt.alloc(), &machine, turns, gate)
         .ok()
         .expect(rt, "an outcome");
-    let audit = check(rt.alloc(), &machine, outcome.history.as_slice())
+    is_right(rt, &machine, turns, &outcome);
+    outcome
+}
+
+/// Tests that the history of an outcome is one of the machine, which leads to the threads and the sends that it reports, and if it is quiet, to a still
+/// world.
+pub(crate) fn passes<R: AllocGlobal + Abort>(rt: &R, machine: &Machine, outcome: &Outcome) {
+    let audit = check(rt.alloc(), machine, outcome.history.as_slice())
         .ok()
         .expect(rt, "a history of the machine");
     assert!(rt; audit.threads.as_slice() == outcome.threads.as_slice());
     assert!(rt; audit.waiting.as_slice() == outcome.waiting.as_slice());
-    if outcome.ending == Ending::Quiet {
-        assert!(rt; audit.ending == Ending::Quiet);
-    } else {
-        assert!(rt; outcome.turns >= turns);
-    }
+    assert!(rt; outcome.ending == Ending::Spent || audit.ending == Ending::Quiet);
+}
+
+/// Tests what every outcome of a run of so many turns must have: it passes, and unless it has come to rest it has used up its turns, with at most one
+/// more for each other processor.
+pub(crate) fn is_right<R: AllocGlobal + Abort>(
+    rt: &R,
+    machine: &Machine,
+    turns: u64,
+    outcome: &Outcome,
+) {
+    passes(rt, machine, outcome);
+    assert!(rt; outcome.ending == Ending::Quiet || outcome.turns >= turns);
     assert!(rt; outcome.turns.saturating_sub(turns) < u64::from(machine.cpus()));
-    outcome
 }
 
 // Holds turns 1 and 10 of each processor until the same turn of all others was reached.

@@ -1,9 +1,11 @@
--- Each entry below 32 has one item.
-use Rattle.std.proofs.Common.{◌≡◌, ℕ, ◌+◌, ◌-◌, ◌<◌, ◌≤◌, ◌/◌, ◌%◌, Bool, true, false, Option, Some, None, List, [], ◌∷◌, ◌++◌, refl, sym, ap, ap₂, inl, inr, ◌∙◌, arith}
+-- Each entry of a processor below 16 has one item.
+use Rattle.std.proofs.Common.{◌≡◌, ℕ, ◌+◌, ◌-◌, ◌<◌, ◌≤◌, ◌/◌, ◌%◌, Bool, true, false, Option, Some, None, List, [], ◌∷◌, ◌++◌, refl, sym, ap, ap₂, subst, inl, inr, ◌∙◌, arith}
 use Rattle.std.specs.Prelude.{◌==◌, ◌&&◌, ◌⊎◌, nat_le, nat_lt, if◌then◌else◌, codes, decimal, option_map}
 use Rattle.std.proofs.lemmas.Bool.{cases_lt}
 use Rattle.std.proofs.lemmas.Bool.Decides.{nat_tests}
 use Rattle.std.proofs.lemmas.Fmt.{decimal_digit, decimal_step}
+use Rattle.l4_core_model.specs.Schedules.{Entry, TurnOf, TickOf}
+use Rattle.l4_machine.specs.Entries.{processor_of as entry_processor}
 use Rattle.l4_jobs.specs.Items.{processor_of, entry_of, item_of}
 
 teen : (p : ℕ) → 10 ≤ p → p < 16 → decimal p ≡ 49 ∷ (48 + (p - 10)) ∷ []
@@ -60,50 +62,42 @@ processor_alone (a ∷ b ∷ c ∷ rest) p h = cc
 
 -- Items
 
-plain_is : (d : ℕ) (rest : List ℕ) → d ≤ 57 → entry_of (d ∷ rest) ≡ processor_of (d ∷ rest)
+plain_is : (d : ℕ) (rest : List ℕ) → d ≤ 57 → entry_of (d ∷ rest) ≡ option_map TurnOf (processor_of (d ∷ rest))
 plain_is d rest small = let other : (d == 116) ≡ false = grind (arith, nat_tests) in rw other refl
 
-processor_entry : (p : ℕ) → p < 16 → entry_of (decimal p) ≡ processor_of (decimal p)
+processor_entry : (p : ℕ) → p < 16 → entry_of (decimal p) ≡ option_map TurnOf (processor_of (decimal p))
 processor_entry p small = by (cases_lt p 10)
   where
-    by : (p < 10) ⊎ (10 ≤ p) → entry_of (decimal p) ≡ processor_of (decimal p)
+    by : (p < 10) ⊎ (10 ≤ p) → entry_of (decimal p) ≡ option_map TurnOf (processor_of (decimal p))
     by (inl one) = rw (decimal_digit p one) (plain_is (48 + p) [] (omega arith))
     by (inr two) = rw (teen p two small) (plain_is 49 ((48 + (p - 10)) ∷ []) (omega arith))
 
-pub item_spells : (entry : ℕ) → entry < 32 → entry_of (item_of entry) ≡ Some entry
-item_spells entry small = by (nat_lt entry 16) refl
-  where
-    by : (b : Bool) → nat_lt entry 16 ≡ b → entry_of (if b then decimal entry else codes "t" ++ decimal (entry - 16)) ≡ Some entry
-    by true is = let below : entry < 16 = grind (arith, nat_tests) in processor_entry entry below ∙ processor_spells entry below
-    by false is =
-        let least : 16 ≤ entry = grind (arith, nat_tests) in
-        let value : 16 + (entry - 16) ≡ entry = omega arith in
-        ap (option_map (λ cpu. 16 + cpu)) (processor_spells (entry - 16) (omega arith)) ∙ ap (λ (n : ℕ). Some n) value
+pub item_spells : (entry : Entry) → entry_processor entry < 16 → entry_of (item_of entry) ≡ Some entry
+item_spells (TurnOf cpu) small = processor_entry cpu small ∙ ap (option_map TurnOf) (processor_spells cpu small)
+item_spells (TickOf cpu) small = ap (option_map TickOf) (processor_spells cpu small)
 
-ticks : (word : List ℕ) (entry : ℕ) (o : Option ℕ) → processor_of word ≡ o → option_map (λ cpu. 16 + cpu) o ≡ Some entry → (entry < 32) × (116 ∷ word ≡ item_of entry)
+ticks : (word : List ℕ) (entry : Entry) (o : Option ℕ) → processor_of word ≡ o → option_map TickOf o ≡ Some entry → (entry_processor entry < 16) × (116 ∷ word ≡ item_of entry)
 ticks word entry None is h = cc
 ticks word entry (Some p) is h =
-    let same : 16 + p ≡ entry = cc in
+    let same : TickOf p ≡ entry = cc in
     let alone = processor_alone word p is in
-    let least : nat_lt entry 16 ≡ false = grind (arith, nat_tests) in
-    let value : p ≡ entry - 16 = omega arith in
-    (omega (arith, alone.0), ap (λ (w : List ℕ). 116 ∷ w) (alone.1 ∙ ap decimal value) ∙ sym (ap (λ b. if b then decimal entry else codes "t" ++ decimal (entry - 16)) least))
+    (subst (λ e. entry_processor e < 16) same alone.0, ap (λ (w : List ℕ). 116 ∷ w) alone.1 ∙ ap item_of same)
 
-turns : (word : List ℕ) (entry : ℕ) → processor_of word ≡ Some entry → (entry < 32) × (word ≡ item_of entry)
-turns word entry h =
-    let alone = processor_alone word entry h in
-    let small : entry < 16 = alone.0 in
-    let below : nat_lt entry 16 ≡ true = grind (arith, nat_tests) in
-    (omega arith, alone.1 ∙ sym (ap (λ b. if b then decimal entry else codes "t" ++ decimal (entry - 16)) below))
+turns : (word : List ℕ) (entry : Entry) (o : Option ℕ) → processor_of word ≡ o → option_map TurnOf o ≡ Some entry → (entry_processor entry < 16) × (word ≡ item_of entry)
+turns word entry None is h = cc
+turns word entry (Some p) is h =
+    let same : TurnOf p ≡ entry = cc in
+    let alone = processor_alone word p is in
+    (subst (λ e. entry_processor e < 16) same alone.0, alone.1 ∙ ap item_of same)
 
-by_first : (first : ℕ) (rest : List ℕ) (entry : ℕ) (b : Bool) → (first == 116) ≡ b →
-    (if b then option_map (λ cpu. 16 + cpu) (processor_of rest) else processor_of (first ∷ rest)) ≡ Some entry → (entry < 32) × (first ∷ rest ≡ item_of entry)
+by_first : (first : ℕ) (rest : List ℕ) (entry : Entry) (b : Bool) → (first == 116) ≡ b →
+    (if b then option_map TickOf (processor_of rest) else option_map TurnOf (processor_of (first ∷ rest))) ≡ Some entry → (entry_processor entry < 16) × (first ∷ rest ≡ item_of entry)
 by_first first rest entry true is h =
     let same : first ≡ 116 = grind (arith, nat_tests) in
     let t = ticks rest entry _ refl h in
     (t.0, ap (λ (n : ℕ). n ∷ rest) same ∙ t.1)
-by_first first rest entry false is h = turns (first ∷ rest) entry h
+by_first first rest entry false is h = turns (first ∷ rest) entry _ refl h
 
-pub item_alone : (item : List ℕ) (entry : ℕ) → entry_of item ≡ Some entry → (entry < 32) × (item ≡ item_of entry)
+pub item_alone : (item : List ℕ) (entry : Entry) → entry_of item ≡ Some entry → (entry_processor entry < 16) × (item ≡ item_of entry)
 item_alone [] entry h = cc
 item_alone (first ∷ rest) entry h = by_first first rest entry _ refl h

@@ -2,8 +2,9 @@
 use Rattle.std.proofs.Common.{◌≡◌, ℕ, ◌+◌, Bool, true, false, Option, Some, None, Ok, Err, List, [], ◌∷◌, ◌++◌, length, refl, sym, ap, ◌∙◌, arith, length-append}
 use Rattle.std.specs.Prelude.{if◌then◌else◌, nat_lt, option_map}
 use Rattle.l4_model.specs.Machine.{Machine}
+use Rattle.l4_core_model.specs.Schedules.{Entry}
 use Rattle.l4_machine.specs.declared.outcome.RunFault.TheVariants.{Turns, Schedule}
-use Rattle.l4_machine.specs.Entries.{is_entry, first_stranger, schedule_fault}
+use Rattle.l4_machine.specs.Entries.{is_entry, first_stranger, entries_fault, most_entries}
 use Rattle.l4_jobs.specs.Items.{items_of, if_entry, machine_entry, entry_of, or_fault, read_items, schedule_of}
 
 -- One lawful entry more.
@@ -12,13 +13,13 @@ if_lawful : (b : Bool) (place : ℕ) (rest more : Option ℕ) → (rest ≡ None
 if_lawful true place rest more goes_on h = goes_on h
 if_lawful false place rest more goes_on h = h
 
-one_more : (m : Machine) (place : ℕ) (entries : List ℕ) (entry : ℕ) → first_stranger m place entries ≡ None → is_entry m entry ≡ true →
+one_more : (m : Machine) (place : ℕ) (entries : List Entry) (entry : Entry) → first_stranger m place entries ≡ None → is_entry m entry ≡ true →
     first_stranger m place (entries ++ entry ∷ []) ≡ None
 one_more m place [] entry lawful is = ap (λ b. if b then None else Some place) is
 one_more m place (first ∷ entries) entry lawful is =
     if_lawful (is_entry m first) place _ _ (λ h. one_more m (place + 1) entries entry h is) lawful
 
-is_one : (m : Machine) (o : Option ℕ) (entry : ℕ) → if_entry m o ≡ Some entry → is_entry m entry ≡ true
+is_one : (m : Machine) (o : Option Entry) (entry : Entry) → if_entry m o ≡ Some entry → is_entry m entry ≡ true
 is_one m None entry h = cc
 is_one m (Some e) entry h = by (is_entry m e) refl h
   where
@@ -27,11 +28,11 @@ is_one m (Some e) entry h = by (is_entry m e) refl h
     by false is h = cc
 
 -- What was read is as long as its list, and lawful.
-pub record IsRead (m : Machine) (items : ℕ) (entries : List ℕ) : Type 0 where
+pub record IsRead (m : Machine) (items : ℕ) (entries : List Entry) : Type 0 where
   pub count : length entries ≡ items
   pub lawful : first_stranger m 1 entries ≡ None
 
-read_lawful : (m : Machine) (items : List (List ℕ)) (so_far entries : List ℕ) → first_stranger m 1 so_far ≡ None → read_items m so_far items ≡ Ok entries →
+read_lawful : (m : Machine) (items : List (List ℕ)) (so_far entries : List Entry) → first_stranger m 1 so_far ≡ None → read_items m so_far items ≡ Ok entries →
     IsRead m (length so_far + length items) entries
 read_lawful m [] so_far entries lawful h =
     let same : so_far ≡ entries = cc in
@@ -39,8 +40,8 @@ read_lawful m [] so_far entries lawful h =
 read_lawful m (item ∷ items) so_far entries lawful h =
     by (machine_entry m item) refl (λ entry is rest. read_lawful m items (so_far ++ entry ∷ []) entries (one_more m 1 so_far entry lawful (is_one m (entry_of item) entry is)) rest) h
   where
-    by : (o : Option ℕ) → machine_entry m item ≡ o →
-        ((entry : ℕ) → machine_entry m item ≡ Some entry → read_items m (so_far ++ entry ∷ []) items ≡ Ok entries → IsRead m (length (so_far ++ entry ∷ []) + length items) entries) →
+    by : (o : Option Entry) → machine_entry m item ≡ o →
+        ((entry : Entry) → machine_entry m item ≡ Some entry → read_items m (so_far ++ entry ∷ []) items ≡ Ok entries → IsRead m (length (so_far ++ entry ∷ []) + length items) entries) →
         or_fault (length so_far + 1) o (λ entry. read_items m (so_far ++ entry ∷ []) items) ≡ Ok entries → IsRead m (length so_far + length (item ∷ items)) entries
     by None is goes_on h = cc
     by (Some entry) is goes_on h =
@@ -48,12 +49,12 @@ read_lawful m (item ∷ items) so_far entries lawful h =
         let longer = length-append so_far (entry ∷ []) in
         record { count = omega (arith, rest.count, longer); lawful = rest.lawful }
 
-pub lawful_schedule : (m : Machine) (list entries : List ℕ) → schedule_of m list ≡ Ok entries → schedule_fault m entries ≡ None
-lawful_schedule m list entries h = by (nat_lt 1000000 (length (items_of list))) refl h
+pub lawful_schedule : (m : Machine) (list : List ℕ) (entries : List Entry) → schedule_of m list ≡ Ok entries → entries_fault m entries ≡ None
+lawful_schedule m list entries h = by (nat_lt most_entries (length (items_of list))) refl h
   where
-    by : (b : Bool) → nat_lt 1000000 (length (items_of list)) ≡ b → (if b then Err Turns else read_items m [] (items_of list)) ≡ Ok entries → schedule_fault m entries ≡ None
+    by : (b : Bool) → nat_lt most_entries (length (items_of list)) ≡ b → (if b then Err Turns else read_items m [] (items_of list)) ≡ Ok entries → entries_fault m entries ≡ None
     by true is h = cc
     by false is h =
         let read = read_lawful m (items_of list) [] entries refl h in
-        let few : nat_lt 1000000 (length entries) ≡ false = ap (nat_lt 1000000) (read.count ∙ omega arith) ∙ is in
+        let few : nat_lt most_entries (length entries) ≡ false = ap (nat_lt most_entries) (read.count ∙ omega arith) ∙ is in
         ap (λ b. if b then Some Turns else option_map Schedule (first_stranger m 1 entries)) few ∙ ap (option_map Schedule) read.lawful

@@ -5,7 +5,7 @@ use Rattle.std.proofs.lemmas.Bool.{eqb-true, ltb-true, or_cases}
 use Rattle.l4_model.specs.Machine.{Machine}
 use Rattle.l4_model.specs.History.{reached}
 use Rattle.l4_core_model.specs.Runs.{Run}
-use Rattle.l4_core_model.specs.Schedules.{replay}
+use Rattle.l4_core_model.specs.Schedules.{Entry, replay_entries}
 use Rattle.l4_types.specs.declared.reports.Ending.{Ending}
 use Rattle.l4_types.specs.declared.reports.Ending.TheVariants.{Quiet, Spent}
 use Rattle.l4_machine.specs.Entries.{turns_fault}
@@ -66,7 +66,7 @@ run_shown report m turns o lines status right found =
     let asked : IsRunAsked m turns (in_order found.run) = record { lawful = lawful turns right; run = found.run; is = found.is; sorted = refl } in
     shown report m (IsRunAsked m turns) (in_order found.run) o lines status asked found.outcome
 
-pub replay_shown : (report : Bool) (m : Machine) (list entries : List ℕ) (o : Findings) (lines : List ℕ) (status : ℕ) → schedule_of m list ≡ Ok entries →
-    IsOutcomeOf m (replay m entries) o → lines ≡ lines_of_outcome report o → status ≡ status_of_ending o.ending →
+pub replay_shown : (report : Bool) (m : Machine) (list : List ℕ) (entries : List Entry) (o : Findings) (lines : List ℕ) (status : ℕ) → schedule_of m list ≡ Ok entries →
+    IsOutcomeOf m (replay_entries m entries) o → lines ≡ lines_of_outcome report o → status ≡ status_of_ending o.ending →
     IsRunShown report m (IsReplayAsked m list) lines status
-replay_shown report m list entries o lines status is = shown report m (IsReplayAsked m list) (replay m entries) o lines status (ap (replayed m) is)
+replay_shown report m list entries o lines status is = shown report m (IsReplayAsked m list) (replay_entries m entries) o lines status (ap (replayed m) is)

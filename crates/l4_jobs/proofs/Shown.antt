@@ -8,8 +8,9 @@ use Rattle.std.proofs.lemmas.Bool.Decides.{nat_tests}
 use Rattle.std.proofs.lemmas.List.{length-take, take_all}
 use Rattle.l4_model.specs.Machine.{Machine}
 use Rattle.l4_model.proofs.Faults.{tells_first_fault}
+use Rattle.l4_core_model.specs.Schedules.{Entry}
 use Rattle.l4_script.specs.Texts.{machine_of_text}
-use Rattle.l4_machine.specs.Entries.{schedule_fault}
+use Rattle.l4_machine.specs.Entries.{entries_fault}
 use Rattle.l4_machine.specs.declared.outcome.CompactOutcome.{CompactOutcome}
 use Rattle.l4_machine.specs.declared.outcome.RunFault.{RunFault}
 use Rattle.l4_machine.specs.declared.outcome.RunFault.TheVariants.{NoMemory}
@@ -97,8 +98,8 @@ pub shown_status : (job : Job) (text trace lines : List ℕ) (status : ℕ) → 
 shown_status job text trace lines status s = status_on job s.machine trace lines status s.shown
 
 -- A schedule that was read has no fault when it is replayed.
-pub replay_fault : (m : Machine) (list entries : List ℕ) (r : Result CompactOutcome RunFault) → schedule_of m list ≡ Ok entries →
-    IfErr r (λ fault. (fault ≡ NoMemory) ⊎ (schedule_fault m entries ≡ Some fault)) →
+pub replay_fault : (m : Machine) (list : List ℕ) (entries : List Entry) (r : Result CompactOutcome RunFault) → schedule_of m list ≡ Ok entries →
+    IfErr r (λ fault. (fault ≡ NoMemory) ⊎ (entries_fault m entries ≡ Some fault)) →
     IfErr r (λ fault. (fault ≡ NoMemory) ⊎ (schedule_of m list ≡ Err fault))
 replay_fault m list entries (Ok o) is h = tt
 replay_fault m list entries (Err fault) is (inl e) = inl e

@@ -2,9 +2,10 @@
 use Rattle.std.specs.Prelude.{ℕ, ◌+◌, ◌-◌, ◌==◌, ◌&&◌, nat_lt, nat_le, if◌then◌else◌, Option, Some, None, Result, Ok, Err, List, [], ◌∷◌, ◌++◌, length, option_map, codes, decimal}
 use Rattle.std.specs.List.{slice_split}
 use Rattle.l4_model.specs.Machine.{Machine}
+use Rattle.l4_core_model.specs.Schedules.{Entry, TurnOf, TickOf}
 use Rattle.l4_machine.specs.declared.outcome.RunFault.{RunFault}
 use Rattle.l4_machine.specs.declared.outcome.RunFault.TheVariants.{Turns, Schedule}
-use Rattle.l4_machine.specs.Entries.{is_entry}
+use Rattle.l4_machine.specs.Entries.{is_entry, most_entries}
 
 -- The items that are left of a list are what stands between its commas, byte 44.
 abbrev pub items_left : Option (List ℕ) → List (List ℕ)
@@ -21,32 +22,33 @@ processor_of (digit ∷ []) = if nat_le 48 digit && nat_le digit 57 then Some (d
 processor_of (ten ∷ digit ∷ []) = if ten == 49 && nat_le 48 digit && nat_le digit 53 then Some (10 + (digit - 48)) else None
 processor_of _ = None
 
--- The number of a processor is a turn of it; a `t`, byte 116, before it makes it a tick, the entry 16 and more.
-abbrev pub entry_of : List ℕ → Option ℕ
+-- The number of a processor is a turn of it; a `t`, byte 116, before it makes it a tick.
+abbrev pub entry_of : List ℕ → Option Entry
 entry_of [] = None
-entry_of (first ∷ rest) = if first == 116 then option_map (λ cpu. 16 + cpu) (processor_of rest) else processor_of (first ∷ rest)
+entry_of (first ∷ rest) = if first == 116 then option_map TickOf (processor_of rest) else option_map TurnOf (processor_of (first ∷ rest))
 
--- The one item of an entry below 32.
-abbrev pub item_of : (entry : ℕ) → List ℕ
-item_of entry = if nat_lt entry 16 then decimal entry else codes "t" ++ decimal (entry - 16)
+-- The one item of an entry.
+abbrev pub item_of : Entry → List ℕ
+item_of (TurnOf cpu) = decimal cpu
+item_of (TickOf cpu) = codes "t" ++ decimal cpu
 
 -- The entry of an item that is one of the machine.
-abbrev pub if_entry : Machine → Option ℕ → Option ℕ
+abbrev pub if_entry : Machine → Option Entry → Option Entry
 if_entry m None = None
 if_entry m (Some entry) = if is_entry m entry then Some entry else None
 
-abbrev pub machine_entry : Machine → List ℕ → Option ℕ
+abbrev pub machine_entry : Machine → List ℕ → Option Entry
 machine_entry m item = if_entry m (entry_of item)
 
-abbrev pub or_fault : (number : ℕ) → Option ℕ → (ℕ → Result (List ℕ) RunFault) → Result (List ℕ) RunFault
+abbrev pub or_fault : (number : ℕ) → Option Entry → (Entry → Result (List Entry) RunFault) → Result (List Entry) RunFault
 or_fault number None rest = Err (Schedule number)
 or_fault number (Some entry) rest = rest entry
 
 -- The entries so far and those of the items that are left, or the first of these items that has none, by its number counted from 1.
-abbrev pub read_items : Machine → (entries : List ℕ) → List (List ℕ) → Result (List ℕ) RunFault
+abbrev pub read_items : Machine → (entries : List Entry) → List (List ℕ) → Result (List Entry) RunFault
 read_items m entries [] = Ok entries
 read_items m entries (item ∷ items) = or_fault (length entries + 1) (machine_entry m item) (λ entry. read_items m (entries ++ entry ∷ []) items)
 
--- The schedule that a list spells on a machine. A list with more than 1,000,000 items is judged by their number alone.
-abbrev pub schedule_of : Machine → (list : List ℕ) → Result (List ℕ) RunFault
-schedule_of m list = if nat_lt 1000000 (length (items_of list)) then Err Turns else read_items m [] (items_of list)
+-- The schedule that a list spells on a machine. A list with too many items is judged by their number alone.
+abbrev pub schedule_of : Machine → (list : List ℕ) → Result (List Entry) RunFault
+schedule_of m list = if nat_lt most_entries (length (items_of list)) then Err Turns else read_items m [] (items_of list)

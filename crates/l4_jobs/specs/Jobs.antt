@@ -9,7 +9,7 @@ use Rattle.l4_model.specs.World.{World}
 use Rattle.l4_model.specs.History.{reached, refused_place, view, waiting as undecided_sends}
 use Rattle.l4_model.specs.Still.{IsStill}
 use Rattle.l4_core_model.specs.Runs.{Run as CoreRun, told, at_rest}
-use Rattle.l4_core_model.specs.Schedules.{replay}
+use Rattle.l4_core_model.specs.Schedules.{Entry, replay_entries}
 use Rattle.l4_script.specs.Texts.{machine_of_text}
 use Rattle.l4_script.specs.declared.text.fault.TextFault.{TextFault}
 use Rattle.l4_script.specs.declared.text.fault.TextFaultKind.{TextFaultKind}
@@ -70,8 +70,8 @@ pub record IsRunAsked (m : Machine) (turns : ℕ) (r : CoreRun) : Type 0 where
   pub sorted : r ≡ in_order run
 
 -- The core run of a machine by a list of items, or why there is none.
-abbrev pub replayed : Machine → Result (List ℕ) RunFault → Result CoreRun RunFault
-replayed m (Ok schedule) = Ok (replay m schedule)
+abbrev pub replayed : Machine → Result (List Entry) RunFault → Result CoreRun RunFault
+replayed m (Ok entries) = Ok (replay_entries m entries)
 replayed m (Err fault) = Err fault
 
 abbrev pub run_by_list : Machine → (list : List ℕ) → Result CoreRun RunFault

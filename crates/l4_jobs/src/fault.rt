@@ -19,9 +19,14 @@ use std::io::ErrorKind;
 /// Why a job was not done.
 #[derive(Debug, Drop)]
 pub enum Fault<'a> {
-    /// The machine text is faulty: the line, counted from 1, or 0 where the text as a whole is.
-    Text { line: usize, kind: TextFaultKind },
-    /// The number of turns is 0 or above 1,000,000.
+    /// The machine text is faulty.
+    Text {
+        /// The faulty line, counted from 1, or 0 where the text as a whole is faulty.
+        line: usize,
+        /// What is wrong there.
+        kind: TextFaultKind,
+    },
+    /// The number of turns is 0 or above 1,000,000, or the list of a schedule has more than 1,000,000 items.
     Turns,
     /// This item of the schedule, counted from 1, is none, or of no processor of the machine.
     Schedule(usize),

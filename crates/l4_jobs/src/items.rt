@@ -1,10 +1,13 @@
 //! The list of a schedule: its items, and the entries that they spell.
-ghost use Rattle.std.specs.Prelude.{◌≡◌, ◌<◌, ◌≤◌, ◌⊎◌, ◌==◌, ◌++◌, ◌∷◌, [], ℕ, List, IfOk, IfErr, MatchOption, OnOk, Ok, Err, Some, length, count_by};
+ghost use Rattle.std.specs.Prelude.{◌≡◌, ◌<◌, ◌≤◌, ◌⊎◌, ◌==◌, ◌++◌, ◌∷◌, [], ℕ, List, IfOk, IfErr, MatchOption, OnOk, Ok, Err, Some, length, count_by, map};
+ghost use Rattle.std.specs.Option.{option_map};
+ghost use Rattle.l4_model.specs.Machine.{most_processors};
+ghost use Rattle.l4_core_model.specs.Schedules.{Entry as ModelEntry};
 ghost use Rattle.l4_machine.specs.declared.outcome.RunFault.TheVariants.{NoMemory as OutOfMemory};
-ghost use Rattle.l4_machine.specs.Entries.{is_entry};
+ghost use Rattle.l4_machine.specs.Entries.{entry_from, most_entries, processor_of as entry_processor};
 ghost use Rattle.l4_jobs.specs.Items.{items_of, processor_of, entry_of, item_of, machine_entry, read_items, schedule_of};
 
-use l4_machine::{MOST_ENTRIES, RunFault};
+use l4_machine::{Entry, MOST_ENTRIES, RunFault};
 use l4_script::machine::Machine;
 use l4_types::errors::NoMemory;
 use l4_words::lines::split_once;
@@ -15,8 +18,8 @@ use std::marker::Model;
 ///
 /// `Turns`: the list has more than 1,000,000 items. `Schedule`: this item, counted from 1, is the first that spells no entry, or one of no
 /// processor of the machine.
-pub fn schedule_of(alloc: Global, machine: &Machine, list: &str) -> Result<Vec<u8>, RunFault>
-    ensures ok { IfOk result (λ entries. schedule_of machine.now list.now ≡ Ok entries.items) }
+pub fn schedule_of(alloc: Global, machine: &Machine, list: &str) -> Result<Vec<Entry>, RunFault>
+    ensures ok { IfOk result (λ entries. schedule_of machine.now list.now ≡ Ok (map entry_from entries.items)) }
     ensures err { IfErr result (λ fault. (fault ≡ OutOfMemory) ⊎ (schedule_of machine.now list.now ≡ Err fault)) }
 {
     if item_count(list) > MOST_ENTRIES {
@@ -95,9 +98,9 @@ impl<'a> Items<'a> {
 }
 
 // The entries of a list that is not too long.
-fn entries_of(alloc: Global, machine: &Machine, list: &str) -> Result<Vec<u8>, RunFault>
-    requires { length (items_of list.now) ≤ 1000000 }
-    ensures ok { IfOk result (λ entries. read_items machine.now [] (items_of list.now) ≡ Ok entries.items) }
+fn entries_of(alloc: Global, machine: &Machine, list: &str) -> Result<Vec<Entry>, RunFault>
+    requires { length (items_of list.now) ≤ most_entries }
+    ensures ok { IfOk result (λ entries. read_items machine.now [] (items_of list.now) ≡ Ok (map entry_from entries.items)) }
     ensures err { IfErr result (λ fault. (fault ≡ OutOfMemory) ⊎ (read_items machine.now [] (items_of list.now) ≡ Err fault)) }
 {
     let mut items = Items::of(list);
@@ -111,7 +114,7 @@ fn entries_of(alloc: Global, machine: &Machine, list: &str) -> Result<Vec<u8>, R
     Ok(entries)
 }
 
-fn push(entries: &mut Vec<u8>, entry: u8) -> Result<(), NoMemory>
+fn push(entries: &mut Vec<Entry>, entry: Entry) -> Result<(), NoMemory>
     ensures { OnOk result (entries.new.items ≡ entries.old.items ++ entry ∷ []) }
 {
     entries.push(entry)?;
@@ -119,27 +122,19 @@ fn push(entries: &mut Vec<u8>, entry: u8) -> Result<(), NoMemory>
 }
 
 // The entry that an item spells, where the machine has its processor.
-fn machine_entry(machine: &Machine, item: &[u8]) -> Option<u8>
-    ensures { result ≡ machine_entry machine.now item.now }
+fn machine_entry(machine: &Machine, item: &[u8]) -> Option<Entry>
+    ensures { option_map entry_from result ≡ machine_entry machine.now item.now }
 {
-    entry_of(item).filter(|entry| is_entry(machine, *entry))
+    entry_of(item).filter(|entry| entry.is_of(machine))
 }
 
-// Whether an entry is a turn or a tick of a processor of the machine.
-fn is_entry(machine: &Machine, entry: u8) -> bool
-    ensures { result ≡ is_entry machine.now entry }
-{
-    let cpus = machine.cpus();
-    entry < cpus || (16 <= entry && entry - 16 < cpus)
-}
-
-// The entry that an item spells: the number of a processor is a turn of it, with a `t` before it a tick of it, the entry 16 and more.
-fn entry_of(item: &[u8]) -> Option<u8>
-    ensures { result ≡ entry_of item.now }
+// The entry that an item spells: the number of a processor is a turn of it, with a `t` before it a tick of it.
+fn entry_of(item: &[u8]) -> Option<Entry>
+    ensures { option_map entry_from result ≡ entry_of item.now }
 {
     match item {
-        [b't', number @ ..] => Some(16 + processor_of(number)?),
-        number => processor_of(number),
+        [b't', number @ ..] => Some(Entry::Tick(processor_of(number)?)),
+        number => Some(Entry::Turn(processor_of(number)?)),
     }
 }
 
@@ -154,8 +149,8 @@ fn processor_of(word: &[u8]) -> Option<u8>
     }
 }
 
-/// Each entry below 32 is spelled by one item, and no item spells another entry.
+/// Each entry of a processor from 0 to 15 is spelled by one item, and no item spells another entry.
 pub fn law_one_item_of_an_entry()
-    ensures spelled { (entry : ℕ) → entry < 32 → entry_of (item_of entry) ≡ Some entry }
-    ensures alone { (item : List ℕ) (entry : ℕ) → entry_of item ≡ Some entry → (entry < 32) × (item ≡ item_of entry) }
+    ensures spelled { (entry : ModelEntry) → entry_processor entry < most_processors → entry_of (item_of entry) ≡ Some entry }
+    ensures alone { (item : List ℕ) (entry : ModelEntry) → entry_of item ≡ Some entry → (entry_processor entry < most_processors) × (item ≡ item_of entry) }
 {}

@@ -8,19 +8,27 @@ ghost use Rattle.l4_jobs.specs.Jobs.{file_of, trace_file_of};
 pub enum Job<'a> {
     /// Run the machine text in a file until so many turns are taken or nothing is left to do, and print its trace, or its report in place of it.
     Run {
+        /// The name of the file with the machine text.
         file: &'a str,
+        /// How many turns: 1 to 1,000,000, or else the job is not done.
         turns: u64,
+        /// Whether the report is printed.
         report: bool,
     },
     /// Replay a schedule, a list of items, on the machine text in a file, and print its trace, or its report in place of it.
     Replay {
+        /// The name of the file with the machine text.
         file: &'a str,
+        /// The list of its items, with commas between them.
         schedule: &'a str,
+        /// Whether the report is printed.
         report: bool,
     },
     /// Audit the trace in a file against the machine text in another.
     Audit {
+        /// The name of the file with the machine text.
         file: &'a str,
+        /// The name of the file with the trace.
         trace: &'a str,
     },
 }

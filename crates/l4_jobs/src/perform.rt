@@ -1,6 +1,7 @@
 //! Doing a job over two readers and two writers.
 ghost use Rattle.std.specs.Prelude.{◌≡◌, ◌≢◌, ◌⊎◌, ℕ, List, IfOk, IfErr, Ok, Err, None, Some};
 ghost use Rattle.std.specs.declared.io.ErrorKind.{ErrorKind as Kind};
+ghost use Rattle.l4_core_model.specs.Schedules.{Entry};
 ghost use Rattle.l4_machine.specs.Outcomes.{IsCompactReplay, compact_findings_of};
 ghost use Rattle.l4_machine.specs.declared.outcome.RunFault.TheVariants.{NoMemory as RunOutOfMemory};
 ghost use Rattle.l4_script.specs.Texts.{machine_of_text};
@@ -48,7 +49,7 @@ fn read_text<'a, M: Source>(
 
 // The outcome of the replay of a list.
 fn replayed(alloc: Global, machine: &Machine, list: &str) -> Result<CompactOutcome, RunFault>
-    ensures ok { IfOk result (λ o. (entries : List ℕ) × (schedule_of machine.now list.now ≡ Ok entries) × IsCompactReplay machine.now entries o) }
+    ensures ok { IfOk result (λ o. (entries : List Entry) × (schedule_of machine.now list.now ≡ Ok entries) × IsCompactReplay machine.now entries o) }
     ensures err { IfErr result (λ fault. (fault ≡ RunOutOfMemory) ⊎ (schedule_of machine.now list.now ≡ Err fault)) }
 {
     let schedule = schedule_of(alloc, machine, list)?;

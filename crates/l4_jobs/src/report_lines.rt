@@ -7,6 +7,7 @@ ghost use Rattle.l4_jobs.specs.ReportLines.{state_word, id_word, shown_registers
 use l4_trace::spelling::{push_name, push_thread, push_words};
 use l4_types::errors::NoMemory;
 use l4_types::ids::{Kind, ThreadId};
+use l4_types::registers::MESSAGE_REGISTERS;
 use l4_types::reports::{Ending, State, ThreadView};
 use l4_types::steps::Name;
 use std::alloc::AllocError;
@@ -60,7 +61,7 @@ fn push_state(text: &mut String, state: State, error: u64) -> Result<(), AllocEr
 }
 
 /// The registers that a report shows: MR0, and those after it up to the last that is not 0.
-fn shown(words: &[u64; 64]) -> &[u64]
+fn shown(words: &[u64; MESSAGE_REGISTERS]) -> &[u64]
     ensures { result.now ≡ shown_registers words.now }
 {
     let mut end = words.len();

@@ -1,16 +1,18 @@
 -- A schedule, entry by entry.
-use Rattle.std.proofs.Common.{◌≡◌, ℕ, suc, ◌+◌, ◌-◌, ◌<◌, ◌≤◌, true, false, Option, Some, None, List, [], ◌∷◌, length, get_or, drop, refl, ap, sym, ◌∙◌, subst, arith, add-one, length-append}
-use Rattle.std.specs.Prelude.{if◌then◌else◌, nat_lt, slice_get, OnOk, Result, Ok, Err}
+use Rattle.std.proofs.Common.{◌≡◌, ℕ, zero, suc, ◌+◌, ◌-◌, ◌<◌, ◌≤◌, true, false, Option, Some, None, List, [], ◌∷◌, length, drop, map, refl, ap, sym, ◌∙◌, subst, arith, add-one, length-append}
+use Rattle.std.specs.Prelude.{if◌then◌else◌, nat_lt, slice_get, slice_index_or, OnOk, Result, Ok, Err}
 use Rattle.std.specs.Option.{option_map}
-use Rattle.std.proofs.Math.Seq.{drop-cons, drop-length}
+use Rattle.std.proofs.Math.Seq.{drop-length}
 use Rattle.std.proofs.lemmas.Bool.Decides.{nat_tests}
 use Rattle.std.proofs.lemmas.List.{length-map}
 use Rattle.l4_model.specs.Machine.{Machine}
 use Rattle.l4_model.specs.Conditions.{◌>>=◌}
 use Rattle.l4_core_model.specs.Runs.{Happening, Happened, Ticks, happens, Run}
-use Rattle.l4_core_model.specs.Schedules.{attempts, entry_event, least_deadline, next_turn, or_stays, replays}
+use Rattle.l4_core_model.specs.Schedules.{Entry, TickOf, attempts, entry_event, or_stays, replays}
 use Rattle.l4_machine.specs.Parts.{event_of}
-use Rattle.l4_machine.specs.Entries.{after_entry, is_entry, first_stranger}
+use Rattle.l4_machine.specs.declared.entries.Entry as code
+use Rattle.l4_machine.specs.declared.outcome.RunFault.TheVariants.{Turns, Schedule}
+use Rattle.l4_machine.specs.Entries.{after_entry, entries_fault, entry_from, is_entry, first_stranger, most_entries}
 use Rattle.l4_machine.specs.UnderWay.{UnderWay, deadline_at, IsSystem, IsRun, GoesOn}
 use Rattle.l4_machine.specs.Stations.{Station}
 use Rattle.l4_machine.proofs.Endings.{deadline_here}
@@ -27,13 +29,13 @@ one_more m r e = by (happens m r.system e)
     by None = omega arith
     by (Some h) = let longer = length-append r.events (h.event ∷ []) in omega arith
 
-pub record IsReplaying (m : Machine) (schedule : List ℕ) (first : Run) (u : UnderWay) (place : ℕ) : Type 0 where
+pub record IsReplaying (m : Machine) (schedule : List Entry) (first : Run) (u : UnderWay) (place : ℕ) : Type 0 where
   pub run : Run
   pub is : IsRun m run u
   pub goes_on : replays m first schedule ≡ replays m run (drop place schedule)
   pub count : length run.events ≤ place
 
-pub replaying_start : (m : Machine) (schedule : List ℕ) (first : Run) (u : UnderWay) → IsRun m first u → length u.parts ≡ 0 → IsReplaying m schedule first u 0
+pub replaying_start : (m : Machine) (schedule : List Entry) (first : Run) (u : UnderWay) → IsRun m first u → length u.parts ≡ 0 → IsReplaying m schedule first u 0
 replaying_start m schedule first u i fresh = record {
   run = first;
   is = i;
@@ -41,55 +43,71 @@ replaying_start m schedule first u i fresh = record {
   count = let same = as_many m first u i in omega arith;
 }
 
+rest_at : (schedule : List Entry) (place : ℕ) (entry : Entry) → slice_get schedule place ≡ Some entry → drop place schedule ≡ entry ∷ drop (suc place) schedule
+rest_at [] place entry is = cc
+rest_at (first ∷ others) zero entry is = let same : first ≡ entry = cc in ap (λ e. e ∷ others) same
+rest_at (first ∷ others) (suc place) entry is = rest_at others place entry is
+
 -- The rest of a schedule begins with the entry at hand.
-pub rest_is : (schedule : List ℕ) (place entry : ℕ) → place < length schedule → get_or schedule place 0 ≡ entry → drop place schedule ≡ entry ∷ drop (place + 1) schedule
-rest_is schedule place entry within is = drop-cons schedule place 0 within ∙ ap (λ e. e ∷ drop (suc place) schedule) is ∙ rw add-one refl
+pub rest_is : (schedule : List Entry) (place : ℕ) (entry : Entry) → slice_get schedule place ≡ Some entry → drop place schedule ≡ entry ∷ drop (place + 1) schedule
+rest_is schedule place entry is = rest_at schedule place entry is ∙ rw add-one refl
+
+-- An entry of the code at a place is that of the definitions at it.
+pub entry_at : (entries : List code.Entry) (place : ℕ) (other : code.Entry) → place < length entries →
+    slice_get (map entry_from entries) place ≡ Some (entry_from (slice_index_or entries place other))
+entry_at [] place other within = absurd (omega (arith, within))
+entry_at (first ∷ others) zero other within = refl
+entry_at (first ∷ others) (suc place) other within = entry_at others place other (omega (arith, within))
 
 entry_count : (m : Machine) (r : Run) (o : Option Happening) → length (or_stays r (o >>= happens m r.system)).events ≤ length r.events + 1
 entry_count m r None = omega arith
 entry_count m r (Some e) = one_more m r e
 
-pub replaying_next : (m : Machine) (schedule : List ℕ) (first : Run) (u v : UnderWay) (place entry : ℕ) → place < length schedule → get_or schedule place 0 ≡ entry →
+pub replaying_next : (m : Machine) (schedule : List Entry) (first : Run) (u v : UnderWay) (place : ℕ) (entry : Entry) → slice_get schedule place ≡ Some entry →
     IsReplaying m schedule first u place → GoesOn (after_entry entry) u v → IsReplaying m schedule first v (place + 1)
-replaying_next m schedule first u v place entry within is i goes = record {
+replaying_next m schedule first u v place entry is i goes = record {
   run = after_entry entry m i.run;
   is = goes m i.run i.is;
-  goes_on = i.goes_on ∙ ap (replays m i.run) (rest_is schedule place entry within is);
+  goes_on = i.goes_on ∙ ap (replays m i.run) (rest_is schedule place entry is);
   count = let before = i.count in let more = entry_count m i.run (entry_event m i.run.system entry) in omega arith;
 }
 
-pub replaying_end : (m : Machine) (schedule : List ℕ) (first : Run) (u : UnderWay) → IsReplaying m schedule first u (length schedule) → IsRun m (replays m first schedule) u
+pub replaying_end : (m : Machine) (schedule : List Entry) (first : Run) (u : UnderWay) → IsReplaying m schedule first u (length schedule) → IsRun m (replays m first schedule) u
 replaying_end m schedule first u i = subst (λ r. IsRun m r u) (sym (i.goes_on ∙ ap (replays m i.run) (drop-length schedule))) i.is
 
 -- The entries so far are lawful, and so is the one at hand.
-pub lawful-next : (m : Machine) (schedule : List ℕ) (place entry : ℕ) → place < length schedule → get_or schedule place 0 ≡ entry → is_entry m entry ≡ true →
+pub lawful-next : (m : Machine) (schedule : List Entry) (place : ℕ) (entry : Entry) → slice_get schedule place ≡ Some entry → is_entry m entry ≡ true →
     first_stranger m 1 schedule ≡ first_stranger m (place + 1) (drop place schedule) →
     first_stranger m 1 schedule ≡ first_stranger m (place + 1 + 1) (drop (place + 1) schedule)
-lawful-next m schedule place entry within is own so_far =
-    so_far ∙ ap (first_stranger m (place + 1)) (rest_is schedule place entry within is)
+lawful-next m schedule place entry is own so_far =
+    so_far ∙ ap (first_stranger m (place + 1)) (rest_is schedule place entry is)
     ∙ ap (λ b. if b then first_stranger m (place + 1 + 1) (drop (place + 1) schedule) else Some (place + 1)) own
 
--- What each entry is.
+-- The entries so far are lawful, and the one at hand is not.
+pub stranger_here : (m : Machine) (entries : List code.Entry) (place : ℕ) (other : code.Entry) → length entries ≤ most_entries → place < length entries →
+    is_entry m (entry_from (slice_index_or entries place other)) ≡ false →
+    first_stranger m 1 (map entry_from entries) ≡ first_stranger m (place + 1) (drop place (map entry_from entries)) →
+    entries_fault m (map entry_from entries) ≡ Some (Schedule (place + 1))
+stranger_here m entries place other few within strange so_far =
+    let all = map entry_from entries in
+    let count : length all ≡ length entries = length-map entries entry_from in
+    let test : nat_lt most_entries (length all) ≡ false = grind (arith, nat_tests, count, few) in
+    let here : first_stranger m 1 all ≡ Some (place + 1) =
+    so_far ∙ ap (first_stranger m (place + 1)) (rest_is all place (entry_from (slice_index_or entries place other)) (entry_at entries place other within))
+    ∙ ap (λ b. if b then first_stranger m (place + 1 + 1) (drop (place + 1) all) else Some (place + 1)) strange in
+    ap (λ b. if b then Some Turns else option_map Schedule (first_stranger m 1 all)) test ∙ ap (option_map Schedule) here
 
-pub turn_entry : (m : Machine) (r : Run) (cpu : ℕ) → cpu < 16 → after_entry cpu m r ≡ attempts m r (next_turn m r.system cpu)
-turn_entry m r cpu lt =
-    let below : nat_lt cpu 16 ≡ true = grind (arith, nat_tests) in
-    ap (λ b. or_stays r ((if b then Some (next_turn m r.system cpu) else option_map (Ticks (cpu - 16)) (least_deadline r.system (cpu - 16))) >>= happens m r.system)) below
+-- What a tick is.
 
 tick_is : (m : Machine) (r : Run) (ss : List Station) (cpu : ℕ) (d : Option ℕ) → IsSystem m r.system ss → deadline_at (slice_get ss cpu) ≡ d →
-    after_entry (cpu + 16) m r ≡ or_stays r (option_map (Ticks cpu) d >>= happens m r.system)
-tick_is m r ss cpu d i is =
-    let above : nat_lt (cpu + 16) 16 ≡ false = grind (arith, nat_tests) in
-    let same : cpu + 16 - 16 ≡ cpu = omega arith in
-    ap (λ b. or_stays r ((if b then Some (next_turn m r.system (cpu + 16)) else option_map (Ticks (cpu + 16 - 16)) (least_deadline r.system (cpu + 16 - 16))) >>= happens m r.system)) above
-    ∙ ap (λ n. or_stays r (option_map (Ticks n) (least_deadline r.system n) >>= happens m r.system)) same
-    ∙ ap (λ d. or_stays r (option_map (Ticks cpu) d >>= happens m r.system)) (deadline_here m r.system ss cpu i ∙ is)
+    after_entry (TickOf cpu) m r ≡ or_stays r (option_map (Ticks cpu) d >>= happens m r.system)
+tick_is m r ss cpu d i is = ap (λ d. or_stays r (option_map (Ticks cpu) d >>= happens m r.system)) (deadline_here m r.system ss cpu i ∙ is)
 
 pub tick_entry : (m : Machine) (r : Run) (ss : List Station) (cpu deadline : ℕ) → IsSystem m r.system ss → deadline_at (slice_get ss cpu) ≡ Some deadline →
-    after_entry (cpu + 16) m r ≡ attempts m r (Ticks cpu deadline)
+    after_entry (TickOf cpu) m r ≡ attempts m r (Ticks cpu deadline)
 tick_entry m r ss cpu deadline i is = tick_is m r ss cpu (Some deadline) i is
 
-pub no_tick_entry : (m : Machine) (r : Run) (ss : List Station) (cpu : ℕ) → IsSystem m r.system ss → deadline_at (slice_get ss cpu) ≡ None → after_entry (cpu + 16) m r ≡ r
+pub no_tick_entry : (m : Machine) (r : Run) (ss : List Station) (cpu : ℕ) → IsSystem m r.system ss → deadline_at (slice_get ss cpu) ≡ None → after_entry (TickOf cpu) m r ≡ r
 no_tick_entry m r ss cpu i is = tick_is m r ss cpu None i is
 
 pub on_ok : {A E : Type 0} (r : Result A E) (P Q : Type 0) → (P → Q) → OnOk r P → OnOk r Q

@@ -1,41 +1,52 @@
 -- How many turns a run has, and which schedules a machine has.
-use Rattle.std.specs.Prelude.{ℕ, ◌+◌, ◌-◌, ◌==◌, ◌&&◌, ◌||◌, nat_lt, nat_le, Bool, if◌then◌else◌, Option, Some, None, List, [], ◌∷◌, length}
+use Rattle.std.specs.Prelude.{ℕ, ◌+◌, ◌==◌, ◌||◌, nat_lt, Bool, if◌then◌else◌, Option, Some, None, List, [], ◌∷◌, length, map}
 use Rattle.std.specs.Option.{option_map}
 use Rattle.l4_model.specs.Machine.{Machine}
 use Rattle.l4_model.specs.Conditions.{◌>>=◌}
 use Rattle.l4_core_model.specs.Runs.{Run, happens}
-use Rattle.l4_core_model.specs.Schedules.{entry_event, or_stays}
-use Rattle.l4_machine.specs.declared.schedules.Entry.{Entry}
-use Rattle.l4_machine.specs.declared.schedules.Entry.TheVariants.{Turn, Tick}
+use Rattle.l4_core_model.specs.Schedules.{Entry, TurnOf, TickOf, entry_of, entry_event, or_stays}
+use Rattle.l4_machine.specs.declared.entries.Entry as code
+use Rattle.l4_machine.specs.declared.entries.Entry.TheVariants.{Turn, Tick}
 use Rattle.l4_machine.specs.declared.outcome.RunFault.{RunFault}
 use Rattle.l4_machine.specs.declared.outcome.RunFault.TheVariants.{Turns, Schedule}
 
--- A run has 1 to 1,000,000 turns.
-abbrev pub turns_fault : (turns : ℕ) → Option RunFault
-turns_fault turns = if turns == 0 || nat_lt 1000000 turns then Some Turns else None
+-- A run has at most so many turns, and a schedule so many entries.
+abbrev pub most_turns : ℕ
+most_turns = 1000000
 
--- What an entry asks for, as its number, and of which processor.
-abbrev pub number_of : Entry → ℕ
-number_of (Turn cpu) = cpu
-number_of (Tick cpu) = cpu + 16
+abbrev pub most_entries : ℕ
+most_entries = 1000000
+
+-- A run has at least one turn.
+abbrev pub turns_fault : (turns : ℕ) → Option RunFault
+turns_fault turns = if turns == 0 || nat_lt most_turns turns then Some Turns else None
+
+-- The entry that one of the code is, and of which processor it is.
+abbrev pub entry_from : code.Entry → Entry
+entry_from (Turn cpu) = TurnOf cpu
+entry_from (Tick cpu) = TickOf cpu
 
 abbrev pub processor_of : Entry → ℕ
-processor_of (Turn cpu) = cpu
-processor_of (Tick cpu) = cpu
+processor_of (TurnOf cpu) = cpu
+processor_of (TickOf cpu) = cpu
 
 -- What an entry makes of a run.
-abbrev pub after_entry : (entry : ℕ) → Machine → Run → Run
+abbrev pub after_entry : Entry → Machine → Run → Run
 after_entry entry m r = or_stays r (entry_event m r.system entry >>= happens m r.system)
 
--- An entry is the number of a processor of the machine for a turn of it, and 16 more for a tick of its clock.
-abbrev pub is_entry : Machine → ℕ → Bool
-is_entry m entry = nat_lt entry m.cpus || (nat_le 16 entry && nat_lt (entry - 16) m.cpus)
+-- An entry is one of the machine where this has its processor.
+abbrev pub is_entry : Machine → Entry → Bool
+is_entry m entry = nat_lt (processor_of entry) m.cpus
 
 -- The place of the first entry that is none, where the first of these entries has this place.
-abbrev pub first_stranger : Machine → (place : ℕ) → List ℕ → Option ℕ
+abbrev pub first_stranger : Machine → (place : ℕ) → List Entry → Option ℕ
 first_stranger m place [] = None
 first_stranger m place (entry ∷ entries) = if is_entry m entry then first_stranger m (place + 1) entries else Some place
 
--- Why a schedule is none of the machine: it has more than 1,000,000 entries, or else an entry of no processor, by its place counted from 1.
+-- Why these are no entries of the machine: they are too many, or else one is of no processor, by its place counted from 1.
+abbrev pub entries_fault : Machine → List Entry → Option RunFault
+entries_fault m entries = if nat_lt most_entries (length entries) then Some Turns else option_map Schedule (first_stranger m 1 entries)
+
+-- The same of a schedule that has the entries as numbers.
 abbrev pub schedule_fault : Machine → List ℕ → Option RunFault
-schedule_fault m schedule = if nat_lt 1000000 (length schedule) then Some Turns else option_map Schedule (first_stranger m 1 schedule)
+schedule_fault m schedule = entries_fault m (map entry_of schedule)

@@ -1,5 +1,5 @@
 -- What the threads of a machine have come to, as their own processors have them.
-use Rattle.std.specs.Prelude.{◌≡◌, ◌==◌, ℕ, Bool, if◌then◌else◌, IsTrue, Option, None, Some, List, length, map, slice_get}
+use Rattle.std.specs.Prelude.{◌≡◌, ◌==◌, ◌⊎◌, ◌≤◌, ℕ, Bool, if◌then◌else◌, IsTrue, Option, None, Some, List, length, map, slice_get}
 use Rattle.std.specs.List.{range_with_len}
 use Rattle.std.specs.Option.{option_map}
 use Rattle.l4_model.specs.Words.{Id}
@@ -36,6 +36,10 @@ sent_at_home m locals = map (λ i. last_send (home_thread m locals i)) (range_wi
 abbrev pub sent_to : (k : ℕ) → Option LastSend → Option Id
 sent_to k None = None
 sent_to k (Some send) = if send.k == k then send.to else None
+
+-- The send is decided, or has no lower number.
+abbrev pub IsNotBelow : ℕ → LastSend → Type 0
+IsNotBelow least send = (send.to ≡ None) ⊎ (least ≤ send.k)
 
 -- A begun send that is undecided by these last sends, with its destination.
 abbrev pub sent_waiting : Machine → List LastSend → Step → Option (Name × Id)

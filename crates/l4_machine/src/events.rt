@@ -5,7 +5,6 @@ ghost use Rattle.l4_core.specs.Tellings.{IsBegun};
 
 use l4_core::told::Told;
 use l4_history::history::History;
-use l4_history::steps::Steps;
 use l4_types::errors::NoMemory;
 
 // Room is made for so many events at once, since to ask each time costs more than a push.
@@ -49,15 +48,4 @@ pub(crate) fn end_event(parts: &mut Vec<Part>, told: &Told<History>, cpu: u8, st
         start: told.start(),
         end: told.sink().len(),
     });
-}
-
-/// Tells these steps behind those of a history. Where memory is refused, some of them may have been told.
-pub(crate) fn copy_steps(copy: &mut History, steps: Steps<'_>) -> Result<(), NoMemory>
-    ensures { OnOk result (copy.new.steps ≡ copy.old.steps ++ steps.entry) }
-{
-    for step in steps {
-        copy.reserve()?;
-        copy.push(step);
-    }
-    Ok(())
 }

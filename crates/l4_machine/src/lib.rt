@@ -2,6 +2,7 @@
 #![tactic(auto)]
 
 mod core_run;
+mod entries;
 mod events;
 mod gathering;
 mod homes;
@@ -13,6 +14,7 @@ mod schedules;
 mod station;
 mod team;
 
+pub use entries::Entry;
 pub use gathering::gather;
 pub use laws::law_core_run;
 pub use outcome::{CompactOutcome, Outcome, RunFault};

@@ -8,7 +8,6 @@ ghost use Rattle.l4_merge.specs.Pasts.{all_events};
 ghost use Rattle.l4_proc.specs.Logs.{events};
 ghost use Rattle.l4_machine.specs.Gathers.{entry_is_earlier, event_at, events_of, pasts_of, with_number, AreOfOne, HaveNumbers, IsMerge, IsWithin};
 
-use crate::events::copy_steps;
 use l4_history::history::History;
 use l4_proc::processor::Processor;
 use l4_script::machine::Machine;
@@ -165,5 +164,5 @@ fn copy_event(
     ensures { OnOk result (copy.new.steps ≡ copy.old.steps ++ (event_at processors.now entry.now).steps) }
 {
     let event = processors[entry.place].log().event(entry.index);
-    copy_steps(copy, event.steps)
+    copy.extend(&event.steps)
 }

@@ -1,6 +1,6 @@
 //! Runs of a machine by host threads.
 ghost use Rattle.std.specs.Prelude.{◌≡◌, ◌<◌, ◌≤◌, ◌↔◌, ◌⊎◌, IfErr, IfOk, IsErrOf, Some};
-ghost use Rattle.l4_machine.specs.Entries.{turns_fault};
+ghost use Rattle.l4_machine.specs.Entries.{most_turns, turns_fault};
 ghost use Rattle.l4_machine.specs.Outcomes.{IsCompactOutcome, IsOutcome};
 
 use crate::outcome::{CompactOutcome, Outcome, RunFault};
@@ -33,7 +33,7 @@ pub fn run<R: Threads + Sync, G: Gate + Sync>(
 ) -> Result<Outcome, RunFault>
     ensures ok { IfOk result (IsOutcome machine.now turns) }
     ensures err { IfErr result (λ fault. (fault ≡ RunFault.NoMemory) ⊎ (turns_fault turns ≡ Some fault)) }
-    ensures range { IsErrOf result RunFault.Turns ↔ ((turns ≡ 0) ⊎ (1000000 < turns)) }
+    ensures range { IsErrOf result RunFault.Turns ↔ ((turns ≡ 0) ⊎ (most_turns < turns)) }
 {
     let outcome = run_compact(rt, alloc, machine, turns, gate)?;
     Ok(outcome.into_outcome(alloc)?)
@@ -49,7 +49,7 @@ pub fn run_compact<R: Threads + Sync, G: Gate + Sync>(
 ) -> Result<CompactOutcome, RunFault>
     ensures ok { IfOk result (IsCompactOutcome machine.now turns) }
     ensures err { IfErr result (λ fault. (fault ≡ RunFault.NoMemory) ⊎ (turns_fault turns ≡ Some fault)) }
-    ensures range { IsErrOf result RunFault.Turns ↔ ((turns ≡ 0) ⊎ (1000000 < turns)) }
+    ensures range { IsErrOf result RunFault.Turns ↔ ((turns ≡ 0) ⊎ (most_turns < turns)) }
 {
     if turns == 0 || turns > MOST_TURNS {
         return Err(RunFault::Turns);
@@ -64,7 +64,7 @@ fn outcome_of_turns<R: Threads + Sync, G: Gate + Sync>(
     turns: u64,
     gate: &G,
 ) -> Result<CompactOutcome, NoMemory>
-    requires { turns ≤ 1000000 }
+    requires { turns ≤ most_turns }
     ensures { IfOk result (IsCompactOutcome machine.now turns) }
 {
     let mut team = Team::new(alloc, machine)?;

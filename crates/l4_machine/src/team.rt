@@ -1,5 +1,6 @@
 //! The processors of a machine at work together, each in a thread of its own.
 ghost use Rattle.std.specs.Prelude.{ℕ, ◌≡◌, ◌≢◌, ◌<◌, ◌≤◌, ◌+◌, ◌-◌, ◌*◌, ◌^◌, ◌↔◌, ◌⊎◌, false, true, map, length, slice_get, IfOk, IfSome, IsTrue, OnOk, Some, None};
+ghost use Rattle.l4_model.specs.Words.{clock_limit};
 ghost use Rattle.l4_core_model.specs.Schedules.{earliest};
 ghost use Rattle.l4_core_model.specs.Turns.{can_stamp, is_busy};
 ghost use Rattle.l4_mail.specs.Ports.{AreOneFabric, AreWhole};
@@ -9,6 +10,7 @@ ghost use Rattle.l4_proc.specs.declared.processor.Processor.{Processor as Proces
 ghost use Rattle.l4_machine.specs.Gathers.{AreResting, IsGathered};
 ghost use Rattle.l4_machine.specs.Outcomes.{compact_findings_of};
 ghost use Rattle.l4_machine.specs.Teams.{count_events, deadline_of, first_deadline, AreIdle, HasComeTo, HaveComeTo, IsTeam};
+ghost use Rattle.l4_machine.specs.Entries.{most_turns};
 
 use crate::gathering::{at_home, ending};
 use crate::laws::law_core_run;
@@ -64,7 +66,7 @@ impl<'m> Team<'m> {
         gate: &G,
     ) -> Result<(), NoMemory>
         requires team { IsTeam self.old }
-        requires few { turns ≤ 1000000 }
+        requires few { turns ≤ most_turns }
         requires fresh { count_events self.old.processors.items ≡ 0 }
         ensures team { OnOk result (IsTeam self.new) }
         ensures machine { self.new.machine ≡ self.old.machine }
@@ -111,7 +113,7 @@ impl<'m> Team<'m> {
         gate: &G,
     ) -> Result<bool, NoMemory>
         requires team { IsTeam self.old }
-        requires few { turns ≤ 1000000 }
+        requires few { turns ≤ most_turns }
         requires left { count_events self.old.processors.items < turns }
         ensures team { OnOk result (IsTeam self.new) }
         ensures machine { self.new.machine ≡ self.old.machine }
@@ -152,7 +154,7 @@ impl<'m> Team<'m> {
     // The least deadline of all, in ticks.
     fn first_deadline(&self) -> Option<u64>
         requires team { IsTeam self.now }
-        requires few { count_events self.now.processors.items ≤ 1000000 }
+        requires few { count_events self.now.processors.items ≤ most_turns }
         ensures value { result ≡ first_deadline self.now.processors.items }
         ensures near { IfSome result (λ deadline. deadline < (count_events self.now.processors.items + 1) * 2 ^ 42) }
     {
@@ -169,7 +171,7 @@ impl<'m> Team<'m> {
         gate: &G,
     ) -> Result<(), NoMemory>
         requires team { IsTeam self.old }
-        requires few { turns ≤ 1000000 }
+        requires few { turns ≤ most_turns }
         requires left { count_events self.old.processors.items < turns }
         requires busy { AreIdle self.old.processors.items × HaveHandledAll self.old.processors.items → ⊥ }
         ensures team { OnOk result (IsTeam self.new) }
@@ -189,7 +191,7 @@ impl<'m> Team<'m> {
     // All clocks below it go on to this deadline.
     fn tick(&mut self, deadline: u64) -> Result<(), NoMemory>
         requires team { IsTeam self.old }
-        requires few { count_events self.old.processors.items ≤ 1000000 }
+        requires few { count_events self.old.processors.items ≤ most_turns }
         requires idle { AreIdle self.old.processors.items × HaveHandledAll self.old.processors.items }
         requires first { first_deadline self.old.processors.items ≡ Some deadline }
         requires near { deadline < (count_events self.old.processors.items + 1) * 2 ^ 42 }
@@ -205,7 +207,7 @@ impl<'m> Team<'m> {
 
 // So many turns divided by the number of processors, rounded up.
 fn share(turns: u64, cpus: u8) -> u64
-    requires few { turns ≤ 1000000 }
+    requires few { turns ≤ most_turns }
     requires some { 0 < cpus }
     ensures all { turns ≤ result * cpus }
     ensures fewer { result * cpus < turns + cpus }
@@ -301,7 +303,7 @@ fn check_stop(stop: Stop) -> Result<(), NoMemory>
 
 // All clocks below it go on to this value, in ticks.
 fn tick_all(processors: &mut [Processor<'_>], to: u64) -> Result<(), NoMemory>
-    requires low { to < 2 ^ 62 }
+    requires low { to < clock_limit }
     requires stamps { (i : ℕ) (p : ProcessorOfMachine) → slice_get processors.old i ≡ Some p → can_stamp p.worker.core.local 0 ≡ true }
     ensures { OnOk result (HaveComeTo to processors.old processors.new) }
 {
@@ -313,7 +315,7 @@ fn tick_all(processors: &mut [Processor<'_>], to: u64) -> Result<(), NoMemory>
 
 // The clock goes on to this value, in ticks, unless it stands there or later.
 fn tick(processor: &mut Processor<'_>, to: u64) -> Result<(), NoMemory>
-    requires low { to < 2 ^ 62 }
+    requires low { to < clock_limit }
     requires stamp { can_stamp processor.old.worker.core.local 0 ≡ true }
     ensures { OnOk result (HasComeTo to processor.old processor.new) }
 {

@@ -88,17 +88,30 @@ pub some_taken : (old new : Port) (olds items : List (Option Inlet)) (o : Option
 some_taken old new olds items None c o i e h = h
 some_taken old new olds items (Some r) c o i e h = letter_taken old new items r.0 r.1 c o i (subst (λ l. IsTaken l items r.0 r.1 × IsFirst l items r.0 r.1) e h)
 
-nothing_taken : (old new : Port) (items : List (Option Inlet)) → new.cpu ≡ old.cpu → new.outlets ≡ old.outlets → new.inlets ≡ with_items old.inlets items
-    → NoneIsTaken old.inlets.items items × NoneIsKept old.inlets.items × NoneIsKept items → IsAsBefore old new
-nothing_taken old new items c o i h =
-    let e = inlets_are old new items i h.0.rings in
+-- The inlets were only looked at.
+only_looked : (old new : Port) (items : List (Option Inlet)) → new.cpu ≡ old.cpu → new.outlets ≡ old.outlets → new.inlets ≡ with_items old.inlets items
+    → NoneIsTaken old.inlets.items items → ((k : ℕ) → get_or (map kept items) k [] ≡ get_or (map kept old.inlets.items) k []) → IsAsBefore old new
+only_looked old new items c o i none same =
+    let e = inlets_are old new items i none.rings in
     record {
-      place = λ k. record { cpu = c k; outs = map ring_out (o k).items; ins = (ap (map ring_in) e ∙ h.0.rings) k };
+      place = λ k. record { cpu = c k; outs = map ring_out (o k).items; ins = (ap (map ring_in) e ∙ none.rings) k };
       posted = λ to. ap (λ v. get_or (map posted v.items) to []) o;
-      taken = λ k. ap (λ l. get_or (map taken l) k []) e ∙ ap (λ l. get_or l k []) h.0.taken;
-      kept = λ k. ap (λ l. get_or (map kept l) k []) e ∙ h.2 k ∙ sym (h.1 k);
+      taken = λ k. ap (λ l. get_or (map taken l) k []) e ∙ ap (λ l. get_or l k []) none.taken;
+      kept = λ k. ap (λ l. get_or (map kept l) k []) e ∙ same k;
       room = λ to. let e = ap (λ v. get_or (map room v.items) to 0) o in omega arith;
     }
+
+nothing_taken : (old new : Port) (items : List (Option Inlet)) → new.cpu ≡ old.cpu → new.outlets ≡ old.outlets → new.inlets ≡ with_items old.inlets items
+    → NoneIsTaken old.inlets.items items × NoneIsKept old.inlets.items × NoneIsKept items → IsAsBefore old new
+nothing_taken old new items c o i h = only_looked old new items c o i h.0 (λ k. h.2 k ∙ sym (h.1 k))
+
+pub looked_at : (old new : Port) (olds items : List (Option Inlet)) → new.cpu ≡ old.cpu → new.outlets ≡ old.outlets → new.inlets ≡ with_items old.inlets items
+    → olds ≡ old.inlets.items → NoneIsTaken olds items → map kept items ≡ map kept olds → IsAsBefore old new
+looked_at old new olds items c o i e none same =
+    only_looked old new items c o i (subst (λ l. NoneIsTaken l items) e none) (λ k. ap (λ l. get_or l k []) (same ∙ ap (map kept) e))
+
+pub none_there : (old : Port) (olds : List (Option Inlet)) → olds ≡ old.inlets.items → NoneIsKept olds → (from : ℕ) → kept_from old from ≡ []
+none_there old olds e none from = ap (λ l. get_or (map kept l) from []) (sym e) ∙ none from
 
 pub none_taken : (old new : Port) (olds items : List (Option Inlet)) (o : Option (ℕ × Letter)) → new.cpu ≡ old.cpu → new.outlets ≡ old.outlets → new.inlets ≡ with_items old.inlets items
     → olds ≡ old.inlets.items → IfNone o (NoneIsTaken olds items × NoneIsKept olds × NoneIsKept items) → IfNone o (IsAsBefore old new)

@@ -1,5 +1,5 @@
 //! The ends of ways by the other processor. A port has none for its own.
-ghost use Rattle.std.specs.Prelude.{◌≡◌, ◌↔◌, ◌≤◌, ◌<◌, ◌+◌, [], ◌∷◌, ◌++◌, OnOk, IfSome, IfNone, IsTrue, Option, None, ◌⊎◌};
+ghost use Rattle.std.specs.Prelude.{◌≡◌, ◌↔◌, ◌≤◌, ◌<◌, ◌+◌, [], ◌∷◌, ◌++◌, false, OnOk, IfSome, IfNone, IsTrue, Option, None, ◌⊎◌};
 ghost use Rattle.l4_mail.specs.Ends.{ring_out, posted, room, ring_in, taken, kept};
 
 use crate::inlets::Inlet;
@@ -45,6 +45,18 @@ pub fn flush(end: &mut Option<Outlet>)
 {
     if let Some(outlet) = end {
         outlet.flush();
+    }
+}
+
+pub fn has_mail(end: &mut Option<Inlet>) -> bool
+    ensures ring { ring_in end.new ≡ ring_in end.old }
+    ensures taken { taken end.new ≡ taken end.old }
+    ensures kept { kept end.new ≡ kept end.old }
+    ensures none { result ≡ false → kept end.old ≡ [] }
+{
+    match end {
+        Some(inlet) => inlet.has_mail(),
+        None => false,
     }
 }
 

@@ -16,8 +16,18 @@ pub struct Inlet {
 }
 
 impl Inlet {
-    ghost use Rattle.std.specs.Prelude.{◌≡◌, [], ◌∷◌, ◌++◌, IfSome, IfNone};
+    ghost use Rattle.std.specs.Prelude.{◌≡◌, [], ◌∷◌, ◌++◌, false, IfSome, IfNone};
     ghost use Rattle.l4_mail.specs.Ends.{inlet_ring, inlet_taken, inlet_kept};
+
+    /// Whether a letter is here: one that a rest put by, or one that has come.
+    pub fn has_mail(&mut self) -> bool
+        ensures ring { inlet_ring self.new ≡ inlet_ring self.old }
+        ensures taken { inlet_taken self.new ≡ inlet_taken self.old }
+        ensures kept { inlet_kept self.new ≡ inlet_kept self.old }
+        ensures none { result ≡ false → inlet_kept self.old ≡ [] }
+    {
+        !self.kept.is_empty() || !self.ring.is_empty()
+    }
 
     /// The first letter that a rest put by.
     pub fn take_kept(&mut self) -> Option<Letter>

@@ -54,6 +54,9 @@ impl Outlet {
         ensures posted { outlet_posted self.new ≡ outlet_posted self.old }
         ensures room { outlet_room self.old ≤ outlet_room self.new }
     {
+        if self.outbox.is_empty() {
+            return;
+        }
         for _ in 0..self.ring.slots() {
             let Some(letter) = self.outbox.pop_front() else {
                 return;

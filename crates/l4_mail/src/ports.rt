@@ -19,7 +19,7 @@ pub struct Port {
 }
 
 impl Port {
-    ghost use Rattle.std.specs.Prelude.{ℕ, ◌≡◌, ◌↔◌, ◌≤◌, ◌<◌, [], OnOk, IfSome, IfNone, IsTrue};
+    ghost use Rattle.std.specs.Prelude.{ℕ, ◌≡◌, ◌↔◌, ◌≤◌, ◌<◌, [], false, OnOk, IfSome, IfNone, IsTrue};
     ghost use Rattle.l4_mail.specs.Ports.{posted_to, taken_from, kept_from, room_to, fabric_size, place, carried, account, HasWayTo, IsWay, IsWhole, IsAsBefore, HasPosted, HasTaken};
 
     /// The number of the processor.
@@ -72,6 +72,14 @@ impl Port {
         for end in self.outlets.iter_mut() {
             ends::flush(end);
         }
+    }
+
+    /// Whether there is a letter to take. Where there is none, none is kept that a rest put by, and when each ring was looked at it had none.
+    pub fn has_mail(&mut self) -> bool
+        ensures same { IsAsBefore self.old self.new }
+        ensures none { result ≡ false → (from : ℕ) → kept_from self.old from ≡ [] }
+    {
+        takes::has_mail(&mut self.inlets)
     }
 
     /// The next letter, and the processor that posted it: first those that a rest put by, then those that have come, each time of

@@ -1,10 +1,26 @@
 //! Taking a letter at the first of a port's inlets that has one.
-ghost use Rattle.std.specs.Prelude.{◌≡◌, ◌≤◌, length, IfSome, IfNone};
+ghost use Rattle.std.specs.Prelude.{◌≡◌, ◌≤◌, false, length, map, IfSome, IfNone};
+ghost use Rattle.l4_mail.specs.Ends.{kept};
 ghost use Rattle.l4_mail.specs.Takes.{NoneIsKept, NoneIsTaken, IsTaken, WasKept, IsFirst};
 
+use crate::ends;
 use crate::ends::{take_come, take_kept};
 use crate::inlets::Inlet;
 use l4_types::letters::Letter;
+
+/// Whether a letter is at one of the inlets.
+pub fn has_mail(inlets: &mut [Option<Inlet>]) -> bool
+    ensures taken { NoneIsTaken inlets.old inlets.new }
+    ensures kept { map kept inlets.new ≡ map kept inlets.old }
+    ensures none { result ≡ false → NoneIsKept inlets.old }
+{
+    for from in 0..inlets.len() {
+        if ends::has_mail(&mut inlets[from]) {
+            return true;
+        }
+    }
+    false
+}
 
 // The first letter that a rest put by, and the processor that posted it.
 fn first_kept(inlets: &mut [Option<Inlet>]) -> Option<(u8, Letter)>

@@ -40,6 +40,16 @@ pub record Machine : Type 0 where
   pub cpus : ℕ
   pub threads : List Declaration
 
+-- How many processors and threads a machine has at most, and how many instructions a script (own).
+abbrev pub most_processors : ℕ
+most_processors = 16
+
+abbrev pub most_threads : ℕ
+most_threads = 1024
+
+abbrev pub most_instructions : ℕ
+most_instructions = 1024
+
 -- The place of a thread in the order of declaration.
 abbrev pub place_of : Machine → GlobalId → Option ℕ
 place_of m id = position (λ d. same_id d.id id) m.threads

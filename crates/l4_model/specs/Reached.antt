@@ -1,7 +1,7 @@
 -- What is true of every world that a history reaches.
-use Rattle.std.specs.Prelude.{ℕ, ◌^◌, ◌<◌, ◌≤◌, ◌≡◌, true, false, Option, Some, None, is_some, IfSome, IsSomeAnd, List, [], ◌∷◌, length, slice_get, slice_index}
+use Rattle.std.specs.Prelude.{ℕ, ◌<◌, ◌≤◌, ◌≡◌, true, false, Option, Some, None, is_some, IfSome, IsSomeAnd, List, [], ◌∷◌, length, slice_get, slice_index}
 use Rattle.std.specs.List.{AllByRecursion}
-use Rattle.l4_model.specs.Words.{GlobalId, Id, GlobalThread}
+use Rattle.l4_model.specs.Words.{GlobalId, Id, GlobalThread, register_count, clock_limit}
 use Rattle.l4_model.specs.Machine.{Machine, Declaration, place_of, is_declared}
 use Rattle.l4_model.specs.World.{Send, Asked, Phase, Ready, Sending, Receiving, Ordering, Ended, Deleted, Thread, World, is_in, list_at}
 use Rattle.l4_model.specs.Effects.{has_receive_phase}
@@ -26,7 +26,7 @@ pub record IsSendOf (m : Machine) (thread : GlobalId) (now : ℕ) (send : Send) 
   pub since : send.since ≤ now
   pub actual : send.message.actual ≡ thread
   pub shown : is_declared m send.message.shown ≡ true
-  pub short : length send.message.words < 64
+  pub short : length send.message.words < register_count
 
 -- Of each thread, with what is declared of it and the clock of its processor.
 pub record ThreadFacts (m : Machine) (d : Declaration) (now : ℕ) (t : Thread) : Type 0 where
@@ -35,7 +35,7 @@ pub record ThreadFacts (m : Machine) (d : Declaration) (now : ℕ) (t : Thread) 
   pub began : BeganBy now t.phase
   pub send_wish : t.cancel_send ≡ true → is_some t.send ≡ true
   pub receive_wish : t.cancel_receive ≡ true → has_receive_phase t.phase t.send ≡ true
-  pub registers : length t.context.words ≡ 64
+  pub registers : length t.context.words ≡ register_count
 
 -- The place of the thread that an id names.
 abbrev pub place_to : Machine → Id → Option ℕ
@@ -57,7 +57,7 @@ pub record WorldFacts (m : Machine) (w : World) : Type 0 where
   pub threads_counted : length w.threads ≡ length m.threads
   pub lists_counted : length w.waiting ≡ length m.threads
   pub clocks_counted : length w.clocks ≡ m.cpus
-  pub clocks_low : AllByRecursion (λ clock. clock < 2 ^ 62) w.clocks
+  pub clocks_low : AllByRecursion (λ clock. clock < clock_limit) w.clocks
   pub each_thread : (i : ℕ) (d : Declaration) (t : Thread) → slice_get m.threads i ≡ Some d → slice_get w.threads i ≡ Some t → ThreadFacts m d (slice_index w.clocks d.cpu) t
   pub listed_sends : (receiver sender : ℕ) → is_in sender (list_at w.waiting receiver) ≡ true → IsSomeAnd (slice_get w.threads sender) (λ t. SendsTo m receiver t.send)
   pub one_list : (i j sender : ℕ) → is_in sender (list_at w.waiting i) ≡ true → is_in sender (list_at w.waiting j) ≡ true → i ≡ j

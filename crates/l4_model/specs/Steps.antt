@@ -1,7 +1,7 @@
 -- The steps of a machine: where each one is possible, and the world after it.
-use Rattle.std.specs.Prelude.{ℕ, ◌+◌, ◌^◌, Bool, ◌==◌, not, ◌&&◌, nat_lt, false, Option, Some, None, List, slice_get, true, slice_set, is_none}
+use Rattle.std.specs.Prelude.{ℕ, ◌+◌, Bool, ◌==◌, not, ◌&&◌, nat_lt, false, Option, Some, None, List, slice_get, true, slice_set, is_none}
 use Rattle.std.specs.Str.{bytes_eq}
-use Rattle.l4_model.specs.Words.{GlobalId, same_id}
+use Rattle.l4_model.specs.Words.{GlobalId, same_id, clock_limit}
 use Rattle.l4_model.specs.Machine.{What, CancelSend, CancelReceive, CancelBoth, Delete, Machine, place_of}
 use Rattle.l4_model.specs.World.{Name, Receive, Send, Asked, Phase, Receiving, Thread, World, change, queued, unqueued, is_ready, is_deleted, is_alive, receive_now}
 use Rattle.l4_model.specs.Rules.{Act, RunsAlone, Sends, Receives, Orders, received_tag, is_cross}
@@ -182,11 +182,11 @@ after_obey m w caller = do
   target ← place_of m order.target
   Some (change (change w target (asked order.what)) t.at obeyed)
 
--- The clock of a processor goes on, to below 2^62 (own).
+-- The clock of a processor goes on.
 abbrev pub after_tick : Machine → World → (cpu clock : ℕ) → Option World
 after_tick m w cpu clock = do
   now ← slice_get w.clocks cpu
-  nat_lt now clock && nat_lt clock (2 ^ 62)
+  nat_lt now clock && nat_lt clock clock_limit
   Some (record w { clocks = slice_set w.clocks cpu clock })
 
 -- The world after a step. None exactly where it is not possible.

@@ -1,7 +1,7 @@
 -- A world where nothing but clocks can go on, now or later.
-use Rattle.std.specs.Prelude.{◌+◌, ◌-◌, ◌^◌, ◌≡◌, Bool, true, false, Option, Some, None, is_none, List, [], ◌∷◌, ◌++◌, map}
+use Rattle.std.specs.Prelude.{◌+◌, ◌-◌, ◌≡◌, Bool, true, false, Option, Some, None, is_none, List, [], ◌∷◌, ◌++◌, map}
 use Rattle.std.specs.List.{list_all, AllByRecursion}
-use Rattle.l4_model.specs.Words.{GlobalId}
+use Rattle.l4_model.specs.Words.{GlobalId, clock_limit}
 use Rattle.l4_model.specs.Machine.{Machine}
 use Rattle.l4_model.specs.World.{World, Asked, Name}
 use Rattle.l4_model.specs.Steps.{Step, Local, Begin, Queue, Deliver, Wait, SendTimeout, ReceiveTimeout, SendNobody, ReceiveNobody, SendCancel, ReceiveCancel, Drop, Order, Obey, Tick, order_of, next}
@@ -46,7 +46,7 @@ candidates m w (Some t) = all t.declared.id (record { thread = t.declared.id; k 
         ∷ deliveries m w (undecided m w last) last ++ orders id (order_of (act_of m t))
 
 abbrev pub late : World → World
-late w = record w { clocks = map (λ clock. 2 ^ 62 - 1) w.clocks }
+late w = record w { clocks = map (λ clock. clock_limit - 1) w.clocks }
 
 abbrev pub is_still_thread : Machine → World → GlobalId → Bool
 is_still_thread m w id = list_all (λ step. is_none (next m w step)) (candidates m w (found m w id))

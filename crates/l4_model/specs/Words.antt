@@ -59,6 +59,18 @@ tag_of_word word = record { label = word / 2 ^ 16; flags = (word / 2 ^ 12) % 16;
 abbrev pub word_of_tag : MessageTag → ℕ
 word_of_tag tag = tag.label * 2 ^ 16 + tag.flags * 2 ^ 12 + tag.untyped
 
+-- A thread has message registers 0 to 63 (manual: Messages and Message Registers). The first has the tag, so a message has at most 63
+-- untyped words.
+abbrev pub register_count : ℕ
+register_count = 64
+
+abbrev pub last_register : ℕ
+last_register = register_count - 1
+
+-- Clocks and stamps are below it (own).
+abbrev pub clock_limit : ℕ
+clock_limit = 2 ^ 62
+
 -- A period in ticks of a processor's clock, of a microsecond each (manual: Time; the ticks are own). None is never.
 abbrev pub Period : Type 0
 Period = Option ℕ

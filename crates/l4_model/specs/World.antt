@@ -1,7 +1,7 @@
 -- What a machine is at one moment.
 use Rattle.std.specs.Prelude.{ℕ, Bool, ◌==◌, not, false, Option, Some, None, List, zero, suc, true, [], ◌∷◌, ◌++◌, map, filter, replicate, slice_index_or}
 use Rattle.std.specs.List.{list_any}
-use Rattle.l4_model.specs.Words.{GlobalId, Id, NilThread, Period}
+use Rattle.l4_model.specs.Words.{GlobalId, Id, NilThread, Period, register_count}
 use Rattle.l4_model.specs.Machine.{What, Machine}
 
 -- A send's name: the k-th send that a thread began, from k = 1.
@@ -76,7 +76,7 @@ pub record World : Type 0 where
   pub clocks : List ℕ
 
 abbrev pub opening_context : Context
-opening_context = record { words = replicate 64 0; error = 0; from = NilThread; actual = NilThread; place = 0; begun = 0 }
+opening_context = record { words = replicate register_count 0; error = 0; from = NilThread; actual = NilThread; place = 0; begun = 0 }
 
 abbrev pub opening_thread : Thread
 opening_thread =

@@ -73,6 +73,32 @@ fn sinks_are_told_the_same(rt: HostRuntime) -> Result<(), Fail> {
     Ok(())
 }
 
+#[test]
+fn steps_of_another_history_are_appended(rt: HostRuntime) -> Result<(), Fail> {
+    let steps = some_steps()?;
+    let other = History::from_steps(rt.alloc(), &steps)?;
+    let mut history = History::from_steps(rt.alloc(), &steps[4..5])?;
+    history.extend(&other.steps_between(1, 4))?;
+    let appended = history.to_steps(rt.alloc())?;
+    assert_eq!(rt; appended.len(), 4);
+    assert_eq!(rt; &appended[..1], &steps[4..5]);
+    assert_eq!(rt; &appended[1..], &steps[1..4]);
+    Ok(())
+}
+
+#[test]
+fn begun_sends_are_seen(rt: HostRuntime) -> Result<(), Fail> {
+    let one = GlobalId::new(1, 1).ok_or("1.1 is a global id")?;
+    let history = History::from_steps(rt.alloc(), &some_steps()?)?;
+    assert!(&rt;
+        history
+            .begun(0)
+            .is_some_and(|send| send.thread() == one && send.k() == 1)
+    );
+    assert!(&rt; history.begun(1).is_none());
+    Ok(())
+}
+
 // To be run with each allocation refused in turn.
 #[test]
 fn steps_stay_where_memory_is_refused(rt: HostRuntime) -> Result<(), Fail> {

@@ -69,6 +69,19 @@ fn the_lowest_poster_comes_first(rt: HostRuntime) -> Result<(), Fail> {
     Ok(())
 }
 
+// There is mail once it was flushed, and until it is taken.
+#[test]
+fn mail_is_seen(rt: HostRuntime) -> Result<(), Fail> {
+    let mut ports = fabric(rt.alloc(), 2, 1)?;
+    assert!(&rt; send(&mut ports[0], 1, 7));
+    assert!(&rt; !ports[1].has_mail());
+    ports[0].flush();
+    assert!(&rt; ports[1].has_mail());
+    assert!(&rt; gives(&mut ports[1], 0, 7));
+    assert!(&rt; !ports[1].has_mail());
+    Ok(())
+}
+
 /// One letter is in the ring, and one in the outbox.
 pub(crate) fn send_two(port: &mut Port) -> bool
     ensures { place port.new ≡ place port.old }

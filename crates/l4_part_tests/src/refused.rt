@@ -9,7 +9,7 @@ use l4_core::processor::Core;
 use l4_mail::fabric::fabric;
 use l4_mail::ports::Port;
 use l4_mail::rests::{RestFault, rest};
-use l4_samples::{ACROSS, PING_TRACE};
+use l4_samples::{ACROSS, PING_TRACE, call_begins, call_ends};
 use l4_script::machine::Machine;
 use l4_script::text::{TextFault, TextFaultKind};
 use l4_trace::fault::TraceFault;
@@ -20,16 +20,6 @@ use l4_types::steps::Step;
 use std::process::Abort;
 use std::test::Fail;
 use tcb_arena::Arena;
-
-// Prints that a call of this name begins. What refuses memory in a run of these tests can count the growths of each call by these lines.
-fn call_begins<R: Print>(rt: &R, name: &str) {
-    let _printed = println!(rt; "call {name}");
-}
-
-// Prints that the call has come back.
-fn call_ends<R: Print>(rt: &R) {
-    let _printed = println!(rt; "end");
-}
 
 // Of so many threads, each with a script of so many instructions.
 const THREADS: u32 = 40;

@@ -146,6 +146,23 @@ readied_empty old reserved flushed new was hand none first room flush next = rec
   had = λ is. record { empty = empty_hand was none; kept = λ from. sym (flush.kept from ∙ first.kept from) ∙ next.had is from };
 }
 
+-- No letter was in hand, and none has come.
+next_none : (port : Port) → ((from : ℕ) → kept_from port from ≡ []) → HasNext port port None
+next_none port none = record {
+  place = refl;
+  posted = λ to. refl;
+  taken = λ from. sym (append-nil (taken_from port from));
+  room = λ to. omega arith;
+  kept = λ is. none;
+  had = λ is. none;
+}
+
+pub readied_idle : (old reserved flushed : Port) (was : Option (ℕ × Letter)) → is_some was ≡ false → IsAsBefore old reserved → HasRoomForTurn reserved →
+    IsAsBefore reserved flushed → ((from : ℕ) → kept_from flushed from ≡ []) → IsReadied old flushed was was
+readied_idle old reserved flushed was none first room flush kept =
+    subst (λ (hand : Option (ℕ × Letter)). IsReadied old flushed was hand) (sym (empty_hand was none))
+    (readied_empty old reserved flushed flushed was None none first room flush (next_none flushed kept))
+
 pub readied_full : (old reserved flushed : Port) (was : Option (ℕ × Letter)) → is_some was ≡ true → IsAsBefore old reserved → HasRoomForTurn reserved →
     IsAsBefore reserved flushed → IsReadied old flushed was was
 readied_full old reserved flushed was some first room flush = record {

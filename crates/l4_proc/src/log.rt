@@ -1,5 +1,5 @@
 //! The log of one processor.
-ghost use Rattle.std.specs.Prelude.{◌≡◌, ◌<◌, ◌≤◌, ◌+◌, ◌-◌, ◌++◌, ◌^◌, [], ◌↔◌, IfNone, OnOk, OnErr, IsTrue, Some, length, slice_get, vec_len};
+ghost use Rattle.std.specs.Prelude.{◌≡◌, ◌<◌, ◌≤◌, ◌+◌, ◌-◌, ◌++◌, ◌^◌, [], ◌↔◌, false, IfNone, OnOk, OnErr, IsTrue, Some, length, slice_get, vec_len};
 ghost use Rattle.std.specs.Vec.{vec_capacity};
 ghost use Rattle.l4_proc.specs.Ends.{start_of};
 
@@ -138,6 +138,13 @@ impl Log {
     {
         self.end_turn(stamp);
         self.ticks += 1;
+    }
+
+    // Whether the event under way has letters left.
+    pub(crate) fn has_letters(&self) -> bool
+        ensures { result ≡ false → self.now.told.letters ≡ [] }
+    {
+        !self.told.letters().is_empty()
     }
 
     // The next letter of the event under way, with the processor that it goes to.

@@ -178,6 +178,9 @@ impl<'m> Processor<'m> {
         requires room { (to : ℕ) → HasWayTo self.old.port to → length self.old.worker.log.told.letters ≤ room_to self.old.port to }
         ensures { HasPostedOwn self.old self.new }
     {
+        if !self.worker.log.has_letters() {
+            return;
+        }
         'letters: while let Some((to, letter)) = self.worker.log.take_letter() {
             self.port.post(to, letter);
         }
@@ -191,7 +194,7 @@ impl<'m> Processor<'m> {
         self.worker.log.begin()?;
         self.port.reserve()?;
         self.port.flush();
-        if self.worker.hand.is_none() {
+        if self.worker.hand.is_none() && self.port.has_mail() {
             self.worker.hand = self.port.take();
         }
         Ok(())

@@ -50,11 +50,8 @@ fn turn(core: &mut Core<'_>, told: &mut Told<History>) -> Result<u64, Stop>
     ensures stamp { IsErrOf result Stop.Stamp ↔ (IsSome (turn core.old.machine core.old.cpu core.old.local) × (can_stamp core.old.local 0 ≡ false)) }
     ensures faults { IfErr result (λ stop. (stop ≡ Stop.Idle) ⊎ (stop ≡ Stop.Stamp)) }
 {
-    if !core.busy() {
-        return Err(Stop::Idle);
-    }
     if !core.can_stamp(0) {
-        return Err(Stop::Stamp);
+        return Err(if core.busy() { Stop::Stamp } else { Stop::Idle });
     }
     match core.turn_into(told) {
         Some(stamp) => Ok(stamp),
@@ -81,12 +78,14 @@ impl Worker<'_> {
         ensures cpu { self.old.core.cpu < self.old.core.machine.cpus }
     {
         let _cpu = self.core.cpu();
-        let stamp = match &self.hand {
-            Some((_, letter)) => handle(&mut self.core, letter, &mut self.log.told)?,
-            None => turn(&mut self.core, &mut self.log.told)?,
-        };
-        self.hand = None;
-        Ok(stamp)
+        match &self.hand {
+            Some((_, letter)) => {
+                let stamp = handle(&mut self.core, letter, &mut self.log.told)?;
+                self.hand = None;
+                Ok(stamp)
+            }
+            None => turn(&mut self.core, &mut self.log.told),
+        }
     }
 
     // The clock goes on to this value, where it may.

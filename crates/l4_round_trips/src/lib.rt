@@ -5,7 +5,7 @@ ghost use Rattle.std.specs.Prelude.{◌≡◌, ◌<◌, ◌↔◌, ◌⊎◌, Li
 ghost use Rattle.l4_model.specs.History.{IsHistory};
 ghost use Rattle.l4_model.specs.Steps.{Step as ModelStep};
 ghost use Rattle.l4_types.specs.StepView.{step_of};
-ghost use Rattle.l4_machine.specs.Entries.{turns_fault, schedule_fault};
+ghost use Rattle.l4_machine.specs.Entries.{most_entries, most_turns, turns_fault, schedule_fault};
 ghost use Rattle.l4_machine.specs.Outcomes.{IsOutcome, IsReplayed};
 ghost use Rattle.l4_machine.specs.declared.outcome.RunFault.TheVariants.{NoMemory as RunOutOfMemory};
 ghost use Rattle.l4_trace.specs.Reading.{steps_of};
@@ -49,7 +49,7 @@ pub fn audited_run<R: Threads + Sync, G: Gate + Sync>(
     ensures outcome { IfOk result (λ audited. IsOutcome machine.now turns audited.outcome) }
     ensures audited { IfOk result (IsAudited machine.now) }
     ensures err { IfErr result (λ fault. (fault ≡ RunFault.NoMemory) ⊎ (turns_fault turns ≡ Some fault)) }
-    ensures range { IsErrOf result RunFault.Turns ↔ ((turns ≡ 0) ⊎ (1000000 < turns)) }
+    ensures range { IsErrOf result RunFault.Turns ↔ ((turns ≡ 0) ⊎ (most_turns < turns)) }
 {
     let outcome = run(rt, alloc, machine, turns, gate)?;
     Ok(audited(alloc, machine, outcome)?)
@@ -66,7 +66,7 @@ pub fn audited_replay(
     ensures outcome { IfOk result (λ audited. IsReplayed machine.now schedule.now audited.outcome) }
     ensures audited { IfOk result (IsAudited machine.now) }
     ensures err { IfErr result (λ fault. (fault ≡ RunFault.NoMemory) ⊎ (schedule_fault machine.now schedule.now ≡ Some fault)) }
-    ensures range { IsErrOf result RunFault.Turns ↔ (1000000 < length schedule.now) }
+    ensures range { IsErrOf result RunFault.Turns ↔ (most_entries < length schedule.now) }
 {
     let outcome = replay(alloc, machine, schedule)?;
     Ok(audited(alloc, machine, outcome)?)

@@ -24,6 +24,8 @@ mod program;
 #[cfg(test)]
 mod receives;
 #[cfg(test)]
+mod refused;
+#[cfg(test)]
 mod round_trips;
 #[cfg(test)]
 mod rounds;

@@ -72,6 +72,17 @@ fn as_many_threads_as_there_may_be_wait_at_one_of_them(rt: HostRuntime) -> Resul
 }
 
 #[test]
+fn a_text_as_long_as_it_may_be(rt: HostRuntime) -> Result<(), Fail> {
+    let comment = ";".repeat(rt.alloc(), 1_048_560)?;
+    let text = format!(in rt.alloc(); "l4 1 64\ncpus 1\n{comment}\n")?;
+    assert_eq!(rt; text.as_str().len(), 1_048_576);
+    shows(&rt, &["run", "m.l4"], text.as_str(), (0, "", ""));
+    let words = ["run", "m.l4", "--report"];
+    shows(&rt, &words, text.as_str(), (0, "ending quiet\n", ""));
+    Ok(())
+}
+
+#[test]
 fn a_schedule_as_long_as_it_may_be(rt: HostRuntime) -> Result<(), Fail> {
     let text = "l4 1 64\ncpus 16\nthread 1.1 cpu 15 space 1\nipc nil any never 5\n";
     let machine = Machine::parse(rt.alloc(), text.as_bytes())

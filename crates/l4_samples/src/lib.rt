@@ -76,3 +76,13 @@ pub fn endless(alloc: Global, cpus: u8, busy: u8) -> Result<String, AllocError> 
     }
     Ok(text)
 }
+
+/// Prints that a call of this name begins. bench/refusals.sh refuses memory from here on up to `call_ends`, and nowhere else.
+pub fn call_begins<R: Print>(rt: &R, name: &str) {
+    let _printed = println!(rt; "call {name}");
+}
+
+/// Prints that the call has come back.
+pub fn call_ends<R: Print>(rt: &R) {
+    let _printed = println!(rt; "end");
+}

@@ -3,8 +3,8 @@
 use Rattle.std.specs.Prelude.{ℕ, zero, suc, ◌≡◌, ◌≤◌, ◌+◌, ◌*◌, ◌/◌, ◌%◌, ◌^◌, ◌-◌, Bool, true, false, not, ◌&&◌, ◌==◌, nat_lt, nat_le, if◌then◌else◌, is_some, Ok, Option, Some, None, List, [], ◌∷◌, ◌++◌, length, map, flat_map, find, codes, decimal}
 use Rattle.std.specs.Fmt.{digit_glyph}
 use Rattle.std.specs.List.{list_all, list_any, range_with_len}
-use Rattle.l4_model.specs.Words.{is_global, Id, NilThread, AnyThread, AnyLocalThread, LocalThread, GlobalThread, Period}
-use Rattle.l4_model.specs.Machine.{Instr, Set, Copy, Add, Tag, Vs, Ipc, To, ToId, ToLast, Ask, CancelSend, CancelReceive, CancelBoth, Delete, Jump, OnErr, End, Declaration, Machine}
+use Rattle.l4_model.specs.Words.{is_global, last_register, Id, NilThread, AnyThread, AnyLocalThread, LocalThread, GlobalThread, Period}
+use Rattle.l4_model.specs.Machine.{Instr, Set, Copy, Add, Tag, Vs, Ipc, To, ToId, ToLast, Ask, CancelSend, CancelReceive, CancelBoth, Delete, Jump, OnErr, End, Declaration, Machine, most_processors, most_threads, most_instructions}
 use Rattle.l4_core_model.specs.Runs.{IsMachine}
 use Rattle.l4_words.specs.Lines.{line_of_words}
 use Rattle.l4_words.specs.Numbers.{is_word}
@@ -80,7 +80,7 @@ canonical_text m = flat_map line_of_words (lines_of m)
 -- Which machines a text can declare
 
 abbrev pub is_register : ℕ → Bool
-is_register n = nat_le 1 n && nat_le n 63
+is_register n = nat_le 1 n && nat_le n last_register
 
 -- An id that stands for a word.
 abbrev pub has_word : Id → Bool
@@ -100,7 +100,7 @@ has_time (Some ticks) = is_some (exponent_of ticks)
 -- An instruction of a script of this size.
 abbrev pub can_be_written : (size : ℕ) → Instr → Bool
 can_be_written size (Set a word) = is_register a && is_word word
-can_be_written size (Copy a b) = is_register a && nat_le b 63
+can_be_written size (Copy a b) = is_register a && nat_le b last_register
 can_be_written size (Add a word) = is_register a && is_word word
 can_be_written size (Tag word) = is_word word && word / 2 ^ 6 % 64 == 0
 can_be_written size (Vs id) = has_word id
@@ -113,7 +113,7 @@ can_be_written size End = true
 -- A thread of a machine of this number of processors.
 abbrev pub can_be_declared : (cpus : ℕ) → Declaration → Bool
 can_be_declared cpus d =
-    is_global d.id && nat_lt d.cpu cpus && nat_lt d.space (2 ^ 32) && nat_le (length d.script) 1024
+    is_global d.id && nat_lt d.cpu cpus && nat_lt d.space (2 ^ 32) && nat_le (length d.script) most_instructions
     && list_all (can_be_written (length d.script)) d.script
 
 -- No thread number stands twice.
@@ -123,8 +123,8 @@ are_apart (d ∷ ds) = not (list_any (has_number d.id.number) ds) && are_apart d
 
 pub record HasText (m : Machine) : Type 0 where
   pub some : 1 ≤ m.cpus
-  pub limit : m.cpus ≤ 16
-  pub few : length m.threads ≤ 1024
+  pub limit : m.cpus ≤ most_processors
+  pub few : length m.threads ≤ most_threads
   pub apart : are_apart m.threads ≡ true
   pub each : list_all (can_be_declared m.cpus) m.threads ≡ true
 

@@ -1,7 +1,7 @@
 -- How a machine grows as its text is read.
 use Rattle.std.specs.Prelude.{ℕ, ◌-◌, ◌≤◌, Bool, ◌==◌, [], ◌∷◌, ◌++◌, length, slice_set}
 use Rattle.std.specs.List.{list_any}
-use Rattle.l4_model.specs.Machine.{Instr, Declaration, Machine}
+use Rattle.l4_model.specs.Machine.{Instr, Declaration, Machine, most_processors, most_threads}
 use Rattle.l4_core_model.specs.Local.{declared}
 use Rattle.l4_core_model.specs.Runs.{IsMachine}
 
@@ -9,8 +9,8 @@ use Rattle.l4_core_model.specs.Runs.{IsMachine}
 pub record IsLawful (m : Machine) : Type 0 where
   pub machine : IsMachine m
   pub some : 1 ≤ m.cpus
-  pub limit : m.cpus ≤ 16
-  pub threads : length m.threads ≤ 1024
+  pub limit : m.cpus ≤ most_processors
+  pub threads : length m.threads ≤ most_threads
 
 abbrev pub has_number : ℕ → Declaration → Bool
 has_number number d = d.id.number == number

@@ -1,7 +1,8 @@
 -- What the lines of a machine text say: their operands are judged from left to right, behind the keywords and the number of words.
 use Rattle.std.specs.Prelude.{ℕ, ◌/◌, ◌%◌, ◌^◌, ◌-◌, ◌&&◌, ◌==◌, not, nat_lt, if◌then◌else◌, Option, Some, None, Ok, Err, List, [], length, codes}
 use Rattle.std.specs.Str.{bytes_eq}
-use Rattle.l4_model.specs.Machine.{Instr, Set, Copy, Add, Tag, Vs, Ipc, To, ToId, ToLast, Ask, What, CancelSend, CancelReceive, CancelBoth, Delete, Jump, OnErr, End, Declaration, Machine}
+use Rattle.l4_model.specs.Words.{last_register}
+use Rattle.l4_model.specs.Machine.{Instr, Set, Copy, Add, Tag, Vs, Ipc, To, ToId, ToLast, Ask, What, CancelSend, CancelReceive, CancelBoth, Delete, Jump, OnErr, End, Declaration, Machine, most_processors, most_threads, most_instructions}
 use Rattle.l4_script.specs.declared.text.fault.TextFaultKind.TheVariants.{BadLine, BadNumber, BadId, BadCpu, TypedItems, DoubleId, TooManyThreads, TooManyInstructions}
 use Rattle.l4_script.specs.Judged.{Judged, ◌>>=◌, ◌>>◌, must, needs}
 use Rattle.l4_script.specs.Numbers.{number_of, number_from, time_from}
@@ -20,12 +21,12 @@ format_line words = do
   width ← number_from 64 64 numbers.1
   Ok tt
 
--- `cpus N`, N 1 to 16.
+-- `cpus N`.
 unfoldable pub processors_line : List (List ℕ) → Judged ℕ
 processors_line words = do
   operands ← after (codes "cpus") words
   number ← needs (one operands) BadLine
-  number_from 1 16 number
+  number_from 1 most_processors number
 
 -- A number below the number of processors.
 unfoldable pub processor_of : (cpus : ℕ) → List ℕ → Judged ℕ
@@ -48,7 +49,7 @@ declaration_of cpus operands = do
 unfoldable pub set_of : List (List ℕ) → Judged Instr
 set_of operands = do
   numbers ← needs (two operands) BadLine
-  register ← number_from 1 63 numbers.0
+  register ← number_from 1 last_register numbers.0
   word ← needs (number_of numbers.1) BadNumber
   Ok (Set register word)
 
@@ -56,15 +57,15 @@ set_of operands = do
 unfoldable pub copy_of : List (List ℕ) → Judged Instr
 copy_of operands = do
   numbers ← needs (two operands) BadLine
-  register ← number_from 1 63 numbers.0
-  source ← number_from 0 63 numbers.1
+  register ← number_from 1 last_register numbers.0
+  source ← number_from 0 last_register numbers.1
   Ok (Copy register source)
 
 -- `add A W`, behind its first word.
 unfoldable pub add_of : List (List ℕ) → Judged Instr
 add_of operands = do
   numbers ← needs (two operands) BadLine
-  register ← number_from 1 63 numbers.0
+  register ← number_from 1 last_register numbers.0
   word ← needs (number_of numbers.1) BadNumber
   Ok (Add register word)
 
@@ -150,11 +151,11 @@ instruction_of name operands =
 -- The limits, and the numbers of the threads.
 unfoldable pub declare : Declaration → Machine → Judged Machine
 declare thread m = do
-  must (nat_lt (length m.threads) 1024) TooManyThreads
+  must (nat_lt (length m.threads) most_threads) TooManyThreads
   must (not (is_taken thread.id.number m)) DoubleId
   Ok (with_thread thread m)
 
 unfoldable pub extend : Instr → Machine → Judged Machine
 extend instr m = do
-  must (nat_lt (length (last_thread m).script) 1024) TooManyInstructions
+  must (nat_lt (length (last_thread m).script) most_instructions) TooManyInstructions
   Ok (extended instr m)

@@ -1,8 +1,10 @@
 //! The instructions of a script.
 ghost use Rattle.std.specs.Prelude.{◌≡◌, ◌<◌, IfSome, IsSome, ◌↔◌};
+ghost use Rattle.l4_model.specs.Words.{register_count};
 ghost use Rattle.l4_types.specs.PeriodView.{IsTimely};
 
 use l4_types::ids::ThreadId;
+use l4_types::registers::MESSAGE_REGISTERS;
 use l4_types::steps::What;
 use l4_types::tags::MsgTag;
 use l4_types::times::Period;
@@ -21,7 +23,9 @@ impl Model for Register {
 
     ghost view = { λ r. r.number };
 
-    ghost invariant = { (λ r. (0 < r.number) × (r.number < 64)) };
+    ghost use Rattle.l4_model.specs.Words.{register_count};
+
+    ghost invariant = { (λ r. (0 < r.number) × (r.number < register_count)) };
 
     ghost inverse = { λ n. record { number = n } };
 }
@@ -30,9 +34,9 @@ impl Register {
     /// The register of this number, or None where it is 0 or above 63.
     pub fn new(number: u8) -> Option<Register>
         ensures some { IfSome result (λ register. register ≡ number) }
-        ensures when { IsSome result ↔ ((0 < number) × (number < 64)) }
+        ensures when { IsSome result ↔ ((0 < number) × (number < register_count)) }
     {
-        if number == 0 || number > 63 {
+        if number == 0 || usize::from(number) >= MESSAGE_REGISTERS {
             return None;
         }
         Some(Register { number })
@@ -42,7 +46,7 @@ impl Register {
     pub fn number(&self) -> u8
         ensures value { result ≡ self.now }
         ensures lower { 0 < result }
-        ensures upper { result < 64 }
+        ensures upper { result < register_count }
     {
         self.number
     }
@@ -61,7 +65,9 @@ impl Model for Source {
 
     ghost view = { λ r. r.index };
 
-    ghost invariant = { (λ r. r.index < 64) };
+    ghost use Rattle.l4_model.specs.Words.{register_count};
+
+    ghost invariant = { (λ r. r.index < register_count) };
 
     ghost inverse = { λ n. record { index = n } };
 }
@@ -70,9 +76,9 @@ impl Source {
     /// The register of this number, or None where it is above 63.
     pub fn new(number: u8) -> Option<Source>
         ensures some { IfSome result (λ source. source ≡ number) }
-        ensures when { IsSome result ↔ (number < 64) }
+        ensures when { IsSome result ↔ (number < register_count) }
     {
-        if number > 63 {
+        if usize::from(number) >= MESSAGE_REGISTERS {
             return None;
         }
         Some(Source { index: number })
@@ -81,7 +87,7 @@ impl Source {
     /// The number of the register, 0 to 63.
     pub fn number(&self) -> u8
         ensures value { result ≡ self.now }
-        ensures upper { result < 64 }
+        ensures upper { result < register_count }
     {
         self.index
     }

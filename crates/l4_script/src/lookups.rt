@@ -1,7 +1,7 @@
 //! Looking declared threads up.
 ghost use Rattle.std.specs.Prelude.{◌≡◌, ◌<◌, is_some, unwrap_or, IsSome, slice_get};
 ghost use Rattle.std.specs.Option.{option_copied, option_map};
-ghost use Rattle.l4_model.specs.Machine.{End, declaration_of, instruction_at, same_space};
+ghost use Rattle.l4_model.specs.Machine.{End, declaration_of, instruction_at, most_instructions, same_space};
 ghost use Rattle.l4_model.specs.Rules.{is_admitted, permitted};
 ghost use Rattle.l4_types.specs.StepView.{what_of};
 ghost use Rattle.l4_script.specs.Scripts.{instr_of};
@@ -15,7 +15,7 @@ impl Declaration {
     /// The instruction at a place of the script, counted from 0. None past its end, which is an `end`.
     pub fn instruction(&self, place: usize) -> Option<Instr>
         ensures value { unwrap_or (option_map instr_of result) End ≡ instruction_at self.now.script place }
-        ensures within { IsSome result → place < 1024 }
+        ensures within { IsSome result → place < most_instructions }
     {
         self.script().get(place).copied()
     }

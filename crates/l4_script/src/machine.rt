@@ -1,6 +1,6 @@
 //! The machine that a text declares: its threads, and their scripts.
 ghost use Rattle.std.specs.Prelude.{◌≡◌, ◌<◌, ◌≤◌, ◌+◌, ◌-◌, ◌∷◌, [], ◌++◌, length, map, false, true, OnErr, OnOk, IfOk, IfSome, IsSome, ◌↔◌, slice_set};
-ghost use Rattle.l4_model.specs.Machine.{place_of};
+ghost use Rattle.l4_model.specs.Machine.{place_of, most_processors, most_threads, most_instructions};
 ghost use Rattle.l4_core_model.specs.Runs.{IsMachine};
 ghost use Rattle.l4_script.specs.Scripts.{instr_of};
 ghost use Rattle.l4_script.specs.Machines.{is_taken, last_thread, with_instruction, with_thread, extended};
@@ -17,9 +17,6 @@ pub const MOST_THREADS: usize = 1024;
 
 /// How many instructions a script has at most.
 pub const MOST_INSTRUCTIONS: usize = 1024;
-
-/// How many processors a machine has at most.
-pub const MOST_PROCESSORS: u8 = 16;
 
 /// A declared thread: its id, its processor and its address space by their numbers, and its script.
 #[derive(Debug, Drop)]
@@ -40,7 +37,9 @@ impl Model for Declaration {
 
     ghost view = { λ d. record { id = d.id; cpu = d.cpu; space = d.space; script = map instr_of d.script.items } };
 
-    ghost invariant = { λ d. length d.script.items ≤ 1024 };
+    ghost use Rattle.l4_model.specs.Machine.{most_instructions};
+
+    ghost invariant = { λ d. length d.script.items ≤ most_instructions };
 }
 
 impl Declaration {
@@ -80,14 +79,14 @@ impl Declaration {
     /// The thread's instructions, at most 1,024.
     pub fn script(&self) -> &[Instr]
         ensures value { map instr_of result.now ≡ self.now.script }
-        ensures limit { length result.now ≤ 1024 }
+        ensures limit { length result.now ≤ most_instructions }
     {
         self.script.as_slice()
     }
 
     // Appends an instruction to the script.
     fn push(&mut self, instr: Instr) -> Result<(), NoMemory>
-        requires { length self.old.script < 1024 }
+        requires { length self.old.script < most_instructions }
         ensures ok { OnOk result (self.new ≡ with_instruction (instr_of instr) self.old) }
         ensures err { OnErr result (self.new ≡ self.old) }
     {
@@ -135,7 +134,7 @@ impl Machine {
     /// A machine of so many processors, without threads.
     pub(crate) fn new(alloc: Global, cpus: u8) -> Machine
         requires some { 1 ≤ cpus }
-        requires limit { cpus ≤ 16 }
+        requires limit { cpus ≤ most_processors }
         ensures { result ≡ record { cpus = cpus; threads = [] } }
     {
         Machine {
@@ -149,7 +148,7 @@ impl Machine {
     pub fn cpus(&self) -> u8
         ensures value { result ≡ self.now.cpus }
         ensures some { 1 ≤ result }
-        ensures limit { result ≤ 16 }
+        ensures limit { result ≤ most_processors }
         ensures lawful { IsMachine self.now }
     {
         self.cpus
@@ -159,7 +158,7 @@ impl Machine {
     pub fn threads(&self) -> &[Declaration]
         ensures value { result.now ≡ self.now.threads }
         ensures lawful { IsMachine self.now }
-        ensures limit { length result.now ≤ 1024 }
+        ensures limit { length result.now ≤ most_threads }
     {
         self.threads.as_slice()
     }
@@ -191,7 +190,7 @@ impl Machine {
 
     // Appends a thread.
     pub(crate) fn declare(&mut self, thread: Declaration) -> Result<(), NoMemory>
-        requires room { length self.old.threads < 1024 }
+        requires room { length self.old.threads < most_threads }
         requires home { thread.cpu < self.old.cpus }
         requires fresh { is_taken thread.id.number self.old ≡ false }
         ensures ok { OnOk result (self.new ≡ with_thread thread self.old) }
@@ -206,7 +205,7 @@ impl Machine {
     // Appends an instruction to the script of the thread that was declared last.
     pub(crate) fn add_instruction(&mut self, instr: Instr) -> Result<(), NoMemory>
         requires some { 0 < length self.old.threads }
-        requires room { length (last_thread self.old).script < 1024 }
+        requires room { length (last_thread self.old).script < most_instructions }
         ensures ok { OnOk result (self.new ≡ extended (instr_of instr) self.old) }
         ensures err { OnErr result (self.new ≡ self.old) }
     {

@@ -1,6 +1,6 @@
 -- An undecided send, whose words stay in its sender's registers.
 use Rattle.std.specs.Prelude.{ℕ, Bool, ◌<◌, List, Option, take, drop}
-use Rattle.l4_model.specs.Words.{GlobalId, Id, Period}
+use Rattle.l4_model.specs.Words.{GlobalId, Id, Period, register_count}
 use Rattle.l4_model.specs.World.{Message, Send, Receive}
 use Rattle.l4_thread.specs.declared.sends.Words.{Words}
 use Rattle.l4_thread.specs.declared.sends.Words.TheVariants.{InRegisters, Apart}
@@ -23,7 +23,7 @@ pub record Held : Type 0 where
 
 -- A message has at most 63 words.
 abbrev pub AreFew : Words → Type 0
-AreFew (InRegisters count) = count < 64
+AreFew (InRegisters count) = count < register_count
 AreFew Apart = Unit {0}
 
 -- The words, where these are apart and those in the registers.

@@ -16,7 +16,9 @@ pub struct Request {
 /// The same, where the words of the message stay in the registers of the thread.
 #[derive(PartialEq, Eq, Debug, Drop)]
 pub(crate) struct Begun {
+    /// The send phase: the destination, what is fixed of the message but its words, and how long the phase may wait.
     pub send: Option<(ThreadId, Head, Period)>,
+    /// The receive phase: whom it accepts, and how long it may wait.
     pub receive: Option<(ThreadId, Period)>,
 }
 

@@ -1,5 +1,6 @@
 //! Sends and receive phases as they were fixed when they began.
 ghost use Rattle.std.specs.Prelude.{◌≡◌, ◌<◌, ◌^◌, length};
+ghost use Rattle.l4_model.specs.Words.{register_count};
 ghost use Rattle.l4_types.specs.PeriodView.{period_of, IsTimely};
 ghost use Rattle.l4_thread.specs.Held.{with_words, sent_with, AreFew};
 ghost use Rattle.l4_thread.specs.declared.sends.Words.TheVariants.{InRegisters, Apart};
@@ -101,7 +102,7 @@ impl Head {
         actual: GlobalId,
     ) -> Head
         requires label { label < 2 ^ 48 }
-        requires count { count < 64 }
+        requires count { count < register_count }
         ensures { result ≡ record { label = label; words = InRegisters count; propagated = propagated; shown = shown; actual = actual } }
     {
         Head {
@@ -143,7 +144,7 @@ impl Head {
 
     /// The message, with these words, of which there are at most 63.
     pub(crate) fn with_words<'a>(&self, words: &'a [u64]) -> MessageRef<'a>
-        requires { length words.now < 64 }
+        requires { length words.now < register_count }
         ensures { result ≡ with_words words.now self.now }
     {
         MessageRef::new(self.label, self.propagated, words, self.shown, self.actual)
@@ -246,6 +247,7 @@ pub struct SendRef<'a> {
 
 impl<'a> Model for SendRef<'a> {
     ghost use Rattle.std.specs.Prelude.{◌<◌, length};
+    ghost use Rattle.l4_model.specs.Words.{register_count};
     ghost use Rattle.l4_model.specs.World.{Send as ModelSend};
     ghost use Rattle.l4_thread.specs.Held.{sent_with};
 
@@ -253,13 +255,13 @@ impl<'a> Model for SendRef<'a> {
 
     ghost view = { λ s. sent_with s.words.now s.send.now };
 
-    ghost invariant = { λ s. length s.words.now < 64 };
+    ghost invariant = { λ s. length s.words.now < register_count };
 }
 
 impl<'a> SendRef<'a> {
     /// A send with the words of its message, of which there are at most 63.
     pub(crate) fn new(send: &'a Send, words: &'a [u64]) -> SendRef<'a>
-        requires { length words.now < 64 }
+        requires { length words.now < register_count }
         ensures { result ≡ sent_with words.now send.now }
     {
         SendRef { send, words }

@@ -17,6 +17,7 @@ use crate::sends::{Receive, Send, SendRef, Words};
 use crate::thread::Thread;
 use arrayvec::ArrayVec;
 use l4_types::ids::GlobalId;
+use l4_types::messages::MOST_WORDS;
 use l4_types::reports::{State, ThreadView};
 use l4_types::times::Period;
 use std::marker::Model;
@@ -28,7 +29,7 @@ pub struct Tcb {
     phase: Phase,
     send: Option<Send>,
     // The words of its send, where they are not in its registers.
-    apart: ArrayVec<u64, 63>,
+    apart: ArrayVec<u64, MOST_WORDS>,
     order: Option<Asked>,
     cancel_send: bool,
     cancel_receive: bool,

@@ -1,7 +1,7 @@
 //! The part of a thread that its own instructions read and write.
 ghost use Rattle.std.specs.Prelude.{◌≡◌, ◌<◌, ◌^◌, ◌+◌, ◌%◌, IfSome, false, true, take, drop, length, List, [], ℕ};
 ghost use Rattle.std.specs.Option.{option_map};
-ghost use Rattle.l4_model.specs.Words.{word_of_tag};
+ghost use Rattle.l4_model.specs.Words.{word_of_tag, register_count};
 ghost use Rattle.l4_model.specs.World.{opening_context};
 ghost use Rattle.l4_model.specs.Rules.{failed, sent, received, ordered, advanced, ran, register, with_register, destination, receive_phase};
 ghost use Rattle.l4_types.specs.Codes.{code_of};
@@ -104,7 +104,7 @@ impl Thread {
 
     // What a message register has.
     fn register(&self, number: u8) -> u64
-        requires { number < 64 }
+        requires { number < register_count }
         ensures { result ≡ register self.now.context number }
     {
         self.regs.words[usize::from(number)]
@@ -201,7 +201,7 @@ impl Thread {
         actual: GlobalId,
         tag: MsgTag,
     )
-        requires { length words.now < 64 }
+        requires { length words.now < register_count }
         ensures { self.new ≡ record self.old { context = received (unlabelled words.now shown actual) (word_of_tag tag) self.old.context } }
     {
         let end = words.len() + 1;
@@ -225,7 +225,7 @@ impl Thread {
     pub fn fail(&mut self, error: IpcError)
         ensures { self.new ≡ record self.old { context = failed (code_of error) self.old.context } }
     {
-        self.regs.words[0] = 0x8000;
+        self.regs.words[0] = MsgTag::FAILED.raw();
         self.regs.error = error.code();
         self.regs.from = ThreadId::NIL;
     }
@@ -292,7 +292,7 @@ impl Thread {
     fn originator(&self, permitted: bool) -> Option<GlobalId>
         ensures { result ≡ originator_if permitted self.now.context }
     {
-        if permitted && (self.regs.words[0] / 0x1000) % 2 == 1 {
+        if permitted && MsgTag::propagates_in(self.regs.words[0]) {
             self.regs.actual.as_global()
         } else {
             None
@@ -301,9 +301,9 @@ impl Thread {
 
     /// So many words from message register 1 on.
     pub(crate) fn words(&self, count: u8) -> &[u64]
-        requires { count < 64 }
+        requires { count < register_count }
         ensures value { result.now ≡ take count (drop 1 self.now.context.words) }
-        ensures fits { length result.now < 64 }
+        ensures fits { length result.now < register_count }
     {
         &self.regs.words[1..usize::from(count) + 1]
     }
@@ -336,8 +336,8 @@ impl Thread {
         let originator = self.originator(permitted);
         let mr0 = self.regs.words[0];
         Head::in_registers(
-            mr0 / 0x1_0000,
-            (mr0 % 64) as u8,
+            MsgTag::label_in(mr0),
+            MsgTag::untyped_in(mr0),
             originator.is_some(),
             originator.unwrap_or(self.id),
             self.id,

@@ -1,8 +1,8 @@
 -- The line of a step in a trace.
 use Rattle.std.specs.Prelude.{ℕ, ◌/◌, ◌%◌, ◌^◌, Bool, ◌==◌, ◌&&◌, nat_lt, List, [], ◌∷◌, ◌++◌, length, map, flat_map, codes, decimal}
 use Rattle.std.specs.List.{list_all}
-use Rattle.l4_model.specs.Words.{is_global}
-use Rattle.l4_model.specs.Machine.{What, CancelSend, CancelReceive, CancelBoth, Delete}
+use Rattle.l4_model.specs.Words.{is_global, clock_limit}
+use Rattle.l4_model.specs.Machine.{What, CancelSend, CancelReceive, CancelBoth, Delete, most_processors}
 use Rattle.l4_model.specs.World.{Name}
 use Rattle.l4_model.specs.Steps.{Step, Local, Begin, Queue, Deliver, Wait, SendTimeout, ReceiveTimeout, SendNobody, ReceiveNobody, SendCancel, ReceiveCancel, Drop, Order, Obey, Tick}
 pub use Rattle.l4_words.specs.Lines.{line_of_words}
@@ -73,4 +73,4 @@ has_line (ReceiveCancel t) = is_global t
 has_line (Drop s) = is_name s
 has_line (Order caller target what) = is_global caller && is_global target
 has_line (Obey caller) = is_global caller
-has_line (Tick cpu clock) = nat_lt cpu 16 && nat_lt 0 clock && nat_lt clock (2 ^ 62)
+has_line (Tick cpu clock) = nat_lt cpu most_processors && nat_lt 0 clock && nat_lt clock clock_limit

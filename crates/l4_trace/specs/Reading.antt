@@ -3,9 +3,9 @@ use Rattle.std.specs.Prelude.{ℕ, ◌≡◌, ◌↔◌, ◌+◌, ◌<◌, ◌^�
 use Rattle.std.specs.Option.{option_map}
 use Rattle.std.specs.List.{list_all}
 use Rattle.std.specs.Str.{bytes_eq}
-use Rattle.l4_model.specs.Words.{GlobalId}
+use Rattle.l4_model.specs.Words.{GlobalId, clock_limit, last_register}
 use Rattle.l4_model.specs.World.{Name}
-use Rattle.l4_model.specs.Machine.{What, CancelSend, CancelReceive, CancelBoth, Delete}
+use Rattle.l4_model.specs.Machine.{What, CancelSend, CancelReceive, CancelBoth, Delete, most_processors}
 use Rattle.l4_model.specs.Steps.{Step, Local, Begin, Queue, Deliver, Wait, SendTimeout, ReceiveTimeout, SendNobody, ReceiveNobody, SendCancel, ReceiveCancel, Drop, Order, Obey, Tick}
 use Rattle.l4_model.specs.Conditions.{◌>>=◌, ◌>>◌}
 use Rattle.l4_trace.specs.declared.fault.TraceFault.{TraceFault}
@@ -19,12 +19,12 @@ use Rattle.l4_trace.specs.Names.{name_of}
 
 -- What stands behind the first word of a line
 
--- The words of a message behind those that were read. There are at most 63.
+-- The words of a message behind those that were read. There is at most one for each register but MR0.
 abbrev pub message_words : (read : List ℕ) → List (List ℕ) → Option (List ℕ)
 message_words read [] = Some read
 message_words read (spelled ∷ others) = do
   word ← number_of 16 spelled
-  nat_lt (length read) 63
+  nat_lt (length read) last_register
   message_words (read ++ word ∷ []) others
 
 -- The tag has to be one that counts these words.
@@ -68,7 +68,7 @@ tick_of operands = do
   words ← two operands
   cpu ← number_of 10 words.0
   clock ← number_of 10 words.1
-  nat_lt cpu 16 && nat_lt 0 clock && nat_lt clock (2 ^ 62)
+  nat_lt cpu most_processors && nat_lt 0 clock && nat_lt clock clock_limit
   Some (Tick cpu clock)
 
 -- A line

@@ -12,10 +12,10 @@ use crate::digits::write_byte;
 use crate::pieces::{
     WORD_BYTES, write_keyword, write_name, write_number, write_thread, write_word, write_words,
 };
-use l4_history::history::MESSAGE_WORDS;
 use l4_history::step_ref::{DeliveryRef, StepRef};
 use l4_types::errors::NoMemory;
 use l4_types::ids::GlobalId;
+use l4_types::messages::MOST_WORDS;
 use l4_types::steps::{Name, Step, Tick, What};
 
 // The first word of a line, and the last one of an order, take at most so many bytes.
@@ -32,7 +32,7 @@ const FEW_WORDS: usize = 4;
 
 const SHORT_LINE: usize = DELIVERY_BYTES + WORD_BYTES * FEW_WORDS;
 
-const LONG_LINE: usize = DELIVERY_BYTES + WORD_BYTES * MESSAGE_WORDS;
+const LONG_LINE: usize = DELIVERY_BYTES + WORD_BYTES * MOST_WORDS;
 
 /// Appends the line of a step, with its line feed. Where memory is refused, nothing is appended.
 pub fn write_event(step: &Step, out: &mut Vec<u8>) -> Result<(), NoMemory>

@@ -1,6 +1,7 @@
 //! The steps that lines spell.
 ghost use Rattle.std.specs.Prelude.{◌≡◌, ◌<◌, [], length, is_some, MatchOption, None, Some};
 ghost use Rattle.std.specs.Option.{option_map};
+ghost use Rattle.l4_model.specs.Words.{register_count};
 ghost use Rattle.l4_types.specs.StepView.{what_of};
 ghost use Rattle.l4_history.specs.Seen.{seen, delivered as seen_delivery};
 ghost use Rattle.l4_words.specs.Words.{Finds};
@@ -10,10 +11,11 @@ ghost use Rattle.l4_trace.specs.Telling.{told_onto};
 use crate::kinds::{Kind, kind_of};
 use crate::names::name;
 use arrayvec::ArrayVec;
-use l4_history::history::{History, MESSAGE_WORDS};
+use l4_history::history::History;
 use l4_history::message_ref::MessageRef;
 use l4_history::step_ref::{DeliveryRef, StepRef};
 use l4_types::ids::GlobalId;
+use l4_types::messages::MOST_WORDS;
 use l4_types::steps::{Name, Tick, What};
 use l4_types::tags::MsgTag;
 use l4_words::numbers::{decimal, hexadecimal};
@@ -29,7 +31,7 @@ const CANCEL_BOTH: &[u8] = b"SR";
 const DELETE: &[u8] = b"delete";
 
 /// The words of the last message that was read. One row serves all lines, since to make one costs more than to read a short line.
-pub(crate) type ReadWords = ArrayVec<u64, MESSAGE_WORDS>;
+pub(crate) type ReadWords = ArrayVec<u64, MOST_WORDS>;
 
 /// Reads the words of a message that are spelled behind its tag, at most 63, in the place of those that were read before.
 fn read_words(mut spelled: Words<'_>, words: &mut ReadWords) -> Option<()>
@@ -113,7 +115,7 @@ fn delivered(
     tag: u64,
     words: &[u64],
 ) -> Option<DeliveryRef<'_>>
-    requires { length words.now < 64 }
+    requires { length words.now < register_count }
     ensures { Finds seen_delivery result (delivered name receiver shown actual tag words.now) }
 {
     let tag = MsgTag::from_raw(tag).ok()?;

@@ -155,7 +155,7 @@ impl ThreadId {
     }
 
     /// The global id of a number and a version, or None where the low six bits of the version are zero or both
-    /// numbers are 2^32 - 1.
+    /// numbers are 2^32 - 1. Nothing here calls it, since ids are read as `GlobalId`: it stands for callers who make ids by hand.
     pub fn global(number: u32, version: u32) -> Option<ThreadId>
         ensures some { IfSome result (λ id. id ≡ GlobalThread (global_id number version)) }
         ensures when { IsSome result ↔ (is_global (global_id number version) ≡ true) }

@@ -41,28 +41,40 @@ pub enum Cause {
 pub enum Content {
     /// A send has begun, whose receiver is of the processor that gets this.
     Send {
+        /// The send.
         name: Name,
+        /// The thread that it goes to.
         receiver: GlobalId,
+        /// Its message, as it was fixed when it began.
         message: Message,
+        /// Whether its send phase may not wait.
         zero_timeout: bool,
     },
     /// A send is decided.
     Done {
+        /// The send.
         name: Name,
+        /// How it is decided.
         decision: Decision,
     },
     /// A send is to be decided without a delivery, where it still waits.
     Withdraw {
+        /// The send.
         name: Name,
+        /// The thread that it goes to.
         receiver: GlobalId,
+        /// Why it is withdrawn.
         cause: Cause,
     },
     /// The thread is deleted.
     Gone(GlobalId),
     /// The caller asks for a cancellation or the deletion of the target.
     Order {
+        /// The thread that asks.
         caller: GlobalId,
+        /// The thread that it is to be done to.
         target: GlobalId,
+        /// What is to be done.
         what: What,
     },
     /// What this caller asked for was done.

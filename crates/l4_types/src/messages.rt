@@ -1,5 +1,6 @@
 //! Messages (manual: Messages and Message Registers).
 ghost use Rattle.std.specs.Prelude.{◌≡◌, ◌^◌, ◌<◌, ◌↔◌, IsSome, IfSome, length, false};
+ghost use Rattle.l4_model.specs.Words.{register_count};
 ghost use Rattle.l4_types.specs.Flags.{flags_of};
 
 use crate::ids::GlobalId;
@@ -7,12 +8,15 @@ use crate::tags::{LABELS, MsgTag};
 use arrayvec::ArrayVec;
 use std::marker::Model;
 
+/// A message has at most so many untyped words, since message register 0 has its tag.
+pub const MOST_WORDS: usize = 63;
+
 /// A message as it was fixed when its send began.
 #[derive(PartialEq, Eq, Debug, Drop)]
 pub struct Message {
     label: u64,
     propagated: bool,
-    words: ArrayVec<u64, 63>,
+    words: ArrayVec<u64, MOST_WORDS>,
     shown: GlobalId,
     actual: GlobalId,
 }
@@ -36,7 +40,7 @@ impl Message {
     pub fn new(
         label: u64,
         propagated: bool,
-        words: ArrayVec<u64, 63>,
+        words: ArrayVec<u64, MOST_WORDS>,
         shown: GlobalId,
         actual: GlobalId,
     ) -> Option<Message>
@@ -73,7 +77,7 @@ impl Message {
     /// The untyped words, at most 63.
     pub fn words(&self) -> &[u64]
         ensures value { result.now ≡ self.now.words }
-        ensures fits { length result.now < 64 }
+        ensures fits { length result.now < register_count }
     {
         self.words.as_slice()
     }

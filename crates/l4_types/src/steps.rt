@@ -1,6 +1,7 @@
 //! The steps of a machine, and the events that processors tell.
 ghost use Rattle.std.specs.Prelude.{◌≡◌, ◌<◌, ◌^◌, ◌↔◌, IsSome, IfSome};
-ghost use Rattle.l4_model.specs.Words.{word_of_tag, tag_of_word};
+ghost use Rattle.l4_model.specs.Words.{word_of_tag, tag_of_word, clock_limit};
+ghost use Rattle.l4_model.specs.Machine.{most_processors};
 ghost use Rattle.l4_model.specs.Rules.{received_tag};
 
 use crate::ids::GlobalId;
@@ -10,7 +11,7 @@ use arrayvec::ArrayVec;
 use std::marker::Model;
 
 /// A machine has at most so many processors.
-pub const CPUS: u8 = 16;
+pub const MOST_PROCESSORS: u8 = 16;
 
 /// Clocks and stamps are below it.
 pub const CLOCKS: u64 = 1 << 62;
@@ -110,14 +111,16 @@ pub struct Tick {
 }
 
 impl Model for Tick {
-    ghost use Rattle.std.specs.Prelude.{◌<◌, ◌^◌};
+    ghost use Rattle.std.specs.Prelude.{◌<◌};
+    ghost use Rattle.l4_model.specs.Words.{clock_limit};
+    ghost use Rattle.l4_model.specs.Machine.{most_processors};
     ghost use Rattle.l4_types.specs.ClockTick.{ClockTick};
 
     ghost Value = { ClockTick };
 
     ghost view = { λ t. record { cpu = t.cpu; clock = t.clock } };
 
-    ghost invariant = { λ t. (t.cpu < 16) × (0 < t.clock) × (t.clock < 2 ^ 62) };
+    ghost invariant = { λ t. (t.cpu < most_processors) × (0 < t.clock) × (t.clock < clock_limit) };
 
     ghost inverse = { λ t. record { cpu = t.cpu; clock = t.clock } };
 }
@@ -126,9 +129,9 @@ impl Tick {
     /// The clock of a processor (0 to 15) becomes `clock` ticks (1 to 2^62 - 1). None outside these ranges.
     pub fn new(cpu: u8, clock: u64) -> Option<Tick>
         ensures some { IfSome result (λ t. t ≡ record { cpu = cpu; clock = clock }) }
-        ensures when { IsSome result ↔ ((cpu < 16) × (0 < clock) × (clock < 2 ^ 62)) }
+        ensures when { IsSome result ↔ ((cpu < most_processors) × (0 < clock) × (clock < clock_limit)) }
     {
-        if cpu >= CPUS || clock == 0 || clock >= CLOCKS {
+        if cpu >= MOST_PROCESSORS || clock == 0 || clock >= CLOCKS {
             return None;
         }
         Some(Tick { cpu, clock })
@@ -137,7 +140,7 @@ impl Tick {
     /// The processor, 0 to 15.
     pub fn cpu(&self) -> u8
         ensures value { result ≡ self.now.cpu }
-        ensures fits { result < 16 }
+        ensures fits { result < most_processors }
     {
         self.cpu
     }
@@ -146,7 +149,7 @@ impl Tick {
     pub fn clock(&self) -> u64
         ensures value { result ≡ self.now.clock }
         ensures positive { 0 < result }
-        ensures fits { result < 2 ^ 62 }
+        ensures fits { result < clock_limit }
     {
         self.clock
     }
@@ -181,8 +184,11 @@ pub enum Step {
     Drop(Name),
     /// The caller asked for a cancellation or the deletion of the target.
     Order {
+        /// The thread that asked.
         caller: GlobalId,
+        /// The thread that it is to be done to.
         target: GlobalId,
+        /// What is to be done.
         what: What,
     },
     /// What this caller asked for was done.

@@ -1,8 +1,9 @@
 //! Message tags (manual: Messages and Message Registers, MsgTag).
 ghost use Rattle.std.specs.Prelude.{◌≡◌, ◌/◌, ◌%◌, ◌^◌, ◌<◌, ◌==◌, ◌↔◌, false, IsSome, IfSome, IsOk, IfOk};
-ghost use Rattle.l4_model.specs.Words.{tag_of_word, word_of_tag, has_typed_words};
+ghost use Rattle.l4_model.specs.Words.{tag_of_word, word_of_tag, has_typed_words, register_count};
 ghost use Rattle.l4_types.specs.Flags.{flags_of};
 
+use crate::messages::MOST_WORDS;
 use std::marker::Model;
 
 /// The number of labels: each is below it.
@@ -43,13 +44,16 @@ pub enum TagFault {
 }
 
 impl MsgTag {
+    /// The tag of an Ipc that failed: of its flags `E` alone, bit 15, is set.
+    pub const FAILED: MsgTag = MsgTag { raw: 0x8000 };
+
     /// The tag of a label, a number of untyped words and a wish to propagate (bit 12). None where the label is 2^48 or
     /// above, or there are more than 63 words.
     pub fn new(label: u64, untyped: u8, propagate: bool) -> Option<MsgTag>
         ensures some { IfSome result (λ tag. tag ≡ record { label = label; flags = flags_of false propagate; untyped = untyped }) }
-        ensures when { IsSome result ↔ ((label < 2 ^ 48) × (untyped < 64)) }
+        ensures when { IsSome result ↔ ((label < 2 ^ 48) × (untyped < register_count)) }
     {
-        if label >= LABELS || untyped > 63 {
+        if label >= LABELS || usize::from(untyped) > MOST_WORDS {
             return None;
         }
         Some(MsgTag::of(label, false, propagate, untyped))
@@ -80,22 +84,45 @@ impl MsgTag {
         ensures value { result ≡ self.now.label }
         ensures fits { result < 2 ^ 48 }
     {
-        self.raw >> 16
+        MsgTag::label_in(self.raw)
     }
 
     /// The number of untyped words, at most 63.
     pub fn untyped(&self) -> u8
         ensures value { result ≡ self.now.untyped }
-        ensures fits { result < 64 }
+        ensures fits { result < register_count }
     {
-        (self.raw & 0x3f) as u8
+        MsgTag::untyped_in(self.raw)
     }
 
     /// Whether propagation is asked for or, in a received tag, took place (bit 12).
     pub fn propagate(&self) -> bool
         ensures { result ≡ (self.now.flags % 2 == 1) }
     {
-        (self.raw >> 12) & 1 == 1
+        MsgTag::propagates_in(self.raw)
+    }
+
+    /// The label in a word of message register 0, below 2^48, whatever number of typed words stands there.
+    pub fn label_in(word: u64) -> u64
+        ensures value { result ≡ (tag_of_word word).label }
+        ensures fits { result < 2 ^ 48 }
+    {
+        word >> 16
+    }
+
+    /// The number of untyped words in a word of message register 0, at most 63, whatever number of typed words stands there.
+    pub fn untyped_in(word: u64) -> u8
+        ensures value { result ≡ (tag_of_word word).untyped }
+        ensures fits { result < register_count }
+    {
+        (word & 0x3f) as u8
+    }
+
+    /// Whether a word of message register 0 asks for propagation (bit 12), whatever number of typed words stands there.
+    pub fn propagates_in(word: u64) -> bool
+        ensures { result ≡ ((tag_of_word word).flags % 2 == 1) }
+    {
+        (word >> 12) & 1 == 1
     }
 
     /// The tag that a receiver gets: the label and the number of words stay, the flags say whether the message came
@@ -109,7 +136,7 @@ impl MsgTag {
     // The tag of these parts, with all other flags clear.
     pub(crate) fn of(label: u64, cross: bool, propagated: bool, untyped: u8) -> MsgTag
         requires label { label < 2 ^ 48 }
-        requires untyped { untyped < 64 }
+        requires untyped { untyped < register_count }
         ensures { result ≡ record { label = label; flags = flags_of cross propagated; untyped = untyped } }
     {
         let flags = u64::from(cross) * 4 + u64::from(propagated);

@@ -46,7 +46,8 @@ fn period_of(time: u16) -> Period
 }
 
 /// The periods of a word of timeouts (manual: Ipc), first the send period of bits 16 to 31, then the receive period of bits
-/// 0 to 15. None exactly where one of the two times has none.
+/// 0 to 15. None exactly where one of the two times has none. Nothing here calls it, since machine texts spell the two times apart: it stands
+/// for callers who have such a word.
 pub fn timeouts(timeouts: u32) -> Option<(Period, Period)>
     ensures { result ≡ option_map periods_from (timeouts_of timeouts) }
 {

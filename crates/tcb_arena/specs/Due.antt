@@ -4,12 +4,8 @@ use Rattle.std.specs.Option.{option_map}
 use Rattle.std.specs.List.{list_all}
 use Rattle.std.specs.Coded.{Coded, code_by, coded×, coded_ℕ, coded_list}
 use Rattle.l4_core_model.specs.Plain.{Plain, put_entry, without_block, due_block}
-use Rattle.tcb_arena.specs.RingSets.{has}
+use Rattle.tcb_arena.specs.RingSets.{has, ring_count}
 use Rattle.tcb_arena.specs.Rings.{Lists, list_at}
-
--- How many rings there are.
-abbrev pub ring_count : ℕ
-ring_count = 64
 
 -- How many blocks there are; and the armed ones of each ring with their deadlines, in order of arming.
 pub record Due : Type 0 where

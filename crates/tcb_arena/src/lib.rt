@@ -11,6 +11,7 @@
 ghost use Rattle.std.specs.Prelude.{◌≡◌, ◌<◌, false, length, map, slice_get, All, IfOk, IfSome};
 ghost use Rattle.l4_core_model.specs.Plain.{list_of, is_queued, queued, unqueued, first_taken, made_ready, dropped, popped, armed, disarmed, due_block};
 ghost use Rattle.tcb_arena.specs.Blocks.{is_ready, is_armed, least_deadline, without_due, empty_lists};
+ghost use Rattle.tcb_arena.specs.RingSets.{ring_count};
 ghost use Rattle.tcb_arena.specs.Due.{armed_of, IsFirstOfRing};
 
 use l4_types::errors::NoMemory;
@@ -27,11 +28,14 @@ use links::Rings;
 pub use waiting_at::WaitingAt;
 pub use wheel::Wheel;
 
-/// A send that waits: its sender's block, the sender that it shows, and whether that one is of the receiver's space.
+/// A send that waits.
 #[derive(Clone, Copy)]
 pub struct Waiting {
+    /// The block of its sender.
     pub block: usize,
+    /// The sender that it shows.
     pub shown: GlobalId,
+    /// Whether that one is of the receiver's address space.
     pub local: bool,
 }
 
@@ -244,7 +248,7 @@ impl Arena {
     /// The first block of a ring, which is below 64: of the blocks whose deadlines have this remainder by 64, that which was armed first. Which of two
     /// deadlines of one ring was armed first the plain lists do not tell; `Arena::wheel` does.
     pub fn ring_first(&self, ring: usize) -> Option<usize>
-        requires { ring < 64 }
+        requires { ring < ring_count }
         ensures { IsFirstOfRing self.now ring result }
     {
         self.wheel.ring_first(ring)

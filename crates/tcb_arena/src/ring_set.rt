@@ -1,7 +1,7 @@
 //! Sets of rings, as bits of one word.
 
 ghost use Rattle.std.specs.Prelude.{◌≡◌, ℕ, ◌<◌, ◌==◌, ◌&&◌, ◌||◌, true, false, not, if◌then◌else◌, MatchOption};
-ghost use Rattle.tcb_arena.specs.RingSets.{has, IsNext};
+ghost use Rattle.tcb_arena.specs.RingSets.{has, ring_count, IsNext};
 
 /// A set of rings, each below 64.
 #[derive(Clone, Copy)]
@@ -20,16 +20,16 @@ impl RingSet {
 
     /// Puts a ring in, where it is not in yet.
     pub fn insert(&mut self, ring: usize)
-        requires { ring < 64 }
-        ensures { (other : ℕ) → other < 64 → has self.new.bits other ≡ (has self.old.bits other || other == ring) }
+        requires { ring < ring_count }
+        ensures { (other : ℕ) → other < ring_count → has self.new.bits other ≡ (has self.old.bits other || other == ring) }
     {
         self.bits |= 1 << ring;
     }
 
     /// Takes a ring out, where it is in.
     pub fn remove(&mut self, ring: usize)
-        requires { ring < 64 }
-        ensures others { (other : ℕ) → other < 64 → has self.new.bits other ≡ (has self.old.bits other && not (other == ring)) }
+        requires { ring < ring_count }
+        ensures others { (other : ℕ) → other < ring_count → has self.new.bits other ≡ (has self.old.bits other && not (other == ring)) }
         ensures fewer { has self.old.bits ring ≡ true → self.new.bits < self.old.bits }
     {
         self.bits &= !(1 << ring);
@@ -37,8 +37,8 @@ impl RingSet {
 
     /// Puts a ring in where `is_in` says so, and else takes it out.
     pub fn set(&mut self, ring: usize, is_in: bool)
-        requires { ring < 64 }
-        ensures { (other : ℕ) → other < 64 → has self.new.bits other ≡ (if other == ring then is_in else has self.old.bits other) }
+        requires { ring < ring_count }
+        ensures { (other : ℕ) → other < ring_count → has self.new.bits other ≡ (if other == ring then is_in else has self.old.bits other) }
     {
         if is_in {
             self.insert(ring);
@@ -49,7 +49,7 @@ impl RingSet {
 
     /// How many rings ahead of `start` the next one of the set is, where behind ring 63 comes ring 0. It is 0 where `start` is in the set.
     pub fn next(&self, start: usize) -> Option<usize>
-        requires { start < 64 }
+        requires { start < ring_count }
         ensures { MatchOption result ((ring : ℕ) → has self.now.bits ring ≡ false) (IsNext self.now.bits start) }
     {
         if self.bits == 0 {

@@ -5,7 +5,8 @@ ghost use Rattle.std.specs.Option.{option_map};
 ghost use Rattle.l4_core_model.specs.Plain.{put_entry, without_block, due_block};
 ghost use Rattle.tcb_arena.specs.Blocks.{has_entry};
 ghost use Rattle.tcb_arena.specs.Rings.{list_at, head_count};
-ghost use Rattle.tcb_arena.specs.Due.{armed_of, armed_in, ring_count, none_armed, with_entry, without_entry, without_found, without_first_due, first_of_ring, other_than, at_most, earlier_of, put_all, entry, IsBest, IsLeast, ArePlaced, AreRings, AreFilled, AreFloors, IsFloor, AreOnce};
+ghost use Rattle.tcb_arena.specs.RingSets.{ring_count};
+ghost use Rattle.tcb_arena.specs.Due.{armed_of, armed_in, none_armed, with_entry, without_entry, without_found, without_first_due, first_of_ring, other_than, at_most, earlier_of, put_all, entry, IsBest, IsLeast, ArePlaced, AreRings, AreFilled, AreFloors, IsFloor, AreOnce};
 
 use crate::links::Rings;
 use crate::ring_set::RingSet;

@@ -1,6 +1,6 @@
 //! What an event does to one thread and to the lists.
 ghost use Rattle.std.specs.Prelude.{◌≡◌, ◌≢◌, ◌<◌, ◌≤◌, ◌+◌, ◌^◌, Some, None, IsSome, true, false, length, slice_get, get_or, set, is_none, ℕ};
-ghost use Rattle.l4_model.specs.Words.{word_of_tag};
+ghost use Rattle.l4_model.specs.Words.{word_of_tag, clock_limit};
 ghost use Rattle.l4_model.specs.Machine.{Delete as DeleteThread};
 ghost use Rattle.l4_model.specs.Conditions.{act_of, instruction};
 ghost use Rattle.l4_model.specs.Effects.{decided};
@@ -35,7 +35,7 @@ impl Known<'_> {
     /// The clock goes on to this value, in ticks.
     pub(crate) fn set_clock(&mut self, to: u64)
         requires later { self.old.local.clock ≤ to }
-        requires fits { to < 2 ^ 62 }
+        requires fits { to < clock_limit }
         ensures { self.new ≡ with_local self.old (clock_is to self.old.local) }
     {
         self.clock = to;

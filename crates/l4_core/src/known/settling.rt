@@ -1,6 +1,7 @@
 //! A thread that has come to a phase stands among the ready ones, or its deadline is armed.
 ghost use Rattle.std.specs.Prelude.{◌≡◌, ◌<◌, ◌+◌, ◌^◌, IfSome, false, length};
 ghost use Rattle.std.specs.Option.{option_map};
+ghost use Rattle.l4_model.specs.Words.{clock_limit};
 ghost use Rattle.l4_types.specs.PeriodView.{period_of, IsTimely};
 ghost use Rattle.l4_core_model.specs.Local.{thread, relists};
 ghost use Rattle.l4_core.specs.Processor.{with_local};
@@ -14,7 +15,7 @@ use l4_types::times::Period;
 // When a period is over that begins at this clock. None where it never is.
 fn deadline(period: Period, clock: u64) -> Option<u64>
     requires period { IsTimely period }
-    requires clock { clock < 2 ^ 62 }
+    requires clock { clock < clock_limit }
     ensures value { result ≡ option_map (λ n. clock + n) (period_of period) }
     ensures near { IfSome result (λ deadline. deadline < clock + 2 ^ 42) }
 {

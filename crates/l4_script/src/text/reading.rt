@@ -1,6 +1,7 @@
 //! How far a text has been read.
 ghost use Rattle.std.specs.Prelude.{◌≡◌, ◌<◌, ◌≤◌, ◌∷◌, [], ◌++◌, find, length, Ok, OnErr, OnOk};
 ghost use Rattle.std.specs.Option.{option_copied};
+ghost use Rattle.l4_model.specs.Machine.{most_processors};
 ghost use Rattle.l4_script.specs.Judged.{Gives};
 ghost use Rattle.l4_script.specs.Scripts.{instr_of};
 ghost use Rattle.l4_script.specs.Statements.{declare, extend};
@@ -122,7 +123,7 @@ impl Reading {
     /// No thread was read, of a machine of so many processors.
     fn new(alloc: Global, cpus: u8) -> Reading
         requires some { 1 ≤ cpus }
-        requires limit { cpus ≤ 16 }
+        requires limit { cpus ≤ most_processors }
         ensures { result ≡ nothing_read cpus }
     {
         Reading {

@@ -1,6 +1,8 @@
 //! What the lines of a machine text say.
 ghost use Rattle.std.specs.Prelude.{◌≡◌, ◌<◌, ◌≤◌, IfOk};
 ghost use Rattle.std.specs.Option.{option_map};
+ghost use Rattle.l4_model.specs.Words.{last_register};
+ghost use Rattle.l4_model.specs.Machine.{most_processors};
 ghost use Rattle.l4_types.specs.StepView.{what_of};
 ghost use Rattle.l4_script.specs.declared.text.fault.TextFaultKind.TheVariants.{BadId, BadLine};
 ghost use Rattle.l4_words.specs.Words.{one};
@@ -15,9 +17,10 @@ use super::ids::id;
 use super::lines::after;
 use super::numbers::{number, number_from, time};
 use crate::instructions::{Instr, Ipc, Register, Source, To};
-use crate::machine::{Declaration, MOST_PROCESSORS};
+use crate::machine::Declaration;
 use l4_types::ids::ThreadId;
-use l4_types::steps::What;
+use l4_types::registers::MESSAGE_REGISTERS;
+use l4_types::steps::{MOST_PROCESSORS, What};
 use l4_types::tags::MsgTag;
 use l4_words::threads::thread;
 use l4_words::words::Words;
@@ -49,6 +52,8 @@ const ON_ERROR: &[u8] = b"onerr";
 
 const END: &[u8] = b"end";
 
+const LAST_REGISTER: u64 = MESSAGE_REGISTERS as u64 - 1;
+
 /// The one word of these.
 fn only<'a>(words: Words<'a>) -> Result<&'a [u8], TextFaultKind>
     ensures { Returns (λ word. word.now) result (needs (one words.entry) BadLine) }
@@ -72,7 +77,7 @@ pub(super) fn format_line(words: Words<'_>) -> Result<(), TextFaultKind>
 pub(super) fn processors_line(words: Words<'_>) -> Result<u8, TextFaultKind>
     ensures value { result ≡ processors_line words.entry }
     ensures some { IfOk result (λ cpus. 1 ≤ cpus) }
-    ensures limit { IfOk result (λ cpus. cpus ≤ 16) }
+    ensures limit { IfOk result (λ cpus. cpus ≤ most_processors) }
 {
     let number = only(after(b"cpus", words)?)?;
     let cpus = number_from(1, u64::from(MOST_PROCESSORS), number)?;
@@ -116,16 +121,16 @@ pub(super) fn declaration(
 }
 
 fn register(word: &[u8]) -> Result<Register, TextFaultKind>
-    ensures { result ≡ number_from 1 63 word.now }
+    ensures { result ≡ number_from 1 last_register word.now }
 {
-    let number = number_from(1, 63, word)?;
+    let number = number_from(1, LAST_REGISTER, word)?;
     Register::new(number as u8).ok_or(TextFaultKind::BadNumber)
 }
 
 fn source(word: &[u8]) -> Result<Source, TextFaultKind>
-    ensures { result ≡ number_from 0 63 word.now }
+    ensures { result ≡ number_from 0 last_register word.now }
 {
-    let number = number_from(0, 63, word)?;
+    let number = number_from(0, LAST_REGISTER, word)?;
     Source::new(number as u8).ok_or(TextFaultKind::BadNumber)
 }
 

@@ -1,7 +1,7 @@
 //! What happens to a thread.
 ghost use Rattle.std.specs.Prelude.{◌≡◌, ◌<◌, ◌^◌, ◌+◌, ℕ, List, true, false, None, IfSome, IsSome, length};
 ghost use Rattle.std.specs.Option.{option_map};
-ghost use Rattle.l4_model.specs.Words.{word_of_tag};
+ghost use Rattle.l4_model.specs.Words.{word_of_tag, register_count};
 ghost use Rattle.l4_model.specs.Machine.{Machine};
 ghost use Rattle.l4_model.specs.Rules.{act};
 ghost use Rattle.l4_model.specs.Effects.{runs, fails, receives, refused, decided, delivered, goes_on, asked, asked_send, asked_receive, has_receive_phase, orders, obeyed};
@@ -30,7 +30,7 @@ use l4_script::instructions::Instr;
 use l4_types::errors::IpcError;
 use l4_types::ids::{GlobalId, ThreadId};
 use l4_types::letters::{Decision, Refusal};
-use l4_types::messages::Message;
+use l4_types::messages::{MOST_WORDS, Message};
 use l4_types::steps::What;
 use l4_types::tags::MsgTag;
 use l4_types::times::Period;
@@ -134,7 +134,7 @@ impl Tcb {
 
     /// It receives a message of these words, at most 63, with this tag. The message shows one sender, and another one may have sent it.
     pub fn receive_words(&mut self, words: &[u64], shown: GlobalId, actual: GlobalId, tag: MsgTag)
-        requires { length words.now < 64 }
+        requires { length words.now < register_count }
         ensures { self.new ≡ record self.old { thread = receives (unlabelled words.now shown actual) (word_of_tag tag) self.old.thread } }
     {
         set_apart(&mut self.send, &mut self.apart, &self.thread);
@@ -310,7 +310,7 @@ fn send_of(phase: (ThreadId, Head, Period), receive: Option<Receive>, now: u64) 
 }
 
 // The words of an undecided send stay as they are, whatever the registers of its thread become.
-fn set_apart(send: &mut Option<Send>, apart: &mut ArrayVec<u64, 63>, thread: &Thread)
+fn set_apart(send: &mut Option<Send>, apart: &mut ArrayVec<u64, MOST_WORDS>, thread: &Thread)
     ensures { (registers : List ℕ) → option_map (sent_of apart.new.items registers) send.new ≡ option_map (sent_of apart.old.items thread.now.context.words) send.old }
 {
     if let Some(send) = send {
@@ -322,8 +322,8 @@ fn set_apart(send: &mut Option<Send>, apart: &mut ArrayVec<u64, 63>, thread: &Th
 }
 
 // These words, and no others.
-fn copy_words(apart: &mut ArrayVec<u64, 63>, words: &[u64])
-    requires { length words.now < 64 }
+fn copy_words(apart: &mut ArrayVec<u64, MOST_WORDS>, words: &[u64])
+    requires { length words.now < register_count }
     ensures { apart.new.items ≡ words.now }
 {
     apart.clear();

@@ -16,8 +16,8 @@ places_same (old ∷ olds) (new ∷ news) same =
     let rest : map (λ (p : Processor). account p.port) news ≡ map (λ (p : Processor). account p.port) olds = cc in
     ap₂ (λ (a : Account) (places : List Place). a.place ∷ places) first (places_same olds news rest)
 
-pub gather-requires-in-Err-NoMemory-default : goal.gather-requires-in-Err-NoMemory-default
-gather-requires-in-Err-NoMemory-default c =
+pub gather-requires : goal.gather-requires
+gather-requires g c =
     let olds = c.args.processors.items in
     let back = c.in-Err-NoMemory-default.back.items in
     let same = c.in-Err-NoMemory-default.ensures.back in

@@ -4,9 +4,9 @@ use Rattle.l4_machine.proofs.InOneHand.{assembled, one_gone_on}
 use Rattle.l4_host_tests.proofs.gathers.worked.Goals as goal
 
 pub loop-cpu-init : goal.loop-cpu-init
-loop-cpu-init c = assembled c.args.machine.now c.in-Ok.processors.items c.in-Ok.ensures
+loop-cpu-init g c = assembled c.args.machine.now c.in-Ok.processors.items c.in-Ok.ensures
 
 pub loop-cpu-preserved : goal.loop-cpu-preserved
-loop-cpu-preserved c =
-    one_gone_on c.args.machine.now c.loop-cpu.processors.items _ c.work.new.self c.index_mut.result.now (omega (arith, c.len.ensures))
-    (subst (λ p. HasGoneOn p c.work.new.self) c.index_mut.ensures.value c.work.ensures.on) c.loop-cpu.invariant
+loop-cpu-preserved g c =
+    one_gone_on c.args.machine.now c.loop-cpu.processors.items _ c.takes.new.processor c.index_mut.result.now (omega (arith, c.len.ensures))
+    (subst (λ p. HasGoneOn p c.takes.new.processor) c.index_mut.ensures.value c.takes.ensures) c.loop-cpu.invariant

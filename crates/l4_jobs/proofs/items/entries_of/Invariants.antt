@@ -1,11 +1,13 @@
 use Rattle.std.proofs.Common.{◌≡◌, ◌≤◌, ◌+◌, length}
+use Rattle.std.specs.Prelude.{map}
+use Rattle.l4_machine.specs.Entries.{entry_from, most_entries}
 use Rattle.l4_jobs.specs.Items.{items_of, read_items}
 use Rattle.l4_jobs.proofs.items.entries_of.Given as goal
 
 abbrev pub invariant-loop-item : goal.invariant-loop-item
 invariant-loop-item l = record {
-  whole : read_items l.machine l.entries.items l.items ≡ read_items l.machine l.initial.entries.items (items_of l.list);
-  counted : length l.entries.items + length l.items ≤ 1000000;
+  whole : read_items l.machine (map entry_from l.entries.items) l.items ≡ read_items l.machine (map entry_from l.initial.entries.items) (items_of l.list);
+  counted : length l.entries.items + length l.items ≤ most_entries;
 }
 
 abbrev pub decreases-loop-item : goal.decreases-loop-item

@@ -19,5 +19,5 @@ returns c =
     let e = c.args.entry.now in
     let same = log_at ps e.place c.index-processors-entry.result c.log.result.now (place_within ps e c.requires) c.index-processors-entry.is c.log.ensures.log in
     let at = ap (λ (es : List Event). slice_get es e.index) same ∙ c.event-event.ensures in
-    subst (λ (xs : List Step). OnOk c.copy_steps.result (c.copy_steps.new.copy.steps ≡ c.args.copy.now.steps ++ xs))
-    (steps_of_entry ps e (event_of c.event-event.result) at) c.copy_steps.ensures
+    subst (λ (xs : List Step). OnOk c.extend.result (c.extend.new.self.steps ≡ c.args.copy.now.steps ++ xs))
+    (steps_of_entry ps e (event_of c.event-event.result) at) c.extend.ensures.ok

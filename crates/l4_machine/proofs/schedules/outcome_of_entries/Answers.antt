@@ -1,7 +1,8 @@
-use Rattle.std.proofs.Common.{refl, sym, ◌∙◌, subst}
+use Rattle.std.proofs.Common.{map, refl, sym, ◌∙◌, subst}
 use Rattle.l4_model.specs.History.{IsHistory}
 use Rattle.l4_core_model.specs.Runs.{opening_run}
-use Rattle.l4_core_model.specs.Schedules.{replay}
+use Rattle.l4_core_model.specs.Schedules.{replay_entries}
+use Rattle.l4_machine.specs.Entries.{entry_from}
 use Rattle.l4_machine.specs.Homes.{EndsIn, IsAtHome}
 use Rattle.l4_machine.proofs.Cores.{stations_handled}
 use Rattle.l4_machine.proofs.Replays.{as_many}
@@ -12,12 +13,12 @@ use Rattle.l4_machine.proofs.schedules.outcome_of_entries.Goals as goal
 pub at_home-requires : goal.at_home-requires
 at_home-requires c =
     let m = c.args.machine.now in
-    (m, (replay m c.args.schedule.now, c.in_ok-take_all.ensures.ok m (opening_run m) c.in_ok-run.ensures))
+    (m, (replay_entries m (map entry_from c.args.entries.now), c.in_ok-take_all.ensures.ok m (opening_run m) c.in_ok-run.ensures))
 
 pub outcome_of-requires : goal.outcome_of-requires
 outcome_of-requires c =
     let m = c.args.machine.now in
-    let r = replay m c.args.schedule.now in
+    let r = replay_entries m (map entry_from c.args.entries.now) in
     let i = c.in_ok-take_all.ensures.ok m (opening_run m) c.in_ok-run.ensures in
     let s = sound m r (c.law_core_run.ensures.lawful m r i.lawful i.core_run) in
     subst (IsHistory m) (sym (c.into_history-history.ensures ∙ i.told)) s.possible
@@ -25,7 +26,7 @@ outcome_of-requires c =
 pub returns-clause-ok : goal.returns-clause-ok
 returns-clause-ok c =
     let m = c.args.machine.now in
-    let r = replay m c.args.schedule.now in
+    let r = replay_entries m (map entry_from c.args.entries.now) in
     let i = c.in_ok-take_all.ensures.ok m (opening_run m) c.in_ok-run.ensures in
     let s = sound m r (c.law_core_run.ensures.lawful m r i.lawful i.core_run) in
     let home : IsAtHome m r.system.locals c.in_ok-at_home.at_home = c.in_ok-at_home.ensures m r i in

@@ -1,31 +1,22 @@
-use Rattle.std.proofs.Common.{◌<◌, ◌+◌, sym, subst}
+use Rattle.std.proofs.Common.{sym, subst}
 use Rattle.std.specs.Prelude.{OnOk}
-use Rattle.l4_core_model.specs.Schedules.{attempts, next_turn}
+use Rattle.l4_core_model.specs.Schedules.{TickOf, attempts}
 use Rattle.l4_core_model.specs.Runs.{Ticks}
-use Rattle.l4_machine.specs.declared.schedules.Entry.{Entry}
-use Rattle.l4_machine.specs.Entries.{after_entry, number_of, processor_of}
+use Rattle.l4_machine.specs.declared.entries.Entry.{Entry}
+use Rattle.l4_machine.specs.Entries.{after_entry, entry_from}
 use Rattle.l4_machine.specs.UnderWay.{IsRun, GoesOn}
-use Rattle.l4_machine.proofs.Replays.{on_ok, turn_entry, tick_entry, no_tick_entry}
+use Rattle.l4_machine.proofs.Replays.{on_ok, tick_entry, no_tick_entry}
 use Rattle.l4_machine.proofs.schedules.take.Goals as goal
-
-pub returns-in-Turn : goal.returns-in-Turn
-returns-in-Turn c =
-    let cpu = c.in-Turn.cpu in
-    let new = c.take_turn.new.self in
-    let below = subst (λ (e : Entry). processor_of e < 16) c.in-Turn.is c.requires.below in
-    subst (λ (e : Entry). OnOk c.take_turn.result (GoesOn (after_entry (number_of e)) c.args.run.now new)) (sym c.in-Turn.is)
-    (on_ok c.take_turn.result (GoesOn (λ m r. attempts m r (next_turn m r.system cpu)) c.args.run.now new) (GoesOn (after_entry cpu) c.args.run.now new)
-    (λ h m r is. subst (λ q. IsRun m q new) (sym (turn_entry m r cpu below)) (h m r is)) c.take_turn.ensures.ok)
 
 pub returns-in-Some : goal.returns-in-Some
 returns-in-Some c =
     let cpu = c.in-Tick.cpu in
     let new = c.tick.new.self in
-    subst (λ (e : Entry). OnOk c.tick.result (GoesOn (after_entry (number_of e)) c.args.run.now new)) (sym c.in-Tick.is)
-    (on_ok c.tick.result (GoesOn (λ m r. attempts m r (Ticks cpu c.in-Some.deadline)) c.args.run.now new) (GoesOn (after_entry (cpu + 16)) c.args.run.now new)
+    subst (λ (e : Entry). OnOk c.tick.result (GoesOn (after_entry (entry_from e)) c.args.run.now new)) (sym c.in-Tick.is)
+    (on_ok c.tick.result (GoesOn (λ m r. attempts m r (Ticks cpu c.in-Some.deadline)) c.args.run.now new) (GoesOn (after_entry (TickOf cpu)) c.args.run.now new)
     (λ h m r is. subst (λ q. IsRun m q new) (sym (tick_entry m r c.args.run.now.stations cpu c.in-Some.deadline is.system (sym c.in-Some.ensures))) (h m r is)) c.tick.ensures.ok)
 
 pub returns-in-None : goal.returns-in-None
 returns-in-None c =
-    subst (λ (e : Entry). GoesOn (after_entry (number_of e)) c.args.run.now c.args.run.now) (sym c.in-Tick.is)
+    subst (λ (e : Entry). GoesOn (after_entry (entry_from e)) c.args.run.now c.args.run.now) (sym c.in-Tick.is)
     (λ m r is. subst (λ q. IsRun m q c.args.run.now) (sym (no_tick_entry m r c.args.run.now.stations c.in-Tick.cpu is.system (sym c.in-None.ensures))) is)

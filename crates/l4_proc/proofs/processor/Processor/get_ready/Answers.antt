@@ -1,7 +1,9 @@
-use Rattle.std.proofs.Common.{refl}
+use Rattle.std.proofs.Common.{◌∙◌, refl, subst, sym}
 use Rattle.l4_proc.proofs.Logging.{begun_closed}
-use Rattle.l4_proc.proofs.Readying.{as_before_then, next_taken, readied_empty, readied_full, whole_kept, whole_next}
+use Rattle.l4_proc.proofs.Readying.{as_before_then, next_taken, readied_empty, readied_full, readied_idle, whole_kept, whole_next}
+use Rattle.l4_proc.specs.Working.{IsReady}
 use Rattle.l4_proc.proofs.processor.Processor.get_ready.Goals as goal
+use Rattle.l4_proc.proofs.processor.Processor.get_ready.Goals.{else-is_none-via-then-is_none+else-has_mail, else-is_none-via-else-is_none}
 
 pub invariant_of-self-in-Break-branch-2 : goal.invariant_of-self-in-Break-branch-2
 invariant_of-self-in-Break-branch-2 c =
@@ -9,9 +11,9 @@ invariant_of-self-in-Break-branch-2 c =
     let same = c.reserve.ensures.same in
     record { whole = whole_kept c.args.self.now.port _ c.args.self.now.worker _ same.place same.taken begun.cpu (begun_closed _ _ begun) c.args.self.now.whole }
 
-pub invariant_of-self-then-is_none : goal.invariant_of-self-then-is_none
-invariant_of-self-then-is_none c =
-    let before = as_before_then _ _ _ c.reserve.ensures.same c.flush.ensures.same in
+pub invariant_of-self-then-has_mail : goal.invariant_of-self-then-has_mail
+invariant_of-self-then-has_mail c =
+    let before = as_before_then _ _ _ (as_before_then _ _ _ c.reserve.ensures.same c.flush.ensures.same) c.has_mail.ensures.same in
     let next = next_taken _ _ _ c.take-self.ensures.some c.take-self.ensures.none c.take-self.ensures.kept in
     record { whole = whole_next c.args.self.now.port _ _ c.args.self.now.worker _ _ before next c.in_ok-begin.ensures.ok c.args.self.now.whole }
 
@@ -21,13 +23,23 @@ invariant_of-self-else-is_none c =
     let before = as_before_then _ _ _ c.reserve.ensures.same c.flush.ensures.same in
     record { whole = whole_kept c.args.self.now.port _ c.args.self.now.worker _ before.place before.taken begun.cpu (begun_closed _ _ begun) c.args.self.now.whole }
 
-pub returns-then-is_none-clause-ok : goal.returns-then-is_none-clause-ok
-returns-then-is_none-clause-ok c =
+pub returns-then-has_mail-clause-ok : goal.returns-then-has_mail-clause-ok
+returns-then-has_mail-clause-ok c =
+    let flush = as_before_then _ _ _ c.flush.ensures.same c.has_mail.ensures.same in
     let next = next_taken _ _ _ c.take-self.ensures.some c.take-self.ensures.none c.take-self.ensures.kept in
-    let is = readied_empty _ _ _ _ _ _ c.if-is_none.ensures c.reserve.ensures.same c.in_ok-reserve.ensures.room c.flush.ensures.same next in
+    let is = readied_empty _ _ _ _ _ _ c.if-is_none.ensures c.reserve.ensures.same c.in_ok-reserve.ensures.room flush next in
     record { core = refl; place = is.place; posted = is.posted; handled = is.handled; log = c.in_ok-begin.ensures.ok; room = is.room; kept = is.kept; had = is.had }
 
 pub returns-else-is_none-clause-ok : goal.returns-else-is_none-clause-ok
-returns-else-is_none-clause-ok c =
-    let is = readied_full _ _ _ _ c.if-is_none.ensures c.reserve.ensures.same c.in_ok-reserve.ensures.room c.flush.ensures.same in
-    record { core = refl; place = is.place; posted = is.posted; handled = is.handled; log = c.in_ok-begin.ensures.ok; room = is.room; kept = is.kept; had = is.had }
+returns-else-is_none-clause-ok c = elim c.else-is_none.branch [
+  | else-is_none-via-then-is_none+else-has_mail w ↦
+      let flush = as_before_then _ _ _ c.flush.ensures.same w.has_mail.ensures.same in
+      let is = readied_idle _ _ _ _ w.if-is_none.ensures c.reserve.ensures.same c.in_ok-reserve.ensures.room flush
+      (λ from. w.has_mail.ensures.same.kept from ∙ w.has_mail.ensures.none w.if-has_mail.false from) in
+      subst (IsReady c.args.self.now) (sym w.self-is)
+      (record { core = refl; place = is.place; posted = is.posted; handled = is.handled; log = c.in_ok-begin.ensures.ok; room = is.room; kept = is.kept; had = is.had })
+  | else-is_none-via-else-is_none w ↦
+      let is = readied_full _ _ _ _ w.if-is_none.ensures c.reserve.ensures.same c.in_ok-reserve.ensures.room c.flush.ensures.same in
+      subst (IsReady c.args.self.now) (sym w.self-is)
+      (record { core = refl; place = is.place; posted = is.posted; handled = is.handled; log = c.in_ok-begin.ensures.ok; room = is.room; kept = is.kept; had = is.had })
+]

@@ -1,0 +1,66 @@
+// Processors whose rings have each room from 1 to 64, and which take turns in an order that nobody planned. Whatever room there is, they come to a
+// history of the machine.
+ghost use Rattle.std.specs.Prelude.{◌<◌, ◌≤◌, IfSome};
+ghost use Rattle.l4_machine.specs.Gathers.{AreOfOne};
+
+use crate::gates::busy_machine;
+use crate::gathers::gathered_again;
+use crate::runs::passes;
+use l4_proc::assembly::assemble;
+use l4_proc::gate::Open;
+use l4_proc::processor::Processor;
+use l4_script::machine::Machine;
+use std::test::Fail;
+
+// So often a processor is asked to take turns, and so many at most each time.
+const CALLS: u64 = 400;
+
+const MOST_TURNS: u64 = 8;
+
+// The next one of numbers without a plan (an xorshift generator).
+fn next(number: u64) -> u64 {
+    let number = number ^ (number << 13);
+    let number = number ^ (number >> 7);
+    number ^ (number << 17)
+}
+
+// The processors of a machine with rings of this room, which have taken turns in an order that the room sets.
+fn mixed<'m, R: AllocGlobal>(
+    rt: &R,
+    machine: &'m Machine,
+    room: usize,
+) -> Option<Vec<Processor<'m>>>
+    requires { (0 < room) × (room ≤ 65536) }
+    ensures { IfSome result (λ processors. AreOfOne machine.now processors.items) }
+{
+    let Ok(mut processors) = assemble(rt.alloc(), machine, room) else {
+        return None;
+    };
+    let mut number = room as u64;
+    for _ in 0..CALLS {
+        number = next(number);
+        let cpu = (number >> 32) as usize % 16;
+        if cpu >= processors.len() {
+            return None;
+        }
+        processors[cpu].work(number % MOST_TURNS + 1, &Open);
+    }
+    Some(processors)
+}
+
+#[test]
+fn processors_come_to_a_history_whatever_room_their_rings_have(
+    rt: HostRuntime,
+) -> Result<(), Fail> {
+    let text = busy_machine(&rt)?;
+    let machine = Machine::parse(rt.alloc(), text.as_str().as_bytes())
+        .ok()
+        .ok_or("a machine")?;
+    for room in 1..65 {
+        let processors = mixed(&rt, &machine, room).ok_or("processors")?;
+        let outcome = gathered_again(&rt, &machine, processors).ok_or("an outcome")?;
+        passes(&rt, &machine, &outcome);
+        assert!(rt; outcome.turns > CALLS, "{room}");
+    }
+    Ok(())
+}

@@ -1,9 +1,9 @@
 #!/bin/sh
-# Measures the program: the reading of machine texts (text), the turns of runs (turns), those of one processor by their instructions, and
-# of several those of replays by their instructions and those of runs by the time (several), or the audit of traces (audits). It is proved and built as it stands, its files are made in a folder that goes away, and all is measured
-# from outside.
+# Measures the program: the reading of machine texts (text), the turns of runs (turns), the instructions of turns and of audited steps (inputs), the turns of one
+# processor by their instructions, and of several those of replays by their instructions and those of runs by the time (several), or the audit of traces
+# (audits). It is proved and built as it stands, its files are made in a folder that goes away, and all is measured from outside.
 set -eu
-what=${1:?text, turns, several or audits}
+what=${1:?text, turns, inputs, several or audits}
 here=$(cd "$(dirname "$0")" && pwd)
 work=$(mktemp -d)
 trap 'rm -rf "$work"' EXIT

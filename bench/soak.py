@@ -1,94 +1,155 @@
-"""Runs machines of random scripts on 16 processors, and audits each trace. The last line is the sum."""
+"""Runs and replays machines of random scripts, audits each trace, and compares it with what else the program says. Prints counts."""
 
+import collections
 import random
+import re
+import shutil
 import subprocess
 import sys
-import time
 
 import texts
 
-SPENT = 3
+QUIET, SPENT = 0, 3
 TURNS = 2_000
 SEED = 20_261_123
 # So many instructions has a script at most. The sum of all stays far below what a text may have.
 MOST_LINES = 12
+# One machine of so many is run once more for so many turns, watched for memory that is not given back, where the system has valgrind.
+WATCHED = 100
+WATCHED_TURNS = 200
+# What is written of a send that is decided.
+DECISIONS = {"deliver", "stimeout", "snobody", "scancel", "drop"}
+# Bit 14 of a delivery's tag: the message came from another processor.
+ACROSS = 0x4000
 
 
 def thread(number):
     return f"{number}.1"
 
 
-def anybody(dice):
-    return thread(dice.randint(1, texts.MOST_THREADS))
-
-
 def period(dice):
     return dice.choice(["never", "never", "zero", "5", "0xc03"])
 
 
-def instruction(dice, lines):
-    """A line of a script of so many lines."""
+def instruction(dice, threads, lines):
+    """A line of a script of so many lines, on a machine of so many threads."""
+
+    def anybody():
+        return thread(dice.randint(1, threads))
+
     kind = dice.choices(["ipc", "set", "tag", "vs", "exregs", "delete", "jump"], [12, 4, 4, 1, 2, 0.05, 1])[0]
     match kind:
         case "ipc":
-            to = dice.choice([anybody(dice), anybody(dice), "last", "nil"])
-            source = dice.choice(["any", "any", "anylocal", anybody(dice), "nil"])
+            to = dice.choice([anybody(), anybody(), "last", "nil"])
+            source = dice.choice(["any", "any", "anylocal", anybody(), "nil"])
             return f"ipc {to} {source} {period(dice)} {period(dice)}"
         case "set":
             return f"set {dice.randint(1, 63)} {dice.getrandbits(64)}"
         case "tag":
             return f"tag {dice.randint(0, 7) << 16 | dice.choice([0, 0x1000]) | dice.randint(0, 63)}"
         case "vs":
-            return f"vs {anybody(dice)}"
+            return f"vs {anybody()}"
         case "exregs":
-            return f"exregs {anybody(dice)} {dice.choice(['S', 'R', 'SR'])}"
+            return f"exregs {anybody()} {dice.choice(['S', 'R', 'SR'])}"
         case "delete":
-            return f"delete {anybody(dice)}"
+            return f"delete {anybody()}"
     return f"jump {dice.randrange(lines)}"
 
 
-def text(dice):
-    """A machine of 16 processors and 1,024 threads. Most scripts go on for ever."""
-    told = [f"l4 1 64\ncpus {texts.MOST_CPUS}\n"]
-    for number in range(1, texts.MOST_THREADS + 1):
+def text(dice, cpus):
+    """A machine of so many processors and up to as many threads as there may be. Most scripts go on for ever."""
+    threads = dice.choice([dice.randint(2, 64), dice.randint(2, texts.MOST_THREADS), texts.MOST_THREADS])
+    told = [f"l4 1 64\ncpus {cpus}\n"]
+    for number in range(1, threads + 1):
         lines = dice.randint(1, MOST_LINES)
-        told.append(f"thread {thread(number)} cpu {dice.randrange(texts.MOST_CPUS)} space {dice.randint(1, 4)}\n")
-        told.extend(instruction(dice, lines) + "\n" for _ in range(lines - 1))
+        told.append(f"thread {thread(number)} cpu {dice.randrange(cpus)} space {dice.randint(1, 4)}\n")
+        told.extend(instruction(dice, threads, lines) + "\n" for _ in range(lines - 1))
         told.append("jump 0\n" if dice.random() < 0.9 else "end\n")
     return "".join(told)
 
 
+def schedule(dice, cpus):
+    """Turns of all processors, and now and then a tick."""
+    items = (f"t{dice.randrange(cpus)}" if dice.random() < 0.05 else f"{dice.randrange(cpus)}" for _ in range(TURNS))
+    return ",".join(items)
+
+
 def done(words, statuses):
-    """What a command writes, where it ends with one of these statuses."""
+    """The status of a command, which is one of these, and what it writes to its output and its faults."""
     told = subprocess.run(words, stdout=subprocess.PIPE, stderr=subprocess.PIPE, text=True)
     if told.returncode not in statuses:
         sys.exit(f"{' '.join(words)}: status {told.returncode}: {told.stderr}")
-    return told.stdout
+    return told
 
 
-def main(program, folder, runs):
-    machine, trace = f"{folder}/soak.l4", f"{folder}/soak.trace"
-    dice = random.Random(SEED)
-    steps, across, different, running, auditing = 0, 0, set(), 0.0, 0.0
-    for _ in range(runs):
+def undecided(lines):
+    """The sends that were begun and not decided, in order of beginning. None is decided twice, or before it was begun."""
+    waiting = {}
+    for line in lines:
+        words = line.split()
+        if words[0] == "begin":
+            waiting[words[1]] = True
+        elif words[0] in DECISIONS and not waiting.pop(words[1], False):
+            sys.exit(f"{line}: nobody has begun that, or it was decided before")
+    return list(waiting)
+
+
+def audited(program, machine, trace, told):
+    """Tests that the audit passes each line of what a run or a replay has printed, and where that was quiet, is quiet."""
+    with open(trace, "w") as file:
+        file.write(told.stdout)
+    passed = done([program, "audit", machine, trace], (QUIET,)).stdout.split()
+    count = told.stdout.count("\n")
+    if passed[:2] != ["passed", str(count)] or told.returncode == QUIET and passed[2] != "quiet":
+        sys.exit(f"{' '.join(passed)}: {count} lines")
+
+
+def compared(told, report):
+    """Tests that the report of a replay lists the sends that its trace leaves undecided, and has its ending. Answers how many these are."""
+    lines = report.stdout.splitlines()
+    waiting = [line.split()[1] for line in lines if line.startswith("waiting ")]
+    ending = "ending quiet" if told.returncode == QUIET else "ending spent"
+    if waiting != undecided(told.stdout.splitlines()) or lines[-1] != ending or report.returncode != told.returncode:
+        sys.exit(f"another report than the trace has: {waiting[:5]}, {lines[-1]}")
+    return len(waiting)
+
+
+def watched(words):
+    """Tests that the program has given all its memory back when it ends."""
+    told = done(["valgrind", "--leak-check=full", *words], (QUIET, SPENT)).stderr
+    if not re.search(r"in use at exit: 0 bytes in 0 blocks", told):
+        sys.exit(f"{' '.join(words)}: {told}")
+
+
+def main(program, folder, runs, part):
+    machine, trace = f"{folder}/soak-{part}.l4", f"{folder}/soak-{part}.trace"
+    dice = random.Random(SEED + part)
+    counts, different = collections.Counter(), set()
+    for number in range(runs):
+        cpus = dice.randint(2, texts.MOST_CPUS)
         with open(machine, "w") as file:
-            file.write(text(dice))
-        began = time.monotonic()
-        lines = done([program, "run", machine, "--turns", str(TURNS)], (0, SPENT))
-        ran = time.monotonic()
-        with open(trace, "w") as file:
-            file.write(lines)
-        passed = done([program, "audit", machine, trace], (0,)).split()
-        count = lines.count("\n")
-        if passed[:2] != ["passed", str(count)]:
-            sys.exit(f"{' '.join(passed)}: {count} lines")
-        running, auditing = running + ran - began, auditing + time.monotonic() - ran
-        steps += count
-        # Bit 14 of a delivery's tag: the message came from another processor.
-        across += sum(1 for line in lines.splitlines() if line.startswith("deliver ") and int(line.split()[5], 16) & 0x4000)
-        different.add(lines)
-    print(f"{runs} runs of {TURNS:,} turns passed: {steps:,} steps, {across:,} deliveries across processors, {len(different)} different traces, "
-          f"{running:.1f} s of runs, {auditing:.1f} s of audits")
+            file.write(text(dice, cpus))
+        run = [program, "run", machine, "--turns", str(TURNS)]
+        told = done(run, (QUIET, SPENT))
+        audited(program, machine, trace, told)
+        lines = told.stdout.splitlines()
+        counts["sends undecided at the end of a run"] += len(undecided(lines))
+        counts["steps of runs"] += len(lines)
+        counts["deliveries across processors"] += sum(1 for line in lines if line.startswith("deliver ") and int(line.split()[5], 16) & ACROSS)
+        different.add(told.stdout)
+        replay = [program, "replay", machine, "--schedule", schedule(dice, cpus)]
+        told = done(replay, (QUIET, SPENT))
+        audited(program, machine, trace, told)
+        counts["steps of replays"] += told.stdout.count("\n")
+        counts["sends that reports of replays list"] += compared(told, done([*replay, "--report"], (QUIET, SPENT)))
+        counts["runs, each passed, and as many replays"] += 1
+        if number % WATCHED == 0 and shutil.which("valgrind"):
+            watched([program, "run", machine, "--turns", str(WATCHED_TURNS)])
+            counts["runs watched, with no memory left at the end"] += 1
+    counts["different traces of runs"] = len(different)
+    for what, count in counts.items():
+        print(f"{what}\t{count}")
 
 
-main(sys.argv[1], sys.argv[2], int(sys.argv[3]))
+if __name__ == "__main__":
+    main(sys.argv[1], sys.argv[2], int(sys.argv[3]), int(sys.argv[4]))

@@ -1,0 +1,42 @@
+# shellcheck shell=bash
+# Read by scripts of this folder that try something many times.
+BENCH=$(cd "$(dirname "${BASH_SOURCE[0]}")" && pwd)
+# What is tried is the same on every machine: four parts, each with a seed of its own.
+PARTS=4
+
+# Makes a folder for files, which goes away.
+make_work() {
+    work=$(mktemp -d)
+    trap 'rm -rf "$work"' EXIT
+}
+
+# Starts a script of this folder for each part, with its share of the count, and prints the sums of what they count. Behind the count stands
+# a program, or nothing: then it is l4run, which is proved and built as it stands.
+in_parts() {
+    local script=$1 count=$2 program=${3:-} part jobs=() job
+    make_work
+    if [ -z "$program" ]; then
+        "$BENCH/../l4run" --help >"$work/log"
+        program=$BENCH/../crates/l4run/out/l4run
+    fi
+    for part in $(seq "$PARTS"); do
+        python3 -B "$BENCH/$script" "$program" "$work" $(((count + PARTS - 1) / PARTS)) "$part" >"$work/counts-$part" &
+        jobs+=($!)
+    done
+    for job in "${jobs[@]}"; do
+        wait "$job" || { kill "${jobs[@]}" 2>/dev/null || true; wait; exit 1; }
+    done
+    sort "$work"/counts-* | awk -F '\t' '{ count = $NF; sub("\t[^\t]*$", ""); sum[$0] += count } END { for (kind in sum) print kind "\t" sum[kind] }' | sort
+}
+
+# Names the program that runs the tests of a crate. It is proved and built first, where that was not done yet or where a file of the crates is
+# newer; behind `rt ci` it is that of the gate.
+test_program() {
+    local crate=$BENCH/../crates/$1 program
+    program=$crate/out/$1_tests
+    if [ ! -x "$program" ] ||
+        [ -n "$(find "$BENCH/../crates" \( -name out -o -name must-fail \) -prune -o -type f -newer "$program" -print -quit)" ]; then
+        (cd "$crate" && rt test -- "$2") >"$work/log" 2>&1 || { cat "$work/log" >&2; return 1; }
+    fi
+    echo "$program"
+}

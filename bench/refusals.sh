@@ -1,0 +1,21 @@
+#!/bin/bash
+# Runs the tests of refused memory with each growth refused in turn: the first one, then the second one, until a run ends in which none was refused.
+# Each test must pass each time: it makes the call again, and tests what the refused one has left as it was, and what the second one gives. Prints how many
+# growths were refused at each call.
+#
+# What refuses is a library of its own (refuse.c) that is loaded before the C library. A program takes all its memory by malloc and realloc of the C library,
+# whose places that library takes; so it sees every growth, those of other threads and of std too, and refusals.py makes sure that a program knows no
+# other way to take memory. The toolchain's own `rt try --test --fail-alloc N` reaches every growth as well, but also those by which a test gets its machine ready,
+# and builds all tests anew for each number.
+#
+# Needs cc, nm and python3.
+set -eu -o pipefail
+# shellcheck source=bench/common.sh
+. "$(dirname "$0")/common.sh"
+make_work
+cc -shared -fPIC -O2 -Wall -Wextra -o "$work/refuse.so" "$BENCH/refuse.c" -ldl
+programs=()
+for crate in l4_part_tests l4_host_tests l4_rows; do
+    programs+=("$(test_program "$crate" refused::)")
+done
+python3 -B "$BENCH/refusals.py" "$work/refuse.so" "$work" "${programs[@]}"

@@ -77,6 +77,7 @@ fn sinks_are_told_the_same(rt: HostRuntime) -> Result<(), Fail> {
 fn steps_of_another_history_are_appended(rt: HostRuntime) -> Result<(), Fail> {
     let steps = some_steps()?;
     let other = History::from_steps(rt.alloc(), &steps)?;
+    assert_eq!(rt; other.len(), 7);
     let mut history = History::from_steps(rt.alloc(), &steps[4..5])?;
     history.extend(&other.steps_between(1, 4))?;
     let appended = history.to_steps(rt.alloc())?;
@@ -90,6 +91,7 @@ fn steps_of_another_history_are_appended(rt: HostRuntime) -> Result<(), Fail> {
 fn begun_sends_are_seen(rt: HostRuntime) -> Result<(), Fail> {
     let one = GlobalId::new(1, 1).ok_or("1.1 is a global id")?;
     let history = History::from_steps(rt.alloc(), &some_steps()?)?;
+    assert_eq!(rt; history.len(), 7);
     assert!(&rt;
         history
             .begun(0)

@@ -76,11 +76,13 @@ fn sinks_are_told_the_same(rt: HostRuntime) -> Result<(), Fail> {
 #[test]
 fn steps_of_another_history_are_appended(rt: HostRuntime) -> Result<(), Fail> {
     let steps = some_steps()?;
-    let other = History::from_steps(rt.alloc(), &steps)?;
+    let steps = steps.as_slice();
+    let other = History::from_steps(rt.alloc(), steps)?;
     assert_eq!(rt; other.len(), 7);
     let mut history = History::from_steps(rt.alloc(), &steps[4..5])?;
     history.extend(&other.steps_between(1, 4))?;
     let appended = history.to_steps(rt.alloc())?;
+    let appended = appended.as_slice();
     assert_eq!(rt; appended.len(), 4);
     assert_eq!(rt; &appended[..1], &steps[4..5]);
     assert_eq!(rt; &appended[1..], &steps[1..4]);

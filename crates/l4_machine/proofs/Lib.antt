@@ -1,5 +1,6 @@
 pub mod Counting
 pub mod Endings
+pub mod EventsLeft
 pub mod Founds
 pub mod InOneHand
 pub mod Happening

@@ -16,7 +16,6 @@ use Rattle.l4_proc.specs.Rests.{HaveHandledAll}
 use Rattle.l4_proc.specs.Working.{past}
 use Rattle.l4_proc.specs.declared.processor.Processor.{Processor}
 use Rattle.l4_machine.specs.Outcomes.{Findings, IsOutcomeOf}
-use Rattle.l4_machine.specs.declared.merging.Entry.{Entry}
 use Rattle.l4_machine.specs.declared.outcome.RunFault.{RunFault}
 use Rattle.l4_machine.specs.declared.outcome.RunFault.TheVariants as run_fault
 
@@ -56,22 +55,6 @@ pub record AreOfOne (m : Machine) (ps : List Processor) : Type 0 where
 -- There is a processor of each number below this.
 abbrev pub HaveNumbers : (below : ℕ) → List Processor → Type 0
 HaveNumbers below ps = (cpu : ℕ) → cpu < below → is_some (with_number cpu ps) ≡ true
-
--- An entry stands for an event of the processor at its place.
-abbrev pub steps_at : Option Event → List Step
-steps_at None = []
-steps_at (Some e) = e.steps
-
-abbrev pub event_at : List Processor → Entry → Event
-event_at ps e = record { cpu = e.cpu; stamp = e.stamp; steps = steps_at (slice_get (events_of (slice_get ps e.place)) e.index) }
-
--- One has a lower stamp, or the same one and a lower processor.
-abbrev pub entry_is_earlier : Entry → Entry → Bool
-entry_is_earlier a b = nat_lt a.stamp b.stamp || (a.stamp == b.stamp && nat_lt a.cpu b.cpu)
-
--- There is such an event.
-abbrev pub IsWithin : List Processor → Entry → Type 0
-IsWithin ps e = e.index < length (events_of (slice_get ps e.place))
 
 -- A history of the events of all processors in order of stamp and processor, however those are listed.
 abbrev pub IsMerge : Machine → List Processor → List Step → Type 0

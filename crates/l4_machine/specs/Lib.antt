@@ -1,5 +1,6 @@
 pub mod CoreRuns
 pub mod Entries
+pub mod EventsLeft
 pub mod Gathers
 pub mod Homes
 pub mod Outcomes

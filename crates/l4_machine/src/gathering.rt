@@ -95,7 +95,8 @@ fn rested_outcome(
 {
     law_core_run();
     law_merge();
-    let (history, events) = merged_history(alloc, processors, machine.cpus())?;
+    let _ = machine.cpus();
+    let (history, events) = merged_history(alloc, machine, processors)?;
     let ending = ending(processors, all_handled);
     let at_home = at_home(alloc, machine, processors)?;
     outcome_of(

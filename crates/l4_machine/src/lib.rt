@@ -13,6 +13,7 @@ mod runs;
 mod schedules;
 mod station;
 mod team;
+mod unmerged;
 
 pub use entries::Entry;
 pub use gathering::gather;

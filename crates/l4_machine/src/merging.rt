@@ -1,43 +1,34 @@
 //! The logs of all processors, merged.
-ghost use Rattle.std.specs.Prelude.{◌≡◌, ◌<◌, ◌++◌, true, IfOk, OnOk, is_some, length, map, slice_get};
-ghost use Rattle.std.specs.List.{AllByRecursion, flat_map, range_with_len};
-ghost use Rattle.std.specs.List.Sorted.{IsPermutation, IsSortedBy};
-ghost use Rattle.l4_model.specs.Machine.{Machine as MachineOfModel};
+ghost use Rattle.std.specs.Prelude.{◌≡◌, IfOk, is_some, length, map, slice_get, true};
+ghost use Rattle.std.specs.List.{AllByRecursion, range_with_len};
 ghost use Rattle.l4_core_model.specs.Runs.{told};
 ghost use Rattle.l4_merge.specs.Pasts.{all_events};
 ghost use Rattle.l4_proc.specs.Logs.{events};
-ghost use Rattle.l4_machine.specs.Gathers.{entry_is_earlier, event_at, events_of, pasts_of, with_number, AreOfOne, HaveNumbers, IsMerge, IsWithin};
+ghost use Rattle.l4_machine.specs.Gathers.{events_of, pasts_of, with_number, AreOfOne, HaveNumbers, IsMerge};
+ghost use Rattle.l4_machine.specs.EventsLeft.{left, IsUnmerged};
 
+use crate::unmerged::{Unmerged, count_left, tell_all, untold};
 use l4_history::history::History;
 use l4_proc::processor::Processor;
 use l4_script::machine::Machine;
 use l4_types::errors::NoMemory;
 use std::alloc::Global;
 
-/// An event of the log of a processor, by the processor's place in a list and its own place in the log, both counted from 0.
-#[derive(Clone, Copy)]
-pub(crate) struct Entry {
-    stamp: u64,
-    cpu: u8,
-    place: usize,
-    index: usize,
-}
-
-/// The history of all that these processors did, in order of stamp, and of equal ones by processor, and how many events it has. `cpus` is how
-/// many processors the machine has.
+/// The history of all that the processors of a machine did, in order of stamp, and of equal ones by processor, and how many events it has.
 pub(crate) fn merged_history(
     alloc: Global,
+    machine: &Machine,
     processors: &[Processor<'_>],
-    cpus: u8,
 ) -> Result<(History, usize), NoMemory>
-    requires { HaveNumbers cpus processors.now }
-    ensures history { (m : MachineOfModel) → m.cpus ≡ cpus → IfOk result (λ r. IsMerge m processors.now r.0.steps) }
-    ensures events { (m : MachineOfModel) → m.cpus ≡ cpus → IfOk result (λ r. r.1 ≡ length (all_events (pasts_of m processors.now))) }
+    requires one { AreOfOne machine.now processors.now }
+    requires numbers { HaveNumbers machine.now.cpus processors.now }
+    ensures history { IfOk result (λ r. IsMerge machine.now processors.now r.0.steps) }
+    ensures events { IfOk result (λ r. r.1 ≡ length (all_events (pasts_of machine.now processors.now))) }
 {
-    let mut entries = all_entries(alloc, processors, cpus)?;
-    sort(&mut entries)?;
-    let history = copied(alloc, processors, entries.as_slice())?;
-    Ok((history, entries.as_slice().len()))
+    let mut logs = unmerged_logs(alloc, processors, machine.cpus())?;
+    let events = count_left(logs.as_slice())?;
+    let history = tell_all(alloc, processors, logs.as_mut_slice())?;
+    Ok((history, events))
 }
 
 /// The same of processors that nobody needs any more. The history of one that is alone is its log's, and nothing is copied.
@@ -53,7 +44,7 @@ pub(crate) fn into_merged_history(
     ensures events { IfOk result (λ r. r.1 ≡ length (all_events (pasts_of machine.now processors.entry.items))) }
 {
     if machine.cpus() > 1 {
-        return merged_history(alloc, processors.as_slice(), machine.cpus());
+        return merged_history(alloc, machine, processors.as_slice());
     }
     let mut processors = processors;
     match processors.pop() {
@@ -72,22 +63,21 @@ fn own_history(processor: Processor<'_>) -> (History, usize)
     (log.into_history(), events)
 }
 
-// The events of all processors, by their numbers.
-fn all_entries(
+// The logs of all processors, by their numbers. Nothing of them is told.
+fn unmerged_logs(
     alloc: Global,
     processors: &[Processor<'_>],
     cpus: u8,
-) -> Result<Vec<Entry>, NoMemory>
+) -> Result<Vec<Unmerged>, NoMemory>
     requires { HaveNumbers cpus processors.now }
-    ensures within { IfOk result (λ entries. AllByRecursion (IsWithin processors.now) entries.items) }
-    ensures events { IfOk result (λ entries.
-        map (event_at processors.now) entries.items ≡ flat_map (λ cpu. events_of (with_number cpu processors.now)) (range_with_len 0 cpus)) }
+    ensures whole { IfOk result (λ logs. AllByRecursion (IsUnmerged processors.now) logs.items) }
+    ensures events { IfOk result (λ logs. map (left processors.now) logs.items ≡ map (λ cpu. events_of (with_number cpu processors.now)) (range_with_len 0 cpus)) }
 {
-    let mut entries = Vec::new(alloc);
+    let mut logs = Vec::new(alloc);
     for cpu in 0..cpus {
-        add_entries(&mut entries, processors, place_of(processors, cpu))?;
+        logs.push(untold(processors, place_of(processors, cpu)))?;
     }
-    Ok(entries)
+    Ok(logs)
 }
 
 /// Where the processor of this number stands.
@@ -101,68 +91,4 @@ pub(crate) fn place_of(processors: &[Processor<'_>], cpu: u8) -> usize
         }
     }
     unreachable!()
-}
-
-// Adds the events of the processor at this place.
-fn add_entries(
-    entries: &mut Vec<Entry>,
-    processors: &[Processor<'_>],
-    place: usize,
-) -> Result<(), NoMemory>
-    requires place { place < length processors.now }
-    requires within { AllByRecursion (IsWithin processors.now) entries.old.items }
-    ensures within { OnOk result (AllByRecursion (IsWithin processors.now) entries.new.items) }
-    ensures events { OnOk result (map (event_at processors.now) entries.new.items ≡
-        map (event_at processors.now) entries.old.items ++ events_of (slice_get processors.now place)) }
-{
-    let log = processors[place].log();
-    entries.reserve(log.len())?;
-    for index in 0..log.len() {
-        let event = log.event(index);
-        entries.push_reserved(Entry {
-            stamp: event.stamp,
-            cpu: event.cpu,
-            place,
-            index,
-        });
-    }
-    Ok(())
-}
-
-// Puts events in order of stamp and processor. Those of each log are in order already, and a stable sort only merges what is.
-fn sort(entries: &mut Vec<Entry>) -> Result<(), NoMemory>
-    ensures permutation { IsPermutation entries.old.items entries.new.items }
-    ensures sorted { OnOk result (IsSortedBy entry_is_earlier entries.new.items) }
-{
-    entries.sort_by_key(|entry| (entry.stamp, entry.cpu))?;
-    Ok(())
-}
-
-// The steps of these events, one event behind the other.
-fn copied(
-    alloc: Global,
-    processors: &[Processor<'_>],
-    entries: &[Entry],
-) -> Result<History, NoMemory>
-    requires { AllByRecursion (IsWithin processors.now) entries.now }
-    ensures { IfOk result (λ copy. copy.steps ≡ told (map (event_at processors.now) entries.now)) }
-{
-    let mut copy = History::new(alloc);
-    for entry in entries {
-        copy_event(&mut copy, processors, entry)?;
-    }
-    Ok(copy)
-}
-
-// Tells the steps of an event.
-fn copy_event(
-    copy: &mut History,
-    processors: &[Processor<'_>],
-    entry: &Entry,
-) -> Result<(), NoMemory>
-    requires { IsWithin processors.now entry.now }
-    ensures { OnOk result (copy.new.steps ≡ copy.old.steps ++ (event_at processors.now entry.now).steps) }
-{
-    let event = processors[entry.place].log().event(entry.index);
-    copy.extend(&event.steps)
 }

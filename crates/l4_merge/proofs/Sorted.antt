@@ -1,10 +1,9 @@
 -- However the events of all processors are sorted by stamp and processor, they come out as merged.
-use Rattle.std.proofs.Common.{◌≡◌, ℕ, suc, ◌+◌, ◌<◌, ◌≤◌, Bool, true, false, cond, List, [], ◌∷◌, map, length, get_or, refl, ap, sym, ◌∙◌, subst, arith}
+use Rattle.std.proofs.Common.{◌≡◌, ℕ, suc, ◌<◌, ◌≤◌, Bool, true, false, cond, List, [], ◌∷◌, map, length, get_or, refl, ap, sym, ◌∙◌, subst, arith}
 use Rattle.std.specs.List.{AllByRecursion}
-use Rattle.std.specs.List.Sorted.{IsPermutation, IsSortedBy, ties}
+use Rattle.std.specs.List.Sorted.{ties}
 use Rattle.std.proofs.lemmas.List.Elements.{recursion_from_All}
-use Rattle.std.proofs.lemmas.List.Sorted.{sorted_far, IsPermutation-map, IsPermutation-trans}
-use Rattle.std.proofs.lemmas.List.{length-map, get_or-map}
+use Rattle.std.proofs.lemmas.List.Sorted.{sorted_far}
 use Rattle.l4_model.specs.Machine.{Machine}
 use Rattle.l4_core_model.specs.Letters.{Letter}
 use Rattle.l4_core_model.specs.Local.{Local}
@@ -107,19 +106,3 @@ sort_as_merged m g ds ends left ahead sorted moved is_sorted =
     same e =
         same_passed (ties is_earlier e) (map told_by ds) sorted moved (few e) ∙ tying_own e ds
         ∙ ap (λ ds. tying e (map told_by ds)) (sym (own_same m g ds ends left ahead e.cpu)) ∙ sym (tying_own e (arranged ds))
-
--- Values that are viewed as events, sorted by a test that is the order of these.
-pub values_sort_as_merged : {X : Type 0} (view : X → Event) (less : X → X → Bool) → ((a b : X) → less a b ≡ is_earlier (view a) (view b)) →
-    (es : List Event) → SortAsMerged es → (xs sorted : List X) → IsPermutation es (map view xs) → IsPermutation xs sorted → IsSortedBy less sorted →
-    map view sorted ≡ merged es
-values_sort_as_merged {X} view less orders es sort xs sorted are moved is_sorted =
-    sort (map view sorted) (IsPermutation-trans es (map view xs) (map view sorted) are (IsPermutation-map view xs sorted moved))
-    (events_sorted sorted is_sorted)
-  where
-    events_sorted : (xs : List X) → IsSortedBy less xs → IsSortedBy is_earlier (map view xs)
-    events_sorted [] sorted = λ k d le lt. absurd (omega arith)
-    events_sorted (x ∷ xs) sorted = λ k d le lt.
-        let size = length-map (x ∷ xs) view in
-        ap (λ e. is_earlier e (get_or (map view (x ∷ xs)) k d)) (get_or-map view (x ∷ xs) (k + 1) x d (omega arith))
-        ∙ ap (λ e. is_earlier (view (get_or (x ∷ xs) (k + 1) x)) e) (get_or-map view (x ∷ xs) k x d (omega arith))
-        ∙ sym (orders (get_or (x ∷ xs) (k + 1) x) (get_or (x ∷ xs) k x)) ∙ sorted k x le (omega arith)

@@ -1,11 +1,10 @@
 use Rattle.std.proofs.Common.{◌≡◌, ℕ, ◌<◌, Some, [], ◌∷◌, ◌++◌, map, length, refl, ap, ap₂, sym, ◌∙◌, arith, Bor}
-use Rattle.std.specs.Prelude.{Option, is_some, slice_get, true}
+use Rattle.std.specs.Prelude.{Option, is_some, slice_get}
 use Rattle.std.specs.Option.{option_map}
 use Rattle.std.proofs.lemmas.List.{map-append}
 use Rattle.std.proofs.lemmas.List.FromFn.{map-range_with_len_more}
 use Rattle.std.proofs.lemmas.Option.{slice_get_read}
 use Rattle.l4_core.specs.Processor.{Processor as Core}
-use Rattle.l4_proc.specs.declared.processor.Processor.{Processor}
 use Rattle.l4_machine.specs.Gathers.{core_of, with_number}
 use Rattle.l4_machine.proofs.Cores.{within_some}
 use Rattle.l4_machine.proofs.gathering.cores_of.Goals as goal

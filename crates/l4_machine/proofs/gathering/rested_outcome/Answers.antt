@@ -18,7 +18,7 @@ outcome_of-requires c =
     let whole = whole_pasts m ps c.requires.one c.requires.numbers c.requires.whole in
     let run = c.law_merge.ensures.whole m (pasts_of m ps) whole in
     let told_is = gathered_history m ps run.0 c.in_ok-history.history.steps run.1 (c.law_merge.ensures.sorted m (pasts_of m ps) whole)
-    (c.in_ok-history.ensures.history m (sym c.cpus.ensures.value)) in
+    c.in_ok-history.ensures.history in
     let lawful = c.law_core_run.ensures.lawful m run.0 c.cpus.ensures.lawful run.1.core_run in
     subst (IsHistory m) (sym told_is) lawful.history
 
@@ -29,14 +29,14 @@ returns c =
     let whole = whole_pasts m ps c.requires.one c.requires.numbers c.requires.whole in
     let run = c.law_merge.ensures.whole m (pasts_of m ps) whole in
     let told_is = gathered_history m ps run.0 c.in_ok-history.history.steps run.1 (c.law_merge.ensures.sorted m (pasts_of m ps) whole)
-    (c.in_ok-history.ensures.history m (sym c.cpus.ensures.value)) in
+    c.in_ok-history.ensures.history in
     let lawful = c.law_core_run.ensures.lawful m run.0 c.cpus.ensures.lawful run.1.core_run in
     let locals : List Local = map (λ (past : Past). past.local) (pasts_of m ps) in
     let ends : EndsIn run.0 locals c.args.all_handled = record {
       here = run.1.ends.locals;
       handled = λ e. handled_there m ps run.0 c.requires.one c.requires.numbers c.requires.whole run.1.ends (c.requires.handled.0 e);
     } in
-    let count = c.in_ok-history.ensures.events m (sym c.cpus.ensures.value) in
+    let count = c.in_ok-history.ensures.events in
     IfOk-weaker c.outcome_of.result _ _
     (λ o is. is_gathered m ps run.0 (compact_findings_of o) run.1 (is run.0 locals (sound m run.0 lawful) c.in_ok-at_home.ensures ends told_is
     (count ∙ sym (ap length run.1.events ∙ c.law_merge.ensures.count (all_events (pasts_of m ps))))

@@ -1,4 +1,4 @@
-use Rattle.std.proofs.Common.{◌≡◌, ℕ, [], ◌∷◌, ◌++◌, map, ap, ap₂, sym, ◌∙◌, arith, Bor}
+use Rattle.std.proofs.Common.{ℕ, [], ◌∷◌, ◌++◌, map, ap₂, sym, ◌∙◌, arith, Bor}
 use Rattle.std.proofs.lemmas.List.FromFn.{map-range_with_len_more}
 use Rattle.l4_core.specs.Processor.{Processor as Core}
 use Rattle.l4_split.specs.Laws.{home_thread}

@@ -1,4 +1,4 @@
-use Rattle.std.proofs.Common.{◌≡◌, [], ◌∷◌, ◌++◌, map, ap, ap₂, sym, ◌∙◌, arith, Bor}
+use Rattle.std.proofs.Common.{[], ◌∷◌, ◌++◌, map, ap, ap₂, sym, ◌∙◌, arith, Bor}
 use Rattle.std.proofs.lemmas.List.{map-append}
 use Rattle.std.proofs.lemmas.List.FromFn.{map-range_with_len_more}
 use Rattle.l4_types.specs.ReportView.{report_of_view}

@@ -1,24 +1,29 @@
-use Rattle.std.proofs.Common.{List, length, map, ap, sym, ◌∙◌, subst}
+use Rattle.std.proofs.Common.{List, map, length, ap, sym, ◌∙◌, subst}
+use Rattle.l4_core_model.specs.Runs.{merged, told}
+use Rattle.l4_machine.specs.EventsLeft.{all_left, left, IsUnmerged, RiseFrom}
 use Rattle.std.specs.List.{AllByRecursion}
-use Rattle.l4_core_model.specs.Runs.{told}
-use Rattle.l4_machine.specs.declared.merging.Entry.{Entry}
-use Rattle.l4_machine.specs.Gathers.{event_at, IsWithin}
-use Rattle.l4_machine.proofs.InLogs.{is_merge, all_count, all_moved}
+use Rattle.l4_machine.specs.declared.unmerged.Unmerged.{Unmerged}
+use Rattle.l4_machine.proofs.EventsLeft.{all_left_are, is_merge, logs_rise}
 use Rattle.l4_machine.proofs.merging.merged_history.Goals as goal
 
-pub copied-requires : goal.copied-requires
-copied-requires c =
-    subst (AllByRecursion (IsWithin c.args.processors.now)) (sym c.as_slice.ensures.value)
-    (all_moved (IsWithin c.args.processors.now) c.in_ok-entries.entries.items c.sort.new.entries.items c.in_ok-entries.ensures.within c.sort.ensures.permutation)
+pub tell_all-requires-clause-rising : goal.tell_all-requires-clause-rising
+tell_all-requires-clause-rising c =
+    let ps = c.args.processors.now in
+    subst (λ (us : List Unmerged). RiseFrom 0 (map (left ps) us)) (sym c.as_mut_slice.ensures.value)
+    (subst (RiseFrom 0) (sym c.in_ok-logs.ensures.events) (logs_rise c.args.machine.now ps 0 c.cpus.result c.requires.one))
 
 pub returns-clause-history : goal.returns-clause-history
-returns-clause-history c = λ m count.
-    let same = ap (λ (xs : List Entry). told (map (event_at c.args.processors.now) xs)) c.as_slice.ensures.value in
-    is_merge m c.args.processors.now c.args.cpus c.in_ok-entries.entries.items c.sort.new.entries.items c.in_ok-history.history.steps count
-    c.in_ok-entries.ensures.events c.sort.ensures.permutation c.in_ok-sort.ensures.sorted (c.in_ok-history.ensures ∙ same)
+returns-clause-history c =
+    let ps = c.args.processors.now in
+    let m = c.args.machine.now in
+    let all = all_left_are m ps c.cpus.result c.in_ok-logs.logs.items c.cpus.ensures.value c.in_ok-logs.ensures.events in
+    is_merge m ps c.in_ok-history.history.steps
+    (c.in_ok-history.ensures ∙ ap (λ (us : List Unmerged). told (merged (all_left ps us))) c.as_mut_slice.ensures.value ∙ ap (λ es. told (merged es)) all)
 
 pub returns-clause-events : goal.returns-clause-events
-returns-clause-events c = λ m count.
-    ap length c.as_slice-2.ensures.value
-    ∙ all_count m c.args.processors.now c.args.cpus c.in_ok-entries.entries.items c.sort.new.entries.items count c.in_ok-entries.ensures.events
-    c.sort.ensures.permutation
+returns-clause-events c =
+    let ps = c.args.processors.now in
+    let m = c.args.machine.now in
+    let all = all_left_are m ps c.cpus.result c.in_ok-logs.logs.items c.cpus.ensures.value c.in_ok-logs.ensures.events in
+    let whole = subst (AllByRecursion (IsUnmerged ps)) (sym c.as_slice.ensures.value) c.in_ok-logs.ensures.whole in
+    c.in_ok-events.ensures ps whole ∙ ap (λ (us : List Unmerged). length (all_left ps us)) c.as_slice.ensures.value ∙ ap length all

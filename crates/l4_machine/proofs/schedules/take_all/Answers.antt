@@ -1,6 +1,6 @@
 use Rattle.std.proofs.Common.{◌≡◌, length, map, subst, refl, sym, ap, ◌∙◌, inr, arith}
 use Rattle.std.proofs.lemmas.List.{length-map}
-use Rattle.std.specs.Prelude.{◌⊎◌, slice_index_or}
+use Rattle.std.specs.Prelude.{slice_index_or}
 use Rattle.l4_machine.specs.declared.entries.Entry.TheVariants.{Turn}
 use Rattle.l4_machine.specs.Entries.{entry_from, is_entry}
 use Rattle.l4_machine.proofs.Replays.{IsReplaying, entry_at, replaying_start, replaying_next, replaying_end, lawful-next, stranger_here}

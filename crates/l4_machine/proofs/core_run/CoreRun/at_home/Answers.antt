@@ -4,7 +4,7 @@ use Rattle.l4_model.specs.Machine.{Machine}
 use Rattle.l4_core_model.specs.Local.{Local}
 use Rattle.l4_core.specs.Processor.{Processor as Core}
 use Rattle.l4_machine.specs.declared.station.Station as program
-use Rattle.l4_machine.specs.Stations.{Station, station_of}
+use Rattle.l4_machine.specs.Stations.{Station}
 use Rattle.l4_machine.specs.UnderWay.{UnderWay}
 use Rattle.l4_machine.specs.Homes.{locals_of, AreAllOf, IsAtHome}
 use Rattle.l4_machine.proofs.Cores.{cores_mapped, station_locals, stations_there}

@@ -1,4 +1,4 @@
-use Rattle.std.proofs.Common.{◌≡◌, refl, arith}
+use Rattle.std.proofs.Common.{refl, arith}
 use Rattle.l4_machine.proofs.team.Team.run.Goals as goal
 
 pub loop-done-init : goal.loop-done-init

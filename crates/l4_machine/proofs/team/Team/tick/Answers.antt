@@ -1,12 +1,9 @@
-use Rattle.std.proofs.Common.{◌≡◌, ℕ, true, Some, map, length, ap, sym, ◌∙◌, subst, arith}
+use Rattle.std.proofs.Common.{ap, sym, ◌∙◌, subst, arith}
 use Rattle.std.specs.Prelude.{slice_get}
 use Rattle.std.specs.Vec.{with_items}
 use Rattle.std.proofs.lemmas.Result.{on_ok_weaker}
-use Rattle.l4_core_model.specs.Turns.{can_stamp}
 use Rattle.l4_core_model.specs.Schedules.{ticks}
 use Rattle.l4_mail.specs.Ports.{AreWhole}
-use Rattle.l4_proc.specs.declared.processor.Processor.{Processor}
-use Rattle.l4_machine.specs.Teams.{count_events}
 use Rattle.l4_machine.proofs.Founds.{count_is}
 use Rattle.l4_machine.proofs.Ticked.{all_come, all_counted, handled_same, more_ticked, ports_same, ticks_come}
 use Rattle.l4_machine.proofs.Turned.{can_stamp_here}

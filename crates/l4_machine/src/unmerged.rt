@@ -1,0 +1,124 @@
+//! Logs whose events are told one by one, in order of stamp, and of equal ones by processor.
+ghost use Rattle.std.specs.Prelude.{◌≡◌, ◌<◌, ◌≤◌, List, IfOk, OnOk, is_some, length, map, slice_get, true};
+ghost use Rattle.std.specs.List.{AllByRecursion};
+ghost use Rattle.std.specs.Option.{option_map};
+ghost use Rattle.l4_core_model.specs.Runs.{merged, told};
+ghost use Rattle.l4_proc.specs.Logs.{events, IsClosed};
+ghost use Rattle.l4_proc.specs.declared.processor.Processor.{Processor as ProcessorOfMachine};
+ghost use Rattle.l4_machine.specs.EventsLeft.{all_left, least_place, left, HasToldFirst, IsUnmerged, RiseFrom};
+ghost use Rattle.l4_machine.specs.Gathers.{events_of};
+
+use l4_history::history::History;
+use l4_proc::log::Log;
+use l4_proc::processor::Processor;
+use l4_types::errors::NoMemory;
+use std::alloc::Global;
+
+/// A log of which some events, the last ones, are still to be told.
+#[derive(Clone, Copy)]
+pub(crate) struct Unmerged {
+    // Where its processor stands in a list.
+    place: usize,
+    // How many events it has.
+    count: usize,
+    // How many of them are still to be told.
+    left: usize,
+    // The stamp of the first of these.
+    stamp: Option<u64>,
+}
+
+/// The log of the processor at a place, of which no event is told.
+pub(crate) fn untold(processors: &[Processor<'_>], place: usize) -> Unmerged
+    requires { place < length processors.now }
+    ensures whole { IsUnmerged processors.now result }
+    ensures left { left processors.now result ≡ events_of (slice_get processors.now place) }
+{
+    let log = processors[place].log();
+    let count = log.len();
+    Unmerged {
+        place,
+        count,
+        left: count,
+        stamp: stamp_of(log, 0),
+    }
+}
+
+// The stamp of the i-th event of a log, counted from 0. None where there are no more.
+fn stamp_of(log: &Log, i: usize) -> Option<u64>
+    requires { IsClosed log.now }
+    ensures { result ≡ option_map (λ e. e.stamp) (slice_get (events log.now) i) }
+{
+    if i < log.len() {
+        Some(log.event(i).stamp)
+    } else {
+        None
+    }
+}
+
+/// How many events are left of all these logs.
+pub(crate) fn count_left(logs: &[Unmerged]) -> Result<usize, NoMemory>
+    ensures { (ps : List ProcessorOfMachine) → AllByRecursion (IsUnmerged ps) logs.now → IfOk result (λ count. count ≡ length (all_left ps logs.now)) }
+{
+    let mut count: usize = 0;
+    for log in logs {
+        // No memory has room for more.
+        count = count.checked_add(log.left).ok_or(NoMemory)?;
+    }
+    Ok(count)
+}
+
+// The place of the log whose first event comes first: none has a lower stamp, and none before it the same one.
+fn first_place(logs: &[Unmerged]) -> Option<usize>
+    ensures { result ≡ option_map (λ first. first.0) (least_place (map (λ log. log.stamp) logs.now)) }
+{
+    let mut first: Option<(usize, u64)> = None;
+    let mut place = logs.len();
+    while place > 0 {
+        place -= 1;
+        if let Some(stamp) = logs[place].stamp {
+            match first {
+                Some((_, least)) if least < stamp => {}
+                _ => first = Some((place, stamp)),
+            }
+        }
+    }
+    match first {
+        Some((place, _)) => Some(place),
+        None => None,
+    }
+}
+
+// Tells the steps of the first event that is left of a log.
+fn tell_first(
+    processors: &[Processor<'_>],
+    log: &mut Unmerged,
+    history: &mut History,
+) -> Result<(), NoMemory>
+    requires whole { IsUnmerged processors.now log.old }
+    requires some { is_some log.old.stamp ≡ true }
+    ensures { OnOk result (HasToldFirst processors.now log.old log.new history.old.steps history.new.steps) }
+{
+    let events = processors[log.place].log();
+    let first = events.event(log.count - log.left);
+    history.extend(&first.steps)?;
+    log.left -= 1;
+    log.stamp = stamp_of(events, log.count - log.left);
+    Ok(())
+}
+
+/// Tells all that is left of logs that stand in order of their processors.
+pub(crate) fn tell_all(
+    alloc: Global,
+    processors: &[Processor<'_>],
+    logs: &mut [Unmerged],
+) -> Result<History, NoMemory>
+    requires whole { AllByRecursion (IsUnmerged processors.now) logs.old }
+    requires rising { RiseFrom 0 (map (left processors.now) logs.old) }
+    ensures { IfOk result (λ history. history.steps ≡ told (merged (all_left processors.now logs.old))) }
+{
+    let mut history = History::new(alloc);
+    while let Some(place) = first_place(logs) {
+        tell_first(processors, &mut logs[place], &mut history)?;
+    }
+    Ok(history)
+}

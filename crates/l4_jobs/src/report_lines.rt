@@ -4,12 +4,12 @@ ghost use Rattle.std.specs.String.{string_bytes};
 ghost use Rattle.l4_types.specs.ReportView.{state_of_view, report_of_view};
 ghost use Rattle.l4_jobs.specs.ReportLines.{state_word, id_word, shown_registers, thread_line, waiting_line, ending_word, report_text};
 
-use l4_trace::spelling::{push_name, push_thread, push_words};
 use l4_types::errors::NoMemory;
 use l4_types::ids::{Kind, ThreadId};
 use l4_types::registers::MESSAGE_REGISTERS;
 use l4_types::reports::{Ending, State, ThreadView};
 use l4_types::steps::Name;
+use l4_words::spelling::{push_name, push_thread, push_words};
 use std::alloc::AllocError;
 
 /// Appends the report of a run: its threads in order of declaration, its undecided sends with their destinations in

@@ -1,10 +1,6 @@
-pub mod Hashes
-pub mod Hexadecimal
 pub mod Joined
-pub mod Lengths
 pub mod LineRows
 pub mod Plain
-pub mod ReadNames
 pub mod ReadSteps
 pub mod ReadTexts
 pub mod ReadingLines

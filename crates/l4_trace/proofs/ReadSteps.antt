@@ -17,13 +17,13 @@ use Rattle.l4_trace.specs.Lines.{hexadecimal, thread_word, name_word, what_word,
 use Rattle.l4_words.specs.Numbers.{number_of}
 use Rattle.l4_words.specs.Threads.{thread_of}
 use Rattle.l4_words.specs.Words.{words_in, one, two, three, first_five}
-use Rattle.l4_trace.specs.Names.{name_of}
+use Rattle.l4_words.specs.Names.{name_of}
 use Rattle.l4_trace.specs.Reading.{message_words, delivery_of, what_of_word, order_of, tick_of, of_thread, of_name, step_behind, step_of_words, step_of_line}
 use Rattle.l4_words.proofs.Numerals.{decimal_is_read, decimal_is_written, hexadecimal_is_read, hexadecimal_is_written}
 use Rattle.l4_trace.proofs.Plain.{are_plain, delivery, line_is_split, step_is_plain}
 use Rattle.l4_words.proofs.Found.{some_same, some_bind, some_then, mapped}
 use Rattle.l4_words.proofs.Spelled.{thread_is_read, thread_is_written}
-use Rattle.l4_trace.proofs.ReadNames.{name_is_read, name_is_written}
+use Rattle.l4_words.proofs.ReadNames.{name_is_read, name_is_written}
 
 -- What is written is read
 

@@ -9,9 +9,6 @@ use Rattle.l4_model.specs.Steps.{Deliver}
 use Rattle.l4_model.specs.Rules.{bit, received_tag}
 use Rattle.l4_trace.specs.Lines.{is_word, is_name, is_tag_of, has_line}
 
-pub spelled_name : (s : Name) → is_global s.thread ≡ true → 0 < s.k → s.k < 2 ^ 64 → is_name s ≡ true
-spelled_name s thread positive small = and_from _ _ (and_from _ _ thread (grind (arith, nat_tests))) (grind (arith, nat_tests))
-
 -- The parts of a tag that is made of a label, two flags and a count stand apart.
 record HasParts (tag count : ℕ) : Type 0 where
   typed : (tag / 2 ^ 6) % 64 ≡ 0

@@ -1,16 +1,13 @@
 -- The line of a step in a trace.
-use Rattle.std.specs.Prelude.{ℕ, ◌/◌, ◌%◌, ◌^◌, Bool, ◌==◌, ◌&&◌, nat_lt, List, [], ◌∷◌, ◌++◌, length, map, flat_map, codes, decimal}
+use Rattle.std.specs.Prelude.{ℕ, ◌/◌, ◌%◌, ◌^◌, Bool, ◌==◌, ◌&&◌, nat_lt, List, [], ◌∷◌, length, map, flat_map, codes, decimal}
 use Rattle.std.specs.List.{list_all}
 use Rattle.l4_model.specs.Words.{is_global, clock_limit}
 use Rattle.l4_model.specs.Machine.{What, CancelSend, CancelReceive, CancelBoth, Delete, most_processors}
-use Rattle.l4_model.specs.World.{Name}
 use Rattle.l4_model.specs.Steps.{Step, Local, Begin, Queue, Deliver, Wait, SendTimeout, ReceiveTimeout, SendNobody, ReceiveNobody, SendCancel, ReceiveCancel, Drop, Order, Obey, Tick}
 pub use Rattle.l4_words.specs.Lines.{line_of_words}
+pub use Rattle.l4_words.specs.Names.{is_name, name_word}
 pub use Rattle.l4_words.specs.Numbers.{hexadecimal, is_word}
 pub use Rattle.l4_words.specs.Threads.{thread_word}
-
-abbrev pub name_word : Name → List ℕ
-name_word s = thread_word s.thread ++ codes "#" ++ decimal s.k
 
 abbrev pub what_word : What → List ℕ
 what_word CancelSend = codes "S"
@@ -47,10 +44,6 @@ abbrev pub trace_of : List Step → List ℕ
 trace_of steps = flat_map line_of steps
 
 -- Which steps a trace can spell
-
--- The sends of a thread are counted from 1.
-abbrev pub is_name : Name → Bool
-is_name s = is_global s.thread && nat_lt 0 s.k && is_word s.k
 
 -- The tag of a delivery counts its words, and has no typed items and neither of the flags `r` and `E`.
 abbrev pub is_tag_of : (tag : ℕ) → (words : List ℕ) → Bool

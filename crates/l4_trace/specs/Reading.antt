@@ -1,5 +1,5 @@
 -- The step that a line spells, and the steps of a text.
-use Rattle.std.specs.Prelude.{ℕ, ◌≡◌, ◌↔◌, ◌+◌, ◌<◌, ◌^◌, true, ◌==◌, ◌&&◌, nat_lt, if◌then◌else◌, Option, Some, None, Result, Ok, Err, List, [], ◌∷◌, ◌++◌, length, codes}
+use Rattle.std.specs.Prelude.{ℕ, ◌≡◌, ◌↔◌, ◌+◌, ◌<◌, true, ◌==◌, ◌&&◌, nat_lt, if◌then◌else◌, Option, Some, None, Result, Ok, Err, List, [], ◌∷◌, ◌++◌, length, codes}
 use Rattle.std.specs.Option.{option_map}
 use Rattle.std.specs.List.{list_all}
 use Rattle.std.specs.Str.{bytes_eq}
@@ -15,7 +15,7 @@ use Rattle.l4_words.specs.Lines.{parts_of}
 use Rattle.l4_words.specs.Numbers.{number_of}
 use Rattle.l4_words.specs.Threads.{thread_of}
 use Rattle.l4_words.specs.Words.{words_in, one, two, three, first_five}
-use Rattle.l4_trace.specs.Names.{name_of}
+use Rattle.l4_words.specs.Names.{name_of}
 
 -- What stands behind the first word of a line
 

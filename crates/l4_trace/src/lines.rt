@@ -8,15 +8,15 @@ ghost use Rattle.l4_history.specs.Seen.{delivered, seen};
 ghost use Rattle.l4_trace.specs.Lines.{thread_word, name_word, what_word, line_of, trace_of, is_name, has_line};
 ghost use Rattle.l4_trace.specs.Room.{most_bytes};
 
-use crate::digits::write_byte;
-use crate::pieces::{
-    WORD_BYTES, write_keyword, write_name, write_number, write_thread, write_word, write_words,
-};
 use l4_history::step_ref::{DeliveryRef, StepRef};
 use l4_types::errors::NoMemory;
 use l4_types::ids::GlobalId;
 use l4_types::messages::MOST_WORDS;
 use l4_types::steps::{Name, Step, Tick, What};
+use l4_words::digits::write_byte;
+use l4_words::pieces::{
+    WORD_BYTES, write_keyword, write_name, write_number, write_thread, write_word, write_words,
+};
 
 // The first word of a line, and the last one of an order, take at most so many bytes.
 const KEYWORD_BYTES: usize = 8;

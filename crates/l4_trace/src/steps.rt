@@ -9,7 +9,6 @@ ghost use Rattle.l4_trace.specs.Reading.{message_words, delivered, delivery_of, 
 ghost use Rattle.l4_trace.specs.Telling.{told_onto};
 
 use crate::kinds::{Kind, kind_of};
-use crate::names::name;
 use arrayvec::ArrayVec;
 use l4_history::history::History;
 use l4_history::message_ref::MessageRef;
@@ -18,6 +17,7 @@ use l4_types::ids::GlobalId;
 use l4_types::messages::MOST_WORDS;
 use l4_types::steps::{Name, Tick, What};
 use l4_types::tags::MsgTag;
+use l4_words::names::name;
 use l4_words::numbers::{decimal, hexadecimal};
 use l4_words::threads::thread;
 use l4_words::words::Words;

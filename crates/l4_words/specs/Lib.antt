@@ -1,4 +1,5 @@
 pub mod Lines
+pub mod Names
 pub mod Numbers
 pub mod Threads
 pub mod Words

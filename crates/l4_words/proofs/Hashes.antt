@@ -5,7 +5,7 @@ use Rattle.std.proofs.lemmas.List.{drop_all}
 use Rattle.l4_words.specs.Threads.{thread_of}
 use Rattle.l4_words.proofs.Dots.{nothing}
 use Rattle.l4_words.proofs.Splits.{place_at, no_place}
-use Rattle.l4_trace.specs.Names.{is_hash, name_between, name_of}
+use Rattle.l4_words.specs.Names.{is_hash, name_between, name_of}
 
 pub name_at_hash : (word : List ℕ) (i : ℕ) → position is_hash word ≡ Some i → name_of word ≡ name_between (take i word) (drop (i + 1) word)
 unfolding name_of

@@ -1,8 +1,9 @@
 -- Names are read as they are written, and are written as they are read.
-use Rattle.std.proofs.Common.{◌≡◌, ℕ, ◌+◌, ◌^◌, true, List, ◌++◌, take, drop, Option, Some, None, refl, sym, ap, ◌∙◌}
+use Rattle.std.proofs.Common.{◌≡◌, ℕ, ◌+◌, ◌<◌, ◌^◌, true, List, ◌++◌, take, drop, Option, Some, None, refl, sym, ap, ◌∙◌, arith}
 use Rattle.std.specs.Prelude.{nat_lt, codes, decimal}
 use Rattle.std.specs.List.{position}
 use Rattle.std.proofs.lemmas.Bool.{and_parts, and_from, ltb-true, lt-ltb}
+use Rattle.std.proofs.lemmas.Bool.Decides.{nat_tests}
 use Rattle.l4_model.specs.Words.{is_global}
 use Rattle.l4_model.specs.World.{Name}
 use Rattle.l4_words.specs.Numbers.{number_of}
@@ -11,9 +12,11 @@ use Rattle.l4_words.proofs.Above.{front_of, back_of, joined_at}
 use Rattle.l4_words.proofs.Found.{some_same, some_bind, some_then}
 use Rattle.l4_words.proofs.Numerals.{decimal_is_read, decimal_is_written}
 use Rattle.l4_words.proofs.Spelled.{thread_is_above, thread_is_read, thread_is_written}
-use Rattle.l4_trace.specs.Lines.{name_word, is_name}
-use Rattle.l4_trace.specs.Names.{is_hash, name_between, name_of}
-use Rattle.l4_trace.proofs.Hashes.{name_at_hash, name_without_hash}
+use Rattle.l4_words.specs.Names.{name_word, is_name, is_hash, name_between, name_of}
+use Rattle.l4_words.proofs.Hashes.{name_at_hash, name_without_hash}
+
+pub spelled_name : (s : Name) → is_global s.thread ≡ true → 0 < s.k → s.k < 2 ^ 64 → is_name s ≡ true
+spelled_name s thread positive small = and_from _ _ (and_from _ _ thread (grind (arith, nat_tests))) (grind (arith, nat_tests))
 
 pub name_is_read : (s : Name) → is_name s ≡ true → name_of (name_word s) ≡ Some s
 unfolding name_of

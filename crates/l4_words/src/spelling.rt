@@ -3,7 +3,9 @@ ghost use Rattle.std.specs.Prelude.{◌≡◌, true, ◌++◌, codes, flat_map, 
 ghost use Rattle.std.specs.List.{list_all};
 ghost use Rattle.std.specs.String.{string_bytes};
 ghost use Rattle.l4_model.specs.Words.{is_global};
-ghost use Rattle.l4_trace.specs.Lines.{hexadecimal, thread_word, name_word, is_word, is_name};
+ghost use Rattle.l4_words.specs.Numbers.{hexadecimal, is_word};
+ghost use Rattle.l4_words.specs.Threads.{thread_word};
+ghost use Rattle.l4_words.specs.Names.{name_word, is_name};
 
 use l4_types::ids::GlobalId;
 use l4_types::steps::Name;
@@ -37,7 +39,7 @@ pub fn push_thread(line: &mut String, thread: GlobalId) -> Result<(), AllocError
 }
 
 /// Appends a space and the name of a send, `N.V#K`.
-#[tactic(auto, using(crate::proofs::Spelled::spelled_name))]
+#[tactic(auto, using(crate::proofs::ReadNames::spelled_name))]
 pub fn push_name(line: &mut String, name: Name) -> Result<(), AllocError>
     ensures word { OnOk result (string_bytes line.new ≡ string_bytes line.old ++ codes " " ++ name_word name) }
     ensures spelled { OnOk result (is_name name ≡ true) }

@@ -1,7 +1,7 @@
 use Rattle.std.proofs.Common.{◌+◌, ◌∙◌, sym}
 use Rattle.std.proofs.lemmas.List.{take_rest}
-use Rattle.l4_trace.proofs.Hashes.{name_without_hash, name_at_hash}
-use Rattle.l4_trace.proofs.names.name.Goals as goal
+use Rattle.l4_words.proofs.Hashes.{name_without_hash, name_at_hash}
+use Rattle.l4_words.proofs.names.name.Goals as goal
 
 pub returns-in_err-hash : goal.returns-in_err-hash
 returns-in_err-hash c = c.from_residual.ensures ∙ sym (name_without_hash c.args.word.now (sym c.find_byte.ensures ∙ c.in_err-hash.was))

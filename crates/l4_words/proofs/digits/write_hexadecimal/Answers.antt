@@ -1,7 +1,7 @@
 use Rattle.std.proofs.Common.{◌≡◌, ◌++◌, ◌∷◌, [], length, drop, arith, append_assoc, false}
 use Rattle.std.proofs.lemmas.Fmt.{hex_one_digit}
-use Rattle.l4_trace.proofs.Hexadecimal.{hexadecimal_step, length_step, length_one}
-use Rattle.l4_trace.proofs.digits.write_hexadecimal.Goals as goal
+use Rattle.l4_words.proofs.Hexadecimal.{hexadecimal_step, length_step, length_one}
+use Rattle.l4_words.proofs.digits.write_hexadecimal.Goals as goal
 
 pub write_byte-at-requires : goal.write_byte-at-requires
 write_byte-at-requires c = (omega (arith, length_step c.loop-left.left c.loop-left-test.true c.loop-left.auto.left-fits.fits), omega arith)

@@ -1,11 +1,11 @@
 //! The names of sends as words spell them.
 ghost use Rattle.std.specs.Prelude.{◌≡◌};
-ghost use Rattle.l4_trace.specs.Names.{name_between, name_of};
+ghost use Rattle.l4_words.specs.Names.{name_between, name_of};
 
+use crate::lines::find_byte;
+use crate::numbers::decimal;
+use crate::threads::thread;
 use l4_types::steps::Name;
-use l4_words::lines::find_byte;
-use l4_words::numbers::decimal;
-use l4_words::threads::thread;
 
 /// The send of a thread and a decimal number.
 fn name_between(thread_word: &[u8], k: &[u8]) -> Option<Name>
@@ -17,7 +17,7 @@ fn name_between(thread_word: &[u8], k: &[u8]) -> Option<Name>
 }
 
 /// The name of a send, `N.V#K`.
-pub(crate) fn name(word: &[u8]) -> Option<Name>
+pub fn name(word: &[u8]) -> Option<Name>
     ensures { result ≡ name_of word.now }
 {
     let hash = find_byte(b'#', word)?;

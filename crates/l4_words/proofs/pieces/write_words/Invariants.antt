@@ -2,7 +2,7 @@ use Rattle.std.proofs.Common.{◌≡◌, ◌+◌, ◌*◌, ◌≤◌, ◌++◌, 
 use Rattle.std.specs.Prelude.{◌&&◌, codes, flat_map}
 use Rattle.std.specs.List.{list_all}
 use Rattle.l4_words.specs.Numbers.{hexadecimal, is_word}
-use Rattle.l4_trace.proofs.pieces.write_words.Given as goal
+use Rattle.l4_words.proofs.pieces.write_words.Given as goal
 
 abbrev pub invariant-words : goal.invariant-words
 invariant-words l = record {

@@ -3,7 +3,9 @@
 ghost use Rattle.std.specs.Prelude.{◌≡◌, ◌≤◌, ◌+◌, ◌*◌, true, ◌++◌, codes, decimal, flat_map, length, drop};
 ghost use Rattle.std.specs.List.{list_all};
 ghost use Rattle.l4_model.specs.Words.{is_global};
-ghost use Rattle.l4_trace.specs.Lines.{hexadecimal, thread_word, name_word, is_word, is_name};
+ghost use Rattle.l4_words.specs.Numbers.{hexadecimal, is_word};
+ghost use Rattle.l4_words.specs.Threads.{thread_word};
+ghost use Rattle.l4_words.specs.Names.{name_word, is_name};
 
 use crate::digits::{write_byte, write_hexadecimal};
 use itoa::write_digits;
@@ -14,16 +16,16 @@ use l4_types::steps::Name;
 const HALF_BYTES: usize = 10;
 
 /// A space and a number below 2^64 in decimal take at most so many bytes.
-pub(crate) const NUMBER_BYTES: usize = 21;
+pub const NUMBER_BYTES: usize = 21;
 
 /// A space and a thread take at most so many bytes.
-pub(crate) const THREAD_BYTES: usize = 22;
+pub const THREAD_BYTES: usize = 22;
 
 /// A space and the name of a send take at most so many bytes.
-pub(crate) const NAME_BYTES: usize = 43;
+pub const NAME_BYTES: usize = 43;
 
 /// A space and a word in hexadecimal take at most so many bytes.
-pub(crate) const WORD_BYTES: usize = 17;
+pub const WORD_BYTES: usize = 17;
 
 // Writes half a thread id in decimal in front of a place of the line. Answers where it starts.
 #[tactic(auto, using(crate::proofs::Lengths::at_most_10))]
@@ -39,7 +41,7 @@ fn write_half(half: u32, line: &mut [u8], end: usize) -> usize
 
 /// Writes a space and a number in decimal in front of a place of the line. Answers where they start.
 #[tactic(auto, using(crate::proofs::Lengths::at_most_20))]
-pub(crate) fn write_number(number: u64, line: &mut [u8], end: usize) -> usize
+pub fn write_number(number: u64, line: &mut [u8], end: usize) -> usize
     requires room { NUMBER_BYTES ≤ end }
     requires within { end ≤ length line.old }
     ensures room { end ≤ result + NUMBER_BYTES }
@@ -51,7 +53,7 @@ pub(crate) fn write_number(number: u64, line: &mut [u8], end: usize) -> usize
 }
 
 /// Writes a space and a thread, `N.V`, its number and its version in decimal, in front of a place of the line. Answers where they start.
-pub(crate) fn write_thread(thread: GlobalId, line: &mut [u8], end: usize) -> usize
+pub fn write_thread(thread: GlobalId, line: &mut [u8], end: usize) -> usize
     requires room { THREAD_BYTES ≤ end }
     requires within { end ≤ length line.old }
     ensures room { end ≤ result + THREAD_BYTES }
@@ -67,7 +69,7 @@ pub(crate) fn write_thread(thread: GlobalId, line: &mut [u8], end: usize) -> usi
 
 /// Writes a space and the name of a send, `N.V#K`, in front of a place of the line. Answers where they start.
 #[tactic(auto, using(crate::proofs::Lengths::at_most_20))]
-pub(crate) fn write_name(name: Name, line: &mut [u8], end: usize) -> usize
+pub fn write_name(name: Name, line: &mut [u8], end: usize) -> usize
     requires room { NAME_BYTES ≤ end }
     requires within { end ≤ length line.old }
     ensures room { end ≤ result + NAME_BYTES }
@@ -82,7 +84,7 @@ pub(crate) fn write_name(name: Name, line: &mut [u8], end: usize) -> usize
 
 /// Writes a space and a word in hexadecimal in front of a place of the line. Answers where they start.
 #[tactic(auto, using(crate::proofs::Hexadecimal::at_most_16))]
-pub(crate) fn write_word(word: u64, line: &mut [u8], end: usize) -> usize
+pub fn write_word(word: u64, line: &mut [u8], end: usize) -> usize
     requires room { WORD_BYTES ≤ end }
     requires within { end ≤ length line.old }
     ensures room { end ≤ result + WORD_BYTES }
@@ -95,7 +97,7 @@ pub(crate) fn write_word(word: u64, line: &mut [u8], end: usize) -> usize
 }
 
 /// Writes a space and each of these words, as `write_word` does it, in front of a place of the line. Answers where they start.
-pub(crate) fn write_words(words: &[u64], line: &mut [u8], end: usize) -> usize
+pub fn write_words(words: &[u64], line: &mut [u8], end: usize) -> usize
     requires room { WORD_BYTES * length words.now ≤ end }
     requires within { end ≤ length line.old }
     ensures room { end ≤ result + WORD_BYTES * length words.now }
@@ -113,7 +115,7 @@ pub(crate) fn write_words(words: &[u64], line: &mut [u8], end: usize) -> usize
 }
 
 /// Writes the first word of a line in front of a place of the line. Answers where it starts.
-pub(crate) fn write_keyword(keyword: &[u8], line: &mut [u8], end: usize) -> usize
+pub fn write_keyword(keyword: &[u8], line: &mut [u8], end: usize) -> usize
     requires room { length keyword.now ≤ end }
     requires within { end ≤ length line.old }
     ensures room { end ≤ result + length keyword.now }

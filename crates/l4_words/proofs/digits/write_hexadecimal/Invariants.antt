@@ -1,6 +1,6 @@
 use Rattle.std.proofs.Common.{◌≡◌, ◌+◌, ◌≤◌, ◌++◌, length, drop}
 use Rattle.l4_words.specs.Numbers.{hexadecimal}
-use Rattle.l4_trace.proofs.digits.write_hexadecimal.Given as goal
+use Rattle.l4_words.proofs.digits.write_hexadecimal.Given as goal
 
 abbrev pub invariant-loop-left : goal.invariant-loop-left
 invariant-loop-left l = record {

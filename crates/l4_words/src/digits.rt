@@ -1,7 +1,7 @@
 //! Bytes and hexadecimal digits of a line, written from the last to the first.
 ghost use Rattle.std.specs.Prelude.{◌≡◌, ◌<◌, ◌+◌, ◌≤◌, ◌∷◌, ◌++◌, length, drop, false};
 ghost use Rattle.std.specs.Fmt.{digit_glyph};
-ghost use Rattle.l4_trace.specs.Lines.{hexadecimal};
+ghost use Rattle.l4_words.specs.Numbers.{hexadecimal};
 
 static DIGITS: [u8; 16] = *b"0123456789abcdef";
 
@@ -14,7 +14,7 @@ fn digit(number: u64) -> u8
 }
 
 /// Writes a byte in front of a place of the line, and answers where it stands.
-pub(crate) fn write_byte(byte: u8, line: &mut [u8], end: usize) -> usize
+pub fn write_byte(byte: u8, line: &mut [u8], end: usize) -> usize
     requires { (0 < end) × (end ≤ length line.old) }
     ensures start { result + 1 ≡ end }
     ensures written { drop result line.new ≡ byte ∷ drop end line.old }

@@ -5,7 +5,7 @@ use Rattle.std.specs.Fmt.{digits, digits_onto, digit_glyph}
 use Rattle.std.proofs.lemmas.Bool.{cases_eq, and_parts, eq-eqb, eqb-true, ne_eqb}
 use Rattle.std.proofs.lemmas.Fmt.{hex_one_digit}
 use Rattle.l4_words.specs.Numbers.{hexadecimal}
-use Rattle.l4_trace.specs.declared.digits.TheConstants.{DIGITS}
+use Rattle.l4_words.specs.declared.digits.TheConstants.{DIGITS}
 
 abbrev last : ℕ → ℕ
 last n = digit_glyph false (n % 16)

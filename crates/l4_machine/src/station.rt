@@ -1,5 +1,6 @@
 //! A processor with the letters that have come to it.
-ghost use Rattle.std.specs.Prelude.{◌≡◌, ◌<◌, ◌≤◌, ◌+◌, ℕ, [], IfOk, IsTrue, OnOk, ◌↔◌, length, map, replicate, true};
+ghost use Rattle.std.specs.Prelude.{◌≡◌, ◌<◌, ◌≤◌, ◌+◌, ◌++◌, ◌∷◌, ℕ, [], IfOk, IsTrue, OnOk, ◌↔◌, length, map, replicate, true};
+ghost use Rattle.std.specs.VecDeque.{deque_capacity, deque_len};
 ghost use Rattle.l4_core_model.specs.Local.{opening_local};
 ghost use Rattle.l4_core_model.specs.Turns.{can_stamp};
 ghost use Rattle.l4_types.specs.LetterView.{letter_of};
@@ -84,7 +85,7 @@ impl<'m> Station<'m> {
         requires { 0 < room_for from self.old }
         ensures { HasPosted from (letter_of letter.now) self.old self.new }
     {
-        self.inbox[usize::from(from)].push_back_reserved(copied(letter));
+        push_copied(&mut self.inbox[usize::from(from)], letter);
     }
 
     /// The least deadline that a thread is armed for, in ticks.
@@ -134,50 +135,68 @@ impl<'m> Station<'m> {
     }
 }
 
-// The same letter again.
-fn copied(letter: &Letter) -> Letter
-    ensures { result ≡ letter.now }
+// The same letter again, behind the others. A letter is large: each kind is made where it comes to stay.
+fn push_copied(letters: &mut VecDeque<Letter>, letter: &Letter)
+    requires { deque_len letters.old < deque_capacity letters.old }
+    ensures items { letters.new.items ≡ letters.old.items ++ letter.now ∷ [] }
+    ensures len { deque_len letters.new ≡ deque_len letters.old + 1 }
+    ensures capacity { deque_capacity letters.new ≡ deque_capacity letters.old }
 {
-    let content = match &letter.content {
+    let stamp = letter.stamp;
+    match &letter.content {
         Content::Send {
             name,
             receiver,
             message,
             zero_timeout,
-        } => Content::Send {
-            name: *name,
-            receiver: *receiver,
-            message: message.copy(),
-            zero_timeout: *zero_timeout,
-        },
-        Content::Done { name, decision } => Content::Done {
-            name: *name,
-            decision: *decision,
-        },
+        } => letters.push_back_reserved(Letter {
+            stamp,
+            content: Content::Send {
+                name: *name,
+                receiver: *receiver,
+                message: message.copy(),
+                zero_timeout: *zero_timeout,
+            },
+        }),
+        Content::Done { name, decision } => letters.push_back_reserved(Letter {
+            stamp,
+            content: Content::Done {
+                name: *name,
+                decision: *decision,
+            },
+        }),
         Content::Withdraw {
             name,
             receiver,
             cause,
-        } => Content::Withdraw {
-            name: *name,
-            receiver: *receiver,
-            cause: *cause,
-        },
-        Content::Gone(id) => Content::Gone(*id),
+        } => letters.push_back_reserved(Letter {
+            stamp,
+            content: Content::Withdraw {
+                name: *name,
+                receiver: *receiver,
+                cause: *cause,
+            },
+        }),
+        Content::Gone(id) => letters.push_back_reserved(Letter {
+            stamp,
+            content: Content::Gone(*id),
+        }),
         Content::Order {
             caller,
             target,
             what,
-        } => Content::Order {
-            caller: *caller,
-            target: *target,
-            what: *what,
-        },
-        Content::OrderDone(caller) => Content::OrderDone(*caller),
-    };
-    Letter {
-        stamp: letter.stamp,
-        content,
+        } => letters.push_back_reserved(Letter {
+            stamp,
+            content: Content::Order {
+                caller: *caller,
+                target: *target,
+                what: *what,
+            },
+        }),
+        Content::OrderDone(caller) => letters.push_back_reserved(Letter {
+            stamp,
+            content: Content::OrderDone(*caller),
+        }),
     }
 }
 

@@ -7,7 +7,6 @@ ghost use Rattle.l4_thread.specs.declared.sends.Words.TheVariants.{InRegisters, 
 
 use l4_history::message_ref::MessageRef;
 use l4_types::ids::{GlobalId, ThreadId};
-use l4_types::messages::Message;
 use l4_types::times::Period;
 use std::marker::Model;
 
@@ -115,7 +114,7 @@ impl Head {
     }
 
     /// Of a message whose words are apart.
-    pub(crate) fn apart(message: &Message) -> Head
+    pub(crate) fn apart(message: &MessageRef<'_>) -> Head
         ensures { result ≡ record { label = message.now.label; words = Apart; propagated = message.now.propagated; shown = message.now.shown; actual = message.now.actual } }
     {
         Head {

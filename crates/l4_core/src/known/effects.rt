@@ -21,12 +21,12 @@ ghost use Rattle.l4_core.specs.Processor.{with_local};
 ghost use Rattle.l4_core.specs.Turning.{begun_by, IsAtHand, IsFree, IsNotSplit, IsOwnOf, IsReceiver, IsSender};
 
 use crate::known::Known;
+use l4_history::message_ref::MessageRef;
 use l4_script::instructions::Instr;
 use l4_thread::changes::Change;
 use l4_thread::phases::Began;
 use l4_thread::tcb::Tcb;
 use l4_types::ids::GlobalId;
-use l4_types::messages::Message;
 use l4_types::steps::{Name, What};
 use l4_types::tags::MsgTag;
 use tcb_arena::Waiting;
@@ -211,14 +211,14 @@ impl Known<'_> {
         place: usize,
         name: Name,
         receiver: GlobalId,
-        message: Message,
+        message: MessageRef<'_>,
         zero_timeout: bool,
     )
         requires within { place < length self.old.machine.threads }
         requires foreign { is_own self.old.machine self.old.cpu place ≡ false }
         requires free { is_none (thread self.old.local place).send ≡ true }
         requires actual { message.actual ≡ (declared self.old.machine place).id }
-        ensures { self.new ≡ with_local self.old (changes place (stands_in name.k (stand_in receiver message zero_timeout)) self.old.local) }
+        ensures { self.new ≡ with_local self.old (changes place (stands_in name.k (stand_in receiver message.entry zero_timeout)) self.old.local) }
     {
         self.threads[place].stand_in(name.k(), receiver, message, zero_timeout);
     }

@@ -8,21 +8,22 @@ ghost use Rattle.l4_core.specs.Tasks.{refusal_for, task_of, IsForeign, IsTask};
 ghost use Rattle.l4_core.specs.Turning.{IsOwnOf, IsSender};
 
 use crate::known::Known;
+use l4_history::message_ref::MessageRef;
 use l4_types::ids::GlobalId;
 use l4_types::letters::{Cause, Content, Decision, Refusal};
 use l4_types::messages::Message;
 use l4_types::steps::{Name, What};
 
-/// What a lawful letter asks for. Places are those of the threads.
+/// What a lawful letter asks for. Places are those of the threads. A message stays in its letter, since it is large.
 #[derive(Drop)]
-pub(crate) enum Task {
+pub(crate) enum Task<'a> {
     /// A send has come to its receiver, which is of this processor.
     Arrive {
         receiver: usize,
         sender: usize,
         name: Name,
         to: GlobalId,
-        message: Message,
+        message: MessageRef<'a>,
         zero_timeout: bool,
     },
     /// The send of this thread of this processor is decided.
@@ -104,13 +105,13 @@ impl Known<'_> {
     }
 
     // What a send that has come here asks for.
-    fn arrival(
+    fn arrival<'a>(
         &self,
         name: &Name,
         to: GlobalId,
-        message: &Message,
+        message: &'a Message,
         zero_timeout: bool,
-    ) -> Option<Task>
+    ) -> Option<Task<'a>>
         ensures value { result ≡ task_of self.now.machine self.now.cpu self.now.local (SendContent name.now to message.now zero_timeout) }
         ensures possible { IfSome result (λ task. IsTask task self.now) }
     {
@@ -125,13 +126,13 @@ impl Known<'_> {
             sender,
             name: *name,
             to,
-            message: message.copy(),
+            message: MessageRef::from(message),
             zero_timeout,
         })
     }
 
     // What the decision of a send asks for.
-    fn end(&self, name: &Name, decision: Decision) -> Option<Task>
+    fn end(&self, name: &Name, decision: Decision) -> Option<Task<'static>>
         ensures value { result ≡ task_of self.now.machine self.now.cpu self.now.local (DoneContent name.now decision) }
         ensures possible { IfSome result (λ task. IsTask task self.now) }
     {
@@ -144,7 +145,7 @@ impl Known<'_> {
     }
 
     // What the withdrawal of a send asks for.
-    fn withdrawal(&self, name: &Name, to: GlobalId, cause: Cause) -> Option<Task>
+    fn withdrawal(&self, name: &Name, to: GlobalId, cause: Cause) -> Option<Task<'static>>
         ensures value { result ≡ task_of self.now.machine self.now.cpu self.now.local (WithdrawContent name.now to cause) }
         ensures possible { IfSome result (λ task. IsTask task self.now) }
     {
@@ -158,7 +159,7 @@ impl Known<'_> {
     }
 
     // What an order asks for.
-    fn obedience(&self, caller: GlobalId, target: GlobalId, what: What) -> Option<Task>
+    fn obedience(&self, caller: GlobalId, target: GlobalId, what: What) -> Option<Task<'static>>
         ensures value { result ≡ task_of self.now.machine self.now.cpu self.now.local (OrderContent caller target what) }
         ensures possible { IfSome result (λ task. IsTask task self.now) }
     {
@@ -173,7 +174,7 @@ impl Known<'_> {
     }
 
     // What the end of an order asks for.
-    fn end_of_order(&self, caller: GlobalId) -> Option<Task>
+    fn end_of_order(&self, caller: GlobalId) -> Option<Task<'static>>
         ensures value { result ≡ task_of self.now.machine self.now.cpu self.now.local (OrderDoneContent caller) }
         ensures possible { IfSome result (λ task. IsTask task self.now) }
     {
@@ -186,7 +187,7 @@ impl Known<'_> {
     }
 
     // What a deletion asks for.
-    fn deletion(&self, id: GlobalId) -> Option<Task>
+    fn deletion(&self, id: GlobalId) -> Option<Task<'static>>
         ensures value { result ≡ task_of self.now.machine self.now.cpu self.now.local (GoneContent id) }
         ensures possible { IfSome result (λ task. IsTask task self.now) }
     {
@@ -195,7 +196,7 @@ impl Known<'_> {
     }
 
     /// What a letter of this content asks for, or None where it is not lawful here.
-    pub(crate) fn task(&self, content: &Content) -> Option<Task>
+    pub(crate) fn task<'a>(&self, content: &'a Content) -> Option<Task<'a>>
         ensures value { result ≡ task_of self.now.machine self.now.cpu self.now.local content.now }
         ensures possible { IfSome result (λ task. IsTask task self.now) }
     {

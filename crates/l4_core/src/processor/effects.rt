@@ -21,11 +21,11 @@ ghost use Rattle.l4_core.specs.Tasks.{IsForeign};
 ghost use Rattle.l4_core.specs.Turning.{begun_by, IsAtHand, IsFree, IsNotSplit, IsOwnOf, IsReceiver, IsSender};
 
 use crate::processor::{Core, note, note_all, note_own, note_zero};
+use l4_history::message_ref::MessageRef;
 use l4_script::instructions::Instr;
 use l4_thread::changes::Change;
 use l4_thread::phases::Began;
 use l4_types::ids::GlobalId;
-use l4_types::messages::Message;
 use l4_types::steps::{Name, What};
 use l4_types::tags::MsgTag;
 use tcb_arena::Waiting;
@@ -103,13 +103,13 @@ impl Core<'_> {
         place: usize,
         name: Name,
         receiver: GlobalId,
-        message: Message,
+        message: MessageRef<'_>,
         zero_timeout: bool,
     )
         requires sender { IsForeign self.old place }
         requires free { is_none (thread self.old.local place).send ≡ true }
         requires actual { message.actual ≡ (declared self.old.machine place).id }
-        ensures { self.new ≡ with_local self.old (changes place (stands_in name.k (stand_in receiver message zero_timeout)) self.old.local) }
+        ensures { self.new ≡ with_local self.old (changes place (stands_in name.k (stand_in receiver message.entry zero_timeout)) self.old.local) }
     {
         let _few = self.known.len();
         self.known

@@ -14,11 +14,11 @@ ghost use Rattle.l4_core.specs.Turning.{Does, IsEvent};
 use crate::known::tasks::Task;
 use crate::processor::{Core, Fault};
 use crate::told::Told;
+use l4_history::message_ref::MessageRef;
 use l4_history::sink::Sink;
 use l4_thread::changes::Change;
 use l4_types::ids::GlobalId;
 use l4_types::letters::{Content, Decision, Letter};
-use l4_types::messages::Message;
 use l4_types::steps::{Name, What};
 
 impl Core<'_> {
@@ -52,11 +52,11 @@ impl Core<'_> {
     }
 
     // What a letter asks for is done.
-    fn do_task<S: Sink>(&mut self, task: Task, told: &mut Told<S>)
+    fn do_task<S: Sink>(&mut self, task: Task<'_>, told: &mut Told<S>)
         requires possible { IsTask task self.old }
         requires room { 3 ≤ told.old.room }
         requires slots { 2 ≤ told.old.slots }
-        ensures { Does (does_task self.old.machine self.old.cpu task) self.old self.new told.old told.new }
+        ensures { Does (does_task self.old.machine self.old.cpu task.entry) self.old self.new told.old told.new }
     {
         match task {
             Task::Arrive {
@@ -88,14 +88,14 @@ impl Core<'_> {
         sender: usize,
         name: Name,
         to: GlobalId,
-        message: Message,
+        message: MessageRef<'_>,
         zero_timeout: bool,
         told: &mut Told<S>,
     )
         requires possible { IsArrival self.old receiver sender message }
         requires room { 2 ≤ told.old.room }
         requires slots { 0 < told.old.slots }
-        ensures { Does (does_task self.old.machine self.old.cpu (Arrive receiver sender name to message zero_timeout)) self.old self.new told.old told.new }
+        ensures { Does (does_task self.old.machine self.old.cpu (Arrive receiver sender name to message.entry zero_timeout)) self.old self.new told.old told.new }
     {
         let _few = self.known.len();
         self.stand_in(sender, name, to, message, zero_timeout);

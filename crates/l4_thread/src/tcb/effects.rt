@@ -30,7 +30,7 @@ use l4_script::instructions::Instr;
 use l4_types::errors::IpcError;
 use l4_types::ids::{GlobalId, ThreadId};
 use l4_types::letters::{Decision, Refusal};
-use l4_types::messages::{MOST_WORDS, Message};
+use l4_types::messages::MOST_WORDS;
 use l4_types::steps::What;
 use l4_types::tags::MsgTag;
 use l4_types::times::Period;
@@ -52,8 +52,14 @@ impl Tcb {
 
     /// A send of another processor's thread, the `k`-th of it, stands here in its place: it has come to this receiver. Of its period is
     /// known only whether it is zero.
-    pub fn stand_in(&mut self, k: u64, receiver: GlobalId, message: Message, zero_timeout: bool)
-        ensures { self.new ≡ record self.old { thread = stands_in k (stand_in receiver message zero_timeout) self.old.thread } }
+    pub fn stand_in(
+        &mut self,
+        k: u64,
+        receiver: GlobalId,
+        message: MessageRef<'_>,
+        zero_timeout: bool,
+    )
+        ensures { self.new ≡ record self.old { thread = stands_in k (stand_in receiver message.entry zero_timeout) self.old.thread } }
     {
         let period = if zero_timeout {
             Period::Zero

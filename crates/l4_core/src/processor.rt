@@ -1,6 +1,7 @@
 //! One processor: its turns and its clock.
 ghost use Rattle.std.specs.Prelude.{◌≡◌, ◌+◌, ◌<◌, IfOk, IfSome, is_some, ◌^◌, length, slice_get, true, ℕ, ◌||◌, ◌==◌};
 ghost use Rattle.std.specs.Option.{option_map};
+ghost use Rattle.l4_model.specs.Words.{clock_limit};
 ghost use Rattle.l4_model.specs.History.{report_of};
 ghost use Rattle.l4_core_model.specs.Local.{declared, is_own, opening_local, thread};
 ghost use Rattle.l4_core_model.specs.Plain.{due_block};
@@ -125,7 +126,7 @@ impl<'m> Core<'m> {
     /// The clock, in ticks, below 2^62.
     pub fn clock(&self) -> u64
         ensures value { result ≡ self.now.local.clock }
-        ensures fits { result < 2 ^ 62 }
+        ensures fits { result < clock_limit }
     {
         self.known.clock()
     }

@@ -1,5 +1,6 @@
 //! Making a fabric.
 ghost use Rattle.std.specs.Prelude.{◌≡◌, ◌<◌, ◌≤◌, ◌+◌, [], ◌∷◌, ◌++◌, IfOk, OnOk, Some, vec_len};
+ghost use Rattle.l4_model.specs.Machine.{most_processors};
 ghost use Rattle.l4_mail.specs.Ends.{RingId};
 ghost use Rattle.l4_mail.specs.Fabrics.{AreFresh, GainsOutlet, GainsInlet, AreMembers};
 
@@ -11,7 +12,7 @@ use std::alloc::{AllocError, Global};
 /// The ports of a new fabric of 1 to 16 processors, in the order of their numbers. Between any two of them goes a ring each way, with
 /// room for so many letters, 1 to 65,536.
 pub fn fabric(alloc: Global, cpus: u8, room: usize) -> Result<Vec<Port>, NoMemory>
-    requires cpus { (0 < cpus) × (cpus ≤ 16) }
+    requires cpus { (0 < cpus) × (cpus ≤ most_processors) }
     requires room { (0 < room) × (room ≤ 65536) }
     ensures { IfOk result (λ ports. AreFresh cpus ports.items) }
 {
@@ -25,7 +26,7 @@ pub fn fabric(alloc: Global, cpus: u8, room: usize) -> Result<Vec<Port>, NoMemor
 
 // The port of the next processor, which has ways to those that are there and back.
 fn join(alloc: Global, ports: &mut [Port], cpu: u8, room: usize) -> Result<Port, AllocError>
-    requires few { cpu < 16 }
+    requires few { cpu < most_processors }
     requires room { 0 < room }
     requires members { AreMembers cpu ports.old }
     ensures { IfOk result (λ next. AreMembers (cpu + 1) (ports.new ++ next ∷ [])) }
@@ -47,7 +48,7 @@ fn join(alloc: Global, ports: &mut [Port], cpu: u8, room: usize) -> Result<Port,
 // A new way from the one to the other.
 fn lay(alloc: Global, room: usize, from: &mut Port, to: &mut Port) -> Result<(), AllocError>
     requires room { 0 < room }
-    requires few { (vec_len from.old.outlets < 16) × (vec_len to.old.inlets < 16) }
+    requires few { (vec_len from.old.outlets < most_processors) × (vec_len to.old.inlets < most_processors) }
     ensures { OnOk result ((ring : RingId) × GainsOutlet from.old from.new (Some ring) × GainsInlet to.old to.new (Some ring)) }
 {
     let (outlet, inlet) = ways::open(alloc, room)?;

@@ -1,5 +1,6 @@
 //! What is under way, as a list.
 ghost use Rattle.std.specs.Prelude.{◌≡◌, ◌≤◌, ◌++◌, length, map, IfOk, OnOk};
+ghost use Rattle.l4_model.specs.Machine.{most_processors};
 ghost use Rattle.l4_mail.specs.Ports.{kept_from};
 ghost use Rattle.l4_mail.specs.Rests.{kept_between, under_way_from, under_way};
 
@@ -92,7 +93,7 @@ fn kept_between(alloc: Global, ports: &[Port], from: u8, to: u8) -> Result<Vec<L
 
 // What is under way from a processor goes to the end of the list.
 fn list_from(alloc: Global, ports: &[Port], from: u8, list: &mut Rest) -> Result<(), AllocError>
-    requires { length ports.now ≤ 16 }
+    requires { length ports.now ≤ most_processors }
     ensures { OnOk result (map (λ r. (r.0, r.1, r.2.items)) list.new.items ≡ map (λ r. (r.0, r.1, r.2.items)) list.old.items ++ under_way_from ports.now from (length ports.now)) }
 {
     for to in 0..ports.len() as u8 {
@@ -105,7 +106,7 @@ fn list_from(alloc: Global, ports: &[Port], from: u8, list: &mut Rest) -> Result
 
 /// What all ports of a fabric keep.
 pub fn list(alloc: Global, ports: &[Port]) -> Result<Rest, AllocError>
-    requires { length ports.now ≤ 16 }
+    requires { length ports.now ≤ most_processors }
     ensures { IfOk result (λ list. map (λ r. (r.0, r.1, r.2.items)) list.items ≡ under_way ports.now) }
 {
     let mut all = Vec::new(alloc);

@@ -1,5 +1,6 @@
 //! A processor's port.
 ghost use Rattle.std.specs.Prelude.{◌≤◌, vec_len};
+ghost use Rattle.l4_model.specs.Machine.{most_processors};
 
 use crate::inlets::Inlet;
 use crate::outlets::Outlet;
@@ -15,7 +16,7 @@ pub struct Port {
     pub(crate) outlets: Vec<Option<Outlet>>,
     // By the processor that the letters come from, none for its own.
     pub(crate) inlets: Vec<Option<Inlet>>,
-    pub ghost few: { (vec_len outlets ≤ 16) × (vec_len inlets ≤ 16) },
+    pub ghost few: { (vec_len outlets ≤ most_processors) × (vec_len inlets ≤ most_processors) },
 }
 
 impl Port {

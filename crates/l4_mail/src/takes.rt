@@ -1,5 +1,6 @@
 //! Taking a letter at the first of a port's inlets that has one.
 ghost use Rattle.std.specs.Prelude.{◌≡◌, ◌≤◌, false, length, map, IfSome, IfNone};
+ghost use Rattle.l4_model.specs.Machine.{most_processors};
 ghost use Rattle.l4_mail.specs.Ends.{kept};
 ghost use Rattle.l4_mail.specs.Takes.{NoneIsKept, NoneIsTaken, IsTaken, WasKept, IsFirst};
 
@@ -24,7 +25,7 @@ pub fn has_mail(inlets: &mut [Option<Inlet>]) -> bool
 
 // The first letter that a rest put by, and the processor that posted it.
 fn first_kept(inlets: &mut [Option<Inlet>]) -> Option<(u8, Letter)>
-    requires { length inlets.old ≤ 16 }
+    requires { length inlets.old ≤ most_processors }
     ensures some { IfSome result (λ r. IsTaken inlets.old inlets.new r.0 r.1 × WasKept inlets.old inlets.new r.0 r.1) }
     ensures none { IfNone result (NoneIsTaken inlets.old inlets.new × NoneIsKept inlets.old × NoneIsKept inlets.new) }
 {
@@ -38,7 +39,7 @@ fn first_kept(inlets: &mut [Option<Inlet>]) -> Option<(u8, Letter)>
 
 // The first letter in a ring, and the processor that posted it.
 fn first_come(inlets: &mut [Option<Inlet>]) -> Option<(u8, Letter)>
-    requires few { length inlets.old ≤ 16 }
+    requires few { length inlets.old ≤ most_processors }
     requires none_kept { NoneIsKept inlets.old }
     ensures some { IfSome result (λ r. IsTaken inlets.old inlets.new r.0 r.1) }
     ensures none { IfNone result (NoneIsTaken inlets.old inlets.new) }
@@ -54,7 +55,7 @@ fn first_come(inlets: &mut [Option<Inlet>]) -> Option<(u8, Letter)>
 
 /// The first letter that a rest put by, or else the first in a ring, and the processor that posted it.
 pub fn first(inlets: &mut [Option<Inlet>]) -> Option<(u8, Letter)>
-    requires { length inlets.old ≤ 16 }
+    requires { length inlets.old ≤ most_processors }
     ensures some { IfSome result (λ r. IsTaken inlets.old inlets.new r.0 r.1 × IsFirst inlets.old inlets.new r.0 r.1) }
     ensures none { IfNone result (NoneIsTaken inlets.old inlets.new × NoneIsKept inlets.old × NoneIsKept inlets.new) }
 {

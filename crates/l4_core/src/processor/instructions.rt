@@ -1,6 +1,6 @@
 //! A thread runs its next instruction.
 ghost use Rattle.std.specs.Prelude.{◌≡◌, ◌<◌, ◌≤◌, ◌+◌, ◌^◌, true, false, length, IfSome, ℕ};
-ghost use Rattle.l4_model.specs.Machine.{Ask, place_of};
+ghost use Rattle.l4_model.specs.Machine.{Ask, place_of, most_instructions};
 ghost use Rattle.l4_model.specs.Conditions.{act_of, instruction};
 ghost use Rattle.l4_model.specs.Rules.{ask_act};
 ghost use Rattle.std.specs.Option.{option_map};
@@ -83,7 +83,7 @@ impl Core<'_> {
     fn run<S: Sink>(&mut self, place: usize, instr: &Instr, told: &mut Told<S>)
         requires hand { IsAtHand self.old place }
         requires instr { instr_of instr.now ≡ instruction (held self.old.machine self.old.local place) }
-        requires within { is_end (instr_of instr.now) ≡ false → (thread self.old.local place).context.place < 1024 }
+        requires within { is_end (instr_of instr.now) ≡ false → (thread self.old.local place).context.place < most_instructions }
         requires room { 0 < told.old.room }
         ensures { Does (runs_alone_at self.old.machine place) self.old self.new told.old told.new }
     {
@@ -97,7 +97,7 @@ impl Core<'_> {
         requires hand { IsAtHand self.old place }
         requires instr { instr_of instr.now ≡ instruction (held self.old.machine self.old.local place) }
         requires ipc { is_ipc (instr_of instr.now) ≡ true }
-        requires within { is_end (instr_of instr.now) ≡ false → (thread self.old.local place).context.place < 1024 }
+        requires within { is_end (instr_of instr.now) ≡ false → (thread self.old.local place).context.place < most_instructions }
         requires count { (thread self.old.local place).context.begun < self.old.local.stamp }
         requires room { 3 ≤ told.old.room }
         requires slots { 2 ≤ told.old.slots }
@@ -126,7 +126,7 @@ impl Core<'_> {
         requires hand { IsAtHand self.old place }
         requires instr { instr_of instr.now ≡ instruction (held self.old.machine self.old.local place) }
         requires ask { instr_of instr.now ≡ Ask target (what_of what) }
-        requires within { is_end (instr_of instr.now) ≡ false → (thread self.old.local place).context.place < 1024 }
+        requires within { is_end (instr_of instr.now) ≡ false → (thread self.old.local place).context.place < most_instructions }
         requires room { 3 ≤ told.old.room }
         requires slots { 2 ≤ told.old.slots }
         ensures { Does (acts self.old.machine self.old.cpu place (act_of self.old.machine (held self.old.machine self.old.local place))) self.old self.new told.old told.new }
@@ -140,7 +140,7 @@ impl Core<'_> {
     // An admitted order is given, and done where its target is of this processor.
     fn give<S: Sink>(&mut self, place: usize, target: GlobalId, what: What, told: &mut Told<S>)
         requires hand { IsAtHand self.old place }
-        requires within { (thread self.old.local place).context.place < 1024 }
+        requires within { (thread self.old.local place).context.place < most_instructions }
         requires room { 2 ≤ told.old.room }
         requires slots { 2 ≤ told.old.slots }
         ensures { Does (gives_order self.old.machine self.old.cpu place (record { target = target; what = what_of what })) self.old self.new told.old told.new }

@@ -35,13 +35,14 @@ pub struct History {
 impl Model for History {
     ghost use Rattle.std.specs.Prelude.{◌+◌, ◌*◌, ◌≤◌, vec_len};
     ghost use Rattle.std.specs.Vec.{vec_capacity};
+    ghost use Rattle.l4_types.specs.declared.messages.TheConstants.{MOST_WORDS};
     ghost use Rattle.l4_history.specs.Rows.{Told, AreRows, told};
 
     ghost Value = { Told };
 
     ghost view = { λ h. record { steps = told h.records.items h.heads.items h.words.items; room = h.room } };
 
-    ghost invariant = { λ h. AreRows h.records.items h.heads.items h.words.items × (vec_len h.records + h.room ≤ vec_capacity h.records) × (vec_len h.heads + h.room ≤ vec_capacity h.heads) × (vec_len h.words + 63 * h.room ≤ vec_capacity h.words) };
+    ghost invariant = { λ h. AreRows h.records.items h.heads.items h.words.items × (vec_len h.records + h.room ≤ vec_capacity h.records) × (vec_len h.heads + h.room ≤ vec_capacity h.heads) × (vec_len h.words + MOST_WORDS * h.room ≤ vec_capacity h.words) };
 }
 
 impl History {

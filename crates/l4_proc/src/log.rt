@@ -142,7 +142,7 @@ impl Log {
 
     // Whether the event under way has letters left.
     pub(crate) fn has_letters(&self) -> bool
-        ensures { result ≡ false → self.now.told.letters ≡ [] }
+        ensures { (result ≡ false) ↔ (self.now.told.letters ≡ []) }
     {
         !self.told.letters().is_empty()
     }

@@ -48,7 +48,11 @@ fn read_text<'a, M: Source>(
 }
 
 // The outcome of the replay of a list.
-fn replayed(alloc: Global, machine: &Machine, list: &str) -> Result<CompactOutcome, RunFault>
+fn replayed<'m>(
+    alloc: Global,
+    machine: &'m Machine,
+    list: &str,
+) -> Result<CompactOutcome<'m>, RunFault>
     ensures ok { IfOk result (λ o. (entries : List Entry) × (schedule_of machine.now list.now ≡ Ok entries) × IsCompactReplay machine.now entries o) }
     ensures err { IfErr result (λ fault. (fault ≡ RunOutOfMemory) ⊎ (schedule_of machine.now list.now ≡ Err fault)) }
 {
@@ -57,11 +61,11 @@ fn replayed(alloc: Global, machine: &Machine, list: &str) -> Result<CompactOutco
 }
 
 // What is written of an outcome: its report, or its trace.
-fn lines_of(alloc: Global, report: bool, outcome: &CompactOutcome) -> Result<Vec<u8>, NoMemory>
-    ensures { IfOk result (λ lines. lines.items ≡ lines_of_outcome report (compact_findings_of outcome.now)) }
+fn lines_of(alloc: Global, report: bool, outcome: CompactOutcome<'_>) -> Result<Vec<u8>, NoMemory>
+    ensures { IfOk result (λ lines. lines.items ≡ lines_of_outcome report (compact_findings_of outcome.entry)) }
 {
     if !report {
-        return trace_history(alloc, &outcome.history);
+        return trace_history(alloc, &outcome.history.into_history(alloc)?);
     }
     let mut lines = Vec::new(alloc);
     write_report(
@@ -83,13 +87,18 @@ fn status(ending: Ending) -> u8
 }
 
 // What is printed of an outcome.
-fn output_of_run(alloc: Global, report: bool, outcome: &CompactOutcome) -> Result<Output, NoMemory>
-    ensures lines { IfOk result (λ output. output.lines.items ≡ lines_of_outcome report (compact_findings_of outcome.now)) }
-    ensures status { IfOk result (λ output. output.status ≡ status_of_ending outcome.now.ending) }
+fn output_of_run(
+    alloc: Global,
+    report: bool,
+    outcome: CompactOutcome<'_>,
+) -> Result<Output, NoMemory>
+    ensures lines { IfOk result (λ output. output.lines.items ≡ lines_of_outcome report (compact_findings_of outcome.entry)) }
+    ensures status { IfOk result (λ output. output.status ≡ status_of_ending outcome.entry.ending) }
 {
+    let status = status(outcome.ending);
     Ok(Output {
         lines: lines_of(alloc, report, outcome)?,
-        status: status(outcome.ending),
+        status,
     })
 }
 
@@ -105,7 +114,7 @@ fn run_output<'a, R: Threads + Sync>(
     ensures err { IfErr result (λ fault. (fault ≡ OutOfMemory) ⊎ (fault_of_turns turns ≡ Some fault)) }
 {
     let outcome = run_compact(rt, alloc, machine, turns, &Open)?;
-    Ok(output_of_run(alloc, report, &outcome)?)
+    Ok(output_of_run(alloc, report, outcome)?)
 }
 
 // What a replay prints.
@@ -119,7 +128,7 @@ fn replay_output<'a>(
     ensures err { IfErr result (λ fault. (fault ≡ OutOfMemory) ⊎ (fault_of_result (run_by_list machine.now list.now) ≡ Some fault)) }
 {
     let outcome = replayed(alloc, machine, list)?;
-    Ok(output_of_run(alloc, report, &outcome)?)
+    Ok(output_of_run(alloc, report, outcome)?)
 }
 
 // What the audit of the trace in the file of this name prints.

@@ -1,12 +1,12 @@
 -- The cores of all processors, and the local states that a run of theirs ends in.
-use Rattle.std.proofs.Common.{◌≡◌, ◌⊎◌, ℕ, ◌+◌, ◌<◌, ◌≤◌, Bool, true, false, cond, Option, Some, None, List, [], ◌∷◌, ◌++◌, map, length, drop, get_or, refl, ap, ap₂, sym, subst, ◌∙◌, inl, inr, append_assoc, append-nil, arith}
-use Rattle.std.specs.Prelude.{◌==◌, IfSome, filter_map, is_some, slice_get}
+use Rattle.std.proofs.Common.{◌≡◌, ℕ, ◌<◌, Bool, true, false, cond, Option, Some, None, List, [], ◌∷◌, map, length, refl, ap, ap₂, sym, ◌∙◌, arith}
+use Rattle.std.specs.Prelude.{◌==◌, filter_map, is_some, slice_get}
 use Rattle.std.specs.List.{cons_option, range_with_len}
 use Rattle.std.proofs.lemmas.List.Quantifiers.{position-Some}
-use Rattle.std.specs.Option.{option_map, option_to_list}
-use Rattle.std.proofs.lemmas.List.{drop_more, length-map}
+use Rattle.std.specs.Option.{option_map}
+use Rattle.std.proofs.lemmas.List.{length-map}
 use Rattle.std.proofs.lemmas.List.FromFn.{get_or-map-range_with_len, length-map-range_with_len}
-use Rattle.std.proofs.lemmas.Option.{slice_get_cases, slice_get-get_or, slice_get-map, slice_get_within}
+use Rattle.std.proofs.lemmas.Option.{slice_get-get_or, slice_get-map, slice_get_within}
 use Rattle.l4_model.specs.Words.{Id, same_id}
 use Rattle.l4_model.specs.Machine.{Machine, place_of}
 use Rattle.l4_model.specs.Steps.{Step}
@@ -22,7 +22,6 @@ use Rattle.l4_merge.proofs.Processors.{of_processor}
 use Rattle.l4_core.specs.Processor.{Processor as Core}
 use Rattle.l4_mail.specs.Ports.{AreWhole}
 use Rattle.l4_proc.specs.Rests.{HaveHandledAll}
-use Rattle.l4_proc.specs.Working.{past}
 use Rattle.l4_proc.specs.declared.processor.Processor.{Processor}
 use Rattle.l4_proc.proofs.Rested.{port_of}
 use Rattle.l4_split.specs.Laws.{AreAllHandled, destination_of, home_report, home_thread, home_waiting, thread_of}
@@ -177,30 +176,3 @@ send_there m cores i c k to at begun goes =
 pub cores_mapped : (ss : List program.Station) → map (λ (s : program.Station). s.core) ss ≡ map (λ (s : Station). s.core) (map station_of ss)
 cores_mapped [] = refl
 cores_mapped (s ∷ ss) = ap (λ (cores : List Core). s.core ∷ cores) (cores_mapped ss)
-
--- The sends that wait, read one step after another
-
-waits_behind : (f : Step → Option (Name × Id)) (h : List Step) (place : ℕ) (olds : List (Name × Id)) (o : Option (Name × Id)) → place < length h →
-    IfSome (slice_get h place) (λ step. o ≡ f step) → (olds ++ option_to_list o) ++ filter_map f (drop (place + 1) h) ≡ olds ++ filter_map f (drop place h)
-waits_behind f h place olds o within found = by (slice_get_cases h place).1
-  where
-    rest : List (Name × Id)
-    rest = filter_map f (drop (place + 1) h)
-
-    one : (o : Option (Name × Id)) → (olds ++ option_to_list o) ++ rest ≡ olds ++ cons_option o rest
-    one None = ap (λ (xs : List (Name × Id)). xs ++ rest) (append-nil olds)
-    one (Some x) = append_assoc olds (x ∷ []) rest
-
-    by : ((x : Step) × (place < length h) × (slice_get h place ≡ Some x) × (get_or h place x ≡ x)) ⊎ ((length h ≤ place) × (slice_get h place ≡ None)) →
-        (olds ++ option_to_list o) ++ rest ≡ olds ++ filter_map f (drop place h)
-    by (inl (x, _, at, is)) =
-        let told : o ≡ f x = subst (λ (s : Option Step). IfSome s (λ step. o ≡ f step)) at found in
-        let next : drop place h ≡ x ∷ drop (place + 1) h = drop_more h place x within ∙ ap (λ (y : Step). y ∷ drop (place + 1) h) is in
-        one o ∙ ap (λ (o : Option (Name × Id)). olds ++ cons_option o rest) told ∙ ap (λ (steps : List Step). olds ++ filter_map f steps) (sym next)
-    by (inr past) = let least : length h ≤ place = past.0 in absurd (omega arith)
-
-pub next_waits : (f : Step → Option (Name × Id)) (h : List Step) (place : ℕ) (olds news : List (Name × Id)) (o : Option (Name × Id)) → place < length h →
-    IfSome (slice_get h place) (λ step. o ≡ f step) → news ≡ olds ++ option_to_list o → olds ++ filter_map f (drop place h) ≡ filter_map f h →
-    news ++ filter_map f (drop (place + 1) h) ≡ filter_map f h
-next_waits f h place olds news o within found grown before =
-    ap (λ (xs : List (Name × Id)). xs ++ filter_map f (drop (place + 1) h)) grown ∙ waits_behind f h place olds o within found ∙ before

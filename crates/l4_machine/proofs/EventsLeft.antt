@@ -1,6 +1,6 @@
 -- The events of several logs, told one by one, come out merged.
 use Rattle.std.proofs.Common.{◌≡◌, ℕ, zero, suc, ◌+◌, ◌<◌, ◌≤◌, Bool, true, false, cond, nat_le, Option, Some, None, List, [], ◌∷◌, ◌++◌, map, set, refl, drop, length, length-append, append_assoc, ap, ap₂, sym, ◌∙◌, subst, arith}
-use Rattle.std.specs.Prelude.{◌==◌, is_some, slice_get, slice_index_or}
+use Rattle.std.specs.Prelude.{is_some, slice_get, slice_index_or}
 use Rattle.std.specs.Option.{option_map}
 use Rattle.std.specs.List.{AllByRecursion, flat_map, range_with_len}
 use Rattle.std.proofs.lemmas.Bool.Decides.{nat_tests}
@@ -22,7 +22,8 @@ use Rattle.l4_merge.specs.Pasts.{all_events}
 use Rattle.l4_proc.specs.Logs.{events}
 use Rattle.l4_proc.specs.declared.processor.Processor.{Processor}
 use Rattle.l4_machine.specs.Gathers.{with_number, events_of, pasts_of, AreOfOne, IsMerge, IsOneOf}
-use Rattle.l4_machine.specs.EventsLeft.{all_left, first_stamp, least_place, left, lower, AreRising, HasToldFirst, IsUnmerged, RiseFrom}
+use Rattle.l4_machine.specs.EventsLeft.{all_left, first_stamp, least_place, left, lower, HasToldFirst, IsUnmerged}
+use Rattle.l4_machine.specs.Rising.{AreRising, RiseFrom}
 use Rattle.l4_machine.specs.declared.unmerged.Unmerged.{Unmerged}
 use Rattle.l4_machine.proofs.InOneHand.{found}
 use Rattle.l4_machine.proofs.Rising.{merged_sorted}
@@ -63,7 +64,7 @@ stays_first e (x ∷ es) xs ys all is =
 
 cpus_above : (cpu : ℕ) (es : List Event) → AreRising cpu es → AllByRecursion (λ e. cpu ≤ e.cpu) es
 cpus_above cpu [] rising = tt
-cpus_above cpu (e ∷ es) rising = (omega (arith, rising.0), cpus_above cpu es rising.2)
+cpus_above cpu (e ∷ es) rising = (omega (arith, rising.0), cpus_above cpu es rising.1.1)
 
 all_cpus_above : (cpu : ℕ) (ls : List (List Event)) → RiseFrom cpu ls → AllByRecursion (λ e. cpu ≤ e.cpu) (joined ls)
 all_cpus_above cpu [] rise = tt
@@ -105,13 +106,13 @@ first_here cpu e es ls rise above = record {
   here = refl;
   same = refl;
   merges = first_merged e (es ++ joined ls) (all-append (λ x. is_earlier e x ≡ true) es (joined ls)
-      (all-map (λ (x : Event). e.stamp < x.stamp) (λ (x : Event). is_earlier e x ≡ true) (earlier_by_stamp e) es rise.0.1)
+      (all-map (λ (x : Event). e.stamp < x.stamp) (λ (x : Event). is_earlier e x ≡ true) (earlier_by_stamp e) es rise.0.1.0)
       (all-map_with (λ (x : Event). e.stamp ≤ x.stamp) (λ (x : Event). cpu + 1 ≤ x.cpu) (λ (x : Event). is_earlier e x ≡ true)
       (λ x low cpus. earlier_by_cpu e x low (omega (arith, rise.0.0))) (joined ls) above (all_cpus_above (cpu + 1) ls rise.1)));
   least = (
     omega arith,
     all-append (λ x. e.stamp ≤ x.stamp) es (joined ls)
-        (all-map (λ (x : Event). e.stamp < x.stamp) (λ (x : Event). e.stamp ≤ x.stamp) (λ x lt. omega arith) es rise.0.1) above,
+        (all-map (λ (x : Event). e.stamp < x.stamp) (λ (x : Event). e.stamp ≤ x.stamp) (λ x lt. omega arith) es rise.0.1.0) above,
   );
 }
 
@@ -161,7 +162,7 @@ next_of cpu ((e ∷ es) ∷ ls) first rise is = by (least_place (map first_stamp
         (first_here cpu e es ls rise (all-map (λ (x : Event). other.1 ≤ x.stamp) (λ (x : Event). e.stamp ≤ x.stamp)
         (λ x above. let le : e.stamp ≤ other.1 = grind (arith, nat_tests) in omega arith) (joined ls) next.least))
     either other next false high is = next_is ((e ∷ es) ∷ ls) (suc other.0, other.1) first is
-        (first_behind e es ls other.0 other.1 rise.0.1 (grind (arith, nat_tests)) next)
+        (first_behind e es ls other.0 other.1 rise.0.1.0 (grind (arith, nat_tests)) next)
 
     by : (o : Option (ℕ × ℕ)) → least_place (map first_stamp ls) ≡ o → lower (Some e.stamp) o ≡ Some first →
         ((other : ℕ × ℕ) → least_place (map first_stamp ls) ≡ Some other → IsNext ls other.0 other.1) → IsNext ((e ∷ es) ∷ ls) first.0 first.1
@@ -176,7 +177,7 @@ pub rise_on : (cpu : ℕ) (ls : List (List Event)) (place : ℕ) (e : Event) (es
 rise_on cpu [] place e es rise here = tt
 rise_on cpu (l ∷ ls) zero e es rise here =
     let same : l ≡ e ∷ es = cc in
-    ((subst (AreRising cpu) same rise.0).2, rise.1)
+    ((subst (AreRising cpu) same rise.0).1.1, rise.1)
 rise_on cpu (l ∷ ls) (suc place) e es rise here = (rise.0, rise_on (cpu + 1) ls place e es rise.1 here)
 
 -- Logs of processors
@@ -185,8 +186,10 @@ deeds_rise : (m : Machine) (cpu : ℕ) (l now : Local) (ds : List Deed) → Lead
 deeds_rise m cpu l now [] lead = tt
 deeds_rise m cpu l now (d ∷ ds) lead = (
   lead.0.own,
-  all-of_map (λ (x : Event). (told_by d).stamp < x.stamp) told_by ds (lead_above m cpu d.work.local now ds lead.1),
-  deeds_rise m cpu d.work.local now ds lead.1,
+  (
+    all-of_map (λ (x : Event). (told_by d).stamp < x.stamp) told_by ds (lead_above m cpu d.work.local now ds lead.1),
+    deeds_rise m cpu d.work.local now ds lead.1,
+  ),
 )
 
 log_rises : (m : Machine) (p : Processor) → IsOneOf m p → AreRising p.worker.core.cpu (events p.worker.log)

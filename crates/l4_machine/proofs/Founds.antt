@@ -1,12 +1,10 @@
 -- What a run in rounds comes to.
-use Rattle.std.proofs.Common.{◌≡◌, ◌↔◌, ◌⊎◌, ℕ, zero, suc, ◌+◌, ◌<◌, ◌≤◌, Bool, true, false, cond, List, [], ◌∷◌, map, length, get_or, refl, ap, sym, ◌∙◌, subst, inl, inr, ⊎_elim, arith}
-use Rattle.std.specs.List.Sorted.{IsPermutation}
+use Rattle.std.proofs.Common.{◌≡◌, ◌↔◌, ◌⊎◌, ℕ, ◌+◌, ◌<◌, ◌≤◌, true, List, map, length, ap, sym, ◌∙◌, subst, inl, inr, ⊎_elim, arith}
 use Rattle.std.proofs.lemmas.List.Sorted.{length_permutation, IsPermutation-trans}
 use Rattle.l4_model.specs.Machine.{Machine}
-use Rattle.l4_model.specs.Steps.{Step}
 use Rattle.l4_core_model.specs.Runs.{Run, merged, told, at_rest}
-use Rattle.l4_merge.specs.Pasts.{Past, AreWholePasts, all_events}
-use Rattle.l4_merge.specs.Merges.{AreAtRest, EndsAt, IsWholeRun}
+use Rattle.l4_merge.specs.Pasts.{AreWholePasts, all_events}
+use Rattle.l4_merge.specs.Merges.{AreAtRest, EndsAt}
 use Rattle.l4_merge.proofs.Alone.{alone}
 use Rattle.l4_merge.proofs.Permuted.{merged_moves}
 use Rattle.l4_merge.proofs.Rest.{rests as run_rests, rested as run_rested}
@@ -14,8 +12,9 @@ use Rattle.l4_merge.proofs.Wholes.{whole_sorts_as_merged}
 use Rattle.l4_mail.specs.Ports.{AreWhole}
 use Rattle.l4_proc.specs.declared.processor.Processor.{Processor}
 use Rattle.l4_proc.proofs.Rested.{port_of}
-use Rattle.l4_machine.specs.Outcomes.{Findings, IsFoundFor, IsOutcomeOf, IsRunFor, in_order}
-use Rattle.l4_machine.specs.Gathers.{pasts_of, AreResting, IsGathered}
+use Rattle.l4_machine.specs.Outcomes.{Findings, IsFoundFor, IsOutcomeOf, in_order}
+use Rattle.l4_machine.specs.Gathers.{AreResting}
+use Rattle.l4_machine.specs.Gathered.{IsGathered}
 use Rattle.l4_machine.specs.Teams.{pasts, count_events, AreInOrder, HaveCome}
 use Rattle.l4_machine.proofs.InOneHand.{rests, whole_pasts}
 use Rattle.l4_machine.proofs.Rising.{merged_sorted}

@@ -37,7 +37,8 @@ use Rattle.l4_proc.proofs.Rested.{port_of, posted_is, handled_begins, all_is_han
 use Rattle.l4_types.specs.declared.reports.Ending.{Ending}
 use Rattle.l4_types.specs.declared.reports.Ending.TheVariants.{Quiet}
 use Rattle.l4_machine.specs.Outcomes.{Findings, IsOutcomeOf}
-use Rattle.l4_machine.specs.Gathers.{with_number, past_of, pasts_of, IsOneOf, AreOfOne, HaveNumbers, AreResting, IsMerge, IsGathered}
+use Rattle.l4_machine.specs.Gathers.{with_number, past_of, pasts_of, IsOneOf, AreOfOne, HaveNumbers, AreResting, IsMerge}
+use Rattle.l4_machine.specs.Gathered.{IsGathered}
 
 -- The processor of a number
 

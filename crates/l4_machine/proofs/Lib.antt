@@ -19,3 +19,4 @@ pub mod Stamps
 pub mod Systems
 pub mod Ticked
 pub mod Turned
+pub mod Sought

@@ -1,5 +1,5 @@
 -- All processors of a machine, in the order of their numbers.
-use Rattle.std.proofs.Common.{◌≡◌, ℕ, zero, suc, ◌+◌, ◌<◌, ◌≤◌, Bool, true, false, ◌||◌, ◌&&◌, Option, Some, None, List, [], ◌∷◌, map, length, refl, ap, ap₂, sym, ◌∙◌, subst, arith}
+use Rattle.std.proofs.Common.{◌≡◌, ℕ, zero, suc, ◌+◌, ◌<◌, ◌≤◌, Bool, true, false, ◌||◌, ◌&&◌, Some, List, [], ◌∷◌, map, length, refl, ap, ap₂, sym, ◌∙◌, subst, arith}
 use Rattle.std.specs.Prelude.{slice_get, is_some, nat_eq, nat_lt, ◌==◌}
 use Rattle.std.specs.List.{range_with_len}
 use Rattle.std.proofs.lemmas.Bool.{and_from, eq-eqb}
@@ -8,18 +8,15 @@ use Rattle.std.proofs.lemmas.Option.{slice_get_within}
 use Rattle.std.proofs.lemmas.List.{length-map}
 use Rattle.l4_model.specs.Machine.{Machine}
 use Rattle.l4_model.proofs.Chains.{some_is}
-use Rattle.l4_core_model.specs.Runs.{processors}
-use Rattle.l4_merge.proofs.Lists.{slice_get_none}
 use Rattle.l4_mail.specs.Ports.{fabric_size, AreOneFabric}
 use Rattle.l4_mail.specs.Rests.{has_number, have_numbers, have_size, are_all}
-use Rattle.l4_mail.specs.declared.ports.Port.{Port}
 use Rattle.l4_proc.specs.Assembled.{AreAssembled}
 use Rattle.l4_proc.specs.Rests.{AreAsBefore}
 use Rattle.l4_proc.specs.Working.{past, HasGoneOn}
 use Rattle.l4_proc.specs.declared.worker.Worker.{Worker}
 use Rattle.l4_proc.specs.declared.processor.Processor.{Processor}
 use Rattle.l4_proc.proofs.Rested.{port_of, same_at}
-use Rattle.l4_machine.specs.Gathers.{with_number, past_of, pasts_of, AreOfOne, HaveNumbers}
+use Rattle.l4_machine.specs.Gathers.{with_number, past_of, pasts_of, HaveNumbers}
 use Rattle.l4_machine.specs.Teams.{pasts, AreInOrder}
 use Rattle.l4_machine.proofs.InOneHand.{numbered, assembled, all_same, gone_on}
 

@@ -1,5 +1,5 @@
 -- The processors of a machine where nothing has happened, and behind a rest.
-use Rattle.std.proofs.Common.{◌≡◌, ℕ, zero, suc, ◌+◌, ◌*◌, ◌^◌, ◌<◌, ◌≤◌, Option, Some, None, List, [], ◌∷◌, ◌++◌, map, length, refl, ap, ap₂, sym, ◌∙◌, subst, arith}
+use Rattle.std.proofs.Common.{◌≡◌, ℕ, suc, ◌+◌, Option, Some, None, List, [], ◌∷◌, ◌++◌, map, length, refl, ap, ap₂, sym, ◌∙◌, subst, arith}
 use Rattle.std.specs.Prelude.{slice_get}
 use Rattle.std.specs.List.{range_with_len}
 use Rattle.std.specs.List.Sorted.{IsPermutation}
@@ -7,15 +7,14 @@ use Rattle.std.proofs.lemmas.Option.{slice_get_within}
 use Rattle.std.proofs.lemmas.List.{length-map}
 use Rattle.std.proofs.lemmas.List.Sorted.{IsPermutation-refl}
 use Rattle.l4_model.specs.Machine.{Machine}
-use Rattle.l4_core_model.specs.Letters.{Letter}
 use Rattle.l4_core_model.specs.Local.{Local, opening_local}
-use Rattle.l4_core_model.specs.Runs.{Run, opening_run, processors}
+use Rattle.l4_core_model.specs.Runs.{Run, opening_run}
 use Rattle.l4_merge.specs.Pasts.{Past, posted_in, handled_in, letters_posted, letters_handled, all_events}
 use Rattle.l4_merge.specs.Merges.{EndsAt}
 use Rattle.l4_merge.proofs.InRounds.{opening_in_rounds}
 use Rattle.l4_types.specs.LetterView.{letter_of}
 use Rattle.l4_mail.specs.Ports.{AreOneFabric}
-use Rattle.l4_proc.specs.Assembled.{AreAssembled, IsOpening}
+use Rattle.l4_proc.specs.Assembled.{AreAssembled}
 use Rattle.l4_proc.specs.Rests.{AreAsBefore}
 use Rattle.l4_proc.specs.Working.{past}
 use Rattle.l4_proc.specs.declared.worker.Worker.{Worker}

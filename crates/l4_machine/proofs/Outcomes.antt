@@ -17,7 +17,7 @@ use Rattle.l4_types.specs.ReportView.{report_of_view}
 use Rattle.l4_audit.specs.declared.audit.Audit.{Audit}
 use Rattle.l4_audit.specs.Audits.{Passes}
 use Rattle.l4_machine.specs.declared.outcome.CompactOutcome.{CompactOutcome}
-use Rattle.l4_machine.specs.Outcomes.{IsOutcomeOf, IsSound, compact_findings_of}
+use Rattle.l4_machine.specs.Outcomes.{IsOutcomeOf, IsSound, compact_findings_of, steps_of}
 
 -- A history has no first fault.
 pub no_fault : (m : Machine) (h : List Step) (place : ℕ) → IsHistory m h → IsFirstFault m h place → ⊥
@@ -27,52 +27,52 @@ no_fault m h place is f =
     let within = f.within in
     omega arith
 
-pub is_outcome : (m : Machine) (h : List Step) (o : CompactOutcome) (audit : Audit) (r : Run) → IsSound m r → h ≡ told r.events → o.history.steps ≡ h →
+pub is_outcome : (m : Machine) (h : List Step) (o : CompactOutcome) (audit : Audit) (r : Run) → IsSound m r → h ≡ told r.events → steps_of o.history ≡ h →
     Passes m h audit → o.waiting.items ≡ audit.waiting.items → o.threads.items ≡ audit.threads.items → o.turns ≡ length r.events →
     (o.ending ≡ Quiet) ↔ (at_rest m r.system ≡ true) → IsOutcomeOf m r (compact_findings_of o)
 is_outcome m h o audit r sound told_is steps passes waiting threads turns quiet = record {
   history = same;
   possible = subst (IsHistory m) (sym same) sound.possible;
   lawful = subst (IsLawful m) (sym same) sound.lawful;
-  waiting = λ w is. waiting ∙ p.waiting_are ∙ ap (λ v. undecided_sends m v o.history.steps) (world w is);
+  waiting = λ w is. waiting ∙ p.waiting_are ∙ ap (λ v. undecided_sends m v (steps_of o.history)) (world w is);
   threads = λ w is. ap (map report_of_view) threads ∙ p.threads ∙ ap (view m) (world w is);
   turns = turns;
   quiet = quiet;
   still = λ e w is. sound.still (quiet.0 e) w (ap (λ xs. reached m xs) (sym same) ∙ is);
 }
   where
-    same : o.history.steps ≡ told r.events
+    same : steps_of o.history ≡ told r.events
     same = steps ∙ told_is
 
-    p : Passes m o.history.steps audit
+    p : Passes m (steps_of o.history) audit
     p = subst (λ xs. Passes m xs audit) (sym steps) passes
 
-    world : (w : World) → reached m o.history.steps ≡ Some w → p.world ≡ w
+    world : (w : World) → reached m (steps_of o.history) ≡ Some w → p.world ≡ w
     world w is = some_is p.world w (sym p.reached_by ∙ is)
 
 -- The same where no audit was made, but the processors were asked.
 pub is_outcome_at_home : (m : Machine) (locals : List Local) (h : List Step) (o : CompactOutcome) (r : Run) → IsSound m r → r.system.locals ≡ locals → AreAllHandled r.system →
     AllByRecursion IsUndeleted (map report_of_view o.threads.items) → map report_of_view o.threads.items ≡ home_reports m locals →
-    o.waiting.items ≡ filter_map (home_waiting m locals) h → h ≡ told r.events → o.history.steps ≡ h → o.turns ≡ length r.events →
+    o.waiting.items ≡ filter_map (home_waiting m locals) h → h ≡ told r.events → steps_of o.history ≡ h → o.turns ≡ length r.events →
     (o.ending ≡ Quiet) ↔ (at_rest m r.system ≡ true) → IsOutcomeOf m r (compact_findings_of o)
 is_outcome_at_home m locals h o r sound here handled undeleted threads waiting told_is steps turns quiet = record {
   history = same;
   possible = subst (IsHistory m) (sym same) sound.possible;
   lawful = subst (IsLawful m) (sym same) sound.lawful;
-  waiting = λ w is. waiting ∙ ap (filter_map (home_waiting m locals)) (sym steps) ∙ sym ((told_by w is).waiting o.history.steps);
+  waiting = λ w is. waiting ∙ ap (filter_map (home_waiting m locals)) (sym steps) ∙ sym ((told_by w is).waiting (steps_of o.history));
   threads = λ w is. threads ∙ sym (told_by w is).view;
   turns = turns;
   quiet = quiet;
   still = λ e w is. sound.still (quiet.0 e) w (ap (λ xs. reached m xs) (sym same) ∙ is);
 }
   where
-    same : o.history.steps ≡ told r.events
+    same : steps_of o.history ≡ told r.events
     same = steps ∙ told_is
 
     alive : AllByRecursion IsUndeleted (home_reports m r.system.locals)
     alive = subst (λ ls. AllByRecursion IsUndeleted (home_reports m ls)) (sym here) (subst (AllByRecursion IsUndeleted) threads undeleted)
 
-    told_by : (w : World) → reached m o.history.steps ≡ Some w → IsToldAtHome m locals w
+    told_by : (w : World) → reached m (steps_of o.history) ≡ Some w → IsToldAtHome m locals w
     told_by w is = subst (λ ls. IsToldAtHome m ls w) here (sound.at_home handled alive w (ap (λ xs. reached m xs) (sym same) ∙ is))
 
 -- What the laws say of a core run.

@@ -1,7 +1,7 @@
 -- Events in order of stamp and processor.
 use Rattle.std.proofs.Common.{◌≡◌, ℕ, zero, suc, ◌+◌, ◌<◌, Bool, true, false, cond, List, [], ◌∷◌, ◌++◌, map, length, get_or, refl, ap, sym, ◌∙◌, subst, arith, length-append}
-use Rattle.std.specs.Prelude.{is_some, Option, Some, None, ◌==◌}
-use Rattle.std.specs.List.{AllByRecursion, range_with_len}
+use Rattle.std.specs.Prelude.{Some, None, ◌==◌}
+use Rattle.std.specs.List.{range_with_len}
 use Rattle.std.specs.List.Sorted.{IsPermutation, IsSortedBy}
 use Rattle.std.proofs.lemmas.Bool.{eq-eqb}
 use Rattle.std.proofs.lemmas.List.{append-nil}
@@ -9,12 +9,12 @@ use Rattle.l4_model.specs.Machine.{Machine}
 use Rattle.l4_core_model.specs.Local.{Local}
 use Rattle.l4_core_model.specs.Runs.{Event, is_earlier, put_event, merged, told}
 use Rattle.l4_merge.specs.Deeds.{Deed, told_by, Lead}
-use Rattle.l4_merge.specs.Pasts.{HasWorked, all_events}
+use Rattle.l4_merge.specs.Pasts.{all_events}
 use Rattle.l4_merge.proofs.Deeds.{lead_above}
 use Rattle.l4_merge.proofs.EventOrder.{earlier_flip, earlier_by_stamp}
 use Rattle.l4_proc.specs.Logs.{events}
 use Rattle.l4_proc.specs.declared.processor.Processor.{Processor}
-use Rattle.l4_machine.specs.Gathers.{with_number, past_of, pasts_of, AreOfOne, IsMerge, IsOneOf}
+use Rattle.l4_machine.specs.Gathers.{with_number, past_of, pasts_of, IsMerge, IsOneOf}
 
 abbrev IsRising : List Event → Type 0
 IsRising [] = Unit {0}

@@ -8,7 +8,7 @@ use Rattle.std.specs.List.Sorted.{IsPermutation}
 use Rattle.std.proofs.lemmas.Bool.{and_from, cases_lt}
 use Rattle.std.proofs.lemmas.Bool.Decides.{nat_tests}
 use Rattle.std.proofs.lemmas.Option.{slice_get_within}
-use Rattle.std.proofs.lemmas.List.{length-map, with_items_is}
+use Rattle.std.proofs.lemmas.List.{with_items_is}
 use Rattle.l4_model.specs.Machine.{Machine}
 use Rattle.l4_model.specs.World.{changed}
 use Rattle.l4_model.specs.Steps.{Tick}
@@ -18,7 +18,7 @@ use Rattle.l4_core_model.specs.Plain as plain
 use Rattle.l4_core_model.specs.Runs.{Run, Ticks, is_empty}
 use Rattle.l4_core_model.specs.Schedules.{attempts, attempts_all, least_deadline, earliest, earliest_of, earliest_deadline, ticks, ticks_to}
 use Rattle.l4_core_model.specs.Acts.{Work, ◌▷◌, does, tells}
-use Rattle.l4_core_model.specs.Turns.{Choice, ByDue, ByReady, advance, choice, clock_is, first_duty, first_some, is_busy, opened}
+use Rattle.l4_core_model.specs.Turns.{ByDue, ByReady, advance, clock_is, first_duty, first_some, is_busy, opened}
 use Rattle.l4_merge.specs.Pasts.{Past, letters_posted, letters_handled, all_events}
 use Rattle.l4_merge.specs.Pasts as deeds
 use Rattle.l4_merge.specs.Merges.{EndsAt}
@@ -32,7 +32,7 @@ use Rattle.l4_proc.specs.Working.{past, HasGoneOn, HasTicked}
 use Rattle.l4_proc.specs.declared.processor.Processor.{Processor}
 use Rattle.l4_proc.proofs.Rested.{port_of}
 use Rattle.l4_machine.specs.Gathers.{AreResting}
-use Rattle.l4_machine.specs.Teams.{pasts, count_events, deadline_of, first_deadline, AreIdle, AreInOrder, HasComeTo, HaveCome, HaveComeTo}
+use Rattle.l4_machine.specs.Teams.{pasts, count_events, deadline_of, first_deadline, AreIdle, HasComeTo, HaveCome, HaveComeTo}
 use Rattle.l4_machine.proofs.Endings.{unarmed_is}
 use Rattle.l4_machine.proofs.Counting.{events_in, first_counted}
 use Rattle.l4_machine.proofs.InOneHand.{all_handled_between}

@@ -1,23 +1,21 @@
 -- A round of turns: the run goes on, no letter was refused, and there was an event.
-use Rattle.std.proofs.Common.{◌≡◌, ◌≢◌, ◌⊎◌, ℕ, zero, suc, ◌+◌, ◌-◌, ◌*◌, ◌^◌, ◌<◌, ◌≤◌, Bool, true, false, Option, Some, None, List, [], ◌∷◌, ◌++◌, map, length, refl, ap, sym, ◌∙◌, subst, ⊎_elim, max, arith, Vec, Global}
+use Rattle.std.proofs.Common.{◌≡◌, ◌≢◌, ◌⊎◌, ℕ, zero, suc, ◌+◌, ◌-◌, ◌*◌, ◌^◌, ◌<◌, ◌≤◌, true, false, Option, Some, None, List, [], ◌∷◌, ◌++◌, map, length, refl, ap, sym, ◌∙◌, subst, ⊎_elim, max, arith, Vec, Global}
 use Rattle.std.specs.Prelude.{slice_get, is_some, nat_eq, nat_lt, if◌then◌else◌}
-use Rattle.std.specs.Option.{option_map}
 use Rattle.std.specs.List.Sorted.{IsPermutation}
 use Rattle.std.proofs.Math.Nat.{mul_comm}
 use Rattle.std.proofs.lemmas.Bool.{cases_lt, eq-eqb}
-use Rattle.std.proofs.lemmas.Bool.Decides.{eqb_tells, nat_tests}
-use Rattle.std.proofs.lemmas.Option.{slice_get_within, slice_get-map}
+use Rattle.std.proofs.lemmas.Bool.Decides.{nat_tests}
+use Rattle.std.proofs.lemmas.Option.{slice_get_within}
 use Rattle.std.specs.Vec.{with_items}
 use Rattle.std.proofs.lemmas.List.{length-map, append_cancel_left, with_items_is}
 use Rattle.std.proofs.lemmas.List.Sorted.{IsPermutation-sym, IsPermutation-trans, IsPermutation-append_left}
 use Rattle.l4_model.specs.Machine.{Machine}
 use Rattle.l4_model.proofs.Chains.{some_is, get-map}
 use Rattle.l4_core_model.specs.Letters as letters
-use Rattle.l4_core_model.specs.Runs.{Event, Run, letters as letters_of, merged}
+use Rattle.l4_core_model.specs.Runs.{Run, letters as letters_of, merged}
 use Rattle.l4_core_model.specs.Turns.{Choice, choice, turn, is_busy, can_stamp}
 use Rattle.l4_core_model.specs.Mail.{handle}
 use Rattle.l4_merge.specs.Pasts.{Past, HasTurned, HaveTurned, HaveWorked, Begins, posted_in, handled_in, letters_posted, letters_handled, all_events, added_events}
-use Rattle.l4_merge.specs.Merges.{EndsAt, IsMergedRun, IsTurnedRun}
 use Rattle.l4_merge.proofs.GoingOn.{merge_turns}
 use Rattle.l4_merge.proofs.ClocksOfEvents.{turned_clock}
 use Rattle.l4_merge.proofs.Permuted.{permuted}
@@ -26,18 +24,16 @@ use Rattle.l4_split.specs.Laws.{IsLawfulRun}
 use Rattle.l4_types.specs.LetterView.{letter_of}
 use Rattle.l4_types.specs.declared.letters.Letter.{Letter}
 use Rattle.l4_mail.specs.Ports.{taken_from, kept_from, AreOneFabric, AreWhole}
-use Rattle.l4_proc.specs.Events.{HasUnlawful, IsRefused, stamp_in_hand}
+use Rattle.l4_proc.specs.Events.{IsRefused, stamp_in_hand}
 use Rattle.l4_proc.specs.Rests.{AreAsBefore, HaveHandledAll}
 use Rattle.l4_proc.specs.Whole.{hand_from, handled_from}
-use Rattle.l4_proc.specs.Working.{past, turns_of, HasWorkedOn, HaveWorkedOn, IsIdle, IsStopped}
+use Rattle.l4_proc.specs.Working.{past, HaveWorkedOn, IsIdle, IsStopped}
 use Rattle.l4_proc.specs.declared.worker.Worker.{Worker}
-use Rattle.l4_proc.specs.declared.stops.Stop.{Stop}
 use Rattle.l4_proc.specs.declared.stops.Stop.TheVariants as stop
 use Rattle.l4_proc.specs.declared.processor.Processor.{Processor}
 use Rattle.l4_proc.proofs.Rested.{port_of, same_at, same_pasts, posted_is, one_of_worked}
-use Rattle.l4_machine.specs.Gathers.{pasts_of}
 use Rattle.l4_machine.specs.Teams.{pasts, count_events, AreIdle, AreInOrder, HaveCome}
-use Rattle.l4_machine.proofs.Counting.{AreCounted, counted}
+use Rattle.l4_machine.proofs.Counting.{counted}
 use Rattle.l4_machine.proofs.InOneHand.{whole_pasts, none_taken_beyond, none_taken_own}
 use Rattle.l4_machine.proofs.Members.{some_there, in_order_gone_on, in_order_same, in_order_have_numbers, pasts_are}
 use Rattle.l4_machine.proofs.Stamps.{local_stamp, letter_stamp}

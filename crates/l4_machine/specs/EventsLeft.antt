@@ -1,6 +1,6 @@
 -- Logs whose events are told one by one.
-use Rattle.std.specs.Prelude.{◌≡◌, ℕ, suc, ◌+◌, ◌-◌, ◌≤◌, ◌<◌, ◌++◌, if◌then◌else◌, nat_le, Option, Some, None, List, [], ◌∷◌, length, drop, slice_get}
-use Rattle.std.specs.List.{AllByRecursion, flat_map}
+use Rattle.std.specs.Prelude.{◌≡◌, ℕ, suc, ◌-◌, ◌≤◌, ◌<◌, ◌++◌, if◌then◌else◌, nat_le, Option, Some, None, List, [], ◌∷◌, length, drop, slice_get}
+use Rattle.std.specs.List.{flat_map}
 use Rattle.l4_model.specs.Steps.{Step}
 use Rattle.l4_core_model.specs.Runs.{Event}
 use Rattle.l4_proc.specs.declared.processor.Processor.{Processor}
@@ -43,13 +43,3 @@ lower (Some s) (Some least) = if nat_le s least.1 then Some (0, s) else Some (su
 abbrev pub least_place : List (Option ℕ) → Option (ℕ × ℕ)
 least_place [] = None
 least_place (s ∷ ss) = lower s (least_place ss)
-
--- Events of one processor, each with a higher stamp than those before it.
-abbrev pub AreRising : (cpu : ℕ) → List Event → Type 0
-AreRising cpu [] = Unit {0}
-AreRising cpu (e ∷ es) = (e.cpu ≡ cpu) × AllByRecursion (λ x. e.stamp < x.stamp) es × AreRising cpu es
-
--- Of the processors from this one on, in order.
-abbrev pub RiseFrom : (cpu : ℕ) → List (List Event) → Type 0
-RiseFrom cpu [] = Unit {0}
-RiseFrom cpu (es ∷ rest) = AreRising cpu es × RiseFrom (cpu + 1) rest

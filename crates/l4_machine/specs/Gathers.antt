@@ -1,12 +1,12 @@
 -- The processors of a machine in one hand, in any order, and what they come to together.
-use Rattle.std.specs.Prelude.{◌≡◌, ℕ, ◌==◌, ◌<◌, ◌&&◌, ◌||◌, nat_lt, Bool, true, Option, Some, None, is_some, List, [], length, map, find, slice_get}
+use Rattle.std.specs.Prelude.{◌≡◌, ℕ, ◌==◌, ◌<◌, true, Option, Some, None, is_some, List, [], map, find, slice_get}
 use Rattle.std.specs.List.Sorted.{IsPermutation}
 use Rattle.l4_model.specs.Machine.{Machine}
 use Rattle.l4_model.specs.Steps.{Step}
 use Rattle.l4_core_model.specs.Local.{opening_local}
-use Rattle.l4_core_model.specs.Runs.{Event, Run, processors, merged, told}
+use Rattle.l4_core_model.specs.Runs.{Event, processors, merged, told}
 use Rattle.l4_merge.specs.Pasts.{Past, empty_past, HasWorked, all_events}
-use Rattle.l4_merge.specs.Merges.{is_at_rest, SortAsMerged, IsWholeRun}
+use Rattle.l4_merge.specs.Merges.{is_at_rest, SortAsMerged}
 use Rattle.l4_mail.specs.Ports.{place, AreOneFabric, IsApart}
 use Rattle.l4_mail.specs.declared.rests.RestFault.{RestFault}
 use Rattle.l4_mail.specs.declared.rests.RestFault.TheVariants as rest_fault
@@ -15,7 +15,6 @@ use Rattle.l4_proc.specs.Logs.{events}
 use Rattle.l4_proc.specs.Rests.{HaveHandledAll}
 use Rattle.l4_proc.specs.Working.{past}
 use Rattle.l4_proc.specs.declared.processor.Processor.{Processor}
-use Rattle.l4_machine.specs.Outcomes.{Findings, IsOutcomeOf}
 use Rattle.l4_machine.specs.declared.outcome.RunFault.{RunFault}
 use Rattle.l4_machine.specs.declared.outcome.RunFault.TheVariants as run_fault
 
@@ -60,16 +59,14 @@ HaveNumbers below ps = (cpu : ℕ) → cpu < below → is_some (with_number cpu 
 abbrev pub IsMerge : Machine → List Processor → List Step → Type 0
 IsMerge m ps steps = (es : List Event) → SortAsMerged es → IsPermutation es (all_events (pasts_of m ps)) → steps ≡ told (merged es)
 
+-- The steps of all of them, in order of stamp and processor.
+abbrev pub merged_steps : Machine → List Processor → List Step
+merged_steps m ps = told (merged (all_events (pasts_of m ps)))
+
 -- Nothing is to be done, armed or under way.
 pub record AreResting (ps : List Processor) : Type 0 where
   pub each : (i : ℕ) (p : Processor) → slice_get ps i ≡ Some p → is_at_rest p.worker.core.machine p.worker.core.cpu p.worker.core.local ≡ true
   pub handled : HaveHandledAll ps
-
--- What they came to together: the outcome of the core run whose events are those of all their logs, in order of stamp and processor.
-pub record IsGathered (m : Machine) (ps : List Processor) (o : Findings) : Type 0 where
-  pub run : Run
-  pub whole : IsWholeRun m (pasts_of m ps) run
-  pub outcome : IsOutcomeOf m run o
 
 -- Why processors come to no outcome.
 abbrev pub fault_of_rest : RestFault → RunFault

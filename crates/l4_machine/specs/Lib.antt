@@ -1,10 +1,13 @@
 pub mod CoreRuns
 pub mod Entries
 pub mod EventsLeft
+pub mod Gathered
 pub mod Gathers
 pub mod Homes
 pub mod Outcomes
 pub mod Parts
+pub mod Rising
 pub mod Stations
 pub mod Teams
 pub mod UnderWay
+pub mod Waiting

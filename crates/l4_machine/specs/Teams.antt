@@ -1,5 +1,5 @@
 -- The processors of a machine at work together, and the run in rounds that they have come to.
-use Rattle.std.specs.Prelude.{◌≡◌, ◌⊎◌, ◌↔◌, ℕ, ◌<◌, ◌≤◌, ◌*◌, ◌^◌, false, IsTrue, Option, Some, List, length, map, slice_get}
+use Rattle.std.specs.Prelude.{◌≡◌, ◌⊎◌, ◌↔◌, ℕ, ◌≤◌, ◌*◌, ◌^◌, false, IsTrue, Option, Some, List, length, map, slice_get}
 use Rattle.std.specs.Option.{option_map}
 use Rattle.std.specs.List.Sorted.{IsPermutation}
 use Rattle.l4_model.specs.Machine.{Machine}

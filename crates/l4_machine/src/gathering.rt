@@ -8,7 +8,8 @@ ghost use Rattle.l4_merge.specs.Merges.{is_at_rest};
 ghost use Rattle.l4_proc.specs.Rests.{AreAsBefore, HaveHandledAll};
 ghost use Rattle.l4_proc.specs.declared.processor.Processor.{Processor as ProcessorOfMachine};
 ghost use Rattle.l4_types.specs.declared.reports.Ending.TheVariants.{Quiet};
-ghost use Rattle.l4_machine.specs.Gathers.{core_of, pasts_of, with_number, AreOfOne, AreResting, HaveNumbers, IsGathered};
+ghost use Rattle.l4_machine.specs.Gathers.{core_of, pasts_of, with_number, AreOfOne, AreResting, HaveNumbers};
+ghost use Rattle.l4_machine.specs.Gathered.{IsGathered};
 ghost use Rattle.l4_machine.specs.Homes.{IsAtHome};
 ghost use Rattle.l4_machine.specs.Outcomes.{compact_findings_of, findings_of};
 
@@ -16,6 +17,7 @@ use crate::homes::AtHome;
 use crate::laws::law_core_run;
 use crate::merging::{merged_history, place_of};
 use crate::outcome::{CompactOutcome, Outcome, RunFault, outcome_of};
+use crate::run_history::RunHistory;
 use l4_core::processor::Core;
 use l4_mail::rests::RestFault;
 use l4_merge::law_merge;
@@ -81,12 +83,12 @@ fn gathered(
 }
 
 // The outcome of all processors of a machine, which have come to rest. Whether all letters are handled was found then.
-fn rested_outcome(
+fn rested_outcome<'m>(
     alloc: Global,
-    machine: &Machine,
-    processors: &[Processor<'_>],
+    machine: &'m Machine,
+    processors: &[Processor<'m>],
     all_handled: bool,
-) -> Result<CompactOutcome, NoMemory>
+) -> Result<CompactOutcome<'m>, NoMemory>
     requires one { AreOfOne machine.now processors.now }
     requires numbers { HaveNumbers machine.now.cpus processors.now }
     requires whole { AreWhole (map (λ p. p.port) processors.now) }
@@ -102,7 +104,7 @@ fn rested_outcome(
     outcome_of(
         alloc,
         machine,
-        history,
+        RunHistory::Steps(history),
         at_home,
         all_handled,
         ending,

@@ -1,32 +1,30 @@
 //! What the threads of a machine have come to, as their own processors have them.
-ghost use Rattle.std.specs.Prelude.{◌≡◌, ◌<◌, IfOk, IfSome, IsTrue, Some, filter_map, length, map, slice_get};
+ghost use Rattle.std.specs.Prelude.{◌≡◌, ◌<◌, IfOk, IsTrue, Some, length, map, slice_get};
 ghost use Rattle.std.specs.List.{AllByRecursion};
 ghost use Rattle.l4_core_model.specs.Local.{declared};
 ghost use Rattle.l4_types.specs.ReportView.{report_of_view};
 ghost use Rattle.l4_split.specs.Laws.{IsUndeleted, home_reports};
-ghost use Rattle.l4_machine.specs.Homes.{locals_of, sent_at_home, sent_to, sent_waiting, AreAllOf, IsAtHome, IsNotBelow};
+ghost use Rattle.l4_machine.specs.Homes.{locals_of, sent_at_home, AreAllOf, IsAtHome};
 
 use l4_core::processor::Core;
-use l4_history::history::History;
 use l4_script::machine::Machine;
 use l4_types::errors::NoMemory;
 use l4_types::ids::ThreadId;
 use l4_types::reports::{State, ThreadView};
-use l4_types::steps::Name;
 use std::alloc::Global;
 
 /// The last send that a thread began: how many it had begun then, and where it goes while it is undecided.
 #[derive(Clone, Copy)]
 pub(crate) struct LastSend {
-    k: u64,
-    to: Option<ThreadId>,
+    pub(crate) k: u64,
+    pub(crate) to: Option<ThreadId>,
 }
 
 /// What the threads of a machine have come to, in order of declaration, as their own processors have them.
 #[derive(Drop)]
 pub(crate) struct AtHome {
     pub(crate) threads: Vec<ThreadView>,
-    sends: Vec<LastSend>,
+    pub(crate) sends: Vec<LastSend>,
 }
 
 impl AtHome {
@@ -51,57 +49,6 @@ impl AtHome {
     {
         let _ = &self.sends;
         are_undeleted(self.threads.as_slice())
-    }
-
-    /// The begun sends of a history that are undecided, in order of beginning, with their destinations.
-    pub(crate) fn waiting(
-        &self,
-        alloc: Global,
-        machine: &Machine,
-        history: &History,
-    ) -> Result<Vec<(Name, ThreadId)>, NoMemory>
-        ensures { IfOk result (λ sends. sends.items ≡ filter_map (sent_waiting machine.now self.now.sends.items) history.now.steps) }
-    {
-        let least = least_undecided(self.sends.as_slice());
-        let mut sends = Vec::new(alloc);
-        for place in 0..history.len() {
-            if let Some(send) = self.waiting_send(machine, history, place, least) {
-                sends.push(send)?;
-            }
-        }
-        Ok(sends)
-    }
-
-    // The send that the step at a place begins, where it is undecided, and its destination. No undecided send has a number below `least`: most of
-    // those of a long history do, and need not be looked for.
-    fn waiting_send(
-        &self,
-        machine: &Machine,
-        history: &History,
-        place: usize,
-        least: u64,
-    ) -> Option<(Name, ThreadId)>
-        requires within { place < length history.now.steps }
-        requires least { AllByRecursion (IsNotBelow least) self.now.sends.items }
-        ensures { IfSome (slice_get history.now.steps place) (λ step. result ≡ sent_waiting machine.now self.now.sends.items step) }
-    {
-        let name = history.begun(place)?;
-        if name.k() < least {
-            return None;
-        }
-        let at = machine.place_of(name.thread())?;
-        let to = self.destination(at, name.k())?;
-        Some((name, to))
-    }
-
-    // Where the send of this number of the thread at this place goes, while it is undecided.
-    fn destination(&self, place: usize, k: u64) -> Option<ThreadId>
-        ensures { result ≡ sent_to k (slice_get self.now.sends.items place) }
-    {
-        match self.sends.get(place) {
-            Some(last) if last.k == k => last.to,
-            _ => None,
-        }
     }
 }
 
@@ -150,19 +97,6 @@ fn last_sends(
         })?;
     }
     Ok(sends)
-}
-
-// The least number of those of these sends that are undecided, the greatest of all where none is.
-fn least_undecided(sends: &[LastSend]) -> u64
-    ensures { AllByRecursion (IsNotBelow result) sends.now }
-{
-    let mut least = u64::MAX;
-    for send in sends {
-        if send.to.is_some() {
-            least = least.min(send.k);
-        }
-    }
-    least
 }
 
 // Whether none of these threads is deleted.

@@ -4,9 +4,13 @@ ghost use Rattle.std.specs.List.{AllByRecursion, range_with_len};
 ghost use Rattle.l4_core_model.specs.Runs.{told};
 ghost use Rattle.l4_merge.specs.Pasts.{all_events};
 ghost use Rattle.l4_proc.specs.Logs.{events};
-ghost use Rattle.l4_machine.specs.Gathers.{events_of, pasts_of, with_number, AreOfOne, HaveNumbers, IsMerge};
+ghost use Rattle.l4_machine.specs.Gathers.{events_of, merged_steps, pasts_of, with_number, AreOfOne, HaveNumbers, IsMerge};
+ghost use Rattle.l4_machine.specs.Outcomes.{steps_of};
 ghost use Rattle.l4_machine.specs.EventsLeft.{left, IsUnmerged};
+ghost use Rattle.l4_machine.specs.Rising.{HaveRisingLogs};
 
+use crate::logs::Logs;
+use crate::run_history::RunHistory;
 use crate::unmerged::{Unmerged, count_left, tell_all, untold};
 use l4_history::history::History;
 use l4_proc::processor::Processor;
@@ -20,9 +24,9 @@ pub(crate) fn merged_history(
     machine: &Machine,
     processors: &[Processor<'_>],
 ) -> Result<(History, usize), NoMemory>
-    requires one { AreOfOne machine.now processors.now }
+    requires rising { HaveRisingLogs machine.now processors.now }
     requires numbers { HaveNumbers machine.now.cpus processors.now }
-    ensures history { IfOk result (λ r. IsMerge machine.now processors.now r.0.steps) }
+    ensures history { IfOk result (λ r. r.0.steps ≡ merged_steps machine.now processors.now) }
     ensures events { IfOk result (λ r. r.1 ≡ length (all_events (pasts_of machine.now processors.now))) }
 {
     let mut logs = unmerged_logs(alloc, processors, machine.cpus())?;
@@ -31,24 +35,42 @@ pub(crate) fn merged_history(
     Ok((history, events))
 }
 
-/// The same of processors that nobody needs any more. The history of one that is alone is its log's, and nothing is copied.
-pub(crate) fn into_merged_history(
+// How many events all processors of a machine had.
+fn count_all(
     alloc: Global,
     machine: &Machine,
-    processors: Vec<Processor<'_>>,
-) -> Result<(History, usize), NoMemory>
+    processors: &[Processor<'_>],
+) -> Result<usize, NoMemory>
+    requires { HaveNumbers machine.now.cpus processors.now }
+    ensures { IfOk result (λ events. events ≡ length (all_events (pasts_of machine.now processors.now))) }
+{
+    let logs = unmerged_logs(alloc, processors, machine.cpus())?;
+    count_left(logs.as_slice())
+}
+
+/// The same of processors that nobody needs any more. The history of one that is alone is its log's, and of several it is made when it is asked
+/// for. Nothing is copied.
+pub(crate) fn run_history<'m>(
+    alloc: Global,
+    machine: &'m Machine,
+    processors: Vec<Processor<'m>>,
+) -> Result<(RunHistory<'m>, usize), NoMemory>
     requires one { AreOfOne machine.now processors.items }
     requires numbers { HaveNumbers machine.now.cpus processors.items }
     requires count { length processors.items ≡ machine.now.cpus }
-    ensures history { IfOk result (λ r. IsMerge machine.now processors.entry.items r.0.steps) }
+    ensures history { IfOk result (λ r. IsMerge machine.now processors.entry.items (steps_of r.0)) }
     ensures events { IfOk result (λ r. r.1 ≡ length (all_events (pasts_of machine.now processors.entry.items))) }
 {
     if machine.cpus() > 1 {
-        return merged_history(alloc, machine, processors.as_slice());
+        let events = count_all(alloc, machine, processors.as_slice())?;
+        return Ok((RunHistory::Logs(Logs::new(machine, processors)), events));
     }
     let mut processors = processors;
     match processors.pop() {
-        Some(processor) => Ok(own_history(processor)),
+        Some(processor) => {
+            let (history, events) = own_history(processor);
+            Ok((RunHistory::Steps(history), events))
+        }
         None => unreachable!(),
     }
 }
@@ -63,8 +85,8 @@ fn own_history(processor: Processor<'_>) -> (History, usize)
     (log.into_history(), events)
 }
 
-// The logs of all processors, by their numbers. Nothing of them is told.
-fn unmerged_logs(
+/// The logs of all processors, by their numbers. Nothing of them is told.
+pub(crate) fn unmerged_logs(
     alloc: Global,
     processors: &[Processor<'_>],
     cpus: u8,

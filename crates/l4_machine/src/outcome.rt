@@ -5,10 +5,12 @@ ghost use Rattle.l4_core_model.specs.Local.{Local};
 ghost use Rattle.l4_core_model.specs.Runs.{Run, at_rest, told};
 ghost use Rattle.l4_types.specs.declared.reports.Ending.TheVariants.{Quiet};
 ghost use Rattle.l4_machine.specs.Homes.{EndsIn, IsAtHome};
-ghost use Rattle.l4_machine.specs.Outcomes.{IsOutcomeOf, IsSound, compact_findings_of, findings_of};
+ghost use Rattle.l4_machine.specs.Outcomes.{IsOutcomeOf, IsSound, compact_findings_of, findings_of, steps_of};
 ghost use Rattle.l4_machine.specs.declared.outcome.RunFault.TheVariants.{NoMemory as RunNoMemory};
 
 use crate::homes::AtHome;
+use crate::run_history::RunHistory;
+use crate::waiting::Search;
 use l4_audit::audit::{AuditFault, check_history};
 use l4_history::history::History;
 use l4_script::machine::Machine;
@@ -33,11 +35,12 @@ pub struct Outcome {
     pub turns: u64,
 }
 
-/// An outcome with its history in compact form, 24 bytes for a step.
+/// An outcome with its history in compact form, 24 bytes for a step, or in the logs of several processors, which are merged only where somebody
+/// asks for it.
 #[derive(Drop)]
-pub struct CompactOutcome {
+pub struct CompactOutcome<'m> {
     /// The steps of all turns, in the order of those of an `Outcome`.
-    pub history: History,
+    pub history: RunHistory<'m>,
     /// The sends that were begun and are undecided, in order of beginning, each with its destination.
     pub waiting: Vec<(Name, ThreadId)>,
     /// What each thread has come to, in order of declaration.
@@ -48,13 +51,13 @@ pub struct CompactOutcome {
     pub turns: u64,
 }
 
-impl CompactOutcome {
+impl CompactOutcome<'_> {
     /// The same outcome, with its steps as values of their own.
     pub(crate) fn into_outcome(self, alloc: Global) -> Result<Outcome, NoMemory>
-        ensures { IfOk result (λ o. findings_of o ≡ compact_findings_of self) }
+        ensures { IfOk result (λ o. findings_of o ≡ compact_findings_of self.entry) }
     {
         Ok(Outcome {
-            history: self.history.to_steps(alloc)?,
+            history: self.history.into_history(alloc)?.to_steps(alloc)?,
             waiting: self.waiting,
             threads: self.threads,
             ending: self.ending,
@@ -87,22 +90,22 @@ impl From<NoMemory> for RunFault {
 /// The outcome of a run with this history, ending and number of turns. Where no letter is under way and no thread is deleted, the threads have
 /// come to what their own processors have, and else to what an audit finds: of a deleted thread, and of one that is to learn something by a
 /// letter, the history may say what its processor does not know.
-pub(crate) fn outcome_of(
+pub(crate) fn outcome_of<'m>(
     alloc: Global,
     machine: &Machine,
-    history: History,
+    history: RunHistory<'m>,
     at_home: AtHome,
     all_handled: bool,
     ending: Ending,
     turns: u64,
-) -> Result<CompactOutcome, NoMemory>
-    requires { IsHistory machine.now history.steps }
+) -> Result<CompactOutcome<'m>, NoMemory>
+    requires { IsHistory machine.now (steps_of history) }
     ensures { IfOk result (λ o. (r : Run) (locals : List Local) → IsSound machine.now r → IsAtHome machine.now locals at_home → EndsIn r locals all_handled →
-        history.steps ≡ told r.events → turns ≡ length r.events → (ending ≡ Quiet) ↔ (at_rest machine.now r.system ≡ true) →
+        steps_of history.entry ≡ told r.events → turns ≡ length r.events → (ending ≡ Quiet) ↔ (at_rest machine.now r.system ≡ true) →
         IsOutcomeOf machine.now r (compact_findings_of o)) }
 {
     if all_handled && at_home.are_undeleted() {
-        let waiting = at_home.waiting(alloc, machine, &history)?;
+        let waiting = history.waiting(alloc, &Search::new(machine, &at_home))?;
         return Ok(CompactOutcome {
             history,
             waiting,
@@ -111,24 +114,24 @@ pub(crate) fn outcome_of(
             turns,
         });
     }
-    audited_outcome(alloc, machine, history, ending, turns)
+    audited_outcome(alloc, machine, history.into_history(alloc)?, ending, turns)
 }
 
 // The same where an audit finds what the threads have come to.
-fn audited_outcome(
+fn audited_outcome<'m>(
     alloc: Global,
     machine: &Machine,
     history: History,
     ending: Ending,
     turns: u64,
-) -> Result<CompactOutcome, NoMemory>
+) -> Result<CompactOutcome<'m>, NoMemory>
     requires { IsHistory machine.now history.steps }
     ensures { IfOk result (λ o. (r : Run) → IsSound machine.now r → history.steps ≡ told r.events → turns ≡ length r.events →
         (ending ≡ Quiet) ↔ (at_rest machine.now r.system ≡ true) → IsOutcomeOf machine.now r (compact_findings_of o)) }
 {
     match check_history(alloc, machine, &history) {
         Ok(audit) => Ok(CompactOutcome {
-            history,
+            history: RunHistory::Steps(history),
             waiting: audit.waiting,
             threads: audit.threads,
             ending,

@@ -40,13 +40,13 @@ pub fn run<R: Threads + Sync, G: Gate + Sync>(
 }
 
 /// Runs a machine as `run` does, with the same outcome and the same faults, and keeps the history in compact form.
-pub fn run_compact<R: Threads + Sync, G: Gate + Sync>(
+pub fn run_compact<'m, R: Threads + Sync, G: Gate + Sync>(
     rt: &R,
     alloc: Global,
-    machine: &Machine,
+    machine: &'m Machine,
     turns: u64,
     gate: &G,
-) -> Result<CompactOutcome, RunFault>
+) -> Result<CompactOutcome<'m>, RunFault>
     ensures ok { IfOk result (IsCompactOutcome machine.now turns) }
     ensures err { IfErr result (λ fault. (fault ≡ RunFault.NoMemory) ⊎ (turns_fault turns ≡ Some fault)) }
     ensures range { IsErrOf result RunFault.Turns ↔ ((turns ≡ 0) ⊎ (most_turns < turns)) }
@@ -57,13 +57,13 @@ pub fn run_compact<R: Threads + Sync, G: Gate + Sync>(
     Ok(outcome_of_turns(rt, alloc, machine, turns, gate)?)
 }
 
-fn outcome_of_turns<R: Threads + Sync, G: Gate + Sync>(
+fn outcome_of_turns<'m, R: Threads + Sync, G: Gate + Sync>(
     rt: &R,
     alloc: Global,
-    machine: &Machine,
+    machine: &'m Machine,
     turns: u64,
     gate: &G,
-) -> Result<CompactOutcome, NoMemory>
+) -> Result<CompactOutcome<'m>, NoMemory>
     requires { turns ≤ most_turns }
     ensures { IfOk result (IsCompactOutcome machine.now turns) }
 {

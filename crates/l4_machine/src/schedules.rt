@@ -9,6 +9,7 @@ use crate::core_run::CoreRun;
 use crate::entries::{Entry, entries_of};
 use crate::laws::law_core_run;
 use crate::outcome::{CompactOutcome, Outcome, RunFault, outcome_of};
+use crate::run_history::RunHistory;
 use l4_script::machine::Machine;
 use l4_types::errors::NoMemory;
 use std::alloc::Global;
@@ -51,11 +52,11 @@ fn take_all(run: &mut CoreRun<'_>, machine: &Machine, entries: &[Entry]) -> Resu
     Ok(())
 }
 
-fn outcome_of_entries(
+fn outcome_of_entries<'m>(
     alloc: Global,
-    machine: &Machine,
+    machine: &'m Machine,
     entries: &[Entry],
-) -> Result<CompactOutcome, RunFault>
+) -> Result<CompactOutcome<'m>, RunFault>
     requires { length entries.now ≤ most_entries }
     ensures ok { IfOk result (IsCompactReplay machine.now (map entry_from entries.now)) }
     ensures lawful { IfOk result (λ o. first_stranger machine.now 1 (map entry_from entries.now) ≡ None) }
@@ -72,7 +73,7 @@ fn outcome_of_entries(
     Ok(outcome_of(
         alloc,
         machine,
-        history,
+        RunHistory::Steps(history),
         at_home,
         all_handled,
         ending,
@@ -108,11 +109,11 @@ pub fn replay(alloc: Global, machine: &Machine, schedule: &[u8]) -> Result<Outco
 }
 
 /// Replays entries as `replay` does the numbers of a schedule, with the same outcome and the same faults, and keeps the history in compact form.
-pub fn replay_compact(
+pub fn replay_compact<'m>(
     alloc: Global,
-    machine: &Machine,
+    machine: &'m Machine,
     entries: &[Entry],
-) -> Result<CompactOutcome, RunFault>
+) -> Result<CompactOutcome<'m>, RunFault>
     ensures ok { IfOk result (IsCompactReplay machine.now (map entry_from entries.now)) }
     ensures lawful { IfOk result (λ o. entries_fault machine.now (map entry_from entries.now) ≡ None) }
     ensures err { IfErr result (λ fault. (fault ≡ RunFault.NoMemory) ⊎ (entries_fault machine.now (map entry_from entries.now) ≡ Some fault)) }

@@ -7,14 +7,15 @@ ghost use Rattle.l4_mail.specs.Ports.{AreOneFabric, AreWhole};
 ghost use Rattle.l4_mail.specs.Rests.{are_all};
 ghost use Rattle.l4_proc.specs.Rests.{AreAsBefore, HaveHandledAll};
 ghost use Rattle.l4_proc.specs.declared.processor.Processor.{Processor as ProcessorOfMachine};
-ghost use Rattle.l4_machine.specs.Gathers.{AreResting, IsGathered};
+ghost use Rattle.l4_machine.specs.Gathered.{IsGathered};
+ghost use Rattle.l4_machine.specs.Gathers.{AreResting};
 ghost use Rattle.l4_machine.specs.Outcomes.{compact_findings_of};
 ghost use Rattle.l4_machine.specs.Teams.{count_events, deadline_of, first_deadline, AreIdle, HasComeTo, HaveComeTo, IsTeam};
 ghost use Rattle.l4_machine.specs.Entries.{most_turns};
 
 use crate::gathering::{at_home, ending};
 use crate::laws::law_core_run;
-use crate::merging::into_merged_history;
+use crate::merging::run_history;
 use crate::outcome::{CompactOutcome, outcome_of};
 use l4_mail::rests::RestFault;
 use l4_proc::assembly::assemble;
@@ -84,7 +85,7 @@ impl<'m> Team<'m> {
     }
 
     /// What they came to together.
-    pub(crate) fn into_outcome(self, alloc: Global) -> Result<CompactOutcome, NoMemory>
+    pub(crate) fn into_outcome(self, alloc: Global) -> Result<CompactOutcome<'m>, NoMemory>
         requires { IsTeam self }
         ensures { IfOk result (λ o. IsGathered self.entry.machine.now self.entry.processors.items (compact_findings_of o)) }
     {
@@ -92,7 +93,7 @@ impl<'m> Team<'m> {
         let _ = self.machine.cpus();
         let ending = ending(self.processors.as_slice(), self.all_handled);
         let at_home = at_home(alloc, self.machine, self.processors.as_slice())?;
-        let (history, events) = into_merged_history(alloc, self.machine, self.processors)?;
+        let (history, events) = run_history(alloc, self.machine, self.processors)?;
         outcome_of(
             alloc,
             self.machine,

@@ -3,9 +3,10 @@ ghost use Rattle.std.specs.Prelude.{◌≡◌, ◌<◌, ◌≤◌, List, IfOk, O
 ghost use Rattle.std.specs.List.{AllByRecursion};
 ghost use Rattle.std.specs.Option.{option_map};
 ghost use Rattle.l4_core_model.specs.Runs.{merged, told};
-ghost use Rattle.l4_proc.specs.Logs.{events, IsClosed};
+ghost use Rattle.l4_proc.specs.Logs.{events};
 ghost use Rattle.l4_proc.specs.declared.processor.Processor.{Processor as ProcessorOfMachine};
-ghost use Rattle.l4_machine.specs.EventsLeft.{all_left, least_place, left, HasToldFirst, IsUnmerged, RiseFrom};
+ghost use Rattle.l4_machine.specs.EventsLeft.{all_left, least_place, left, HasToldFirst, IsUnmerged};
+ghost use Rattle.l4_machine.specs.Rising.{RiseFrom};
 ghost use Rattle.l4_machine.specs.Gathers.{events_of};
 
 use l4_history::history::History;
@@ -18,13 +19,13 @@ use std::alloc::Global;
 #[derive(Clone, Copy)]
 pub(crate) struct Unmerged {
     // Where its processor stands in a list.
-    place: usize,
+    pub(crate) place: usize,
     // How many events it has.
-    count: usize,
+    pub(crate) count: usize,
     // How many of them are still to be told.
-    left: usize,
+    pub(crate) left: usize,
     // The stamp of the first of these.
-    stamp: Option<u64>,
+    pub(crate) stamp: Option<u64>,
 }
 
 /// The log of the processor at a place, of which no event is told.
@@ -43,13 +44,12 @@ pub(crate) fn untold(processors: &[Processor<'_>], place: usize) -> Unmerged
     }
 }
 
-// The stamp of the i-th event of a log, counted from 0. None where there are no more.
-fn stamp_of(log: &Log, i: usize) -> Option<u64>
-    requires { IsClosed log.now }
+/// The stamp of the i-th event of a log, counted from 0. None where there are no more.
+pub(crate) fn stamp_of(log: &Log, i: usize) -> Option<u64>
     ensures { result ≡ option_map (λ e. e.stamp) (slice_get (events log.now) i) }
 {
     if i < log.len() {
-        Some(log.event(i).stamp)
+        Some(log.stamp(i))
     } else {
         None
     }
@@ -67,8 +67,8 @@ pub(crate) fn count_left(logs: &[Unmerged]) -> Result<usize, NoMemory>
     Ok(count)
 }
 
-// The place of the log whose first event comes first: none has a lower stamp, and none before it the same one.
-fn first_place(logs: &[Unmerged]) -> Option<usize>
+/// The place of the log whose first event comes first: none has a lower stamp, and none before it the same one.
+pub(crate) fn first_place(logs: &[Unmerged]) -> Option<usize>
     ensures { result ≡ option_map (λ first. first.0) (least_place (map (λ log. log.stamp) logs.now)) }
 {
     let mut first: Option<(usize, u64)> = None;

@@ -1,5 +1,5 @@
 //! The log of one processor.
-ghost use Rattle.std.specs.Prelude.{◌≡◌, ◌<◌, ◌≤◌, ◌+◌, ◌-◌, ◌++◌, ◌^◌, [], ◌↔◌, false, IfNone, OnOk, OnErr, IsTrue, Some, length, slice_get, vec_len};
+ghost use Rattle.std.specs.Prelude.{◌≡◌, ◌<◌, ◌≤◌, ◌+◌, ◌-◌, ◌++◌, ◌^◌, [], ◌↔◌, false, IfNone, IfSome, OnOk, OnErr, IsTrue, Some, drop, length, slice_get, take, vec_len};
 ghost use Rattle.std.specs.Vec.{vec_capacity};
 ghost use Rattle.l4_proc.specs.Ends.{start_of};
 
@@ -101,6 +101,36 @@ impl Log {
             stamp: end.stamp,
             steps: self.told.sink().steps_between(start(ends, i), end.place),
         }
+    }
+
+    /// The stamp of the i-th event, counted from 0, below 2^62.
+    #[tactic(auto, using(crate::proofs::Ends::as_many))]
+    pub fn stamp(&self, i: usize) -> u64
+        requires { i < length (events self.now) }
+        ensures { option_map (λ e. e.stamp) (slice_get (events self.now) i) ≡ Some result }
+    {
+        let ends = self.ends.as_slice();
+        ends[i].stamp
+    }
+
+    /// Where the steps of the i-th event, counted from 0, stand in the history: the place of the first, and the one behind the last.
+    #[tactic(auto, using(crate::proofs::Ends::as_many))]
+    pub fn places(&self, i: usize) -> (usize, usize)
+        requires within { i < length (events self.now) }
+        requires closed { IsClosed self.now }
+        ensures steps { IfSome (slice_get (events self.now) i) (λ e. e.steps ≡ drop result.0 (take result.1 (told (events self.now)))) }
+        ensures within { result.1 ≤ length (told (events self.now)) }
+    {
+        let ends = self.ends.as_slice();
+        (start(ends, i), ends[i].place)
+    }
+
+    /// The steps of all events, one event behind the other.
+    pub fn history(&self) -> &History
+        requires { IsClosed self.now }
+        ensures { result.now.steps ≡ told (events self.now) }
+    {
+        self.told.sink()
     }
 
     /// The steps of all events, one event behind the other. Nothing is copied.

@@ -5,7 +5,8 @@ use Rattle.l4_mail.specs.declared.rests.RestFault.TheVariants as rest_fault
 use Rattle.l4_machine.specs.Outcomes.{compact_findings_of}
 use Rattle.l4_mail.specs.Rests.{are_all}
 use Rattle.l4_proc.specs.declared.processor.Processor.{Processor}
-use Rattle.l4_machine.specs.Gathers.{AreOfOne, HaveNumbers, IsGathered}
+use Rattle.l4_machine.specs.Gathers.{AreOfOne, HaveNumbers}
+use Rattle.l4_machine.specs.Gathered.{IsGathered}
 use Rattle.l4_machine.proofs.InOneHand.{all_there, all_same, numbers_same, gathered_same}
 use Rattle.l4_machine.proofs.gathering.gathered.Goals as goal
 

@@ -8,8 +8,12 @@ use Rattle.l4_merge.specs.Pasts.{Past, all_events}
 use Rattle.l4_machine.specs.Homes.{EndsIn}
 use Rattle.l4_machine.proofs.Cores.{handled_there}
 use Rattle.l4_machine.proofs.Outcomes.{sound}
+use Rattle.l4_machine.proofs.EventsLeft.{is_merge, logs_rise}
 use Rattle.l4_machine.proofs.InOneHand.{whole_pasts, gathered_history, is_gathered, quiet}
 use Rattle.l4_machine.proofs.gathering.rested_outcome.Goals as goal
+
+pub merged_history-requires-clause-rising : goal.merged_history-requires-clause-rising
+merged_history-requires-clause-rising c = logs_rise c.args.machine.now c.args.processors.now 0 c.args.machine.now.cpus c.requires.one
 
 pub outcome_of-requires : goal.outcome_of-requires
 outcome_of-requires c =
@@ -18,7 +22,7 @@ outcome_of-requires c =
     let whole = whole_pasts m ps c.requires.one c.requires.numbers c.requires.whole in
     let run = c.law_merge.ensures.whole m (pasts_of m ps) whole in
     let told_is = gathered_history m ps run.0 c.in_ok-history.history.steps run.1 (c.law_merge.ensures.sorted m (pasts_of m ps) whole)
-    c.in_ok-history.ensures.history in
+    (is_merge m ps c.in_ok-history.history.steps c.in_ok-history.ensures.history) in
     let lawful = c.law_core_run.ensures.lawful m run.0 c.cpus.ensures.lawful run.1.core_run in
     subst (IsHistory m) (sym told_is) lawful.history
 
@@ -29,7 +33,7 @@ returns c =
     let whole = whole_pasts m ps c.requires.one c.requires.numbers c.requires.whole in
     let run = c.law_merge.ensures.whole m (pasts_of m ps) whole in
     let told_is = gathered_history m ps run.0 c.in_ok-history.history.steps run.1 (c.law_merge.ensures.sorted m (pasts_of m ps) whole)
-    c.in_ok-history.ensures.history in
+    (is_merge m ps c.in_ok-history.history.steps c.in_ok-history.ensures.history) in
     let lawful = c.law_core_run.ensures.lawful m run.0 c.cpus.ensures.lawful run.1.core_run in
     let locals : List Local = map (λ (past : Past). past.local) (pasts_of m ps) in
     let ends : EndsIn run.0 locals c.args.all_handled = record {

@@ -9,15 +9,15 @@ use Rattle.l4_merge.proofs.Rest.{rests as run_rests, rested as run_rested}
 use Rattle.l4_merge.proofs.Sorted.{length-merged}
 use Rattle.l4_merge.proofs.Wholes.{make_whole, whole_sorts_as_merged}
 use Rattle.l4_types.specs.declared.reports.Ending.TheVariants.{Quiet}
-use Rattle.l4_machine.specs.Outcomes.{compact_findings_of}
+use Rattle.l4_machine.specs.Outcomes.{compact_findings_of, steps_of}
 use Rattle.l4_machine.specs.Gathers.{pasts_of, AreOfOne, AreResting, HaveNumbers}
 use Rattle.l4_machine.proofs.InOneHand.{gathered_history, is_gathered, quiet, whole_pasts}
 use Rattle.l4_machine.proofs.Members.{in_order_have_numbers}
 use Rattle.l4_machine.proofs.Outcomes.{sound}
 use Rattle.l4_machine.proofs.team.Team.into_outcome.Goals as goal
 
-pub into_merged_history-requires-clause-numbers : goal.into_merged_history-requires-clause-numbers
-into_merged_history-requires-clause-numbers c = in_order_have_numbers c.args.self.machine.now c.args.self.processors.items c.requires.come.in_order
+pub run_history-requires-clause-numbers : goal.run_history-requires-clause-numbers
+run_history-requires-clause-numbers c = in_order_have_numbers c.args.self.machine.now c.args.self.processors.items c.requires.come.in_order
 
 pub at_home-requires-clause-one : goal.at_home-requires-clause-one
 at_home-requires-clause-one c = subst (AreOfOne c.args.self.machine.now) (sym c.as_slice-2.ensures.value) c.requires.come.in_order.of_one
@@ -34,7 +34,7 @@ outcome_of-requires c =
     let all = c.requires.come.in_order in
     let whole = whole_pasts m ps all.of_one (in_order_have_numbers m ps all) c.requires.whole in
     let run = make_whole m (pasts_of m ps) whole in
-    let told_is = gathered_history m ps run.0 c.in_ok-history.history.steps run.1 (whole_sorts_as_merged m (pasts_of m ps) whole) c.in_ok-history.ensures.history in
+    let told_is = gathered_history m ps run.0 (steps_of c.in_ok-history.history) run.1 (whole_sorts_as_merged m (pasts_of m ps) whole) c.in_ok-history.ensures.history in
     let lawful = c.law_core_run.ensures.lawful m run.0 c.cpus.ensures.lawful run.1.core_run in
     subst (IsHistory m) (sym told_is) lawful.history
 
@@ -46,7 +46,7 @@ returns c =
     let numbers = in_order_have_numbers m ps all in
     let whole = whole_pasts m ps all.of_one numbers c.requires.whole in
     let run = make_whole m (pasts_of m ps) whole in
-    let told_is = gathered_history m ps run.0 c.in_ok-history.history.steps run.1 (whole_sorts_as_merged m (pasts_of m ps) whole) c.in_ok-history.ensures.history in
+    let told_is = gathered_history m ps run.0 (steps_of c.in_ok-history.history) run.1 (whole_sorts_as_merged m (pasts_of m ps) whole) c.in_ok-history.ensures.history in
     let lawful = c.law_core_run.ensures.lawful m run.0 c.cpus.ensures.lawful run.1.core_run in
     let locals : List Local = map (λ (past : Past). past.local) (pasts_of m ps) in
     let at_home = subst (λ qs. IsAtHome m (map (λ (past : Past). past.local) (pasts_of m qs)) c.in_ok-at_home.at_home) c.as_slice-2.ensures.value c.in_ok-at_home.ensures in

@@ -1,0 +1,48 @@
+//! The history of an outcome.
+ghost use Rattle.std.specs.Prelude.{◌≡◌, IfOk, filter_map};
+ghost use Rattle.l4_machine.specs.Outcomes.{steps_of};
+ghost use Rattle.l4_machine.specs.Waiting.{sought, IsSearch};
+
+use crate::logs::Logs;
+use crate::waiting::Search;
+use l4_history::history::History;
+use l4_types::errors::NoMemory;
+use l4_types::ids::ThreadId;
+use l4_types::steps::Name;
+use std::alloc::Global;
+
+/// The history of an outcome: its steps, or the logs that they are merged from where somebody asks for them.
+#[derive(Drop)]
+pub enum RunHistory<'m> {
+    /// The steps in compact form.
+    Steps(History),
+    /// The logs of several processors.
+    Logs(Logs<'m>),
+}
+
+impl RunHistory<'_> {
+    /// The steps in compact form. Those of logs come in order of stamp, and of equal ones by processor.
+    pub fn into_history(self, alloc: Global) -> Result<History, NoMemory>
+        ensures { IfOk result (λ history. history.steps ≡ steps_of self.entry) }
+    {
+        match self {
+            RunHistory::Steps(history) => Ok(history),
+            RunHistory::Logs(logs) => logs.merge(alloc),
+        }
+    }
+
+    /// The undecided sends that the steps begin, in order of beginning, with their destinations.
+    pub(crate) fn waiting(
+        &self,
+        alloc: Global,
+        search: &Search<'_>,
+    ) -> Result<Vec<(Name, ThreadId)>, NoMemory>
+        requires { IsSearch search.now }
+        ensures { IfOk result (λ sends. sends.items ≡ filter_map (sought search.now) (steps_of self.now)) }
+    {
+        match self {
+            RunHistory::Steps(history) => search.of_history(alloc, history),
+            RunHistory::Logs(logs) => logs.waiting(alloc, search),
+        }
+    }
+}

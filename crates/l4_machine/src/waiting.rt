@@ -1,0 +1,123 @@
+//! The sends of a run that are undecided.
+ghost use Rattle.std.specs.Prelude.{◌≡◌, ◌<◌, ◌≤◌, ◌++◌, [], IfOk, IfSome, OnOk, drop, false, filter_map, length, slice_get, take};
+ghost use Rattle.std.specs.List.{AllByRecursion};
+ghost use Rattle.l4_machine.specs.Homes.{sent_to, IsNotBelow};
+ghost use Rattle.l4_machine.specs.Waiting.{sought, IsSearch};
+
+use crate::homes::{AtHome, LastSend};
+use l4_history::history::History;
+use l4_script::machine::Machine;
+use l4_types::errors::NoMemory;
+use l4_types::ids::ThreadId;
+use l4_types::steps::Name;
+use std::alloc::Global;
+
+/// A search for the begun sends that are undecided, as the processors of their senders have them.
+#[derive(Clone, Copy)]
+pub(crate) struct Search<'a> {
+    machine: &'a Machine,
+    at_home: &'a AtHome,
+    // No undecided send has a lower number. Most of those of a long history have, and need not be looked for.
+    least: u64,
+}
+
+impl<'a> Search<'a> {
+    /// A search for what these threads have begun.
+    pub(crate) fn new(machine: &'a Machine, at_home: &'a AtHome) -> Search<'a>
+        ensures search { IsSearch result }
+        ensures machine { result.machine.now ≡ machine.now }
+        ensures threads { result.at_home.now ≡ at_home.now }
+    {
+        Search {
+            machine,
+            at_home,
+            least: least_undecided(at_home.sends.as_slice()),
+        }
+    }
+
+    /// The undecided sends that a history begins, in order of beginning, with their destinations.
+    pub(crate) fn of_history(
+        &self,
+        alloc: Global,
+        history: &History,
+    ) -> Result<Vec<(Name, ThreadId)>, NoMemory>
+        requires { IsSearch self.now }
+        ensures { IfOk result (λ sends. sends.items ≡ filter_map (sought self.now) history.now.steps) }
+    {
+        let mut sends = Vec::new(alloc);
+        self.push_between(history, 0, history.len(), &mut sends)?;
+        Ok(sends)
+    }
+
+    /// Puts those that the steps of a history from one place up to another begin behind others.
+    pub(crate) fn push_between(
+        &self,
+        history: &History,
+        start: usize,
+        end: usize,
+        sends: &mut Vec<(Name, ThreadId)>,
+    ) -> Result<(), NoMemory>
+        requires search { IsSearch self.now }
+        requires within { end ≤ length history.now.steps }
+        ensures { OnOk result (sends.new.items ≡ sends.old.items ++ filter_map (sought self.now) (drop start (take end history.now.steps))) }
+    {
+        for place in start..end {
+            if let Some(send) = self.send_at(history, place) {
+                sends.push(send)?;
+            }
+        }
+        Ok(())
+    }
+
+    /// Whether the steps of a history from one place up to another begin one.
+    pub(crate) fn finds_between(&self, history: &History, start: usize, end: usize) -> bool
+        requires search { IsSearch self.now }
+        requires within { end ≤ length history.now.steps }
+        ensures { result ≡ false → filter_map (sought self.now) (drop start (take end history.now.steps)) ≡ [] }
+    {
+        for place in start..end {
+            if self.send_at(history, place).is_some() {
+                return true;
+            }
+        }
+        false
+    }
+
+    // The one that the step at a place begins, and its destination.
+    fn send_at(&self, history: &History, place: usize) -> Option<(Name, ThreadId)>
+        requires search { IsSearch self.now }
+        requires within { place < length history.now.steps }
+        ensures { IfSome (slice_get history.now.steps place) (λ step. result ≡ sought self.now step) }
+    {
+        let name = history.begun(place)?;
+        if name.k() < self.least {
+            return None;
+        }
+        let at = self.machine.place_of(name.thread())?;
+        let to = self.destination(at, name.k())?;
+        Some((name, to))
+    }
+
+    // Where the send of this number of the thread at this place goes, while it is undecided.
+    fn destination(&self, place: usize, k: u64) -> Option<ThreadId>
+        ensures { result ≡ sent_to k (slice_get self.now.at_home.now.sends.items place) }
+    {
+        match self.at_home.sends.get(place) {
+            Some(last) if last.k == k => last.to,
+            _ => None,
+        }
+    }
+}
+
+// The least number of those of these sends that are undecided, the greatest of all where none is.
+fn least_undecided(sends: &[LastSend]) -> u64
+    ensures { AllByRecursion (IsNotBelow result) sends.now }
+{
+    let mut least = u64::MAX;
+    for send in sends {
+        if send.to.is_some() {
+            least = least.min(send.k);
+        }
+    }
+    least
+}

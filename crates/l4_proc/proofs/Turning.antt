@@ -202,6 +202,9 @@ hand_handled (Some p) from = by (nat_eq p.0 from) refl
 one_more : (n o t u : ℕ) → n ≡ o + 1 → t ≡ u → u ≤ o → n - t ≡ o - u + 1
 one_more n o t u more ticks few = omega (arith, more, ticks, few)
 
+pub same_port : (p : Port) → IsAsBefore p p
+same_port p = record { place = refl; posted = λ to. refl; taken = λ from. refl; kept = λ from. refl; room = λ to. omega arith }
+
 pub turn_taken : (old ready posted new : Processor) (told : Worker) (log : Log) (stamp : ℕ) → IsWhole old.port old.worker →
     IsWhole ready.port ready.worker → old.worker.log.ticks ≤ vec_len old.worker.log.ends →
     IsReady old ready → HasDone ready.worker told stamp → HasEnded told.log log stamp told.log.ticks →

@@ -167,9 +167,20 @@ impl<'m> Processor<'m> {
         self.get_ready()?;
         let stamp = self.worker.go_on()?;
         self.worker.log.end_turn(stamp);
-        self.post_all();
-        self.port.flush();
+        self.send_all();
         Ok(())
+    }
+
+    // Posts the letters of the event that has ended, and moves them on. Where there are none, what could be moved on was so before the event.
+    fn send_all(&mut self)
+        requires ways { AllByRecursion (λ p. HasWayTo self.old.port p.0) self.old.worker.log.told.letters }
+        requires room { (to : ℕ) → HasWayTo self.old.port to → length self.old.worker.log.told.letters ≤ room_to self.old.port to }
+        ensures { HasPostedOwn self.old self.new }
+    {
+        if self.worker.log.has_letters() {
+            self.post_all();
+            self.port.flush();
+        }
     }
 
     // Posts the letters of the event that has ended.
@@ -178,9 +189,6 @@ impl<'m> Processor<'m> {
         requires room { (to : ℕ) → HasWayTo self.old.port to → length self.old.worker.log.told.letters ≤ room_to self.old.port to }
         ensures { HasPostedOwn self.old self.new }
     {
-        if !self.worker.log.has_letters() {
-            return;
-        }
         'letters: while let Some((to, letter)) = self.worker.log.take_letter() {
             self.port.post(to, letter);
         }

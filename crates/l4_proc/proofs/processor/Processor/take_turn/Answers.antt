@@ -1,6 +1,6 @@
 use Rattle.std.proofs.Common.{refl}
 use Rattle.std.proofs.lemmas.Result.{err_from_is_err_and}
-use Rattle.l4_proc.proofs.Turning.{done_whole, letters_have_room, letters_have_ways, refused_stopped, refused_taken, turn_taken, unready_taken, was_idle}
+use Rattle.l4_proc.proofs.Turning.{same_port, done_whole, letters_have_room, letters_have_ways, refused_stopped, refused_taken, turn_taken, unready_taken, was_idle}
 use Rattle.l4_proc.proofs.processor.Processor.take_turn.Goals as goal
 
 pub returns-in_err-get_ready-clause-err : goal.returns-in_err-get_ready-clause-err
@@ -24,19 +24,19 @@ invariant_of-self-2 c = record {
       c.in_ok-get_ready.ensures.ok c.args.self.now.whole c.get_ready.new.self.whole c.in_ok-stamp.ensures.ok c.end_turn.ensures;
 }
 
-pub post_all-requires-clause-ways : goal.post_all-requires-clause-ways
-post_all-requires-clause-ways c = rw c.end_turn.ensures.told (letters_have_ways c.get_ready.new.self c.go_on.new.self _ c.get_ready.new.self.whole
+pub send_all-requires-clause-ways : goal.send_all-requires-clause-ways
+send_all-requires-clause-ways c = rw c.end_turn.ensures.told (letters_have_ways c.get_ready.new.self c.go_on.new.self _ c.get_ready.new.self.whole
     c.in_ok-stamp.ensures.machine c.in_ok-stamp.ensures.cpu c.in_ok-stamp.ensures.ok)
 
-pub post_all-requires-clause-room : goal.post_all-requires-clause-room
-post_all-requires-clause-room c = rw c.end_turn.ensures.told (letters_have_room c.args.self.now c.get_ready.new.self c.go_on.new.self _
+pub send_all-requires-clause-room : goal.send_all-requires-clause-room
+send_all-requires-clause-room c = rw c.end_turn.ensures.told (letters_have_room c.args.self.now c.get_ready.new.self c.go_on.new.self _
     c.in_ok-get_ready.ensures.ok c.in_ok-stamp.ensures.machine c.in_ok-stamp.ensures.cpu c.in_ok-stamp.ensures.ok)
 
 pub returns-clause-ok : goal.returns-clause-ok
-returns-clause-ok c = turn_taken c.args.self.now c.get_ready.new.self c.post_all.new.self _ c.go_on.new.self c.end_turn.new.self _
+returns-clause-ok c = turn_taken c.args.self.now c.get_ready.new.self c.send_all.new.self _ c.go_on.new.self c.end_turn.new.self _
     c.args.self.now.whole c.get_ready.new.self.whole c.args.self.now.worker.log.few
-    c.in_ok-get_ready.ensures.ok c.in_ok-stamp.ensures.ok c.end_turn.ensures c.post_all.ensures.port c.post_all.ensures.core c.post_all.ensures.hand
-    c.post_all.ensures.log c.flush.ensures.same refl
+    c.in_ok-get_ready.ensures.ok c.in_ok-stamp.ensures.ok c.end_turn.ensures c.send_all.ensures.port c.send_all.ensures.core c.send_all.ensures.hand
+    c.send_all.ensures.log (same_port c.send_all.new.self.port) refl
 
 pub returns-in_err-get_ready-clause-nothing : goal.returns-in_err-get_ready-clause-nothing
 returns-in_err-get_ready-clause-nothing c =

@@ -24,6 +24,16 @@ def seconds(words, status=0):
     return time.perf_counter() - start
 
 
+def seconds_together(several, status=0):
+    """The time of several commands at once, until the last one ends."""
+    start = time.perf_counter()
+    programs = [subprocess.Popen(words, stdout=subprocess.DEVNULL) for words in several]
+    ends = [program.wait() for program in programs]
+    taken = time.perf_counter() - start
+    assert all(end == status for end in ends), f"one of {len(several)} programs ended with another status than {status}"
+    return taken
+
+
 def least_seconds(several, runs, status=0):
     """The least time of each of several commands, which are run in turn: what else the machine did can only add to it."""
     rounds = [[seconds(words, status) for words in several] for _ in range(runs)]

@@ -4,7 +4,7 @@ import itertools
 import sys
 
 import texts
-from measure import instructions, least_seconds, peak_mebibytes
+from measure import instructions, least_seconds, peak_mebibytes, seconds_together
 from tables import Bench, row, table
 
 SPENT = 3
@@ -23,10 +23,11 @@ SEVERAL = {
     "512 pairs across 16 processors": (texts.MOST_CPUS, texts.MOST_THREADS // 2, 16_000, 48_000),
 }
 
-# Each with its number of processors, its threads for a machine of so many, and how many times as fast it is to be as on one, with four cores of the host.
+# Each with its number of processors, its threads for a machine of so many, how many times as fast it is to be as on one, with four cores of the host, and
+# the threads of one of the processors, where they do without the others.
 SIDE_BY_SIDE = [
-    ("64 threads on each of 4 processors, that call each other", 4, lambda cpus: texts.among_themselves(4, 64, cpus), 2.5),
-    ("two threads that call each other across 2 processors", 2, lambda cpus: texts.across(1, cpus), 0.2),
+    ("64 threads on each of 4 processors, that call each other", 4, lambda cpus: texts.among_themselves(4, 64, cpus), 2.5, texts.among_themselves(1, 64, 1)),
+    ("two threads that call each other across 2 processors", 2, lambda cpus: texts.across(1, cpus), 0.2, None),
 ]
 
 
@@ -75,17 +76,23 @@ def show_several(bench):
         row(name, *(f"{count:,.0f}" for count in counts), *peaks(bench, file, text))
 
 
-def turns_a_second(words):
-    """The most turns a second of the longest run, taken of the least time."""
-    return MOST_TURNS / least_seconds([words(MOST_TURNS)], TIMED_RUNS, SPENT)[0]
+def turns_a_second(several):
+    """The most turns a second of several ways to take as many turns, each a list of programs that start at once. They are tried in turn."""
+    rounds = [[seconds_together(programs, SPENT) for programs in several] for _ in range(TIMED_RUNS)]
+    return [MOST_TURNS / min(times) for times in zip(*rounds)]
 
 
 def show_side_by_side(bench):
-    """The turns a second of machines of several processors, and of the same threads on one."""
-    table("The same threads on several processors and on one", "turns a second, several", "one", "times as fast (to be at least)")
-    for name, cpus, threads, least in SIDE_BY_SIDE:
-        rates = [turns_a_second(run(bench, f"side-{number}.l4", texts.machine(threads(number), number), True)) for number in (cpus, 1)]
-        row(name, *(f"{rate:,.0f}" for rate in rates), f"{rates[0] / rates[1]:.2f} ({least})")
+    """The turns a second of machines of several processors, of the same threads on one, and of what the host can do: as many programs at once, each with
+    the threads of one of the processors and its share of the turns."""
+    table("The same threads on several processors and on one", "turns a second, several", "one", "times as fast (to be at least)",
+          "as many programs at once", "times as fast as one")
+    for name, cpus, threads, least, share in SIDE_BY_SIDE:
+        ways = [[run(bench, f"side-{number}.l4", texts.machine(threads(number), number), True)(MOST_TURNS)] for number in (cpus, 1)]
+        if share:
+            ways.append([run(bench, "share.l4", texts.machine(share), True)(MOST_TURNS // cpus)] * cpus)
+        several, one, *apart = turns_a_second(ways)
+        row(name, f"{several:,.0f}", f"{one:,.0f}", f"{several / one:.2f} ({least})", *(f"{rate:,.0f}" for rate in apart), *(f"{rate / one:.2f}" for rate in apart))
 
 
 bench = Bench(*sys.argv[1:])

@@ -1,5 +1,5 @@
 //! The lines of a report: of each thread, of each undecided send, and of the ending.
-ghost use Rattle.std.specs.Prelude.{◌≡◌, ◌<◌, ◌++◌, codes, decimal, map, flat_map, OnOk, OnErr, length};
+ghost use Rattle.std.specs.Prelude.{◌≡◌, ◌<◌, ◌++◌, codes, decimal, map, flat_map, OnOk, OnErr};
 ghost use Rattle.std.specs.String.{string_bytes};
 ghost use Rattle.l4_types.specs.ReportView.{state_of_view, report_of_view};
 ghost use Rattle.l4_jobs.specs.ReportLines.{state_word, id_word, shown_registers, thread_line, waiting_line, ending_word, report_text};

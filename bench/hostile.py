@@ -9,6 +9,8 @@ import sys
 
 SEED = 20_261_124
 TURNS = "300"
+# How far it is is told after so many of each.
+PROGRESS = 5_000
 KINDS = "BadLine|BadNumber|BadId|BadCpu|TypedItems|DoubleId|TooManyThreads|TooManyInstructions|BadTarget|TooLong"
 FAULTS = re.compile(rf"l4run: (line \d+: (?:{KINDS})|schedule item \d+|turns out of range|trace line \d+|refused at step \d+)\n")
 PASSED = re.compile(rb"passed \d+ (quiet|spent)\n")
@@ -113,7 +115,9 @@ def main(program, folder, count, part):
     name, trace = f"{folder}/hostile-{part}.l4", f"{folder}/hostile-{part}.trace"
     seen = {about: collections.Counter() for about in ("texts", "traces", "schedules")}
     dice = random.Random(SEED + part)
-    for _ in range(count):
+    for done in range(count):
+        if done and done % PROGRESS == 0:
+            print(f"part {part}: {done} of {count} each", file=sys.stderr)
         text = machine(dice).encode()
         write(name, spoilt(dice, text))
         judged([program, "run", name, "--turns", TURNS], seen["texts"], lambda out: True)

@@ -53,8 +53,30 @@ def function_at(text, at):
     return name
 
 
+class Batch(dict):
+    """Mistakes that are planted together: the pairs of each and its functions, by its name."""
+
+    def __init__(self):
+        super().__init__()
+        # The files as the mistakes so far leave them.
+        self.texts = {}
+
+    def takes(self, home, pairs, functions):
+        """Whether one more touches none of their functions, and its texts still stand once where they have been planted."""
+        texts = {}
+        for file, old, new in pairs:
+            text = texts.get(file) or self.texts.get(file) or (home / file).read_text()
+            if text.count(old) != 1:
+                return False
+            texts[file] = text.replace(old, new)
+        if any(functions & others for _, others in self.values()):
+            return False
+        self.texts |= texts
+        return True
+
+
 def batches_of(home, mistakes):
-    """Mistakes that touch different functions of the same crate, by the name of each: its pairs and its functions."""
+    """Mistakes that touch different functions of the same crate."""
     together, alone = [], []
     for name, pairs in mistakes.items():
         functions = set()
@@ -66,9 +88,10 @@ def batches_of(home, mistakes):
         if any(function is None for _, function in functions):
             alone.append({name: (pairs, functions)})
             continue
-        free = next((batch for batch in together if all(not functions & others for _, others in batch.values())), None)
+        free = next((batch for batch in together if batch.takes(home, pairs, functions)), None)
         if free is None:
-            together.append(free := {})
+            together.append(free := Batch())
+            free.takes(home, pairs, functions)
         free[name] = pairs, functions
     return together + alone
 

@@ -1,16 +1,16 @@
 -- Bits of words, as sets of places.
-use Rattle.std.proofs.Common.{◌≡◌, ℕ, zero, suc, ◌+◌, ◌-◌, ◌*◌, ◌/◌, ◌%◌, ◌^◌, ◌<◌, ◌≤◌, Bool, true, false, cond, ◌||◌, ◌&&◌, not, List, length, get_or, set, Some, None, refl, sym, ap, ◌∙◌, inl, inr, ◌⊎◌, arith, bit_or, bit_and, w64}
+use Rattle.std.proofs.Common.{◌≡◌, ℕ, zero, suc, ◌+◌, ◌-◌, ◌*◌, ◌/◌, ◌%◌, ◌^◌, ◌<◌, ◌≤◌, Bool, true, false, cond, ◌||◌, ◌&&◌, not, List, length, get_or, set, drop, take, Some, None, Option, refl, sym, ap, ◌∙◌, inl, inr, ◌⊎◌, arith, bit_or, bit_and, w64}
 use Rattle.std.specs.Prelude.{◌==◌, position, nat_lt}
 use Rattle.std.specs.List.{position_or_len}
 use Rattle.std.specs.Int.{bit_at}
 use Rattle.std.specs.Int.Count.{count_trailing_zeros}
 use Rattle.std.proofs.lemmas.Bool.{cases_eq, cases_lt, eq-eqb, ne_eqb, lt-ltb, le-ltb}
-use Rattle.std.proofs.lemmas.List.{get_or-set_same, get_or-set_other, get_or_past}
+use Rattle.std.proofs.lemmas.List.{get_or-set_same, get_or-set_other, get_or_past, get_or-drop, length-drop, take_all}
 use Rattle.std.proofs.lemmas.Grind.{common_steps}
 use Rattle.std.proofs.lemmas.List.Quantifiers.{position-Some}
 use Rattle.std.proofs.lemmas.List.Sums.{fails_before_first}
 use Rattle.std.proofs.lemmas.Nat.Bits.{bit_at_set_same, bit_at_set_other, bit_at_clear_same, bit_at_clear_other, bit_at-zero, bit_at-trailing_zeros}
-use Rattle.l4_core.specs.Places.{has, is_filled, IsLowest, IsFirst, count}
+use Rattle.l4_core.specs.Places.{has, is_filled, IsLowest, IsFirst, AreZeroBefore, count}
 
 -- A place is one bit of one word.
 row : ℕ → ℕ
@@ -97,54 +97,88 @@ removed words place other long small = changed words place _ other (λ a b. a &&
             let other = bit_at_clear_other w64 (get_or words (place / 64) 0) (place % 64) (omega arith) i lt e in
             ap (λ n. n == 1) other ∙ sym (ap (λ b. (bit_at (get_or words (place / 64) 0) i == 1) && not b) (ne_eqb i (place % 64) e) ∙ keeps _)
 
--- The least place
+-- The words before the first one with a place
 
-zero_word : (word i : ℕ) → is_filled word ≡ false → (bit_at word i == 1) ≡ false
-zero_word word i e = by (cases_eq word 0)
+not_filled : (word : ℕ) → is_filled word ≡ false → word ≡ 0
+not_filled word e = by (cases_eq word 0)
   where
-    by : (word ≡ 0) ⊎ (word ≡ 0 → ⊥) → (bit_at word i == 1) ≡ false
-    by (inl none) = ap (λ w. bit_at w i == 1) none ∙ ap (λ n. n == 1) (bit_at-zero i)
+    by : (word ≡ 0) ⊎ (word ≡ 0 → ⊥) → word ≡ 0
+    by (inl none) = none
     by (inr some) = let filled : is_filled word ≡ true = ap not (ne_eqb word 0 some) in let false_is : true ≡ false = sym filled ∙ e in cc
 
-position_none : (xs : List ℕ) → position is_filled xs ≡ None → (k : ℕ) → k < length xs → is_filled (get_or xs k 0) ≡ false
-position_none xs e k lt =
-    let le : length xs ≤ position_or_len is_filled xs = grind (arith, common_steps) in
-    fails_before_first is_filled xs k 0 (omega (arith, le, lt))
+-- A search from a row on is one in what is left of the words.
+pub found_from : (words : List ℕ) (start : ℕ) (found : Option ℕ) → length words ≡ 16 → found ≡ position is_filled (take (16 - start) (drop start words)) → position is_filled (drop start words) ≡ found
+found_from words start found long e = ap (position is_filled) (sym (take_all (16 - start) (drop start words) (omega (arith, long, length-drop start words)))) ∙ sym e
 
-pub filled_word : (words : List ℕ) (r : ℕ) → position is_filled words ≡ Some r → 0 < get_or words r 0
-filled_word words r at = by (cases_eq (get_or words r 0) 0)
+-- The words that a search from there passes are zero too.
+zero_until : (words : List ℕ) (start next : ℕ) → AreZeroBefore words start → next ≤ length words →
+    ((k : ℕ) → start + k < next → is_filled (get_or (drop start words) k 0) ≡ false) → AreZeroBefore words next
+zero_until words start next before few passed = record { within = few; empty = λ row less. by row less (cases_lt row start) }
   where
-    by : (get_or words r 0 ≡ 0) ⊎ (get_or words r 0 ≡ 0 → ⊥) → 0 < get_or words r 0
-    by (inl none) = let filled = (position-Some is_filled words r 0 at).1 in let empty : is_filled (get_or words r 0) ≡ false = ap is_filled none in let wrong : true ≡ false = sym filled ∙ empty in cc
+    by : (row : ℕ) → row < next → (row < start) ⊎ (start ≤ row) → get_or words row 0 ≡ 0
+    by row less (inl lt) = before.empty row lt
+    by row less (inr le) =
+        let same : start + (row - start) ≡ row = omega (arith, le) in
+        let read : get_or (drop start words) (row - start) 0 ≡ get_or words row 0 = get_or-drop start words (row - start) 0 ∙ ap (λ r. get_or words r 0) same in
+        sym read ∙ not_filled (get_or (drop start words) (row - start) 0) (passed (row - start) (omega (arith, less, same)))
+
+pub zero_to_end : (words : List ℕ) (start : ℕ) → length words ≡ 16 → AreZeroBefore words start → position is_filled (drop start words) ≡ None → AreZeroBefore words 16
+zero_to_end words start long before none =
+    let rest = length-drop start words in
+    let le : length (drop start words) ≤ position_or_len is_filled (drop start words) = grind (arith, common_steps) in
+    zero_until words start 16 before (omega (arith, long)) (λ k less. fails_before_first is_filled (drop start words) k 0 (omega (arith, le, less, rest, long)))
+
+pub zero_to_filled : (words : List ℕ) (start more : ℕ) → AreZeroBefore words start → position is_filled (drop start words) ≡ Some more → AreZeroBefore words (start + more)
+zero_to_filled words start more before at =
+    let p = position-Some is_filled (drop start words) more 0 at in
+    let less : more < length (drop start words) = p.0 in
+    zero_until words start (start + more) before (omega (arith, less, length-drop start words)) (λ k lt. p.2 k (omega (arith, lt)))
+
+pub filled_word : (words : List ℕ) (start more : ℕ) → position is_filled (drop start words) ≡ Some more → 0 < get_or words (start + more) 0
+filled_word words start more at = by (cases_eq (get_or words (start + more) 0) 0)
+  where
+    by : (get_or words (start + more) 0 ≡ 0) ⊎ (get_or words (start + more) 0 ≡ 0 → ⊥) → 0 < get_or words (start + more) 0
+    by (inl none) =
+        let filled = (position-Some is_filled (drop start words) more 0 at).1 in
+        let empty : is_filled (get_or (drop start words) more 0) ≡ false = ap is_filled (get_or-drop start words more 0 ∙ none) in
+        let wrong : true ≡ false = sym filled ∙ empty in cc
     by (inr some) = omega arith
 
-pub none_is : (words : List ℕ) (place : ℕ) → position is_filled words ≡ None → has words place ≡ false
-none_is words place none = by (cases_lt (place / 64) (length words))
-  where
-    by : (place / 64 < length words) ⊎ (length words ≤ place / 64) → has words place ≡ false
-    by (inl lt) = zero_word (get_or words (place / 64) 0) (place % 64) (position_none words none (place / 64) lt)
-    by (inr le) = ap (λ w. bit_at w (place % 64) == 1) (get_or_past words (place / 64) 0 le) ∙ ap (λ n. n == 1) (bit_at-zero (place % 64))
+pub filled_row : (words : List ℕ) (start more : ℕ) → length words ≡ 16 → position is_filled (drop start words) ≡ Some more → start + more < 16
+filled_row words start more long at =
+    let less : more < length (drop start words) = (position-Some is_filled (drop start words) more 0 at).0 in
+    omega (arith, less, length-drop start words, long)
 
-pub first_is : (words : List ℕ) (r b : ℕ) → length words ≡ 16 → position is_filled words ≡ Some r → IsLowest (get_or words r 0) b → IsFirst words (r * 64 + b)
-first_is words r b long at low =
-    let p = position-Some is_filled words r 0 at in
-    let lt : r < length words = p.0 in
+-- The least place
+
+zero_word : (word i : ℕ) → word ≡ 0 → (bit_at word i == 1) ≡ false
+zero_word word i e = ap (λ w. bit_at w i == 1) e ∙ ap (λ n. n == 1) (bit_at-zero i)
+
+pub none_is : (words : List ℕ) (place : ℕ) → length words ≡ 16 → AreZeroBefore words 16 → has words place ≡ false
+none_is words place long before = by (cases_lt (place / 64) 16)
+  where
+    by : (place / 64 < 16) ⊎ (16 ≤ place / 64) → has words place ≡ false
+    by (inl lt) = zero_word (get_or words (place / 64) 0) (place % 64) (before.empty (place / 64) lt)
+    by (inr le) = zero_word (get_or words (place / 64) 0) (place % 64) (get_or_past words (place / 64) 0 (omega (arith, le, long)))
+
+pub first_is : (words : List ℕ) (r b : ℕ) → r < 16 → AreZeroBefore words r → IsLowest (get_or words r 0) b → IsFirst words (r * 64 + b)
+first_is words r b lt before low =
     let bits : b < 64 = low.within in
     let up : (r * 64 + b) / 64 ≡ r = omega arith in
     let down : (r * 64 + b) % 64 ≡ b = omega arith in
     record {
-      within = omega (arith, long, lt, bits);
+      within = omega (arith, lt, bits);
       there = ap (λ w. bit_at (get_or words w 0) ((r * 64 + b) % 64) == 1) up ∙ ap (λ i. bit_at (get_or words r 0) i == 1) down ∙ ap (λ n. n == 1) low.there;
-      least = λ other less. before other less p.2 (cases_eq (other / 64) r);
+      least = λ other less. earlier other less (cases_eq (other / 64) r);
     }
   where
-    before : (other : ℕ) → other < r * 64 + b → ((k : ℕ) → k < r → is_filled (get_or words k 0) ≡ false) → (other / 64 ≡ r) ⊎ (other / 64 ≡ r → ⊥) → has words other ≡ false
-    before other less empty (inl e) =
+    earlier : (other : ℕ) → other < r * 64 + b → (other / 64 ≡ r) ⊎ (other / 64 ≡ r → ⊥) → has words other ≡ false
+    earlier other less (inl e) =
         let bits : b < 64 = low.within in
         ap (λ w. bit_at (get_or words w 0) (other % 64) == 1) e ∙ ap (λ n. n == 1) (low.lowest (other % 64) (omega (arith, e, less, bits)))
-    before other less empty (inr e) =
+    earlier other less (inr e) =
         let bits : b < 64 = low.within in
-        zero_word (get_or words (other / 64) 0) (other % 64) (empty (other / 64) (lt_of (other / 64) r (omega (arith, less, bits)) e))
+        zero_word (get_or words (other / 64) 0) (other % 64) (before.empty (other / 64) (lt_of (other / 64) r (omega (arith, less, bits)) e))
       where
         lt_of : (a c : ℕ) → a ≤ c → (a ≡ c → ⊥) → a < c
         lt_of a c le ne = by (cases_lt a c)

@@ -1,7 +1,7 @@
 -- The local states that a processor comes to.
 use Rattle.std.specs.Prelude.{◌≡◌, ℕ, ◌+◌, ◌<◌, ◌≤◌, ◌^◌, true, Option, Some, None, List, is_some, length, slice_index_or}
 use Rattle.std.specs.List.{AllByRecursion}
-use Rattle.l4_model.specs.Words.{GlobalId, clock_limit}
+use Rattle.l4_model.specs.Words.{GlobalId, clock_limit, period_limit}
 use Rattle.l4_model.specs.Machine.{Machine}
 use Rattle.l4_model.specs.World.{Send, Phase, Ready, Sending, Deleted}
 use Rattle.l4_core_model.specs.Plain as plain
@@ -44,7 +44,7 @@ pub record IsReadied (m : Machine) (cpu : ℕ) (l : Local) (i : ℕ) : Type 0 wh
 
 -- Each armed deadline is less than 2^42 ticks away, as each period is long.
 abbrev pub AreNear : (clock : ℕ) → (armed : List (ℕ × ℕ)) → Type 0
-AreNear clock armed = AllByRecursion (λ e. e.0 < clock + 2 ^ 42) armed
+AreNear clock armed = AllByRecursion (λ e. e.0 < clock + period_limit) armed
 
 pub record IsSettled (m : Machine) (cpu : ℕ) (l : Local) : Type 0 where
   pub threads : length l.threads ≡ length m.threads

@@ -1,12 +1,12 @@
 //! What one processor knows: its threads, their lists, its clock, and of other processors' threads what it was told.
-ghost use Rattle.std.specs.Prelude.{◌≡◌, ◌<◌, ◌≤◌, ◌+◌, ◌^◌, Some, length, false, is_some, map, replicate, IfOk, IfSome, slice_get};
+ghost use Rattle.std.specs.Prelude.{◌≡◌, ◌<◌, ◌≤◌, ◌+◌, Some, length, false, is_some, map, replicate, IfOk, IfSome, slice_get};
 ghost use Rattle.std.specs.Option.{option_map};
 ghost use Rattle.l4_model.specs.Machine.{place_of, is_place, most_processors, most_threads, most_instructions};
 ghost use Rattle.l4_model.specs.World.{Send, is_deleted, opening_thread, receive_now};
 ghost use Rattle.l4_model.specs.Conditions.{instruction};
 ghost use Rattle.l4_model.specs.History.{report_of};
 ghost use Rattle.l4_model.specs.Rules.{accepts, ask_act};
-ghost use Rattle.l4_model.specs.Words.{clock_limit};
+ghost use Rattle.l4_model.specs.Words.{clock_limit, period_limit};
 ghost use Rattle.l4_types.specs.ReportView.{report_of_view};
 ghost use Rattle.l4_types.specs.StepView.{what_of};
 ghost use Rattle.l4_script.specs.Scripts.{instr_of};
@@ -122,7 +122,7 @@ impl<'m> Known<'m> {
     /// The least deadline that a thread is armed for, in ticks, below the clock plus 2^42.
     pub(crate) fn least_deadline(&self) -> Option<u64>
         ensures value { result ≡ option_map (λ e. e.0) (slice_get self.now.local.lists.armed 0) }
-        ensures near { IfSome result (λ deadline. deadline < self.now.local.clock + 2 ^ 42) }
+        ensures near { IfSome result (λ deadline. deadline < self.now.local.clock + period_limit) }
     {
         self.lists.least_deadline()
     }

@@ -16,14 +16,19 @@ const WORDS: usize = MOST_THREADS / WIDTH;
 #[derive(Drop)]
 pub struct Places {
     words: [u64; WORDS],
+    // The words before it are zero, so that the search for the least place begins here.
+    filled_from: usize,
 }
 
 impl Model for Places {
     ghost use Rattle.std.specs.Prelude.{ℕ, List};
+    ghost use Rattle.l4_core.specs.Places.{AreZeroBefore};
 
     ghost Value = { List ℕ };
 
     ghost view = { λ s. s.words };
+
+    ghost invariant = { λ s. AreZeroBefore s.words s.filled_from };
 }
 
 impl Places {
@@ -31,7 +36,10 @@ impl Places {
     pub fn new() -> Places
         ensures { (place : ℕ) → has result place ≡ false }
     {
-        Places { words: [0; WORDS] }
+        Places {
+            words: [0; WORDS],
+            filled_from: WORDS,
+        }
     }
 
     /// Puts a place in, where it is not in yet.
@@ -40,6 +48,7 @@ impl Places {
         ensures { (other : ℕ) → has self.new other ≡ (has self.old other || other == place) }
     {
         self.words[place / WIDTH] |= 1 << (place % WIDTH);
+        self.filled_from = self.filled_from.min(place / WIDTH);
     }
 
     /// Puts all places below a number in.
@@ -56,7 +65,10 @@ impl Places {
     pub fn copy(&self) -> Places
         ensures { result ≡ self.now }
     {
-        Places { words: self.words }
+        Places {
+            words: self.words,
+            filled_from: self.filled_from,
+        }
     }
 
     /// Takes a place out, where it is in.
@@ -75,12 +87,17 @@ impl Places {
         self.words[place / WIDTH] >> (place % WIDTH) & 1 == 1
     }
 
-    /// The least place.
-    pub fn first(&self) -> Option<usize>
-        ensures { MatchOption result ((place : ℕ) → has self.now place ≡ false) (IsFirst self.now) }
+    /// The least place. Where it is found is kept for the next search.
+    pub fn first(&mut self) -> Option<usize>
+        ensures least { MatchOption result ((place : ℕ) → has self.old place ≡ false) (IsFirst self.old) }
+        ensures same { self.new ≡ self.old }
     {
-        let row = first_filled(&self.words)?;
-        Some(row * WIDTH + lowest(self.words[row]))
+        let Some(skipped) = first_filled(&self.words[self.filled_from..]) else {
+            self.filled_from = WORDS;
+            return None;
+        };
+        self.filled_from += skipped;
+        Some(self.filled_from * WIDTH + lowest(self.words[self.filled_from]))
     }
 }
 

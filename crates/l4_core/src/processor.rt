@@ -1,7 +1,7 @@
 //! One processor: its turns and its clock.
-ghost use Rattle.std.specs.Prelude.{◌≡◌, ◌+◌, ◌<◌, IfOk, IfSome, is_some, ◌^◌, length, slice_get, true, ℕ, ◌||◌, ◌==◌};
+ghost use Rattle.std.specs.Prelude.{◌≡◌, ◌+◌, ◌<◌, IfOk, IfSome, is_some, length, slice_get, true, ℕ, ◌||◌, ◌==◌};
 ghost use Rattle.std.specs.Option.{option_map};
-ghost use Rattle.l4_model.specs.Words.{clock_limit};
+ghost use Rattle.l4_model.specs.Words.{clock_limit, period_limit};
 ghost use Rattle.l4_model.specs.History.{report_of};
 ghost use Rattle.l4_core_model.specs.Local.{declared, is_own, opening_local, thread};
 ghost use Rattle.l4_core_model.specs.Plain.{due_block};
@@ -134,7 +134,7 @@ impl<'m> Core<'m> {
     /// The least deadline that a thread is armed for, in ticks, below the clock plus 2^42.
     pub fn least_deadline(&self) -> Option<u64>
         ensures value { result ≡ option_map (λ e. e.0) (slice_get self.now.local.lists.armed 0) }
-        ensures near { IfSome result (λ deadline. deadline < self.now.local.clock + 2 ^ 42) }
+        ensures near { IfSome result (λ deadline. deadline < self.now.local.clock + period_limit) }
     {
         self.known.least_deadline()
     }

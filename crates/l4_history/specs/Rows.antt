@@ -1,10 +1,10 @@
 -- What the rows of a history tell: its records, the heads of its deliveries, and the words of all of them.
-use Rattle.std.specs.Prelude.{◌≡◌, ℕ, ◌+◌, ◌<◌, ◌≤◌, ◌^◌, ⊤, Bool, true, false, Option, Some, None, List, ◌++◌, length, map, take, drop, slice_get, All}
+use Rattle.std.specs.Prelude.{◌≡◌, ℕ, ◌+◌, ◌<◌, ◌≤◌, ⊤, Bool, true, false, Option, Some, None, List, ◌++◌, length, map, take, drop, slice_get, All}
 use Rattle.l4_history.specs.declared.records.Record.{Record}
 use Rattle.l4_history.specs.declared.records.Record.TheVariants.{Local, Begin, Queue, Deliver, Wait, SendTimeout, ReceiveTimeout, SendNobody, ReceiveNobody, SendCancel, ReceiveCancel, Drop, Order, Obey, Tick}
 use Rattle.l4_history.specs.declared.records.Head.{Head}
 use Rattle.l4_history.specs.declared.step_ref.DeliveryRef.{DeliveryRef}
-use Rattle.l4_model.specs.Words.{global_id, register_count}
+use Rattle.l4_model.specs.Words.{global_id, label_limit, register_count}
 use Rattle.l4_model.specs.World.{Message}
 use Rattle.l4_model.specs.Rules.{received_tag}
 use Rattle.l4_model.specs.Steps as steps
@@ -52,14 +52,14 @@ told records heads words = map (step_at heads words) records
 pub record IsHead (words : ℕ) (h : Head) : Type 0 where
   pub within : h.start + h.count ≤ words
   pub count : h.count < register_count
-  pub label : h.label < 2 ^ 48
+  pub label : h.label < label_limit
 
 -- The head of a delivery whose words begin at a place of the row.
 pub record IsHeadOf (d : DeliveryRef) (start : ℕ) (h : Head) : Type 0 where
   pub begins : h.start ≡ start
   pub count : h.count ≡ length d.message.words
   pub few : h.count < register_count
-  pub label : h.label < 2 ^ 48
+  pub label : h.label < label_limit
   pub delivery : record { name = h.name; receiver = h.receiver; message = record { label = h.label; words = d.message.words; propagated = h.propagated; shown = h.shown; actual = h.actual }; cross = h.cross } ≡ d
 
 -- A record that names none but the first heads, so many.

@@ -1,6 +1,6 @@
 //! A message that is only looked at.
-ghost use Rattle.std.specs.Prelude.{◌≡◌, ◌^◌, ◌<◌, length, false};
-ghost use Rattle.l4_model.specs.Words.{register_count};
+ghost use Rattle.std.specs.Prelude.{◌≡◌, ◌<◌, length, false};
+ghost use Rattle.l4_model.specs.Words.{label_limit, register_count};
 ghost use Rattle.l4_types.specs.Flags.{flags_of};
 
 use arrayvec::ArrayVec;
@@ -21,15 +21,15 @@ pub struct MessageRef<'a> {
 }
 
 impl<'a> Model for MessageRef<'a> {
-    ghost use Rattle.std.specs.Prelude.{◌<◌, ◌^◌, length};
-    ghost use Rattle.l4_model.specs.Words.{register_count};
+    ghost use Rattle.std.specs.Prelude.{◌<◌, length};
+    ghost use Rattle.l4_model.specs.Words.{label_limit, register_count};
     ghost use Rattle.l4_model.specs.World.{Message as ModelMessage};
 
     ghost Value = { ModelMessage };
 
     ghost view = { λ m. record { label = m.label; words = m.words.now; propagated = m.propagated; shown = m.shown; actual = m.actual } };
 
-    ghost invariant = { λ m. (m.label < 2 ^ 48) × (length m.words.now < register_count) };
+    ghost invariant = { λ m. (m.label < label_limit) × (length m.words.now < register_count) };
 }
 
 impl<'a> From<&'a Message> for MessageRef<'a> {
@@ -56,7 +56,7 @@ impl<'a> MessageRef<'a> {
         shown: GlobalId,
         actual: GlobalId,
     ) -> MessageRef<'a>
-        requires label { label < 2 ^ 48 }
+        requires label { label < label_limit }
         requires words { length words.now < register_count }
         ensures { result ≡ record { label = label; words = words.now; propagated = propagated; shown = shown; actual = actual } }
     {
@@ -72,7 +72,7 @@ impl<'a> MessageRef<'a> {
     /// The label, below 2^48.
     pub fn label(&self) -> u64
         ensures value { result ≡ self.now.label }
-        ensures fits { result < 2 ^ 48 }
+        ensures fits { result < label_limit }
     {
         self.label
     }

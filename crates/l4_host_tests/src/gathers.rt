@@ -2,6 +2,7 @@
 ghost use Rattle.std.specs.Prelude.{◌<◌, ◌≤◌, IfSome};
 ghost use Rattle.l4_machine.specs.Gathers.{AreOfOne};
 ghost use Rattle.l4_proc.specs.Working.{HasGoneOn};
+ghost use Rattle.l4_mail.specs.Fabrics.{most_room};
 
 use l4_jobs::report_lines::write_report;
 use l4_machine::{Outcome, RunFault, gather};
@@ -66,7 +67,7 @@ pub(crate) fn worked<'m, R: AllocGlobal + Print>(
     room: usize,
     shares: &[(usize, u64)],
 ) -> Option<Vec<Processor<'m>>>
-    requires { (0 < room) × (room ≤ 65536) }
+    requires { (0 < room) × (room ≤ most_room) }
     ensures { IfSome result (λ processors. AreOfOne machine.now processors.items) }
 {
     let Ok(mut processors) = assemble(rt.alloc(), machine, room) else {
@@ -90,7 +91,7 @@ fn gathered<R: AllocGlobal + Print>(
     room: usize,
     shares: &[(usize, u64)],
 ) -> Option<Outcome>
-    requires { (0 < room) × (room ≤ 65536) }
+    requires { (0 < room) × (room ≤ most_room) }
 {
     let processors = worked(rt, machine, room, shares)?;
     gathered_again(rt, machine, processors)

@@ -2,6 +2,7 @@
 // history of the machine.
 ghost use Rattle.std.specs.Prelude.{◌<◌, ◌≤◌, IfSome};
 ghost use Rattle.l4_machine.specs.Gathers.{AreOfOne};
+ghost use Rattle.l4_mail.specs.Fabrics.{most_room};
 
 use crate::gates::busy_machine;
 use crate::gathers::gathered_again;
@@ -30,7 +31,7 @@ fn mixed<'m, R: AllocGlobal>(
     machine: &'m Machine,
     room: usize,
 ) -> Option<Vec<Processor<'m>>>
-    requires { (0 < room) × (room ≤ 65536) }
+    requires { (0 < room) × (room ≤ most_room) }
     ensures { IfSome result (λ processors. AreOfOne machine.now processors.items) }
 {
     let Ok(mut processors) = assemble(rt.alloc(), machine, room) else {

@@ -9,7 +9,7 @@ use l4_types::ids::{Kind, ThreadId};
 use l4_types::registers::MESSAGE_REGISTERS;
 use l4_types::reports::{Ending, State, ThreadView};
 use l4_types::steps::Name;
-use l4_words::spelling::{push_name, push_thread, push_words};
+use l4_words::spelling::{push_name, push_numbers, push_thread, push_words};
 use std::alloc::AllocError;
 
 /// Appends the report of a run: its threads in order of declaration, its undecided sends with their destinations in
@@ -99,7 +99,7 @@ fn push_id(text: &mut String, id: ThreadId) -> Result<(), AllocError>
         Kind::Any => text.push_str(" any"),
         Kind::AnyLocal => text.push_str(" anylocal"),
         Kind::Local => write!(text, " #{:x}", id.raw()),
-        Kind::Global { number, version } => write!(text, " {number}.{version}"),
+        Kind::Global { number, version } => push_numbers(text, number, version),
     }
 }
 

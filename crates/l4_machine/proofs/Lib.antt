@@ -20,3 +20,4 @@ pub mod Systems
 pub mod Ticked
 pub mod Turned
 pub mod Sought
+pub mod Enough

@@ -133,11 +133,11 @@ set_there (l ∷ ls) zero x here = let same : l ≡ x = cc in ap (λ y. y ∷ ls
 set_there (l ∷ ls) (suc place) x here = ap (λ ys. l ∷ ys) (set_there ls place x here)
 
 -- So can several, one behind the other.
-record IsPassed {A : Type 0} (f : Step → Option A) (olds news : List (List Event)) : Type 0 where
-  found : filter_map f (told (merged (joined olds))) ≡ filter_map f (told (merged (joined news)))
-  rise : RiseFrom 0 news
+pub record IsPassed {A : Type 0} (f : Step → Option A) (olds news : List (List Event)) : Type 0 where
+  pub found : filter_map f (told (merged (joined olds))) ≡ filter_map f (told (merged (joined news)))
+  pub rise : RiseFrom 0 news
 
-passed_over : {A : Type 0} (f : Step → Option A) (ls : List (List Event)) (place : ℕ) (passed es : List Event) → RiseFrom 0 ls →
+pub passed_over : {A : Type 0} (f : Step → Option A) (ls : List (List Event)) (place : ℕ) (passed es : List Event) → RiseFrom 0 ls →
     slice_get ls place ≡ Some (passed ++ es) → AllByRecursion (IsSilent f) passed → IsPassed f ls (set ls place es)
 passed_over f ls place [] es rise here silent =
     let same = set_there ls place es here in

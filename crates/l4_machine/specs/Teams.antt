@@ -1,7 +1,8 @@
 -- The processors of a machine at work together, and the run in rounds that they have come to.
-use Rattle.std.specs.Prelude.{◌≡◌, ◌⊎◌, ◌↔◌, ℕ, ◌≤◌, ◌*◌, ◌^◌, false, IsTrue, Option, Some, List, length, map, slice_get}
+use Rattle.std.specs.Prelude.{◌≡◌, ◌⊎◌, ◌↔◌, ℕ, ◌≤◌, ◌*◌, false, IsTrue, Option, Some, List, length, map, slice_get}
 use Rattle.std.specs.Option.{option_map}
 use Rattle.std.specs.List.Sorted.{IsPermutation}
+use Rattle.l4_model.specs.Words.{period_limit}
 use Rattle.l4_model.specs.Machine.{Machine}
 use Rattle.l4_core_model.specs.Runs.{Run}
 use Rattle.l4_core_model.specs.Turns.{is_busy}
@@ -35,7 +36,7 @@ pub record HaveCome (m : Machine) (ps : List Processor) (r : Run) : Type 0 where
   pub rounds : IsInRounds m r
   pub ends : EndsAt r (pasts ps)
   pub events : IsPermutation (all_events (pasts ps)) r.events
-  pub clocks : (i : ℕ) (p : Processor) → slice_get ps i ≡ Some p → p.worker.core.local.clock ≤ count_events ps * 2 ^ 42
+  pub clocks : (i : ℕ) (p : Processor) → slice_get ps i ≡ Some p → p.worker.core.local.clock ≤ count_events ps * period_limit
 
 -- They rest between rounds.
 pub record IsTeam (t : Team) : Type 0 where

@@ -1,13 +1,16 @@
 -- The undecided sends of a history, and of logs.
-use Rattle.std.specs.Prelude.{◌≡◌, ◌++◌, Option, List, [], ◌∷◌, filter_map}
-use Rattle.std.specs.List.{AllByRecursion}
+use Rattle.std.specs.Prelude.{◌≡◌, ◌≤◌, ◌++◌, ◌-◌, ℕ, Option, List, [], ◌∷◌, drop, filter_map, length, map}
+use Rattle.std.specs.List.{AllByRecursion, flat_map}
 use Rattle.l4_model.specs.Words.{Id}
 use Rattle.l4_model.specs.Steps.{Step}
 use Rattle.l4_model.specs.World.{Name}
-use Rattle.l4_core_model.specs.Runs.{Event}
+use Rattle.l4_model.specs.Laws.{begins_of}
+use Rattle.l4_core_model.specs.Runs.{Event, merged, told}
 use Rattle.l4_proc.specs.declared.processor.Processor.{Processor}
-use Rattle.l4_machine.specs.EventsLeft.{left, IsUnmerged}
+use Rattle.l4_machine.specs.EventsLeft.{all_left, left, IsUnmerged}
+use Rattle.l4_machine.specs.Rising.{RiseFrom}
 use Rattle.l4_machine.specs.Homes.{sent_waiting, IsNotBelow}
+use Rattle.l4_machine.specs.declared.homes.LastSend.{LastSend}
 use Rattle.l4_machine.specs.declared.unmerged.Unmerged.{Unmerged}
 use Rattle.l4_machine.specs.declared.waiting.Search.{Search}
 
@@ -15,8 +18,29 @@ use Rattle.l4_machine.specs.declared.waiting.Search.{Search}
 abbrev pub sought : Search → Step → Option (Name × Id)
 sought s = sent_waiting s.machine.now s.at_home.now.sends.items
 
+-- How many of these last sends are undecided.
+abbrev pub count_undecided : List LastSend → ℕ
+count_undecided sends = length (filter_map (λ send. send.to) sends)
+
+-- What a search knows of the last sends.
 abbrev pub IsSearch : Search → Type 0
-IsSearch s = AllByRecursion (IsNotBelow s.least) s.at_home.now.sends.items
+IsSearch s = AllByRecursion (IsNotBelow s.least) s.at_home.now.sends.items × (s.count ≡ count_undecided s.at_home.now.sends.items)
+
+-- No send is begun twice.
+abbrev pub AreBegunOnce : List Step → Type 0
+AreBegunOnce h = (s : Name) → begins_of s h ≤ 1
+
+-- The last of these, so many.
+abbrev pub at_end : {A : Type 0} → (most : ℕ) → List A → List A
+at_end most xs = drop (length xs - most) xs
+
+-- How many steps of these events are what is sought.
+abbrev pub count_sought : {A : Type 0} → (Step → Option A) → List Event → ℕ
+count_sought f es = length (filter_map f (told es))
+
+-- The last events left of each log, so many, one log behind the other.
+abbrev pub all_at_end : List Processor → (most : ℕ) → List Unmerged → List Event
+all_at_end ps most us = flat_map (λ u. at_end most (left ps u)) us
 
 -- None of what is sought is in the event.
 abbrev pub IsSilent : {A : Type 0} → (Step → Option A) → Event → Type 0
@@ -27,6 +51,11 @@ pub record HasPassed {A : Type 0} (f : Step → Option A) (olds news : List Even
   pub passed : List Event
   pub are : olds ≡ passed ++ news
   pub silent : AllByRecursion (IsSilent f) passed
+
+-- Of what is left of all logs now, as much is sought as of what was.
+pub record ArePassed {A : Type 0} (f : Step → Option A) (ps : List Processor) (olds news : List Unmerged) : Type 0 where
+  pub rising : RiseFrom 0 (map (left ps) news)
+  pub found : filter_map f (told (merged (all_left ps news))) ≡ filter_map f (told (merged (all_left ps olds)))
 
 -- What is sought of the first event that was left is found, and silent ones behind it are passed.
 pub record HasFoundFirst {A : Type 0} (f : Step → Option A) (ps : List Processor) (old new : Unmerged) (before after : List A) : Type 0 where

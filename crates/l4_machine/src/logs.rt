@@ -25,7 +25,7 @@ pub struct Logs<'m> {
 impl<'m> Logs<'m> {
     ghost use Rattle.std.specs.Prelude.{◌≡◌, IfOk, filter_map};
     ghost use Rattle.l4_machine.specs.Gathers.{merged_steps, AreOfOne};
-    ghost use Rattle.l4_machine.specs.Waiting.{sought, IsSearch};
+    ghost use Rattle.l4_machine.specs.Waiting.{sought, AreBegunOnce, IsSearch};
 
     /// The logs of all processors of a machine.
     pub(crate) fn new(machine: &'m Machine, processors: Vec<Processor<'m>>) -> Logs<'m>
@@ -54,7 +54,8 @@ impl<'m> Logs<'m> {
         alloc: Global,
         search: &Search<'_>,
     ) -> Result<Vec<(Name, ThreadId)>, NoMemory>
-        requires { IsSearch search.now }
+        requires search { IsSearch search.now }
+        requires once { AreBegunOnce (merged_steps self.now.machine.now self.now.processors.items) }
         ensures { IfOk result (λ sends. sends.items ≡ filter_map (sought search.now) (merged_steps self.now.machine.now self.now.processors.items)) }
     {
         waiting_sends(alloc, self.machine, self.processors.as_slice(), search)

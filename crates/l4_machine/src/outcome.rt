@@ -13,6 +13,7 @@ use crate::run_history::RunHistory;
 use crate::waiting::Search;
 use l4_audit::audit::{AuditFault, check_history};
 use l4_history::history::History;
+use l4_model::law_begun_then_ended;
 use l4_script::machine::Machine;
 use l4_types::errors::NoMemory;
 use l4_types::ids::ThreadId;
@@ -104,6 +105,7 @@ pub(crate) fn outcome_of<'m>(
         steps_of history.entry ≡ told r.events → turns ≡ length r.events → (ending ≡ Quiet) ↔ (at_rest machine.now r.system ≡ true) →
         IsOutcomeOf machine.now r (compact_findings_of o)) }
 {
+    law_begun_then_ended();
     if all_handled && at_home.are_undeleted() {
         let waiting = history.waiting(alloc, &Search::new(machine, &at_home))?;
         return Ok(CompactOutcome {

@@ -1,7 +1,7 @@
 //! The history of an outcome.
 ghost use Rattle.std.specs.Prelude.{◌≡◌, IfOk, filter_map};
 ghost use Rattle.l4_machine.specs.Outcomes.{steps_of};
-ghost use Rattle.l4_machine.specs.Waiting.{sought, IsSearch};
+ghost use Rattle.l4_machine.specs.Waiting.{sought, AreBegunOnce, IsSearch};
 
 use crate::logs::Logs;
 use crate::waiting::Search;
@@ -37,7 +37,8 @@ impl RunHistory<'_> {
         alloc: Global,
         search: &Search<'_>,
     ) -> Result<Vec<(Name, ThreadId)>, NoMemory>
-        requires { IsSearch search.now }
+        requires search { IsSearch search.now }
+        requires once { AreBegunOnce (steps_of self.now) }
         ensures { IfOk result (λ sends. sends.items ≡ filter_map (sought search.now) (steps_of self.now)) }
     {
         match self {

@@ -1,12 +1,12 @@
 //! The undecided sends of several logs, in the order of the merged history, which is not made for it.
-ghost use Rattle.std.specs.Prelude.{◌≡◌, ◌≤◌, IfOk, OnOk, drop, filter_map, is_some, length, map, true};
+ghost use Rattle.std.specs.Prelude.{◌≡◌, ◌≤◌, ◌+◌, IfOk, IfSome, IsTrue, OnOk, drop, filter_map, is_some, length, map, slice_get, true};
 ghost use Rattle.std.specs.List.{AllByRecursion};
 ghost use Rattle.l4_core_model.specs.Runs.{merged, told};
 ghost use Rattle.l4_proc.specs.Logs.{events, IsClosed};
 ghost use Rattle.l4_machine.specs.EventsLeft.{all_left, left, IsUnmerged};
 ghost use Rattle.l4_machine.specs.Rising.{HaveRisingLogs, RiseFrom};
-ghost use Rattle.l4_machine.specs.Gathers.{merged_steps, HaveNumbers};
-ghost use Rattle.l4_machine.specs.Waiting.{sought, HasFoundFirst, HasPassed, IsSearch};
+ghost use Rattle.l4_machine.specs.Gathers.{events_of, merged_steps, HaveNumbers};
+ghost use Rattle.l4_machine.specs.Waiting.{all_at_end, at_end, count_sought, count_undecided, sought, AreBegunOnce, ArePassed, HasFoundFirst, HasPassed, IsSearch};
 
 use crate::merging::unmerged_logs;
 use crate::unmerged::{Unmerged, first_place, stamp_of};
@@ -18,6 +18,116 @@ use l4_types::errors::NoMemory;
 use l4_types::ids::ThreadId;
 use l4_types::steps::Name;
 use std::alloc::Global;
+
+// So many of the last events of each log are looked at for what is sought, and where it is not all there, the next number of them. A thread that
+// goes on begins a send soon, so most events of a long run lie before.
+const LOOKS: [usize; 4] = [64, 1_024, 16_384, 262_144];
+
+// How many of so many sends are missing still, once those were found that the last events of a log begin, so many.
+fn missing_after(
+    search: &Search<'_>,
+    processors: &[Processor<'_>],
+    log: &Unmerged,
+    most: usize,
+    missing: usize,
+) -> usize
+    requires search { IsSearch search.now }
+    requires whole { IsUnmerged processors.now log.now }
+    ensures { missing ≤ result + count_sought (sought search.now) (at_end most (left processors.now log.now)) }
+{
+    let events = processors[log.place].log();
+    let mut missing = missing;
+    for i in log.count - log.left.min(most)..events.len() {
+        let (start, end) = events.places(i);
+        missing = search.missing_after(events.history(), start, end, missing);
+    }
+    missing
+}
+
+// Whether the last events of all logs, so many of each, begin all that is sought.
+fn begin_all(
+    search: &Search<'_>,
+    processors: &[Processor<'_>],
+    logs: &[Unmerged],
+    most: usize,
+) -> bool
+    requires search { IsSearch search.now }
+    requires whole { AllByRecursion (IsUnmerged processors.now) logs.now }
+    ensures { IsTrue result → count_undecided search.now.at_home.now.sends.items ≤ count_sought (sought search.now) (all_at_end processors.now most logs.now) }
+{
+    let mut missing = search.count();
+    for log in logs {
+        missing = missing_after(search, processors, log, most, missing);
+    }
+    missing == 0
+}
+
+// So many of the last events of each log begin all that is sought. None where only all events do, as far as was looked for.
+fn enough(search: &Search<'_>, processors: &[Processor<'_>], logs: &[Unmerged]) -> Option<usize>
+    requires search { IsSearch search.now }
+    requires whole { AllByRecursion (IsUnmerged processors.now) logs.now }
+    ensures { IfSome result (λ most. count_undecided search.now.at_home.now.sends.items ≤ count_sought (sought search.now) (all_at_end processors.now most logs.now)) }
+{
+    for most in &LOOKS {
+        if begin_all(search, processors, logs, *most) {
+            return Some(*most);
+        }
+    }
+    None
+}
+
+// The last events that are left of a log, so many.
+fn last_of(processors: &[Processor<'_>], log: &Unmerged, most: usize) -> Unmerged
+    requires { IsUnmerged processors.now log.now }
+    ensures whole { IsUnmerged processors.now result }
+    ensures left { left processors.now result ≡ at_end most (left processors.now log.now) }
+{
+    let left = log.left.min(most);
+    Unmerged {
+        place: log.place,
+        count: log.count,
+        left,
+        stamp: stamp_of(processors[log.place].log(), log.count - left),
+    }
+}
+
+// The last events that are left of each log, so many.
+fn last_of_all(
+    alloc: Global,
+    processors: &[Processor<'_>],
+    logs: &[Unmerged],
+    most: usize,
+) -> Result<Vec<Unmerged>, NoMemory>
+    requires { AllByRecursion (IsUnmerged processors.now) logs.now }
+    ensures whole { IfOk result (λ last. AllByRecursion (IsUnmerged processors.now) last.items) }
+    ensures left { IfOk result (λ last. map (left processors.now) last.items ≡ map (λ log. at_end most (left processors.now log)) logs.now) }
+{
+    let mut last = Vec::new(alloc);
+    for log in logs {
+        last.push(last_of(processors, log, most))?;
+    }
+    Ok(last)
+}
+
+// Logs without the events before those that begin all that is sought. Each send is begun once, so all are found where as many are found as there are.
+fn without_early(
+    alloc: Global,
+    search: &Search<'_>,
+    processors: &[Processor<'_>],
+    logs: Vec<Unmerged>,
+) -> Result<Vec<Unmerged>, NoMemory>
+    requires search { IsSearch search.now }
+    requires whole { AllByRecursion (IsUnmerged processors.now) logs.items }
+    requires rising { RiseFrom 0 (map (left processors.now) logs.items) }
+    requires once { AreBegunOnce (told (merged (all_left processors.now logs.items))) }
+    ensures whole { IfOk result (λ late. AllByRecursion (IsUnmerged processors.now) late.items) }
+    ensures passed { IfOk result (λ late. ArePassed (sought search.now) processors.now logs.items late.items) }
+{
+    match enough(search, processors, logs.as_slice()) {
+        Some(most) => last_of_all(alloc, processors, logs.as_slice(), most),
+        None => Ok(logs),
+    }
+}
 
 // The first event of a log from this one on that begins a send that is sought. Where none does, the one behind the last.
 fn next_sought(search: &Search<'_>, log: &Log, from: usize) -> usize
@@ -88,8 +198,10 @@ pub(crate) fn waiting_sends(
     requires rising { HaveRisingLogs machine.now processors.now }
     requires numbers { HaveNumbers machine.now.cpus processors.now }
     requires search { IsSearch search.now }
+    requires once { AreBegunOnce (merged_steps machine.now processors.now) }
     ensures { IfOk result (λ sends. sends.items ≡ filter_map (sought search.now) (merged_steps machine.now processors.now)) }
 {
-    let mut logs = unmerged_logs(alloc, processors, machine.cpus())?;
+    let logs = unmerged_logs(alloc, processors, machine.cpus())?;
+    let mut logs = without_early(alloc, search, processors, logs)?;
     find_all(alloc, search, processors, logs.as_mut_slice())
 }

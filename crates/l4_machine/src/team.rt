@@ -1,6 +1,6 @@
 //! The processors of a machine at work together, each in a thread of its own.
 ghost use Rattle.std.specs.Prelude.{ℕ, ◌≡◌, ◌≢◌, ◌<◌, ◌≤◌, ◌+◌, ◌-◌, ◌*◌, ◌^◌, ◌↔◌, ◌⊎◌, false, true, map, length, slice_get, IfOk, IfSome, IsTrue, OnOk, Some, None};
-ghost use Rattle.l4_model.specs.Words.{clock_limit};
+ghost use Rattle.l4_model.specs.Words.{clock_limit, period_limit};
 ghost use Rattle.l4_core_model.specs.Schedules.{earliest};
 ghost use Rattle.l4_core_model.specs.Turns.{can_stamp, is_busy};
 ghost use Rattle.l4_mail.specs.Ports.{AreOneFabric, AreWhole};
@@ -157,7 +157,7 @@ impl<'m> Team<'m> {
         requires team { IsTeam self.now }
         requires few { count_events self.now.processors.items ≤ most_turns }
         ensures value { result ≡ first_deadline self.now.processors.items }
-        ensures near { IfSome result (λ deadline. deadline < (count_events self.now.processors.items + 1) * 2 ^ 42) }
+        ensures near { IfSome result (λ deadline. deadline < (count_events self.now.processors.items + 1) * period_limit) }
     {
         let _ = &self.machine;
         first_deadline(self.processors.as_slice())
@@ -195,7 +195,7 @@ impl<'m> Team<'m> {
         requires few { count_events self.old.processors.items ≤ most_turns }
         requires idle { AreIdle self.old.processors.items × HaveHandledAll self.old.processors.items }
         requires first { first_deadline self.old.processors.items ≡ Some deadline }
-        requires near { deadline < (count_events self.old.processors.items + 1) * 2 ^ 42 }
+        requires near { deadline < (count_events self.old.processors.items + 1) * period_limit }
         ensures team { OnOk result (IsTeam self.new) }
         ensures machine { self.new.machine ≡ self.old.machine }
         ensures more { OnOk result (count_events self.old.processors.items < count_events self.new.processors.items) }
@@ -244,7 +244,7 @@ fn are_idle(processors: &[Processor<'_>]) -> bool
 fn first_deadline(processors: &[Processor<'_>]) -> Option<u64>
     ensures value { result ≡ first_deadline processors.now }
     ensures near { (last : ℕ) → ((i : ℕ) (p : ProcessorOfMachine) → slice_get processors.now i ≡ Some p → p.worker.core.local.clock ≤ last) →
-        IfSome result (λ deadline. deadline < last + 2 ^ 42) }
+        IfSome result (λ deadline. deadline < last + period_limit) }
 {
     let mut first = None;
     for processor in processors {

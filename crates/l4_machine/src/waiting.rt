@@ -1,8 +1,8 @@
 //! The sends of a run that are undecided.
-ghost use Rattle.std.specs.Prelude.{◌≡◌, ◌<◌, ◌≤◌, ◌++◌, [], IfOk, IfSome, OnOk, drop, false, filter_map, length, slice_get, take};
+ghost use Rattle.std.specs.Prelude.{◌≡◌, ◌<◌, ◌≤◌, ◌+◌, ◌++◌, [], IfOk, IfSome, OnOk, drop, false, filter_map, length, slice_get, take};
 ghost use Rattle.std.specs.List.{AllByRecursion};
 ghost use Rattle.l4_machine.specs.Homes.{sent_to, IsNotBelow};
-ghost use Rattle.l4_machine.specs.Waiting.{sought, IsSearch};
+ghost use Rattle.l4_machine.specs.Waiting.{count_undecided, sought, AreBegunOnce, IsSearch};
 
 use crate::homes::{AtHome, LastSend};
 use l4_history::history::History;
@@ -19,6 +19,8 @@ pub(crate) struct Search<'a> {
     at_home: &'a AtHome,
     // No undecided send has a lower number. Most of those of a long history have, and need not be looked for.
     least: u64,
+    // How many sends are undecided.
+    count: usize,
 }
 
 impl<'a> Search<'a> {
@@ -32,6 +34,7 @@ impl<'a> Search<'a> {
             machine,
             at_home,
             least: least_undecided(at_home.sends.as_slice()),
+            count: count_undecided(at_home.sends.as_slice()),
         }
     }
 
@@ -41,12 +44,62 @@ impl<'a> Search<'a> {
         alloc: Global,
         history: &History,
     ) -> Result<Vec<(Name, ThreadId)>, NoMemory>
-        requires { IsSearch self.now }
+        requires search { IsSearch self.now }
+        requires once { AreBegunOnce history.now.steps }
         ensures { IfOk result (λ sends. sends.items ≡ filter_map (sought self.now) history.now.steps) }
     {
         let mut sends = Vec::new(alloc);
-        self.push_between(history, 0, history.len(), &mut sends)?;
+        let start = self.start(history);
+        self.push_between(history, start, history.len(), &mut sends)?;
         Ok(sends)
+    }
+
+    // No step of a history before this place begins one of them: each is begun once, so a look from the back ends where as many were found
+    // as there are.
+    fn start(&self, history: &History) -> usize
+        requires search { IsSearch self.now }
+        requires once { AreBegunOnce history.now.steps }
+        ensures within { result ≤ length history.now.steps }
+        ensures none { filter_map (sought self.now) (take result history.now.steps) ≡ [] }
+    {
+        let mut start = history.len();
+        let mut missing = self.count;
+        while start > 0 && missing > 0 {
+            start -= 1;
+            if self.send_at(history, start).is_some() {
+                missing -= 1;
+            }
+        }
+        start
+    }
+
+    /// How many sends are undecided.
+    pub(crate) fn count(&self) -> usize
+        requires { IsSearch self.now }
+        ensures { result ≡ count_undecided self.now.at_home.now.sends.items }
+    {
+        self.count
+    }
+
+    /// How many of so many sends are missing still, once those were found that the steps of a history from one place up to another begin.
+    pub(crate) fn missing_after(
+        &self,
+        history: &History,
+        start: usize,
+        end: usize,
+        missing: usize,
+    ) -> usize
+        requires search { IsSearch self.now }
+        requires within { end ≤ length history.now.steps }
+        ensures { missing ≤ result + length (filter_map (sought self.now) (drop start (take end history.now.steps))) }
+    {
+        let mut missing = missing;
+        for place in start..end {
+            if self.send_at(history, place).is_some() {
+                missing = missing.saturating_sub(1);
+            }
+        }
+        missing
     }
 
     /// Puts those that the steps of a history from one place up to another begin behind others.
@@ -107,6 +160,19 @@ impl<'a> Search<'a> {
             _ => None,
         }
     }
+}
+
+// How many of these sends are undecided.
+fn count_undecided(sends: &[LastSend]) -> usize
+    ensures { result ≡ count_undecided sends.now }
+{
+    let mut count = 0;
+    for send in sends {
+        if send.to.is_some() {
+            count += 1;
+        }
+    }
+    count
 }
 
 // The least number of those of these sends that are undecided, the greatest of all where none is.

@@ -4,6 +4,10 @@ use Rattle.l4_mail.specs.declared.ports.Port.{Port}
 use Rattle.l4_mail.specs.Ends.{RingId, ring_out, posted, ring_in, taken, kept}
 use Rattle.l4_mail.specs.Ports.{place, posted_to, taken_from, kept_from, fabric_size, HasWayTo, IsApart, IsWay, AreOneFabric}
 
+-- A ring between two processors has room for at most so many letters (own).
+abbrev pub most_room : ℕ
+most_room = 65536
+
 -- The ports of all processors of a new fabric, in the order of their numbers, of which none has carried a letter.
 pub record AreFresh (n : ℕ) (ports : List Port) : Type 0 where
   pub count : length ports ≡ n

@@ -2,7 +2,7 @@
 ghost use Rattle.std.specs.Prelude.{◌≡◌, ◌<◌, ◌≤◌, ◌+◌, [], ◌∷◌, ◌++◌, IfOk, OnOk, Some, vec_len};
 ghost use Rattle.l4_model.specs.Machine.{most_processors};
 ghost use Rattle.l4_mail.specs.Ends.{RingId};
-ghost use Rattle.l4_mail.specs.Fabrics.{AreFresh, GainsOutlet, GainsInlet, AreMembers};
+ghost use Rattle.l4_mail.specs.Fabrics.{most_room, AreFresh, GainsOutlet, GainsInlet, AreMembers};
 
 use crate::ports::Port;
 use crate::ways;
@@ -13,7 +13,7 @@ use std::alloc::{AllocError, Global};
 /// room for so many letters, 1 to 65,536.
 pub fn fabric(alloc: Global, cpus: u8, room: usize) -> Result<Vec<Port>, NoMemory>
     requires cpus { (0 < cpus) × (cpus ≤ most_processors) }
-    requires room { (0 < room) × (room ≤ 65536) }
+    requires room { (0 < room) × (room ≤ most_room) }
     ensures { IfOk result (λ ports. AreFresh cpus ports.items) }
 {
     let mut ports = Vec::new(alloc);

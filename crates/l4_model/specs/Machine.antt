@@ -40,6 +40,9 @@ pub record Machine : Type 0 where
   pub cpus : ℕ
   pub threads : List Declaration
 
+abbrev pub machine_of : (cpus : ℕ) → List Declaration → Machine
+machine_of cpus threads = record { cpus = cpus; threads = threads }
+
 -- How many processors and threads a machine has at most, and how many instructions a script (own).
 abbrev pub most_processors : ℕ
 most_processors = 16

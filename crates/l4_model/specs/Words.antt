@@ -67,9 +67,17 @@ register_count = 64
 abbrev pub last_register : ℕ
 last_register = register_count - 1
 
+-- Labels have 48 bits (manual: Messages and Message Registers, MsgTag), so each is below it.
+abbrev pub label_limit : ℕ
+label_limit = 2 ^ 48
+
 -- Clocks and stamps are below it (own).
 abbrev pub clock_limit : ℕ
 clock_limit = 2 ^ 62
+
+-- The longest period that a time has (manual: Time) is of 1023 * 2^31 ticks, so each is below it.
+abbrev pub period_limit : ℕ
+period_limit = 2 ^ 42
 
 -- A period in ticks of a processor's clock, of a microsecond each (manual: Time; the ticks are own). None is never.
 abbrev pub Period : Type 0

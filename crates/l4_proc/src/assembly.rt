@@ -1,5 +1,6 @@
 //! The processors of a machine, before they begin.
 ghost use Rattle.std.specs.Prelude.{◌≡◌, ◌<◌, ◌≤◌, IfOk};
+ghost use Rattle.l4_mail.specs.Fabrics.{most_room};
 ghost use Rattle.l4_proc.specs.Assembled.{AreAssembled};
 
 use crate::processor::Processor;
@@ -16,7 +17,7 @@ pub fn assemble<'m>(
     machine: &'m Machine,
     room: usize,
 ) -> Result<Vec<Processor<'m>>, NoMemory>
-    requires { (0 < room) × (room ≤ 65536) }
+    requires { (0 < room) × (room ≤ most_room) }
     ensures { IfOk result (λ processors. AreAssembled machine.now processors.items) }
 {
     let cpus = machine.cpus();

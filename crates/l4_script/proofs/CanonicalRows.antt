@@ -4,7 +4,7 @@ use Rattle.std.specs.Fmt.{digits}
 use Rattle.std.specs.List.{flat_map}
 use Rattle.std.proofs.Common.{arith}
 use Rattle.l4_model.specs.Words.{global_id, GlobalThread, LocalThread, NilThread, AnyThread, AnyLocalThread}
-use Rattle.l4_model.specs.Machine.{Instr, Set, Copy, Add, Tag, Vs, Ipc, ToId, ToLast, Ask, CancelSend, CancelReceive, CancelBoth, Delete, Jump, OnErr, End, Machine}
+use Rattle.l4_model.specs.Machine.{Instr, Set, Copy, Add, Tag, Vs, Ipc, ToId, ToLast, Ask, CancelSend, CancelReceive, CancelBoth, Delete, Jump, OnErr, End, Machine, machine_of}
 use Rattle.l4_script.specs.Canonical.{low_digits, exponent_of, canonical_text, HasText}
 
 abbrev text : List (List ℕ) → List ℕ
@@ -12,19 +12,16 @@ text lines = flat_map (λ line. line ++ 10 ∷ []) lines
 
 -- No thread.
 
-no_thread : canonical_text (record { cpus = 1; threads = [] }) ≡ text (codes "l4 1 64" ∷ codes "cpus 1" ∷ [])
+no_thread : canonical_text (machine_of 1 []) ≡ text (codes "l4 1 64" ∷ codes "cpus 1" ∷ [])
 unfolding digits
 no_thread = refl
 
 -- One send and one receive from any thread.
 
 abbrev first_path : Machine
-first_path = record {
-  cpus = 1;
-  threads =
-      record { id = global_id 1 1; cpu = 0; space = 1; script = Set 1 10 ∷ Tag 0x70001 ∷ Ipc (ToId (GlobalThread (global_id 2 1))) NilThread None None ∷ [] }
-      ∷ record { id = global_id 2 1; cpu = 0; space = 2; script = Ipc (ToId NilThread) AnyThread None None ∷ [] } ∷ [];
-}
+first_path = machine_of 1 (
+    record { id = global_id 1 1; cpu = 0; space = 1; script = Set 1 10 ∷ Tag 0x70001 ∷ Ipc (ToId (GlobalThread (global_id 2 1))) NilThread None None ∷ [] }
+    ∷ record { id = global_id 2 1; cpu = 0; space = 2; script = Ipc (ToId NilThread) AnyThread None None ∷ [] } ∷ [])
 
 text_of_first_path : canonical_text first_path ≡ text (
     codes "l4 1 64" ∷ codes "cpus 1"
@@ -58,12 +55,9 @@ script =
     ∷ []
 
 abbrev machine : Machine
-machine = record {
-  cpus = 16;
-  threads =
-      record { id = global_id 1 1; cpu = 0; space = 1; script = script }
-      ∷ record { id = global_id 2 65; cpu = 15; space = 4294967295; script = [] } ∷ [];
-}
+machine = machine_of 16 (
+    record { id = global_id 1 1; cpu = 0; space = 1; script = script }
+    ∷ record { id = global_id 2 65; cpu = 15; space = 4294967295; script = [] } ∷ [])
 
 abbrev lines : List (List ℕ)
 lines =

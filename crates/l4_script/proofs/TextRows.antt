@@ -2,7 +2,7 @@
 use Rattle.std.specs.Prelude.{◌≡◌, ℕ, Bool, List, [], ◌∷◌, ◌++◌, map, length, filter, take, is_ok, Option, Some, None, Result, Ok, Err, codes, refl}
 use Rattle.std.specs.List.{flat_map, range_with_len}
 use Rattle.l4_model.specs.Words.{global_id, Id, GlobalThread, LocalThread, NilThread, AnyThread, AnyLocalThread, Period}
-use Rattle.l4_model.specs.Machine.{Instr, Set, Copy, Add, Tag, Vs, Ipc, ToId, ToLast, Ask, CancelSend, CancelReceive, CancelBoth, Delete, Jump, OnErr, End, Declaration, Machine}
+use Rattle.l4_model.specs.Machine.{Instr, Set, Copy, Add, Tag, Vs, Ipc, ToId, ToLast, Ask, CancelSend, CancelReceive, CancelBoth, Delete, Jump, OnErr, End, Declaration, Machine, machine_of}
 use Rattle.l4_script.specs.declared.text.fault.TextFault.{TextFault}
 use Rattle.l4_script.specs.declared.text.fault.TextFaultKind.{TextFaultKind}
 use Rattle.l4_script.specs.declared.text.fault.TextFaultKind.TheVariants.{BadLine, BadNumber, BadId, BadCpu, TypedItems, DoubleId, BadTarget}
@@ -136,10 +136,7 @@ abbrev thread : (number space : ℕ) → List Instr → Declaration
 thread number space script = record { id = global_id number 1; cpu = 0; space = space; script = script }
 
 abbrev first_path : Machine
-first_path = record {
-  cpus = 1;
-  threads = thread 1 1 (Set 1 10 ∷ Tag 0x70001 ∷ send_to (GlobalThread (global_id 2 1)) ∷ []) ∷ thread 2 2 (receive_from_any ∷ []) ∷ [];
-}
+first_path = machine_of 1 (thread 1 1 (Set 1 10 ∷ Tag 0x70001 ∷ send_to (GlobalThread (global_id 2 1)) ∷ []) ∷ thread 2 2 (receive_from_any ∷ []) ∷ [])
 
 first_path_read : machine_of_text first_path_text ≡ Ok first_path
 unfolding number_of number_from period_number time_from thread_of spelled_id_of id_of line_of format_line processors_line processor_of declaration_of set_of copy_of add_of tag_of vs_of destination_of ipc_of bits_of exregs_of delete_of target_of instruction_of declare extend thread_line after_words after_line
@@ -221,7 +218,7 @@ instructions =
     ∷ (codes "end", End)
     ∷ []
 
-instructions_read : map (λ row. machine_of_text (behind_thread (row.0 ∷ []))) instructions ≡ map (λ row. Ok (record { cpus = 1; threads = thread 1 1 (row.1 ∷ []) ∷ [] })) instructions
+instructions_read : map (λ row. machine_of_text (behind_thread (row.0 ∷ []))) instructions ≡ map (λ row. Ok (machine_of 1 (thread 1 1 (row.1 ∷ []) ∷ []))) instructions
 unfolding number_of number_from period_number time_from thread_of spelled_id_of id_of line_of format_line processors_line processor_of declaration_of set_of copy_of add_of tag_of vs_of destination_of ipc_of bits_of exregs_of delete_of target_of instruction_of declare extend thread_line after_words after_line
 instructions_read = refl
 
@@ -343,18 +340,15 @@ no_threads_read = refl
 -- Whole texts
 
 abbrev no_thread : Result Machine TextFault
-no_thread = Ok (record { cpus = 1; threads = [] })
+no_thread = Ok (machine_of 1 [])
 
 -- Two threads of different processors.
 abbrev apart : Result Machine TextFault
 apart =
-    Ok (record {
-      cpus = 16;
-      threads = record { id = global_id 1 1; cpu = 15; space = 1; script = [] } ∷ record { id = global_id 2 1; cpu = 0; space = 1; script = [] } ∷ [];
-    })
+    Ok (machine_of 16 (record { id = global_id 1 1; cpu = 15; space = 1; script = [] } ∷ record { id = global_id 2 1; cpu = 0; space = 1; script = [] } ∷ []))
 
 abbrev script : List Instr → Result Machine TextFault
-script instrs = Ok (record { cpus = 1; threads = thread 1 1 instrs ∷ [] })
+script instrs = Ok (machine_of 1 (thread 1 1 instrs ∷ []))
 
 abbrev texts : List (List ℕ × Result Machine TextFault)
 texts =
@@ -382,7 +376,7 @@ texts =
     ∷ (text (codes "l4 1 64" ∷ codes "cpus 16" ∷ codes "thread 1.1 cpu 16 space 1" ∷ []), Err (fault_at 3 BadCpu))
     ∷ (text (codes "l4 1 64" ∷ codes "cpus 2" ∷ codes "thread 1.1 cpu 1 space 1" ∷ codes "thread 2.1 cpu 2 space x" ∷ []), Err (fault_at 4 BadCpu))
     -- Threads
-    ∷ (behind_headers (codes "thread 1.1 cpu 0x0 space 4294967295" ∷ []), Ok (record { cpus = 1; threads = thread 1 4294967295 [] ∷ [] }))
+    ∷ (behind_headers (codes "thread 1.1 cpu 0x0 space 4294967295" ∷ []), Ok (machine_of 1 (thread 1 4294967295 [] ∷ [])))
     ∷ (behind_thread [], script [])
     ∷ (behind_thread (codes "thread 1.1 cpu 0 space 1" ∷ []), Err (fault_at 4 DoubleId))
     ∷ (behind_thread (codes "thread 1.2 cpu 0 space 1" ∷ []), Err (fault_at 4 DoubleId))

@@ -1,7 +1,7 @@
 -- The machine that a text declares, or its first fault.
 use Rattle.std.specs.Prelude.{ℕ, ◌≡◌, ◌⊎◌, ◌+◌, Bool, ◌==◌, nat_lt, if◌then◌else◌, Option, Some, None, Result, Ok, Err, List, [], ◌∷◌, ◌++◌, length, find, codes}
 use Rattle.std.specs.Str.{bytes_eq}
-use Rattle.l4_model.specs.Machine.{Instr, Jump, OnErr, Declaration, Machine}
+use Rattle.l4_model.specs.Machine.{Instr, Jump, OnErr, Declaration, Machine, machine_of}
 use Rattle.l4_core_model.specs.Local.{declared}
 use Rattle.l4_script.specs.declared.text.fault.TextFault.{TextFault}
 use Rattle.l4_script.specs.declared.text.fault.TextFaultKind.TheVariants.{BadLine, BadTarget, TooLong}
@@ -39,7 +39,7 @@ targets_of line thread instr = []
 
 -- No thread was read.
 abbrev pub nothing_read : (cpus : ℕ) → Reading
-nothing_read cpus = record { machine = record { cpus = cpus; threads = [] }; targets = [] }
+nothing_read cpus = record { machine = machine_of cpus []; targets = [] }
 
 -- One more thread, or one more instruction of the last thread.
 abbrev pub declared_in : Reading → Declaration → Judged Reading

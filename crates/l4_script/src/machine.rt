@@ -1,6 +1,6 @@
 //! The machine that a text declares: its threads, and their scripts.
 ghost use Rattle.std.specs.Prelude.{◌≡◌, ◌<◌, ◌≤◌, ◌+◌, ◌-◌, ◌∷◌, [], ◌++◌, length, map, false, true, OnErr, OnOk, IfOk, IfSome, IsSome, ◌↔◌, slice_set};
-ghost use Rattle.l4_model.specs.Machine.{place_of, most_processors, most_threads, most_instructions};
+ghost use Rattle.l4_model.specs.Machine.{machine_of, place_of, most_processors, most_threads, most_instructions};
 ghost use Rattle.l4_core_model.specs.Runs.{IsMachine};
 ghost use Rattle.l4_script.specs.Scripts.{instr_of};
 ghost use Rattle.l4_script.specs.Machines.{is_taken, last_thread, with_instruction, with_thread, extended};
@@ -117,17 +117,17 @@ pub struct Machine {
 }
 
 impl Model for Machine {
-    ghost use Rattle.l4_model.specs.Machine.{Machine as ModelMachine};
+    ghost use Rattle.l4_model.specs.Machine.{Machine as ModelMachine, machine_of};
 
     ghost Value = { ModelMachine };
 
     ghost use Rattle.l4_script.specs.Machines.{IsLawful};
 
-    ghost view = { λ m. record { cpus = m.cpus; threads = m.threads.items } };
+    ghost view = { λ m. machine_of m.cpus m.threads.items };
 
     ghost use Rattle.std.specs.Prelude.{◌≡◌, map};
 
-    ghost invariant = { λ m. IsLawful (record { cpus = m.cpus; threads = m.threads.items }) × (m.places.keys ≡ map (λ d. d.id) m.threads.items) };
+    ghost invariant = { λ m. IsLawful (machine_of m.cpus m.threads.items) × (m.places.keys ≡ map (λ d. d.id) m.threads.items) };
 }
 
 impl Machine {
@@ -135,7 +135,7 @@ impl Machine {
     pub(crate) fn new(alloc: Global, cpus: u8) -> Machine
         requires some { 1 ≤ cpus }
         requires limit { cpus ≤ most_processors }
-        ensures { result ≡ record { cpus = cpus; threads = [] } }
+        ensures { result ≡ machine_of cpus [] }
     {
         Machine {
             cpus,

@@ -1,6 +1,6 @@
 //! Sends and receive phases as they were fixed when they began.
-ghost use Rattle.std.specs.Prelude.{◌≡◌, ◌<◌, ◌^◌, length};
-ghost use Rattle.l4_model.specs.Words.{register_count};
+ghost use Rattle.std.specs.Prelude.{◌≡◌, ◌<◌, length};
+ghost use Rattle.l4_model.specs.Words.{label_limit, register_count};
 ghost use Rattle.l4_types.specs.PeriodView.{period_of, IsTimely};
 ghost use Rattle.l4_thread.specs.Held.{with_words, sent_with, AreFew};
 ghost use Rattle.l4_thread.specs.declared.sends.Words.TheVariants.{InRegisters, Apart};
@@ -79,14 +79,15 @@ pub(crate) struct Head {
 }
 
 impl Model for Head {
-    ghost use Rattle.std.specs.Prelude.{◌<◌, ◌^◌};
+    ghost use Rattle.std.specs.Prelude.{◌<◌};
+    ghost use Rattle.l4_model.specs.Words.{label_limit};
     ghost use Rattle.l4_thread.specs.Held.{Headed, AreFew};
 
     ghost Value = { Headed };
 
     ghost view = { λ h. record { label = h.label; words = h.words; propagated = h.propagated; shown = h.shown; actual = h.actual } };
 
-    ghost invariant = { λ h. (h.label < 2 ^ 48) × AreFew h.words };
+    ghost invariant = { λ h. (h.label < label_limit) × AreFew h.words };
 
     ghost inverse = { λ h. record { label = h.label; words = h.words; propagated = h.propagated; shown = h.shown; actual = h.actual } };
 }
@@ -100,7 +101,7 @@ impl Head {
         shown: GlobalId,
         actual: GlobalId,
     ) -> Head
-        requires label { label < 2 ^ 48 }
+        requires label { label < label_limit }
         requires count { count < register_count }
         ensures { result ≡ record { label = label; words = InRegisters count; propagated = propagated; shown = shown; actual = actual } }
     {

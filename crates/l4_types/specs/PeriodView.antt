@@ -1,8 +1,9 @@
 -- A period of the program, as one of the model: None is never.
-use Rattle.std.specs.Prelude.{◌==◌, ◌<◌, ◌^◌, if◌then◌else◌, Some, None}
+use Rattle.std.specs.Prelude.{◌==◌, ◌<◌, if◌then◌else◌, Some, None}
 use Rattle.l4_types.specs.declared.times.Period.{Period}
 use Rattle.l4_types.specs.declared.times.Period.TheVariants.{Never, Zero, Ticks}
 use Rattle.l4_model.specs.Words as words
+use Rattle.l4_model.specs.Words.{period_limit}
 
 abbrev pub period_of : Period → words.Period
 period_of Never = None
@@ -21,4 +22,4 @@ periods_from periods = (period_from periods.0, period_from periods.1)
 abbrev pub IsTimely : Period → Type 0
 IsTimely Never = Unit {0}
 IsTimely Zero = Unit {0}
-IsTimely (Ticks n) = (0 < n) × (n < 2 ^ 42)
+IsTimely (Ticks n) = (0 < n) × (n < period_limit)

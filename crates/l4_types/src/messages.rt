@@ -1,6 +1,6 @@
 //! Messages (manual: Messages and Message Registers).
-ghost use Rattle.std.specs.Prelude.{◌≡◌, ◌^◌, ◌<◌, ◌↔◌, IsSome, IfSome, length, false};
-ghost use Rattle.l4_model.specs.Words.{register_count};
+ghost use Rattle.std.specs.Prelude.{◌≡◌, ◌<◌, ◌↔◌, IsSome, IfSome, length, false};
+ghost use Rattle.l4_model.specs.Words.{label_limit, register_count};
 ghost use Rattle.l4_types.specs.Flags.{flags_of};
 
 use crate::ids::GlobalId;
@@ -22,14 +22,15 @@ pub struct Message {
 }
 
 impl Model for Message {
-    ghost use Rattle.std.specs.Prelude.{◌^◌, ◌<◌};
+    ghost use Rattle.std.specs.Prelude.{◌<◌};
+    ghost use Rattle.l4_model.specs.Words.{label_limit};
     ghost use Rattle.l4_model.specs.World.{Message as ModelMessage};
 
     ghost Value = { ModelMessage };
 
     ghost view = { λ m. record { label = m.label; words = m.words.items; propagated = m.propagated; shown = m.shown; actual = m.actual } };
 
-    ghost invariant = { λ m. m.label < 2 ^ 48 };
+    ghost invariant = { λ m. m.label < label_limit };
 
     ghost inverse = { λ m. record { label = m.label; propagated = m.propagated; words = record { items = m.words }; shown = m.shown; actual = m.actual } };
 }
@@ -45,7 +46,7 @@ impl Message {
         actual: GlobalId,
     ) -> Option<Message>
         ensures some { IfSome result (λ m. m ≡ record { label = label; words = words.items; propagated = propagated; shown = shown; actual = actual }) }
-        ensures when { IsSome result ↔ (label < 2 ^ 48) }
+        ensures when { IsSome result ↔ (label < label_limit) }
     {
         if label >= LABELS {
             return None;
@@ -62,7 +63,7 @@ impl Message {
     /// The label, below 2^48.
     pub fn label(&self) -> u64
         ensures value { result ≡ self.now.label }
-        ensures fits { result < 2 ^ 48 }
+        ensures fits { result < label_limit }
     {
         self.label
     }

@@ -1,6 +1,6 @@
 //! Message tags (manual: Messages and Message Registers, MsgTag).
-ghost use Rattle.std.specs.Prelude.{◌≡◌, ◌/◌, ◌%◌, ◌^◌, ◌<◌, ◌==◌, ◌↔◌, false, IsSome, IfSome, IsOk, IfOk};
-ghost use Rattle.l4_model.specs.Words.{tag_of_word, word_of_tag, has_typed_words, register_count};
+ghost use Rattle.std.specs.Prelude.{◌≡◌, ◌/◌, ◌%◌, ◌<◌, ◌==◌, ◌↔◌, false, IsSome, IfSome, IsOk, IfOk};
+ghost use Rattle.l4_model.specs.Words.{tag_of_word, word_of_tag, has_typed_words, label_limit, register_count};
 ghost use Rattle.l4_types.specs.Flags.{flags_of};
 
 use crate::messages::MOST_WORDS;
@@ -51,7 +51,7 @@ impl MsgTag {
     /// above, or there are more than 63 words.
     pub fn new(label: u64, untyped: u8, propagate: bool) -> Option<MsgTag>
         ensures some { IfSome result (λ tag. tag ≡ record { label = label; flags = flags_of false propagate; untyped = untyped }) }
-        ensures when { IsSome result ↔ ((label < 2 ^ 48) × (untyped < register_count)) }
+        ensures when { IsSome result ↔ ((label < label_limit) × (untyped < register_count)) }
     {
         if label >= LABELS || usize::from(untyped) > MOST_WORDS {
             return None;
@@ -82,7 +82,7 @@ impl MsgTag {
     /// The label, below 2^48.
     pub fn label(&self) -> u64
         ensures value { result ≡ self.now.label }
-        ensures fits { result < 2 ^ 48 }
+        ensures fits { result < label_limit }
     {
         MsgTag::label_in(self.raw)
     }
@@ -105,7 +105,7 @@ impl MsgTag {
     /// The label in a word of message register 0, below 2^48, whatever number of typed words stands there.
     pub fn label_in(word: u64) -> u64
         ensures value { result ≡ (tag_of_word word).label }
-        ensures fits { result < 2 ^ 48 }
+        ensures fits { result < label_limit }
     {
         word >> 16
     }
@@ -135,7 +135,7 @@ impl MsgTag {
 
     // The tag of these parts, with all other flags clear.
     pub(crate) fn of(label: u64, cross: bool, propagated: bool, untyped: u8) -> MsgTag
-        requires label { label < 2 ^ 48 }
+        requires label { label < label_limit }
         requires untyped { untyped < register_count }
         ensures { result ≡ record { label = label; flags = flags_of cross propagated; untyped = untyped } }
     {

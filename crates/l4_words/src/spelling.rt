@@ -2,7 +2,7 @@
 ghost use Rattle.std.specs.Prelude.{◌≡◌, true, ◌++◌, codes, flat_map, OnOk};
 ghost use Rattle.std.specs.List.{list_all};
 ghost use Rattle.std.specs.String.{string_bytes};
-ghost use Rattle.l4_model.specs.Words.{is_global};
+ghost use Rattle.l4_model.specs.Words.{global_id, is_global};
 ghost use Rattle.l4_words.specs.Numbers.{hexadecimal, is_word};
 ghost use Rattle.l4_words.specs.Threads.{thread_word};
 ghost use Rattle.l4_words.specs.Names.{name_word, is_name};
@@ -35,7 +35,14 @@ pub fn push_thread(line: &mut String, thread: GlobalId) -> Result<(), AllocError
     ensures word { OnOk result (string_bytes line.new ≡ string_bytes line.old ++ codes " " ++ thread_word thread) }
     ensures spelled { is_global thread ≡ true }
 {
-    write!(line, " {}.{}", thread.number(), thread.version())
+    push_numbers(line, thread.number(), thread.version())
+}
+
+/// Appends a space and the thread of this number and version, as `push_thread` does it.
+pub fn push_numbers(line: &mut String, number: u32, version: u32) -> Result<(), AllocError>
+    ensures { OnOk result (string_bytes line.new ≡ string_bytes line.old ++ codes " " ++ thread_word (global_id number version)) }
+{
+    write!(line, " {number}.{version}")
 }
 
 /// Appends a space and the name of a send, `N.V#K`.

@@ -1,7 +1,7 @@
 //! A thread that has come to a phase stands among the ready ones, or its deadline is armed.
-ghost use Rattle.std.specs.Prelude.{◌≡◌, ◌<◌, ◌+◌, ◌^◌, IfSome, false, length};
+ghost use Rattle.std.specs.Prelude.{◌≡◌, ◌<◌, ◌+◌, IfSome, false, length};
 ghost use Rattle.std.specs.Option.{option_map};
-ghost use Rattle.l4_model.specs.Words.{clock_limit};
+ghost use Rattle.l4_model.specs.Words.{clock_limit, period_limit};
 ghost use Rattle.l4_types.specs.PeriodView.{period_of, IsTimely};
 ghost use Rattle.l4_core_model.specs.Local.{thread, relists};
 ghost use Rattle.l4_core.specs.Processor.{with_local};
@@ -17,7 +17,7 @@ fn deadline(period: Period, clock: u64) -> Option<u64>
     requires period { IsTimely period }
     requires clock { clock < clock_limit }
     ensures value { result ≡ option_map (λ n. clock + n) (period_of period) }
-    ensures near { IfSome result (λ deadline. deadline < clock + 2 ^ 42) }
+    ensures near { IfSome result (λ deadline. deadline < clock + period_limit) }
 {
     match period {
         Period::Never => None,

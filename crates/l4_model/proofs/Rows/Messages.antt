@@ -1,7 +1,7 @@
 -- Worked rows: what a message carries.
 use Rattle.std.specs.Prelude.{◌≡◌, Some, None, List, [], ◌∷◌, ◌++◌, map, replicate, refl}
 use Rattle.l4_model.specs.Words.{NilThread, AnyThread}
-use Rattle.l4_model.specs.Machine.{Machine, ToId, ToLast, Set, Add, Tag, Vs, Ipc, Jump}
+use Rattle.l4_model.specs.Machine.{Machine, ToId, ToLast, Set, Add, Tag, Vs, Ipc, Jump, machine_of}
 use Rattle.l4_model.specs.Steps.{Step, Local, Begin, Queue, Deliver, Wait, SendNobody}
 use Rattle.l4_model.specs.History.{IsSending, IsReceiving, IsEnded}
 use Rattle.l4_model.proofs.Rows.Writing.{thread, id, send, sends, receives, declared, ends, quiet, spent, reports, report}
@@ -9,12 +9,9 @@ use Rattle.std.specs.List.{range_with_len}
 
 -- One send and one open wait.
 abbrev pub first_path : Machine
-first_path = record {
-  cpus = 1;
-  threads =
-      declared 1 0 1 (Set 1 10 ∷ Tag 0x70001 ∷ sends 2 ∷ [])
-      ∷ declared 2 0 2 (receives ∷ []) ∷ [];
-}
+first_path = machine_of 1 (
+    declared 1 0 1 (Set 1 10 ∷ Tag 0x70001 ∷ sends 2 ∷ [])
+    ∷ declared 2 0 2 (receives ∷ []) ∷ [])
 
 abbrev pub first_path_trace : List Step
 first_path_trace =
@@ -60,12 +57,9 @@ nothing_told_ending = refl
 
 -- The same on two processors: the tag says so.
 abbrev pub two_processors : Machine
-two_processors = record {
-  cpus = 2;
-  threads =
-      declared 1 0 1 (Set 1 10 ∷ Tag 0x70001 ∷ sends 2 ∷ [])
-      ∷ declared 2 1 2 (receives ∷ []) ∷ [];
-}
+two_processors = machine_of 2 (
+    declared 1 0 1 (Set 1 10 ∷ Tag 0x70001 ∷ sends 2 ∷ [])
+    ∷ declared 2 1 2 (receives ∷ []) ∷ [])
 
 abbrev pub two_processors_trace : List Step
 two_processors_trace =
@@ -103,12 +97,9 @@ two_processors_gathered_ending = refl
 
 -- An empty message changes MR0 alone.
 abbrev pub empty_message : Machine
-empty_message = record {
-  cpus = 1;
-  threads =
-      declared 1 0 1 (Tag 0x70000 ∷ sends 2 ∷ [])
-      ∷ declared 2 0 2 (Set 1 5 ∷ receives ∷ []) ∷ [];
-}
+empty_message = machine_of 1 (
+    declared 1 0 1 (Tag 0x70000 ∷ sends 2 ∷ [])
+    ∷ declared 2 0 2 (Set 1 5 ∷ receives ∷ []) ∷ [])
 
 abbrev pub empty_message_trace : List Step
 empty_message_trace =
@@ -131,12 +122,9 @@ empty_message_view = refl
 
 -- All 63 words, from one processor to another.
 abbrev pub whole_message : Machine
-whole_message = record {
-  cpus = 2;
-  threads =
-      declared 1 0 1 (map (λ n. Set n n) (range_with_len 1 63) ++ Tag 0x7003f ∷ sends 2 ∷ [])
-      ∷ declared 2 1 2 (receives ∷ []) ∷ [];
-}
+whole_message = machine_of 2 (
+    declared 1 0 1 (map (λ n. Set n n) (range_with_len 1 63) ++ Tag 0x7003f ∷ sends 2 ∷ [])
+    ∷ declared 2 1 2 (receives ∷ []) ∷ [])
 
 abbrev pub whole_message_trace : List Step
 whole_message_trace =
@@ -156,12 +144,9 @@ whole_message_view = refl
 
 -- All 63 words, on one processor.
 abbrev pub whole_message_within : Machine
-whole_message_within = record {
-  cpus = 1;
-  threads =
-      declared 1 0 1 (map (λ n. Set n n) (range_with_len 1 63) ++ Tag 0x7003f ∷ sends 2 ∷ [])
-      ∷ declared 2 0 2 (receives ∷ []) ∷ [];
-}
+whole_message_within = machine_of 1 (
+    declared 1 0 1 (map (λ n. Set n n) (range_with_len 1 63) ++ Tag 0x7003f ∷ sends 2 ∷ [])
+    ∷ declared 2 0 2 (receives ∷ []) ∷ [])
 
 abbrev pub whole_message_within_trace : List Step
 whole_message_within_trace =
@@ -181,12 +166,9 @@ whole_message_within_view = refl
 
 -- A call, and an answer to the last sender.
 abbrev pub answer : Machine
-answer = record {
-  cpus = 1;
-  threads =
-      declared 1 0 1 (Set 1 41 ∷ Tag 0x10001 ∷ Ipc (ToId (id 2)) (id 2) None None ∷ [])
-      ∷ declared 2 0 2 (receives ∷ Add 1 1 ∷ Ipc ToLast AnyThread None None ∷ Jump 1 ∷ []) ∷ [];
-}
+answer = machine_of 1 (
+    declared 1 0 1 (Set 1 41 ∷ Tag 0x10001 ∷ Ipc (ToId (id 2)) (id 2) None None ∷ [])
+    ∷ declared 2 0 2 (receives ∷ Add 1 1 ∷ Ipc ToLast AnyThread None None ∷ Jump 1 ∷ []) ∷ [])
 
 abbrev pub answer_trace : List Step
 answer_trace =
@@ -212,14 +194,11 @@ answer_view = refl
 
 -- Propagation is permitted within the space of the originator, and not from another.
 abbrev pub originator : Machine
-originator = record {
-  cpus = 1;
-  threads =
-      declared 1 0 1 []
-      ∷ declared 2 0 1 (Vs (id 1) ∷ Tag 0x51001 ∷ sends 4 ∷ [])
-      ∷ declared 3 0 2 (Vs (id 1) ∷ Tag 0x51001 ∷ sends 4 ∷ [])
-      ∷ declared 4 0 2 (receives ∷ receives ∷ []) ∷ [];
-}
+originator = machine_of 1 (
+    declared 1 0 1 []
+    ∷ declared 2 0 1 (Vs (id 1) ∷ Tag 0x51001 ∷ sends 4 ∷ [])
+    ∷ declared 3 0 2 (Vs (id 1) ∷ Tag 0x51001 ∷ sends 4 ∷ [])
+    ∷ declared 4 0 2 (receives ∷ receives ∷ []) ∷ [])
 
 abbrev pub originator_trace : List Step
 originator_trace =
@@ -252,13 +231,10 @@ originator_view = refl
 
 -- A closed receive compares the sender that it is shown, and ActualSender is the current one.
 abbrev pub propagates : Machine
-propagates = record {
-  cpus = 1;
-  threads =
-      declared 1 0 1 (Ipc (ToId (id 9)) AnyThread None None ∷ [])
-      ∷ declared 2 0 1 (Vs (id 1) ∷ Tag 0x1000 ∷ sends 3 ∷ [])
-      ∷ declared 3 0 2 (Ipc (ToId NilThread) (id 1) None None ∷ Ipc ToLast NilThread None None ∷ []) ∷ [];
-}
+propagates = machine_of 1 (
+    declared 1 0 1 (Ipc (ToId (id 9)) AnyThread None None ∷ [])
+    ∷ declared 2 0 1 (Vs (id 1) ∷ Tag 0x1000 ∷ sends 3 ∷ [])
+    ∷ declared 3 0 2 (Ipc (ToId NilThread) (id 1) None None ∷ Ipc ToLast NilThread None None ∷ []) ∷ [])
 
 abbrev pub propagates_trace : List Step
 propagates_trace =

@@ -1,21 +1,18 @@
 -- Worked rows: who waits where, and who is taken first.
 use Rattle.std.specs.Prelude.{◌≡◌, Some, None, List, [], ◌∷◌, refl}
 use Rattle.l4_model.specs.Words.{NilThread, AnyThread, LocalThread}
-use Rattle.l4_model.specs.Machine.{Machine, ToId, Ipc, Jump}
+use Rattle.l4_model.specs.Machine.{Machine, ToId, Ipc, Jump, machine_of}
 use Rattle.l4_model.specs.Steps.{Step, Local, Begin, Queue, Deliver, Wait, SendNobody, ReceiveNobody}
 use Rattle.l4_model.specs.History.{IsReady, IsSending, IsEnded}
 use Rattle.l4_model.proofs.Rows.Writing.{thread, id, send, sends, receives, declared, ends, quiet, spent, reports, report}
 
 -- Order of arrival, not of beginning.
 abbrev pub order_of_arrival : Machine
-order_of_arrival = record {
-  cpus = 3;
-  threads =
-      declared 1 0 1 (sends 4 ∷ [])
-      ∷ declared 2 1 1 (sends 4 ∷ [])
-      ∷ declared 3 2 1 (sends 4 ∷ [])
-      ∷ declared 4 0 1 (receives ∷ Jump 0 ∷ []) ∷ [];
-}
+order_of_arrival = machine_of 3 (
+    declared 1 0 1 (sends 4 ∷ [])
+    ∷ declared 2 1 1 (sends 4 ∷ [])
+    ∷ declared 3 2 1 (sends 4 ∷ [])
+    ∷ declared 4 0 1 (receives ∷ Jump 0 ∷ []) ∷ [])
 
 abbrev pub order_of_arrival_trace : List Step
 order_of_arrival_trace =
@@ -39,14 +36,11 @@ order_of_arrival_ending = refl
 
 -- A closed receive passes over the senders before its own.
 abbrev pub closed_receive : Machine
-closed_receive = record {
-  cpus = 1;
-  threads =
-      declared 1 0 1 (sends 4 ∷ [])
-      ∷ declared 2 0 1 (sends 4 ∷ [])
-      ∷ declared 3 0 1 (sends 4 ∷ [])
-      ∷ declared 4 0 1 (Ipc (ToId NilThread) (id 2) None None ∷ receives ∷ receives ∷ []) ∷ [];
-}
+closed_receive = machine_of 1 (
+    declared 1 0 1 (sends 4 ∷ [])
+    ∷ declared 2 0 1 (sends 4 ∷ [])
+    ∷ declared 3 0 1 (sends 4 ∷ [])
+    ∷ declared 4 0 1 (Ipc (ToId NilThread) (id 2) None None ∷ receives ∷ receives ∷ []) ∷ [])
 
 abbrev pub closed_receive_trace : List Step
 closed_receive_trace =
@@ -72,11 +66,7 @@ closed_receive_ending = refl
 
 -- Nobody can be sent to by anythread, a local or an undeclared id, nor received from by an undeclared one.
 abbrev pub nobody_there : Machine
-nobody_there = record {
-  cpus = 1;
-  threads =
-      declared 1 0 1 (Ipc (ToId AnyThread) NilThread None None ∷ Ipc (ToId (LocalThread 64)) NilThread None None ∷ sends 9 ∷ Ipc (ToId NilThread) (id 9) None None ∷ []) ∷ [];
-}
+nobody_there = machine_of 1 (declared 1 0 1 (Ipc (ToId AnyThread) NilThread None None ∷ Ipc (ToId (LocalThread 64)) NilThread None None ∷ sends 9 ∷ Ipc (ToId NilThread) (id 9) None None ∷ []) ∷ [])
 
 abbrev pub nobody_there_trace : List Step
 nobody_there_trace =
@@ -99,12 +89,9 @@ nobody_there_view = refl
 
 -- Two threads that send to each other wait for ever.
 abbrev pub mutual_sends : Machine
-mutual_sends = record {
-  cpus = 1;
-  threads =
-      declared 1 0 1 (sends 2 ∷ [])
-      ∷ declared 2 0 1 (sends 1 ∷ []) ∷ [];
-}
+mutual_sends = machine_of 1 (
+    declared 1 0 1 (sends 2 ∷ [])
+    ∷ declared 2 0 1 (sends 1 ∷ []) ∷ [])
 
 abbrev pub mutual_sends_trace : List Step
 mutual_sends_trace =
@@ -123,14 +110,11 @@ mutual_sends_view = refl
 
 -- Sends that have not arrived are waiting too.
 abbrev pub room_one : Machine
-room_one = record {
-  cpus = 2;
-  threads =
-      declared 1 0 1 (sends 4 ∷ [])
-      ∷ declared 2 0 1 (sends 4 ∷ [])
-      ∷ declared 3 0 1 (sends 4 ∷ [])
-      ∷ declared 4 1 1 (receives ∷ Jump 0 ∷ []) ∷ [];
-}
+room_one = machine_of 2 (
+    declared 1 0 1 (sends 4 ∷ [])
+    ∷ declared 2 0 1 (sends 4 ∷ [])
+    ∷ declared 3 0 1 (sends 4 ∷ [])
+    ∷ declared 4 1 1 (receives ∷ Jump 0 ∷ []) ∷ [])
 
 abbrev pub room_one_trace : List Step
 room_one_trace =

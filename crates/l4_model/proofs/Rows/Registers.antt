@@ -1,18 +1,14 @@
 -- Worked rows: what the instructions of a script do.
 use Rattle.std.specs.Prelude.{◌≡◌, Some, None, List, [], ◌∷◌, refl}
 use Rattle.l4_model.specs.Words.{NilThread, AnyThread}
-use Rattle.l4_model.specs.Machine.{Machine, ToId, ToLast, CancelSend, CancelReceive, Delete, Set, Copy, Add, Tag, Vs, Ipc, Ask, Jump, OnErr, End}
+use Rattle.l4_model.specs.Machine.{Machine, ToId, ToLast, CancelSend, CancelReceive, Delete, Set, Copy, Add, Tag, Vs, Ipc, Ask, Jump, OnErr, End, machine_of}
 use Rattle.l4_model.specs.Steps.{Step, Local, Begin, Queue, Deliver, Wait, SendNobody}
 use Rattle.l4_model.specs.History.{IsEnded}
 use Rattle.l4_model.proofs.Rows.Writing.{thread, id, send, sends, receives, declared, ends, quiet, reports, report}
 
 -- Sums wrap, jumps are taken, an order to nobody gives code 2, and at an `end` the thread has ended.
 abbrev pub scripted : Machine
-scripted = record {
-  cpus = 1;
-  threads =
-      declared 1 0 1 (Set 1 18446744073709551615 ∷ Add 1 2 ∷ Copy 2 1 ∷ OnErr 5 ∷ Jump 6 ∷ Set 3 7 ∷ Ask (id 9) CancelSend ∷ OnErr 9 ∷ Set 4 7 ∷ End ∷ Set 5 7 ∷ []) ∷ [];
-}
+scripted = machine_of 1 (declared 1 0 1 (Set 1 18446744073709551615 ∷ Add 1 2 ∷ Copy 2 1 ∷ OnErr 5 ∷ Jump 6 ∷ Set 3 7 ∷ Ask (id 9) CancelSend ∷ OnErr 9 ∷ Set 4 7 ∷ End ∷ Set 5 7 ∷ []) ∷ [])
 
 abbrev pub scripted_trace : List Step
 scripted_trace =
@@ -34,11 +30,7 @@ scripted_view = refl
 
 -- An ipc without phases ends well. `last` names nobody at the start.
 abbrev pub no_phases : Machine
-no_phases = record {
-  cpus = 1;
-  threads =
-      declared 1 0 1 (Tag 0x10001 ∷ Set 1 7 ∷ Ask NilThread CancelReceive ∷ Ask AnyThread Delete ∷ Ipc ToLast NilThread None None ∷ []) ∷ [];
-}
+no_phases = machine_of 1 (declared 1 0 1 (Tag 0x10001 ∷ Set 1 7 ∷ Ask NilThread CancelReceive ∷ Ask AnyThread Delete ∷ Ipc ToLast NilThread None None ∷ []) ∷ [])
 
 abbrev pub no_phases_trace : List Step
 no_phases_trace =
@@ -58,12 +50,9 @@ no_phases_view = refl
 
 -- A failed send phase leaves the registers but MR0, `from` and ErrorCode, and has no receive phase.
 abbrev pub failed_send : Machine
-failed_send = record {
-  cpus = 1;
-  threads =
-      declared 1 0 1 (receives ∷ Vs (id 1) ∷ Set 2 9 ∷ Ipc (ToId (id 9)) AnyThread None None ∷ [])
-      ∷ declared 2 0 1 (Set 1 8 ∷ Tag 0x70001 ∷ sends 1 ∷ []) ∷ [];
-}
+failed_send = machine_of 1 (
+    declared 1 0 1 (receives ∷ Vs (id 1) ∷ Set 2 9 ∷ Ipc (ToId (id 9)) AnyThread None None ∷ [])
+    ∷ declared 2 0 1 (Set 1 8 ∷ Tag 0x70001 ∷ sends 1 ∷ []) ∷ [])
 
 abbrev pub failed_send_trace : List Step
 failed_send_trace =
@@ -90,13 +79,10 @@ failed_send_view = refl
 
 -- Propagation in one's own name: the tag keeps `p`. Without bit 12 there is none.
 abbrev pub own_name : Machine
-own_name = record {
-  cpus = 1;
-  threads =
-      declared 1 0 1 (Vs (id 1) ∷ Tag 0x1000 ∷ sends 2 ∷ Vs (id 3) ∷ Tag 0x2000 ∷ sends 2 ∷ [])
-      ∷ declared 2 0 2 (receives ∷ receives ∷ [])
-      ∷ declared 3 0 1 [] ∷ [];
-}
+own_name = machine_of 1 (
+    declared 1 0 1 (Vs (id 1) ∷ Tag 0x1000 ∷ sends 2 ∷ Vs (id 3) ∷ Tag 0x2000 ∷ sends 2 ∷ [])
+    ∷ declared 2 0 2 (receives ∷ receives ∷ [])
+    ∷ declared 3 0 1 [] ∷ [])
 
 abbrev pub own_name_trace : List Step
 own_name_trace =
@@ -121,12 +107,9 @@ own_name_ending = refl
 
 -- An ipc that ended well without receiving clears `from`, and leaves ActualSender.
 abbrev pub answered_once : Machine
-answered_once = record {
-  cpus = 1;
-  threads =
-      declared 1 0 1 (sends 2 ∷ receives ∷ [])
-      ∷ declared 2 0 1 (receives ∷ Ipc ToLast NilThread None None ∷ []) ∷ [];
-}
+answered_once = machine_of 1 (
+    declared 1 0 1 (sends 2 ∷ receives ∷ [])
+    ∷ declared 2 0 1 (receives ∷ Ipc ToLast NilThread None None ∷ []) ∷ [])
 
 abbrev pub answered_once_trace : List Step
 answered_once_trace =
@@ -151,13 +134,10 @@ answered_once_view = refl
 
 -- `X` is of the current sender's processor, not of the originator's.
 abbrev pub originator_elsewhere : Machine
-originator_elsewhere = record {
-  cpus = 2;
-  threads =
-      declared 1 1 1 []
-      ∷ declared 2 0 1 (Vs (id 1) ∷ Tag 0x1000 ∷ sends 3 ∷ [])
-      ∷ declared 3 0 1 (receives ∷ []) ∷ [];
-}
+originator_elsewhere = machine_of 2 (
+    declared 1 1 1 []
+    ∷ declared 2 0 1 (Vs (id 1) ∷ Tag 0x1000 ∷ sends 3 ∷ [])
+    ∷ declared 3 0 1 (receives ∷ []) ∷ [])
 
 abbrev pub originator_elsewhere_trace : List Step
 originator_elsewhere_trace =

@@ -1,7 +1,7 @@
 -- Worked rows: what a cancellation is worth, and how long.
 use Rattle.std.specs.Prelude.{◌≡◌, Some, None, List, [], ◌∷◌, refl}
 use Rattle.l4_model.specs.Words.{NilThread, AnyThread, period_of}
-use Rattle.l4_model.specs.Machine.{Machine, ToId, ToLast, CancelSend, CancelReceive, CancelBoth, Delete, Ipc, Ask}
+use Rattle.l4_model.specs.Machine.{Machine, ToId, ToLast, CancelSend, CancelReceive, CancelBoth, Delete, Ipc, Ask, machine_of}
 use Rattle.l4_model.specs.Steps.{Step, Local, Begin, Queue, Deliver, Wait, SendTimeout, ReceiveNobody, SendCancel, ReceiveCancel, Order, Obey, Tick}
 use Rattle.l4_model.specs.History.{refused_place, IsReady, IsSending, IsOrdering, IsEnded, IsDeleted}
 use Rattle.l4_model.proofs.Rows.Writing.{thread, id, send, sends, receives, declared, ends, quiet, spent, reports, report}
@@ -9,13 +9,10 @@ use Rattle.l4_model.proofs.Rows.Orders.{cancels}
 
 -- A wish to cancel a send goes with the send.
 abbrev pub sends_twice : Machine
-sends_twice = record {
-  cpus = 1;
-  threads =
-      declared 1 0 1 (sends 3 ∷ sends 3 ∷ [])
-      ∷ declared 2 0 1 (Ask (id 1) CancelSend ∷ [])
-      ∷ declared 3 0 2 (receives ∷ []) ∷ [];
-}
+sends_twice = machine_of 1 (
+    declared 1 0 1 (sends 3 ∷ sends 3 ∷ [])
+    ∷ declared 2 0 1 (Ask (id 1) CancelSend ∷ [])
+    ∷ declared 3 0 2 (receives ∷ []) ∷ [])
 
 wish_is_gone : refused_place sends_twice (
     Begin (send 1 1)
@@ -85,13 +82,10 @@ undone_view = refl
 
 -- A wish to cancel a receive phase goes with it.
 abbrev pub receives_twice : Machine
-receives_twice = record {
-  cpus = 1;
-  threads =
-      declared 1 0 1 (receives ∷ receives ∷ [])
-      ∷ declared 2 0 1 (Ask (id 1) CancelReceive ∷ [])
-      ∷ declared 3 0 2 (sends 1 ∷ []) ∷ [];
-}
+receives_twice = machine_of 1 (
+    declared 1 0 1 (receives ∷ receives ∷ [])
+    ∷ declared 2 0 1 (Ask (id 1) CancelReceive ∷ [])
+    ∷ declared 3 0 2 (sends 1 ∷ []) ∷ [])
 
 receive_wish_is_gone : refused_place receives_twice (
     Wait (thread 1)
@@ -135,13 +129,10 @@ receive_cancelled = refl
 
 -- A send without a receive phase has none to cancel.
 abbrev pub sends_then_receives : Machine
-sends_then_receives = record {
-  cpus = 1;
-  threads =
-      declared 1 0 1 (sends 3 ∷ receives ∷ [])
-      ∷ declared 2 0 1 (Ask (id 1) CancelReceive ∷ [])
-      ∷ declared 3 0 2 (receives ∷ []) ∷ [];
-}
+sends_then_receives = machine_of 1 (
+    declared 1 0 1 (sends 3 ∷ receives ∷ [])
+    ∷ declared 2 0 1 (Ask (id 1) CancelReceive ∷ [])
+    ∷ declared 3 0 2 (receives ∷ []) ∷ [])
 
 later_receive_phase : refused_place sends_then_receives (
     Begin (send 1 1)
@@ -156,13 +147,10 @@ later_receive_phase = refl
 
 -- A call that fails takes the wish to cancel its receive phase away.
 abbrev pub call_that_fails : Machine
-call_that_fails = record {
-  cpus = 1;
-  threads =
-      declared 1 0 1 (Ipc (ToId (id 3)) AnyThread (period_of 5) None ∷ receives ∷ [])
-      ∷ declared 2 0 1 (Ask (id 1) CancelReceive ∷ [])
-      ∷ declared 3 0 2 [] ∷ [];
-}
+call_that_fails = machine_of 1 (
+    declared 1 0 1 (Ipc (ToId (id 3)) AnyThread (period_of 5) None ∷ receives ∷ [])
+    ∷ declared 2 0 1 (Ask (id 1) CancelReceive ∷ [])
+    ∷ declared 3 0 2 [] ∷ [])
 
 wish_of_a_failed_call : refused_place call_that_fails (
     Begin (send 1 1)
@@ -177,13 +165,10 @@ wish_of_a_failed_call = refl
 
 -- A delivered call takes the wish to cancel its send away.
 abbrev pub calls_then_sends : Machine
-calls_then_sends = record {
-  cpus = 1;
-  threads =
-      declared 1 0 1 (Ipc (ToId (id 3)) (id 3) None None ∷ sends 3 ∷ [])
-      ∷ declared 2 0 1 (Ask (id 1) CancelSend ∷ [])
-      ∷ declared 3 0 2 (receives ∷ Ipc ToLast NilThread None None ∷ []) ∷ [];
-}
+calls_then_sends = machine_of 1 (
+    declared 1 0 1 (Ipc (ToId (id 3)) (id 3) None None ∷ sends 3 ∷ [])
+    ∷ declared 2 0 1 (Ask (id 1) CancelSend ∷ [])
+    ∷ declared 3 0 2 (receives ∷ Ipc ToLast NilThread None None ∷ []) ∷ [])
 
 wish_of_a_delivered_call : refused_place calls_then_sends (
     Begin (send 1 1)
@@ -202,13 +187,10 @@ wish_of_a_delivered_call = refl
 
 -- Both bits at once.
 abbrev pub both_wishes : Machine
-both_wishes = record {
-  cpus = 1;
-  threads =
-      declared 1 0 1 (Ipc (ToId (id 3)) (id 3) None None ∷ [])
-      ∷ declared 2 0 1 (Ask (id 1) CancelBoth ∷ [])
-      ∷ declared 3 0 2 (receives ∷ []) ∷ [];
-}
+both_wishes = machine_of 1 (
+    declared 1 0 1 (Ipc (ToId (id 3)) (id 3) None None ∷ [])
+    ∷ declared 2 0 1 (Ask (id 1) CancelBoth ∷ [])
+    ∷ declared 3 0 2 (receives ∷ []) ∷ [])
 
 abbrev pub both_wishes_trace : List Step
 both_wishes_trace =
@@ -247,12 +229,9 @@ from_another_space = refl
 
 -- A deletion is admitted from any space, of a declared thread.
 abbrev pub deleted_from_elsewhere : Machine
-deleted_from_elsewhere = record {
-  cpus = 1;
-  threads =
-      declared 1 0 1 (receives ∷ [])
-      ∷ declared 2 0 2 (Ask (id 1) Delete ∷ Ask (id 9) Delete ∷ Ipc (ToId NilThread) (id 9) None None ∷ []) ∷ [];
-}
+deleted_from_elsewhere = machine_of 1 (
+    declared 1 0 1 (receives ∷ [])
+    ∷ declared 2 0 2 (Ask (id 1) Delete ∷ Ask (id 9) Delete ∷ Ipc (ToId NilThread) (id 9) None None ∷ []) ∷ [])
 
 abbrev pub deleted_from_elsewhere_trace : List Step
 deleted_from_elsewhere_trace =

@@ -9,6 +9,9 @@ use Rattle.l4_machine.proofs.Cores.{all_wait_there}
 use Rattle.l4_machine.proofs.Outcomes.{is_outcome_at_home}
 use Rattle.l4_machine.proofs.outcome.outcome_of.Goals as goal
 
+pub waiting-requires-clause-once : goal.waiting-requires-clause-once
+waiting-requires-clause-once c = λ s. (c.law_begun_then_ended.ensures c.args.machine.now (steps_of c.args.history) c.requires s).begun_once
+
 pub returns-then-are_undeleted : goal.returns-then-are_undeleted
 returns-then-are_undeleted c = λ r locals sound home ends told_is turns quiet.
     let m = c.args.machine.now in

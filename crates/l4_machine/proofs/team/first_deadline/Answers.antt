@@ -1,7 +1,8 @@
-use Rattle.std.proofs.Common.{◌≡◌, ℕ, ◌+◌, ◌<◌, ◌^◌, Some, drop, ap, sym, ◌∙◌, subst, arith}
+use Rattle.std.proofs.Common.{◌≡◌, ℕ, ◌+◌, ◌<◌, Some, drop, ap, sym, ◌∙◌, subst, arith}
 use Rattle.std.specs.Prelude.{slice_get, IfSome}
 use Rattle.std.specs.Option.{option_map}
 use Rattle.std.proofs.lemmas.Option.{slice_get-get_or}
+use Rattle.l4_model.specs.Words.{period_limit}
 use Rattle.l4_core_model.specs.Schedules.{earliest}
 use Rattle.l4_core.specs.Processor.{Processor as Core}
 use Rattle.l4_proc.specs.declared.processor.Processor.{Processor}
@@ -28,7 +29,7 @@ loop-processor-preserved c =
           ∙ ap (λ o. earliest o rest) (sym c.earliest-first.ensures);
       near = λ last low.
           let here = low k p (slice_get-get_or ps k _ c.loop-processor-test.true ∙ ap Some (sym c.processor-item.is)) in
-          subst (λ o. IfSome o (λ deadline. deadline < last + 2 ^ 42)) (sym c.earliest-first.ensures)
-          (both_near first own (last + 2 ^ 42) (c.loop-processor.invariant.near last low)
-          (nearer own (c.core.result.now.local.clock + 2 ^ 42) (last + 2 ^ 42) (omega arith) c.least_deadline.ensures.near));
+          subst (λ o. IfSome o (λ deadline. deadline < last + period_limit)) (sym c.earliest-first.ensures)
+          (both_near first own (last + period_limit) (c.loop-processor.invariant.near last low)
+          (nearer own (c.core.result.now.local.clock + period_limit) (last + period_limit) (omega arith) c.least_deadline.ensures.near));
     }

@@ -21,6 +21,7 @@ TOP = pathlib.Path(__file__).resolve().parent.parent
 FUNCTION = re.compile(r"\s*(?:pub(?:\([^)]*\))?\s+)?(?:const\s+)?fn\s+(\w+)")
 IMPL = re.compile(r"impl(?:<[^{]*?>)?\s+(?:[\w:<>', ]+\s+for\s+)?(\w+)")
 VERDICT = re.compile(r"fn \w+::(\S+): (.*)")
+UNREAD = re.compile(r"src/\S+: error\[.*")
 ERROR = re.compile(r"(?:so far: )?\./proofs/(\S+)/Answers\.antt:\d+:\d+: error: (.*)")
 
 
@@ -132,6 +133,9 @@ def try_crate(copy, crate):
             plant(home, pairs)
         done = subprocess.run(["rt", "check"], cwd=home, stdout=subprocess.PIPE, stderr=subprocess.STDOUT, text=True)
         said = done.stdout.splitlines()
+        # One that does not compile keeps all of its batch from being judged.
+        for line in filter(UNREAD.match, said):
+            print(f"  of {', '.join(batch)}: {line}", flush=True)
         for name, (_, functions) in batch.items():
             if any(why_refused(said, function) for _, function in functions):
                 refused += 1

@@ -1,16 +1,13 @@
 -- Bits of words, as sets of places.
-use Rattle.std.proofs.Common.{◌≡◌, ℕ, zero, suc, ◌+◌, ◌-◌, ◌*◌, ◌/◌, ◌%◌, ◌^◌, ◌<◌, ◌≤◌, Bool, true, false, cond, ◌||◌, ◌&&◌, not, List, length, get_or, set, drop, take, Some, None, Option, refl, sym, ap, ◌∙◌, inl, inr, ◌⊎◌, arith, bit_or, bit_and, w64}
-use Rattle.std.specs.Prelude.{◌==◌, position, nat_lt}
-use Rattle.std.specs.List.{position_or_len}
+use Rattle.std.proofs.Common.{◌≡◌, ℕ, zero, suc, ◌+◌, ◌-◌, ◌*◌, ◌/◌, ◌%◌, ◌^◌, ◌<◌, ◌≤◌, Bool, true, false, cond, ◌||◌, ◌&&◌, not, List, length, get_or, set, refl, sym, ap, ◌∙◌, inl, inr, ◌⊎◌, arith, bit_or, bit_and, w64}
+use Rattle.std.specs.Prelude.{◌==◌, nat_lt}
 use Rattle.std.specs.Int.{bit_at}
+use Rattle.std.specs.Int.Bits.{and_zero_l}
 use Rattle.std.specs.Int.Count.{count_trailing_zeros}
 use Rattle.std.proofs.lemmas.Bool.{cases_eq, cases_lt, eq-eqb, ne_eqb, lt-ltb, le-ltb}
-use Rattle.std.proofs.lemmas.List.{get_or-set_same, get_or-set_other, get_or_past, get_or-drop, length-drop, take_all}
-use Rattle.std.proofs.lemmas.Grind.{common_steps}
-use Rattle.std.proofs.lemmas.List.Quantifiers.{position-Some}
-use Rattle.std.proofs.lemmas.List.Sums.{fails_before_first}
+use Rattle.std.proofs.lemmas.List.{get_or-set_same, get_or-set_other, get_or_past}
 use Rattle.std.proofs.lemmas.Nat.Bits.{bit_at_set_same, bit_at_set_other, bit_at_clear_same, bit_at_clear_other, bit_at-zero, bit_at-trailing_zeros}
-use Rattle.l4_core.specs.Places.{has, is_filled, IsLowest, IsFirst, AreZeroBefore, count}
+use Rattle.l4_core.specs.Places.{has, is_filled, IsLowest, IsFirst, MarksFilled, count}
 
 -- A place is one bit of one word.
 row : ℕ → ℕ
@@ -46,139 +43,157 @@ changed words place word other is within keeps bits = by (cases_eq (other / 64) 
         let apart : (other == place) ≡ false = ne_eqb other place (λ g. e (ap (λ n. n / 64) g)) in
         ap (λ w. bit_at w (other % 64) == 1) (get_or-set_other words (place / 64) (other / 64) word 0 e) ∙ sym (keeps (has words other)) ∙ ap (is (has words other)) (sym apart)
 
+-- What putting a bit in and taking it out does to the bits of a word
+
+false_keeps : (b : Bool) → (b || false) ≡ b
+false_keeps true = refl
+false_keeps false = refl
+
+true_wins : (b : Bool) → (b || true) ≡ true
+true_wins true = refl
+true_wins false = refl
+
+true_keeps : (b : Bool) → (b && true) ≡ b
+true_keeps true = refl
+true_keeps false = refl
+
+false_wins : (b : Bool) → (b && false) ≡ false
+false_wins true = refl
+false_wins false = refl
+
+bits_with : (word k i : ℕ) → k < 64 → (bit_at (bit_or word (1 * 2 ^ k % 18446744073709551616)) i == 1) ≡ ((bit_at word i == 1) || (i == k))
+bits_with word k i small = by (cases_eq i k)
+  where
+    by : (i ≡ k) ⊎ (i ≡ k → ⊥) → (bit_at (bit_or word (1 * 2 ^ k % 18446744073709551616)) i == 1) ≡ ((bit_at word i == 1) || (i == k))
+    by (inl e) =
+        let at : bit_at (bit_or word (1 * 2 ^ k % 18446744073709551616)) i ≡ 1 = ap (bit_at _) e ∙ bit_at_set_same w64 word k small in
+        ap (λ n. n == 1) at ∙ sym (ap (λ b. (bit_at word i == 1) || b) (eq-eqb i k e) ∙ true_wins _)
+    by (inr e) = ap (λ n. n == 1) (bit_at_set_other w64 word k small i e) ∙ sym (ap (λ b. (bit_at word i == 1) || b) (ne_eqb i k e) ∙ false_keeps _)
+
+bits_without : (word k i : ℕ) → k < 64 → i < 64 → (bit_at (bit_and word (18446744073709551615 - 1 * 2 ^ k % 18446744073709551616)) i == 1) ≡ ((bit_at word i == 1) && not (i == k))
+bits_without word k i small lt = by (cases_eq i k)
+  where
+    by : (i ≡ k) ⊎ (i ≡ k → ⊥) → (bit_at (bit_and word (18446744073709551615 - 1 * 2 ^ k % 18446744073709551616)) i == 1) ≡ ((bit_at word i == 1) && not (i == k))
+    by (inl e) =
+        let at : bit_at (bit_and word (18446744073709551615 - 1 * 2 ^ k % 18446744073709551616)) i ≡ 0 = ap (bit_at _) e ∙ bit_at_clear_same w64 word k small in
+        ap (λ n. n == 1) at ∙ sym (ap (λ b. (bit_at word i == 1) && not b) (eq-eqb i k e) ∙ false_wins _)
+    by (inr e) = ap (λ n. n == 1) (bit_at_clear_other w64 word k small i lt e) ∙ sym (ap (λ b. (bit_at word i == 1) && not b) (ne_eqb i k e) ∙ true_keeps _)
+
 pub inserted : (words : List ℕ) (place other : ℕ) → length words ≡ 16 → place < 1024 →
     has (set words (place / 64) (bit_or (get_or words (place / 64) 0) (1 * 2 ^ (place % 64) % 18446744073709551616))) other ≡ (has words other || other == place)
-inserted words place other long small = changed words place _ other (λ a b. a || b) (omega (arith, long, small)) keeps bits
-  where
-    old : ℕ
-    old = get_or words (place / 64) 0
-
-    keeps : (b : Bool) → (b || false) ≡ b
-    keeps true = refl
-    keeps false = refl
-
-    either_true : (b : Bool) → (b || true) ≡ true
-    either_true true = refl
-    either_true false = refl
-
-    bits : (i : ℕ) → i < 64 → (bit_at (bit_or (get_or words (place / 64) 0) (1 * 2 ^ (place % 64) % 18446744073709551616)) i == 1) ≡ ((bit_at (get_or words (place / 64) 0) i == 1) || (i == place % 64))
-    bits i lt = by (cases_eq i (place % 64))
-      where
-        by : (i ≡ place % 64) ⊎ (i ≡ place % 64 → ⊥) → (bit_at (bit_or (get_or words (place / 64) 0) (1 * 2 ^ (place % 64) % 18446744073709551616)) i == 1) ≡ ((bit_at (get_or words (place / 64) 0) i == 1) || (i == place % 64))
-        by (inl e) =
-            let one = bit_at_set_same w64 (get_or words (place / 64) 0) (place % 64) (omega arith) in
-            let at : bit_at (bit_or (get_or words (place / 64) 0) (1 * 2 ^ (place % 64) % 18446744073709551616)) i ≡ 1 = ap (bit_at _) e ∙ one in
-            ap (λ n. n == 1) at ∙ sym (ap (λ b. (bit_at (get_or words (place / 64) 0) i == 1) || b) (eq-eqb i (place % 64) e) ∙ either_true _)
-        by (inr e) =
-            let other = bit_at_set_other w64 (get_or words (place / 64) 0) (place % 64) (omega arith) i e in
-            ap (λ n. n == 1) other ∙ sym (ap (λ b. (bit_at (get_or words (place / 64) 0) i == 1) || b) (ne_eqb i (place % 64) e) ∙ keeps _)
+inserted words place other long small =
+    changed words place _ other (λ a b. a || b) (omega (arith, long, small)) false_keeps (λ i lt. bits_with (get_or words (place / 64) 0) (place % 64) i (omega arith))
 
 pub removed : (words : List ℕ) (place other : ℕ) → length words ≡ 16 → place < 1024 →
     has (set words (place / 64) (bit_and (get_or words (place / 64) 0) (18446744073709551615 - 1 * 2 ^ (place % 64) % 18446744073709551616))) other ≡ (has words other && not (other == place))
-removed words place other long small = changed words place _ other (λ a b. a && not b) (omega (arith, long, small)) keeps bits
-  where
-    keeps : (b : Bool) → (b && true) ≡ b
-    keeps true = refl
-    keeps false = refl
+removed words place other long small =
+    changed words place _ other (λ a b. a && not b) (omega (arith, long, small)) true_keeps (λ i lt. bits_without (get_or words (place / 64) 0) (place % 64) i (omega arith) lt)
 
-    both_false : (b : Bool) → (b && false) ≡ false
-    both_false true = refl
-    both_false false = refl
-
-    bits : (i : ℕ) → i < 64 → (bit_at (bit_and (get_or words (place / 64) 0) (18446744073709551615 - 1 * 2 ^ (place % 64) % 18446744073709551616)) i == 1) ≡ ((bit_at (get_or words (place / 64) 0) i == 1) && not (i == place % 64))
-    bits i lt = by (cases_eq i (place % 64))
-      where
-        by : (i ≡ place % 64) ⊎ (i ≡ place % 64 → ⊥) → (bit_at (bit_and (get_or words (place / 64) 0) (18446744073709551615 - 1 * 2 ^ (place % 64) % 18446744073709551616)) i == 1) ≡ ((bit_at (get_or words (place / 64) 0) i == 1) && not (i == place % 64))
-        by (inl e) =
-            let none = bit_at_clear_same w64 (get_or words (place / 64) 0) (place % 64) (omega arith) in
-            let at : bit_at (bit_and (get_or words (place / 64) 0) (18446744073709551615 - 1 * 2 ^ (place % 64) % 18446744073709551616)) i ≡ 0 = ap (bit_at _) e ∙ none in
-            ap (λ n. n == 1) at ∙ sym (ap (λ b. (bit_at (get_or words (place / 64) 0) i == 1) && not b) (eq-eqb i (place % 64) e) ∙ both_false _)
-        by (inr e) =
-            let other = bit_at_clear_other w64 (get_or words (place / 64) 0) (place % 64) (omega arith) i lt e in
-            ap (λ n. n == 1) other ∙ sym (ap (λ b. (bit_at (get_or words (place / 64) 0) i == 1) && not b) (ne_eqb i (place % 64) e) ∙ keeps _)
-
--- The words before the first one with a place
-
-not_filled : (word : ℕ) → is_filled word ≡ false → word ≡ 0
-not_filled word e = by (cases_eq word 0)
-  where
-    by : (word ≡ 0) ⊎ (word ≡ 0 → ⊥) → word ≡ 0
-    by (inl none) = none
-    by (inr some) = let filled : is_filled word ≡ true = ap not (ne_eqb word 0 some) in let false_is : true ≡ false = sym filled ∙ e in cc
-
--- A search from a row on is one in what is left of the words.
-pub found_from : (words : List ℕ) (start : ℕ) (found : Option ℕ) → length words ≡ 16 → found ≡ position is_filled (take (16 - start) (drop start words)) → position is_filled (drop start words) ≡ found
-found_from words start found long e = ap (position is_filled) (sym (take_all (16 - start) (drop start words) (omega (arith, long, length-drop start words)))) ∙ sym e
-
--- The words that a search from there passes are zero too.
-zero_until : (words : List ℕ) (start next : ℕ) → AreZeroBefore words start → next ≤ length words →
-    ((k : ℕ) → start + k < next → is_filled (get_or (drop start words) k 0) ≡ false) → AreZeroBefore words next
-zero_until words start next before few passed = record { within = few; empty = λ row less. by row less (cases_lt row start) }
-  where
-    by : (row : ℕ) → row < next → (row < start) ⊎ (start ≤ row) → get_or words row 0 ≡ 0
-    by row less (inl lt) = before.empty row lt
-    by row less (inr le) =
-        let same : start + (row - start) ≡ row = omega (arith, le) in
-        let read : get_or (drop start words) (row - start) 0 ≡ get_or words row 0 = get_or-drop start words (row - start) 0 ∙ ap (λ r. get_or words r 0) same in
-        sym read ∙ not_filled (get_or (drop start words) (row - start) 0) (passed (row - start) (omega (arith, less, same)))
-
-pub zero_to_end : (words : List ℕ) (start : ℕ) → length words ≡ 16 → AreZeroBefore words start → position is_filled (drop start words) ≡ None → AreZeroBefore words 16
-zero_to_end words start long before none =
-    let rest = length-drop start words in
-    let le : length (drop start words) ≤ position_or_len is_filled (drop start words) = grind (arith, common_steps) in
-    zero_until words start 16 before (omega (arith, long)) (λ k less. fails_before_first is_filled (drop start words) k 0 (omega (arith, le, less, rest, long)))
-
-pub zero_to_filled : (words : List ℕ) (start more : ℕ) → AreZeroBefore words start → position is_filled (drop start words) ≡ Some more → AreZeroBefore words (start + more)
-zero_to_filled words start more before at =
-    let p = position-Some is_filled (drop start words) more 0 at in
-    let less : more < length (drop start words) = p.0 in
-    zero_until words start (start + more) before (omega (arith, less, length-drop start words)) (λ k lt. p.2 k (omega (arith, lt)))
-
-pub filled_word : (words : List ℕ) (start more : ℕ) → position is_filled (drop start words) ≡ Some more → 0 < get_or words (start + more) 0
-filled_word words start more at = by (cases_eq (get_or words (start + more) 0) 0)
-  where
-    by : (get_or words (start + more) 0 ≡ 0) ⊎ (get_or words (start + more) 0 ≡ 0 → ⊥) → 0 < get_or words (start + more) 0
-    by (inl none) =
-        let filled = (position-Some is_filled (drop start words) more 0 at).1 in
-        let empty : is_filled (get_or (drop start words) more 0) ≡ false = ap is_filled (get_or-drop start words more 0 ∙ none) in
-        let wrong : true ≡ false = sym filled ∙ empty in cc
-    by (inr some) = omega arith
-
-pub filled_row : (words : List ℕ) (start more : ℕ) → length words ≡ 16 → position is_filled (drop start words) ≡ Some more → start + more < 16
-filled_row words start more long at =
-    let less : more < length (drop start words) = (position-Some is_filled (drop start words) more 0 at).0 in
-    omega (arith, less, length-drop start words, long)
-
--- The least place
+-- Which words have a place
 
 zero_word : (word i : ℕ) → word ≡ 0 → (bit_at word i == 1) ≡ false
 zero_word word i e = ap (λ w. bit_at w i == 1) e ∙ ap (λ n. n == 1) (bit_at-zero i)
 
-pub none_is : (words : List ℕ) (place : ℕ) → length words ≡ 16 → AreZeroBefore words 16 → has words place ≡ false
-none_is words place long before = by (cases_lt (place / 64) 16)
-  where
-    by : (place / 64 < 16) ⊎ (16 ≤ place / 64) → has words place ≡ false
-    by (inl lt) = zero_word (get_or words (place / 64) 0) (place % 64) (before.empty (place / 64) lt)
-    by (inr le) = zero_word (get_or words (place / 64) 0) (place % 64) (get_or_past words (place / 64) 0 (omega (arith, le, long)))
+filled-some : (word : ℕ) → (word ≡ 0 → ⊥) → is_filled word ≡ true
+filled-some word some = ap not (ne_eqb word 0 some)
 
-pub first_is : (words : List ℕ) (r b : ℕ) → r < 16 → AreZeroBefore words r → IsLowest (get_or words r 0) b → IsFirst words (r * 64 + b)
-first_is words r b lt before low =
+filled-none : (word : ℕ) → word ≡ 0 → is_filled word ≡ false
+filled-none word none = ap not (eq-eqb word 0 none)
+
+unfilled : (word : ℕ) → is_filled word ≡ false → word ≡ 0
+unfilled word e = by (cases_eq word 0)
+  where
+    by : (word ≡ 0) ⊎ (word ≡ 0 → ⊥) → word ≡ 0
+    by (inl none) = none
+    by (inr some) = let wrong : true ≡ false = sym (filled-some word some) ∙ e in cc
+
+is_more : (word : ℕ) → is_filled word ≡ true → 0 < word
+is_more word e = by (cases_eq word 0)
+  where
+    by : (word ≡ 0) ⊎ (word ≡ 0 → ⊥) → 0 < word
+    by (inl none) = let wrong : true ≡ false = sym e ∙ filled-none word none in cc
+    by (inr some) = omega arith
+
+-- A word with this bit isn't zero.
+filled-bit : (word i : ℕ) → (bit_at word i == 1) ≡ true → is_filled word ≡ true
+filled-bit word i there = filled-some word (λ none. let wrong : true ≡ false = sym there ∙ zero_word word i none in cc)
+
+-- A word changes, and its mark with it.
+re-marked : (words : List ℕ) (filled filled' at word : ℕ) → at < length words → MarksFilled filled words → (bit_at filled' at == 1) ≡ is_filled word →
+    ((row : ℕ) → row < 64 → (row ≡ at → ⊥) → (bit_at filled' row == 1) ≡ (bit_at filled row == 1)) → MarksFilled filled' (set words at word)
+re-marked words filled filled' at word within marks here elsewhere row lt = by (cases_eq row at)
+  where
+    by : (row ≡ at) ⊎ (row ≡ at → ⊥) → (bit_at filled' row == 1) ≡ is_filled (get_or (set words at word) row 0)
+    by (inl e) = ap (λ r. bit_at filled' r == 1) e ∙ here ∙ sym (ap is_filled (ap (λ r. get_or (set words at word) r 0) e ∙ get_or-set_same words at word 0 within))
+    by (inr e) = elsewhere row lt e ∙ marks row lt ∙ sym (ap is_filled (get_or-set_other words at row word 0 e))
+
+pub marks_inserted : (words : List ℕ) (filled place : ℕ) → length words ≡ 16 → place < 1024 → MarksFilled filled words →
+    MarksFilled (bit_or filled (1 * 2 ^ (place / 64) % 18446744073709551616)) (set words (place / 64) (bit_or (get_or words (place / 64) 0) (1 * 2 ^ (place % 64) % 18446744073709551616)))
+marks_inserted words filled place long small marks =
+    re-marked words filled _ (place / 64) _ (omega (arith, long, small)) marks (marked ∙ sym there) elsewhere
+  where
+    marked : (bit_at (bit_or filled (1 * 2 ^ (place / 64) % 18446744073709551616)) (place / 64) == 1) ≡ true
+    marked = bits_with filled (place / 64) (place / 64) (omega (arith, small)) ∙ ap (λ b. (bit_at filled (place / 64) == 1) || b) (eq-eqb (place / 64) (place / 64) refl) ∙ true_wins _
+
+    there : is_filled (bit_or (get_or words (place / 64) 0) (1 * 2 ^ (place % 64) % 18446744073709551616)) ≡ true
+    there = filled-bit _ (place % 64) (bits_with (get_or words (place / 64) 0) (place % 64) (place % 64) (omega arith) ∙ ap (λ b. (bit_at (get_or words (place / 64) 0) (place % 64) == 1) || b) (eq-eqb (place % 64) (place % 64) refl) ∙ true_wins _)
+
+    elsewhere : (other : ℕ) → other < 64 → (other ≡ place / 64 → ⊥) → (bit_at (bit_or filled (1 * 2 ^ (place / 64) % 18446744073709551616)) other == 1) ≡ (bit_at filled other == 1)
+    elsewhere other lt e = bits_with filled (place / 64) other (omega (arith, small)) ∙ ap (λ b. (bit_at filled other == 1) || b) (ne_eqb other (place / 64) e) ∙ false_keeps _
+
+-- The last place of a word is taken out.
+pub marks_emptied : (words : List ℕ) (filled row word : ℕ) → length words ≡ 16 → row < 16 → MarksFilled filled words → get_or (set words row word) row 0 ≡ 0 →
+    MarksFilled (bit_and filled (18446744073709551615 - 1 * 2 ^ row % 18446744073709551616)) (set words row word)
+marks_emptied words filled row word long small marks none = re-marked words filled _ row word within marks (unmarked ∙ sym (filled-none word is)) elsewhere
+  where
+    within : row < length words
+    within = omega (arith, long, small)
+
+    is : word ≡ 0
+    is = sym (get_or-set_same words row word 0 within) ∙ none
+
+    unmarked : (bit_at (bit_and filled (18446744073709551615 - 1 * 2 ^ row % 18446744073709551616)) row == 1) ≡ false
+    unmarked = bits_without filled row row (omega (arith, small)) (omega (arith, small)) ∙ ap (λ b. (bit_at filled row == 1) && not b) (eq-eqb row row refl) ∙ false_wins _
+
+    elsewhere : (other : ℕ) → other < 64 → (other ≡ row → ⊥) → (bit_at (bit_and filled (18446744073709551615 - 1 * 2 ^ row % 18446744073709551616)) other == 1) ≡ (bit_at filled other == 1)
+    elsewhere other lt e = bits_without filled row other (omega (arith, small)) lt ∙ ap (λ b. (bit_at filled other == 1) && not b) (ne_eqb other row e) ∙ true_keeps _
+
+-- The least place
+
+-- The lowest mark shows a word that has a place.
+marked_word : (words : List ℕ) (filled row : ℕ) → MarksFilled filled words → IsLowest filled row → 0 < get_or words row 0
+marked_word words filled row marks low = is_more (get_or words row 0) (sym (marks row low.within) ∙ ap (λ n. n == 1) low.there)
+
+marked_row : (words : List ℕ) (filled row : ℕ) → length words ≡ 16 → MarksFilled filled words → IsLowest filled row → row < 16
+marked_row words filled row long marks low = by (cases_lt row 16)
+  where
+    by : (row < 16) ⊎ (16 ≤ row) → row < 16
+    by (inl lt) = lt
+    by (inr le) = let some = marked_word words filled row marks low in let none = get_or_past words row 0 (omega (arith, le, long)) in absurd (omega (arith, some, none))
+
+pub first_is : (words : List ℕ) (filled r b : ℕ) → length words ≡ 16 → MarksFilled filled words → IsLowest filled r → IsLowest (get_or words r 0) b → IsFirst words (r * 64 + b)
+first_is words filled r b long marks lowest low =
     let bits : b < 64 = low.within in
     let up : (r * 64 + b) / 64 ≡ r = omega arith in
     let down : (r * 64 + b) % 64 ≡ b = omega arith in
+    let lt : r < 16 = marked_row words filled r long marks lowest in
     record {
       within = omega (arith, lt, bits);
       there = ap (λ w. bit_at (get_or words w 0) ((r * 64 + b) % 64) == 1) up ∙ ap (λ i. bit_at (get_or words r 0) i == 1) down ∙ ap (λ n. n == 1) low.there;
-      least = λ other less. earlier other less (cases_eq (other / 64) r);
+      least = λ other less. earlier lt other less (cases_eq (other / 64) r);
     }
   where
-    earlier : (other : ℕ) → other < r * 64 + b → (other / 64 ≡ r) ⊎ (other / 64 ≡ r → ⊥) → has words other ≡ false
-    earlier other less (inl e) =
+    empty : (row : ℕ) → row < 64 → row < r → get_or words row 0 ≡ 0
+    empty row small lt = unfilled (get_or words row 0) (sym (marks row small) ∙ ap (λ n. n == 1) (lowest.lowest row lt))
+
+    earlier : r < 16 → (other : ℕ) → other < r * 64 + b → (other / 64 ≡ r) ⊎ (other / 64 ≡ r → ⊥) → has words other ≡ false
+    earlier small other less (inl e) =
         let bits : b < 64 = low.within in
         ap (λ w. bit_at (get_or words w 0) (other % 64) == 1) e ∙ ap (λ n. n == 1) (low.lowest (other % 64) (omega (arith, e, less, bits)))
-    earlier other less (inr e) =
+    earlier small other less (inr e) =
         let bits : b < 64 = low.within in
-        zero_word (get_or words (other / 64) 0) (other % 64) (before.empty (other / 64) (lt_of (other / 64) r (omega (arith, less, bits)) e))
+        let lt = lt_of (other / 64) r (omega (arith, less, bits)) e in
+        zero_word (get_or words (other / 64) 0) (other % 64) (empty (other / 64) (omega (arith, lt, small)) lt)
       where
         lt_of : (a c : ℕ) → a ≤ c → (a ≡ c → ⊥) → a < c
         lt_of a c le ne = by (cases_lt a c)
@@ -228,10 +243,6 @@ count_less new old (suc n) p sub lt out was = at (cases_eq p n) (λ within. coun
 
 -- All places below a number are put in, one after another.
 
-or_false : (b : Bool) → (b || false) ≡ b
-or_false true = refl
-or_false false = refl
-
 or_assoc : (a b c : Bool) → ((a || b) || c) ≡ (a || (b || c))
 or_assoc true b c = refl
 or_assoc false b c = refl
@@ -245,7 +256,7 @@ lt_next o n = by (cases_lt o n) (cases_eq o n)
     by (inr le) (inr ne) = let a = le-ltb o n le in let b = le-ltb o (n + 1) (omega (arith, le, ne)) in let c = ne_eqb o n ne in rw (a, b) c
 
 pub fill-none : (words : List ℕ) (other : ℕ) → has words other ≡ (has words other || nat_lt other 0)
-fill-none words other = let e = le-ltb other 0 (omega arith) in sym (ap (λ b. has words other || b) e ∙ or_false (has words other))
+fill-none words other = let e = le-ltb other 0 (omega arith) in sym (ap (λ b. has words other || b) e ∙ false_keeps (has words other))
 
 pub fill-more : (first before after : List ℕ) (place : ℕ) → ((o : ℕ) → has before o ≡ (has first o || nat_lt o place)) → ((o : ℕ) → has after o ≡ (has before o || o == place)) → (other : ℕ) → has after other ≡ (has first other || nat_lt other (place + 1))
 fill-more first before after place was puts other =

@@ -1,5 +1,5 @@
 -- Sets of places, as bits of words.
-use Rattle.std.specs.Prelude.{ℕ, ◌≡◌, ◌<◌, ◌≤◌, ◌+◌, ◌/◌, ◌%◌, ◌==◌, Bool, true, false, not, if◌then◌else◌, zero, suc, List, length, slice_index_or}
+use Rattle.std.specs.Prelude.{ℕ, ◌≡◌, ◌<◌, ◌+◌, ◌/◌, ◌%◌, ◌==◌, Bool, true, false, not, if◌then◌else◌, zero, suc, List, slice_index_or}
 use Rattle.std.specs.Int.{bit_at}
 use Rattle.l4_model.specs.Machine.{most_threads}
 
@@ -10,10 +10,9 @@ has words place = bit_at (slice_index_or words (place / 64) 0) (place % 64) == 1
 abbrev pub is_filled : (word : ℕ) → Bool
 is_filled word = not (word == 0)
 
--- The words before a row of a set are zero.
-pub record AreZeroBefore (words : List ℕ) (start : ℕ) : Type 0 where
-  pub within : start ≤ length words
-  pub empty : (row : ℕ) → row < start → slice_index_or words row 0 ≡ 0
+-- Bit r of a word is set where word r of a set isn't zero.
+abbrev pub MarksFilled : (filled : ℕ) (words : List ℕ) → Type 0
+MarksFilled filled words = (row : ℕ) → row < 64 → (bit_at filled row == 1) ≡ is_filled (slice_index_or words row 0)
 
 -- The place of the lowest bit of a word.
 pub record IsLowest (word bit : ℕ) : Type 0 where

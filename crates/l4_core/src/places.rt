@@ -1,7 +1,7 @@
 //! Sets of places of threads.
 ghost use Rattle.std.specs.Prelude.{◌≡◌, ◌<◌, ◌≤◌, ℕ, false, ◌&&◌, ◌||◌, ◌==◌, not, nat_lt, MatchOption, position};
 ghost use Rattle.l4_model.specs.Machine.{most_threads};
-ghost use Rattle.l4_core.specs.Places.{has, is_filled, IsFirst, IsLowest};
+ghost use Rattle.l4_core.specs.Places.{has, IsFirst, IsLowest};
 
 use l4_script::machine::MOST_THREADS;
 use std::marker::Model;
@@ -16,19 +16,19 @@ const WORDS: usize = MOST_THREADS / WIDTH;
 #[derive(Drop)]
 pub struct Places {
     words: [u64; WORDS],
-    // The words before it are zero, so that the search for the least place begins here.
-    filled_from: usize,
+    // Bit r is set where word r isn't zero.
+    filled: u64,
 }
 
 impl Model for Places {
     ghost use Rattle.std.specs.Prelude.{ℕ, List};
-    ghost use Rattle.l4_core.specs.Places.{AreZeroBefore};
+    ghost use Rattle.l4_core.specs.Places.{MarksFilled};
 
     ghost Value = { List ℕ };
 
     ghost view = { λ s. s.words };
 
-    ghost invariant = { λ s. AreZeroBefore s.words s.filled_from };
+    ghost invariant = { λ s. MarksFilled s.filled s.words };
 }
 
 impl Places {
@@ -38,7 +38,7 @@ impl Places {
     {
         Places {
             words: [0; WORDS],
-            filled_from: WORDS,
+            filled: 0,
         }
     }
 
@@ -47,8 +47,9 @@ impl Places {
         requires { place < most_threads }
         ensures { (other : ℕ) → has self.new other ≡ (has self.old other || other == place) }
     {
-        self.words[place / WIDTH] |= 1 << (place % WIDTH);
-        self.filled_from = self.filled_from.min(place / WIDTH);
+        let row = place / WIDTH;
+        self.words[row] |= 1 << (place % WIDTH);
+        self.filled |= 1 << row;
     }
 
     /// Puts all places below a number in.
@@ -67,7 +68,7 @@ impl Places {
     {
         Places {
             words: self.words,
-            filled_from: self.filled_from,
+            filled: self.filled,
         }
     }
 
@@ -76,7 +77,11 @@ impl Places {
         requires { place < most_threads }
         ensures { (other : ℕ) → has self.new other ≡ (has self.old other && not (other == place)) }
     {
-        self.words[place / WIDTH] &= !(1 << (place % WIDTH));
+        let row = place / WIDTH;
+        self.words[row] &= !(1 << (place % WIDTH));
+        if self.words[row] == 0 {
+            self.filled &= !(1 << row);
+        }
     }
 
     /// Whether a place is in.
@@ -87,25 +92,16 @@ impl Places {
         self.words[place / WIDTH] >> (place % WIDTH) & 1 == 1
     }
 
-    /// The least place. Where it is found is kept for the next search.
-    pub fn first(&mut self) -> Option<usize>
-        ensures least { MatchOption result ((place : ℕ) → has self.old place ≡ false) (IsFirst self.old) }
-        ensures same { self.new ≡ self.old }
+    /// The least place.
+    pub fn first(&self) -> Option<usize>
+        ensures { MatchOption result ((place : ℕ) → has self.now place ≡ false) (IsFirst self.now) }
     {
-        let Some(skipped) = first_filled(&self.words[self.filled_from..]) else {
-            self.filled_from = WORDS;
+        if self.filled == 0 {
             return None;
-        };
-        self.filled_from += skipped;
-        Some(self.filled_from * WIDTH + lowest(self.words[self.filled_from]))
+        }
+        let row = lowest(self.filled);
+        Some(row * WIDTH + lowest(self.words[row]))
     }
-}
-
-// The first word that has a bit.
-fn first_filled(words: &[u64]) -> Option<usize>
-    ensures { result ≡ position is_filled words.now }
-{
-    words.iter().position(|word| *word != 0)
 }
 
 // The place of the lowest bit of a word.

@@ -1,0 +1,93 @@
+"""Compares the program with a second emulator on random machines, replayed by random schedules. Prints counts.
+
+The second emulator (the modules in second/) was written from the rules of Ipc and docs/FORMATS.md, without a look at the crates or docs/MODEL.md. So it
+can find what proofs can't: a mistake in the definitions themselves, which the program then makes as well.
+"""
+
+import collections
+import random
+import subprocess
+import sys
+
+from second import machines, model, randoms, traces
+
+SEED = 20_261_125
+QUIET, FAULT, SPENT = 0, 1, 3
+FAULTS = "l4run: "
+
+
+class Case:
+    """A machine and a schedule, with the files that the program reads."""
+
+    def __init__(self, program, folder, part):
+        self.program = program
+        self.machine_file, self.trace_file = f"{folder}/second-{part}.l4", f"{folder}/second-{part}.trace"
+        self.text = self.schedule = ""
+
+    def take(self, text, schedule):
+        self.text, self.schedule = text, schedule
+        write(self.machine_file, text)
+
+    def compare(self, what, words, *expected, trace=""):
+        """Tests that the program prints this, has this fault and this status. Ends with all that is needed to see why, where it has another."""
+        told = subprocess.run([self.program, *words], stdout=subprocess.PIPE, stderr=subprocess.PIPE, text=True)
+        if (told.stdout, told.stderr, told.returncode) == expected:
+            return
+        sections = [
+            ("a difference in", what),
+            ("the machine", self.text),
+            ("the schedule", self.schedule),
+            ("the trace that is audited", trace),
+            ("the program says", f"{told.stdout}{told.stderr}status {told.returncode}"),
+            ("the second emulator says", "{}{}status {}".format(*expected)),
+        ]
+        sys.exit("\n".join(f"{head}:\n{body}" for head, body in sections if body))
+
+    def replay(self, what, said, at_rest, *flags):
+        words = ["replay", self.machine_file, "--schedule", self.schedule, *flags]
+        self.compare(f"the {what} of a replay", words, said, "", QUIET if at_rest else SPENT)
+
+    def audit(self, machine, trace):
+        """Answers how the audit ended."""
+        write(self.trace_file, trace)
+        said, fault = model.audit(machine, trace)
+        expected = ("", f"{FAULTS}{fault}\n", FAULT) if fault else (said, "", QUIET)
+        self.compare("an audit", ["audit", self.machine_file, self.trace_file], *expected, trace=trace)
+        return " ".join(word for word in (said or fault).split() if not word.isdigit())
+
+
+def write(name, text):
+    with open(name, "w") as file:
+        file.write(text)
+
+
+def tried(case, dice, kind, counts):
+    """Compares the replay of a random machine of this kind by a random schedule, and the audit of its trace."""
+    text = kind(dice).text()
+    machine = machines.read(text)
+    entries, replay = randoms.random_replay(dice, machine)
+    case.take(text, ",".join(map(str, entries)))
+    at_rest, trace = replay.is_at_rest(), traces.text(replay.history)
+    case.replay("trace", trace, at_rest)
+    case.audit(machine, trace)
+    case.replay("report", model.world_of(machine, replay.history).report(at_rest), at_rest, "--report")
+    if trace:
+        ending = case.audit(machine, randoms.spoilt(dice, machine, trace))
+        counts["audits of spoilt traces"] += 1
+        counts[f"audits of spoilt traces: {ending}"] += 1
+    counts["machines"] += 1
+    counts["entries of schedules"] += len(entries)
+    counts["steps"] += len(replay.history)
+    counts["deliveries"] += sum(1 for verb, *_ in replay.history if verb == "deliver")
+
+
+def main(program, folder, count, part):
+    case, dice, counts = Case(program, folder, part), random.Random(SEED + part), collections.Counter()
+    for number in range(count):
+        tried(case, dice, (randoms.General, randoms.Conflicts)[number % 2], counts)
+    for what, number in counts.items():
+        print(f"{what}\t{number}")
+
+
+if __name__ == "__main__":
+    main(sys.argv[1], sys.argv[2], int(sys.argv[3]), int(sys.argv[4]))

@@ -1,0 +1,1 @@
+"""A second emulator of Ipc, with a model that audits traces, and random machines to compare it with the program."""

@@ -1,0 +1,348 @@
+"""Random machine texts of two kinds, random schedules that go by what the processors have to do, and traces with one field spoilt."""
+
+from second import machines, traces, words
+from second.processors import Entry, Replay
+
+MOST_CPUS = 16
+MOST_REGISTERS = 63
+# The highest thread number that goes with every version.
+MOST_NUMBER = words.VERSION_MASK - 1
+MOST_TIME = 0x7FFF
+LABEL_BITS = 48
+
+# What general machines are drawn from. What stands there more than once is drawn more often.
+CPUS = [1, 2, 2, 2, 2, 2, 3, 3, 3, 3, 4, 4, 5, 8, MOST_CPUS]
+THREADS = [1, 2, 3, 3, 3, 4, 4, 4, 5, 5, 6, 7, 8]
+SPACES = [[1], [1], [1, 1, 2], [1, 2], [1, 2, 3], [0, words.VERSION_MASK]]
+VERSIONS = [1, 1, 1, 1, 1, 2, 63, 65, words.VERSION_MASK]
+# How often an id stands where it names nobody.
+ODDITIES = [0, 0.02, 0.05, 0.05, 0.15]
+# So many processors have threads at most.
+MOST_LIVE = 4
+MESSAGE_LENGTHS = [0, 0, 0, 1, 1, 2, 3, MOST_REGISTERS]
+IGNORED_FLAGS = [0, 0, 0, 0, words.REDIRECTED, words.ACROSS, words.ERROR]
+VALUES = [0, 1, 2, 5, 41, 255, 1 << 63, words.WORD_MASK]
+ZEROS = ["zero", "zero", "zero", "1024", "0x800", "0x7c00", "0x0400"]
+LONG_TIMES = ["0xc03", "0x401", "0x7fff", "1025", "0x801"]
+LOCAL_IDS = [0x40, 0x1C0, words.global_id(1, 0x40), 1 << 63]
+UNDECLARED = words.global_id(99, 1)
+# Makes the id of a thread that of its number with another version.
+OTHER_VERSION = 2
+BITS = ["S", "R", "SR"]
+
+# What small machines are drawn from, in which all that is near to each other happens.
+FEW_CPUS = [2, 2, 2, 3, 3, 4]
+FEW_THREADS = [3, 4, 4, 5, 5, 6]
+FEW_SPACES = [[1], [1], [1, 1, 1, 2]]
+FEW_VERSIONS = [1, 1, 1, 65]
+FEW_PERIODS = ["never", "never", "zero", "1", "2", "3", "0x403"]
+
+# The least and the greatest length of a schedule.
+LENGTHS = [(0, 10), (5, 40), (5, 40), (30, 90), (30, 90), (60, 150), (60, 150), (60, 150)]
+TICKS = [0, 0.05, 0.1, 0.2]
+# How often a turn or a tick is tried where nothing may be to be done.
+IDLE = 0.015
+# So many lines of a trace count as its end.
+NEAR_THE_END = 5
+
+
+class Text:
+    """A machine text in the making: its threads with their processors and spaces, and two of them that most others talk to."""
+
+    def __init__(self, dice, cpus, live, numbers, versions, spaces):
+        self.dice = dice
+        self.cpus = cpus
+        self.threads = [words.global_id(number, dice.choice(versions)) for number in numbers]
+        self.cpu = {thread: dice.choice(live) for thread in self.threads}
+        self.space = {thread: dice.choice(spaces) for thread in self.threads}
+        self.hot = dice.sample(self.threads, min(len(self.threads), 2))
+        # The thread whose script is made.
+        self.me = None
+
+    def chance(self, share):
+        return self.dice.random() < share
+
+    def anybody(self):
+        return self.dice.choice(self.hot if self.chance(0.5) else self.threads)
+
+    def mates(self):
+        return [thread for thread in self.threads if self.space[thread] == self.space[self.me]]
+
+    def exregs(self, target):
+        return f"exregs {target} {self.dice.choice(BITS)}"
+
+    def additions(self, most):
+        """Instructions that pass the time."""
+        return ["add 1 1"] * self.dice.randint(0, most)
+
+    def text(self):
+        lines = ["l4 1 64", f"cpus {self.cpus}"]
+        for thread in self.threads:
+            self.me = thread
+            lines.append(f"thread {words.spelled(thread)} cpu {self.cpu[thread]} space {self.space[thread]}")
+            lines += self.script()
+        return "".join(line + "\n" for line in lines)
+
+
+class General(Text):
+    """Machines with all instructions and ids of all kinds, whose threads have roles."""
+
+    def __init__(self, dice):
+        cpus = dice.choice(CPUS)
+        live = dice.sample(range(cpus), dice.randint(1, min(cpus, MOST_LIVE)))
+        threads = dice.choice(THREADS)
+        numbers = dice.choice([range(1, threads + 1), range(threads), [*range(1, threads), MOST_NUMBER]])
+        super().__init__(dice, cpus, live, numbers, VERSIONS, dice.choice(SPACES))
+        self.oddity = dice.choice(ODDITIES)
+
+    def spelled(self, thread):
+        """An id is now and then spelled by its word, a local one always."""
+        if words.is_local(thread) or self.chance(0.08):
+            return f"#{thread:016x}"
+        return words.spelled(thread)
+
+    def odd(self):
+        """An id that no thread has."""
+        ids = [words.NIL, words.ANY, words.ANY_LOCAL, UNDECLARED, self.threads[0] ^ OTHER_VERSION, *LOCAL_IDS]
+        return self.spelled(self.dice.choice(ids))
+
+    def to(self):
+        return self.odd() if self.chance(self.oddity) else self.spelled(self.anybody())
+
+    def source(self):
+        return self.dice.choices(["any", "anylocal", self.to()], [50, 15, 35])[0]
+
+    def mate(self):
+        return self.odd() if self.chance(self.oddity) else self.spelled(self.dice.choice(self.mates()))
+
+    def period(self):
+        short, some = self.dice.randint(1, 6), self.dice.randint(0, MOST_TIME)
+        times = ["never", "0", self.dice.choice(ZEROS), short, self.dice.choice(LONG_TIMES), some]
+        return self.dice.choices(times, [40, 5, 20, 30, 3, 2])[0]
+
+    def patient(self):
+        """A period that is never in most cases."""
+        return self.dice.choice(["never", "never", self.period()])
+
+    def ipc(self, to=None, source=None, send=None, receive=None):
+        return f"ipc {to or self.to()} {source or self.source()} {send or self.patient()} {receive or self.patient()}"
+
+    def tag(self, propagated=0.2):
+        flags = self.dice.choice(IGNORED_FLAGS) | (words.PROPAGATED if self.chance(propagated) else 0)
+        label = self.dice.choice([0, 1, 7, self.dice.getrandbits(LABEL_BITS)])
+        return f"tag {label << words.LABEL_SHIFT | flags | self.dice.choice(MESSAGE_LENGTHS)}"
+
+    def register(self):
+        return self.dice.choice([1, 1, 2, 3, self.dice.randint(1, MOST_REGISTERS)])
+
+    def value(self):
+        return self.dice.choice([*VALUES, self.dice.getrandbits(words.WORD_BITS)])
+
+    def script(self):
+        roles = [
+            self.server, self.server, self.client, self.caller, self.caller, self.canceller, self.killer, self.poller, self.forwarder,
+            self.chooser, self.chooser,
+        ]
+        lines = self.mixture() if self.chance(0.4) else self.dice.choice(roles)()
+        return lines + ["jump 0"] if self.chance(0.6) else lines
+
+    def server(self):
+        answer = self.ipc("last", send=self.dice.choice(["zero", "never", self.period()]))
+        return [self.ipc("nil"), *self.additions(1), answer, f"jump {self.dice.randint(0, 1)}"]
+
+    def client(self):
+        to = self.to()
+        return [self.tag(), f"set 1 {self.value()}", self.ipc(to, self.dice.choice([to, self.source()])), "onerr 0"]
+
+    def caller(self):
+        return [self.ipc() for _ in range(self.dice.randint(1, 3))]
+
+    def canceller(self):
+        target = self.mate()
+        return self.additions(2) + [self.exregs(target if self.chance(0.7) else self.mate()) for _ in range(self.dice.randint(1, 4))]
+
+    def killer(self):
+        return [*self.additions(6), f"delete {self.to()}", self.ipc(self.dice.choice(["nil", self.to()]))]
+
+    def poller(self):
+        return [self.ipc(source=self.dice.choice(["nil", "nil", self.source()]), send="zero") for _ in range(self.dice.randint(1, 2))]
+
+    def forwarder(self):
+        return [self.ipc("nil"), f"vs {self.mate()}", self.tag(propagated=1), self.ipc(source=self.dice.choice(["nil", self.source()]))]
+
+    def chooser(self):
+        return self.additions(2) + [self.ipc(self.dice.choice(["nil", "nil", "nil", "last"])) for _ in range(self.dice.randint(1, 5))]
+
+    def mixture(self):
+        count = self.dice.randint(0, 10)
+        return [self.instruction(count) for _ in range(count)]
+
+    def instruction(self, count):
+        """Any instruction of a script of so many."""
+        place = self.dice.randint(0, count)
+        return self.dice.choice([
+            self.ipc(source="nil"), self.ipc("nil"), self.ipc("nil"), self.ipc(), self.ipc(), self.ipc("last"), self.ipc("nil", "nil"),
+            self.tag(), f"vs {self.mate()}", f"vs {self.odd()}", self.exregs(self.mate()), f"delete {self.to()}",
+            f"set {self.register()} {self.value()}", f"add {self.register()} {self.value()}", f"copy {self.register()} {self.register() - 1}",
+            f"jump {place}", f"onerr {place}", "end",
+        ])
+
+
+class Conflicts(Text):
+    """Small machines in which one thread is waited for, cancelled and deleted by the others at once."""
+
+    def __init__(self, dice):
+        cpus, threads = dice.choice(FEW_CPUS), dice.choice(FEW_THREADS)
+        super().__init__(dice, cpus, range(cpus), range(1, threads + 1), FEW_VERSIONS, dice.choice(FEW_SPACES))
+        self.prey = dice.choice(self.threads)
+
+    def to(self):
+        """Most sends go to another processor."""
+        far = [thread for thread in self.threads if self.cpu[thread] != self.cpu[self.me]] or self.threads
+        near = [thread for thread in self.threads if self.cpu[thread] == self.cpu[self.me]]
+        return words.spelled(self.dice.choice(self.dice.choices([self.hot, far, near], [4, 4, 2])[0]))
+
+    def source(self):
+        return self.dice.choices(["any", "anylocal", self.to(), words.spelled(UNDECLARED)], [30, 20, 47, 3])[0]
+
+    def target(self):
+        return words.spelled(self.prey if self.chance(0.7) else self.dice.choice(self.mates()))
+
+    def period(self):
+        return self.dice.choice(FEW_PERIODS)
+
+    def send(self, period=None):
+        return f"ipc {self.to()} {self.dice.choice(['nil', self.source()])} {period or self.period()} {self.period()}"
+
+    def receive(self):
+        return f"ipc nil {self.source()} never {self.period()}"
+
+    def script(self):
+        roles = [
+            self.sender, self.caller, self.canceller, self.canceller, self.killer, self.receiver, self.receiver, self.server, self.poller,
+            self.forwarder, self.mixture,
+        ]
+        if self.me == self.prey:
+            roles = [self.sender, self.caller, self.caller, self.receiver]
+        lines = self.additions(3) + self.dice.choice(roles)()
+        return lines + ["jump 0"] if self.chance(0.75) else lines
+
+    def sender(self):
+        return [f"ipc {self.to()} nil {self.period()} never"] * self.dice.randint(1, 3)
+
+    def caller(self):
+        return [f"ipc {self.to()} {self.source()} {self.period()} {self.period()}" for _ in range(self.dice.randint(1, 3))]
+
+    def canceller(self):
+        target = self.target()
+        return [self.dice.choice([self.exregs(target), self.exregs(target), self.receive()]) for _ in range(self.dice.randint(1, 5))]
+
+    def killer(self):
+        target = self.target()
+        return [*self.additions(8), f"delete {target}", f"ipc {self.dice.choice([target, 'nil'])} {target} {self.period()} {self.period()}"]
+
+    def receiver(self):
+        return [self.receive() for _ in range(self.dice.randint(1, 4))]
+
+    def server(self):
+        return ["ipc nil any never never", f"ipc last any {self.period()} {self.period()}", "onerr 0"]
+
+    def poller(self):
+        return [self.send("zero")] * self.dice.randint(1, 3)
+
+    def forwarder(self):
+        tag = self.dice.getrandbits(LABEL_BITS) << words.LABEL_SHIFT | words.PROPAGATED | self.dice.randint(0, 3)
+        return [self.receive(), f"vs {words.spelled(self.dice.choice(self.mates()))}", f"tag {tag}", self.send()]
+
+    def mixture(self):
+        def instruction():
+            orders = [self.exregs(self.target()), f"delete {self.target()}"]
+            return self.dice.choices([self.send(), self.receive(), *orders, "onerr 0"], [35, 30, 20, 5, 10])[0]
+
+        return [instruction() for _ in range(self.dice.randint(2, 6))]
+
+
+# Habits of schedules: which of the processors that have something to do may be next.
+
+
+def blindly(replay, _busy, _entries):
+    return range(len(replay.processors))
+
+
+def evenly(_replay, busy, _entries):
+    return busy
+
+
+def steadily(_replay, busy, entries):
+    """The same as before, as long as it has something to do."""
+    return [cpu for cpu in busy if entries and cpu == entries[-1].cpu]
+
+
+def unfairly(replay, busy, entries):
+    """One is left out for some time, then the next one."""
+    left_out = len(entries) // MOST_CPUS % len(replay.processors)
+    return [cpu for cpu in busy if cpu != left_out]
+
+
+def mail_first(replay, busy, _entries):
+    return [cpu for cpu in busy if replay.has_mail(cpu)]
+
+
+def mail_last(replay, busy, _entries):
+    return [cpu for cpu in busy if not replay.has_mail(cpu)]
+
+
+HABITS = [blindly, evenly, steadily, unfairly, unfairly, mail_first, mail_last, mail_last]
+
+
+def random_replay(dice, machine):
+    """A random schedule, and the replay of the machine by it."""
+    replay, entries = Replay(machine), []
+    habit, ticks = dice.choice(HABITS), dice.choice(TICKS)
+    for _ in range(dice.randint(*dice.choice(LENGTHS))):
+        entries.append(next_entry(dice, replay, habit, ticks, entries))
+        replay.take(entries[-1])
+    return entries, replay
+
+
+def next_entry(dice, replay, habit, ticks, entries):
+    busy = [processor.cpu for processor in replay.processors if replay.is_busy(processor.cpu)]
+    ticking = [processor.cpu for processor in replay.processors if processor.can_tick()]
+    if ticking and (not busy or dice.random() < ticks):
+        return Entry(dice.choice(ticking), is_tick=True)
+    if not busy or dice.random() < IDLE:
+        return Entry(dice.randrange(len(replay.processors)), is_tick=dice.random() < 0.5)
+    # Now and then a habit is left.
+    favoured = habit(replay, busy, entries) if dice.random() < 0.8 else busy
+    return Entry(dice.choice(favoured or busy))
+
+
+def spoilt(dice, machine, trace):
+    """The trace with one field of a line changed. Half of these lines are near the end, where more of what is changed may still be possible."""
+    lines = trace.splitlines()
+    at = dice.choice([dice.randrange(len(lines)), dice.randrange(max(0, len(lines) - NEAR_THE_END), len(lines))])
+    fields = lines[at].split(" ")
+    place = dice.randrange(len(fields))
+    fields[place] = dice.choice([other for other in others(dice, machine, fields, place) if other != fields[place]])
+    lines[at] = " ".join(fields)
+    return "".join(line + "\n" for line in lines)
+
+
+def others(dice, machine, fields, place):
+    """What may stand in the place of a field."""
+    said = fields[place]
+    threads = [words.spelled(thread) for thread in [*machine.threads, UNDECLARED]]
+    if place == 0:
+        return next((verbs for verbs in (traces.OF_THREADS, traces.OF_SENDS) if said in verbs), ["tick", "order", "deliver"])
+    if "#" in said:
+        thread, number = said.split("#")
+        return [f"{thread}#{int(number) + 1}", f"{thread}#{int(number) - 1}", *(f"{other}#{number}" for other in threads)]
+    if "." in said:
+        return [*threads, f"0{said}"]
+    if said in traces.ORDERS:
+        return [*traces.ORDERS, "RS"]
+    if fields[0] == "tick":
+        return [str(int(said) + 1), str(int(said) - 1), str(MOST_CPUS), str(traces.LAST_CLOCK), str(traces.LAST_CLOCK + 1)]
+    word = int(said, machines.HEXADECIMAL_BASE)
+    changed = [word ^ 1 << dice.randrange(words.WORD_BITS), word ^ words.PROPAGATED, word ^ words.ACROSS, word ^ words.ERROR]
+    return [*(f"{other:x}" for other in changed), f"0{said}", said.upper()]

@@ -1,5 +1,5 @@
 //! Sets of places of threads.
-ghost use Rattle.std.specs.Prelude.{◌≡◌, ◌<◌, ◌≤◌, ℕ, false, ◌&&◌, ◌||◌, ◌==◌, not, nat_lt, MatchOption, position};
+ghost use Rattle.std.specs.Prelude.{◌≡◌, ◌<◌, ◌≤◌, ℕ, false, ◌&&◌, ◌||◌, ◌==◌, not, nat_lt, MatchOption};
 ghost use Rattle.l4_model.specs.Machine.{most_threads};
 ghost use Rattle.l4_core.specs.Places.{has, IsFirst, IsLowest};
 

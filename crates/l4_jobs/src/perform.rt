@@ -61,12 +61,7 @@ fn replayed<'m>(
 }
 
 // What is written of an outcome: its report, or its trace.
-fn lines_of<R: Threads + Sync>(
-    rt: &R,
-    alloc: Global,
-    report: bool,
-    outcome: CompactOutcome<'_>,
-) -> Result<Vec<u8>, NoMemory>
+fn lines_of(alloc: Global, report: bool, outcome: CompactOutcome<'_>) -> Result<Vec<u8>, NoMemory>
     ensures { IfOk result (λ lines. lines.items ≡ lines_of_outcome report (compact_findings_of outcome.entry)) }
 {
     if !report {
@@ -79,7 +74,6 @@ fn lines_of<R: Threads + Sync>(
         outcome.ending,
         &mut lines,
     )?;
-    outcome.history.drop_together(rt);
     Ok(lines)
 }
 
@@ -93,8 +87,7 @@ fn status(ending: Ending) -> u8
 }
 
 // What is printed of an outcome.
-fn output_of_run<R: Threads + Sync>(
-    rt: &R,
+fn output_of_run(
     alloc: Global,
     report: bool,
     outcome: CompactOutcome<'_>,
@@ -104,7 +97,7 @@ fn output_of_run<R: Threads + Sync>(
 {
     let status = status(outcome.ending);
     Ok(Output {
-        lines: lines_of(rt, alloc, report, outcome)?,
+        lines: lines_of(alloc, report, outcome)?,
         status,
     })
 }
@@ -121,12 +114,11 @@ fn run_output<'a, R: Threads + Sync>(
     ensures err { IfErr result (λ fault. (fault ≡ OutOfMemory) ⊎ (fault_of_turns turns ≡ Some fault)) }
 {
     let outcome = run_compact(rt, alloc, machine, turns, &Open)?;
-    Ok(output_of_run(rt, alloc, report, outcome)?)
+    Ok(output_of_run(alloc, report, outcome)?)
 }
 
 // What a replay prints.
-fn replay_output<'a, R: Threads + Sync>(
-    rt: &R,
+fn replay_output<'a>(
     alloc: Global,
     machine: &Machine,
     list: &str,
@@ -136,7 +128,7 @@ fn replay_output<'a, R: Threads + Sync>(
     ensures err { IfErr result (λ fault. (fault ≡ OutOfMemory) ⊎ (fault_of_result (run_by_list machine.now list.now) ≡ Some fault)) }
 {
     let outcome = replayed(alloc, machine, list)?;
-    Ok(output_of_run(rt, alloc, report, outcome)?)
+    Ok(output_of_run(alloc, report, outcome)?)
 }
 
 // What the audit of the trace in the file of this name prints.
@@ -177,7 +169,7 @@ fn output_on<'a, R: Threads + Sync, T: Source>(
             schedule,
             report,
             ..
-        } => replay_output(rt, alloc, machine, schedule, report),
+        } => replay_output(alloc, machine, schedule, report),
         Job::Audit { trace: name, .. } => audit_output(alloc, machine, name, trace),
     }
 }

@@ -12,8 +12,6 @@ use l4_types::errors::NoMemory;
 use l4_types::ids::ThreadId;
 use l4_types::steps::Name;
 use std::alloc::Global;
-use std::thread;
-use std::thread::Threads;
 
 /// All processors of a machine, with what they have done in their logs.
 #[derive(Drop)]
@@ -25,7 +23,7 @@ pub struct Logs<'m> {
 }
 
 impl<'m> Logs<'m> {
-    ghost use Rattle.std.specs.Prelude.{◌≡◌, ⊤, IfOk, filter_map};
+    ghost use Rattle.std.specs.Prelude.{◌≡◌, IfOk, filter_map};
     ghost use Rattle.l4_machine.specs.Gathers.{merged_steps, AreOfOne};
     ghost use Rattle.l4_machine.specs.Waiting.{sought, AreBegunOnce, IsSearch};
 
@@ -61,17 +59,5 @@ impl<'m> Logs<'m> {
         ensures { IfOk result (λ sends. sends.items ≡ filter_map (sought search.now) (merged_steps self.now.machine.now self.now.processors.items)) }
     {
         waiting_sends(alloc, self.machine, self.processors.as_slice(), search)
-    }
-
-    /// Drops the logs, each in a host thread of its own where one can be made.
-    pub(crate) fn drop_together<R: Threads + Sync>(self, rt: &R) {
-        // Where there is no memory for it, those that are left were dropped without a thread.
-        let _ = thread::map_vec(
-            rt,
-            self.processors,
-            &|processor: Processor<'_>|
-                ensures { ⊤ }
-            { drop(processor) },
-        );
     }
 }

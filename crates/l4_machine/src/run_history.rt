@@ -10,7 +10,6 @@ use l4_types::errors::NoMemory;
 use l4_types::ids::ThreadId;
 use l4_types::steps::Name;
 use std::alloc::Global;
-use std::thread::Threads;
 
 /// The history of an outcome: its steps, or the logs that they are merged from where somebody asks for them.
 #[derive(Drop)]
@@ -29,15 +28,6 @@ impl RunHistory<'_> {
         match self {
             RunHistory::Steps(history) => Ok(history),
             RunHistory::Logs(logs) => logs.merge(alloc),
-        }
-    }
-
-    /// Drops the history. The logs of several processors are dropped at the same time, each in a host thread of its own where one can be made:
-    /// the system takes the memory of a long run back page by page.
-    pub fn drop_together<R: Threads + Sync>(self, rt: &R) {
-        match self {
-            RunHistory::Steps(history) => drop(history),
-            RunHistory::Logs(logs) => logs.drop_together(rt),
         }
     }
 

@@ -14,7 +14,7 @@ use Rattle.l4_script.specs.Judged.{Judged}
 use Rattle.l4_words.specs.Lines.{parts_of, line_of_words}
 use Rattle.l4_script.specs.Machines.{has_number, last_thread, extended}
 use Rattle.l4_script.specs.Statements.{declare, extend}
-use Rattle.l4_script.specs.Texts.{Stage, Format, Processors, Threads, Reading, Target, nothing_read, targets_of, declared_in, extended_at, thread_line, after_words, after_line, is_missed, unless_missed, judged_at, read, machine_of_text}
+use Rattle.l4_script.specs.Texts.{Stage, Format, Processors, Threads, Reading, Target, targets_of, declared_in, extended_at, thread_line, after_words, after_line, is_missed, unless_missed, judged_at, read, machine_of_text}
 use Rattle.l4_script.specs.Canonical.{words_of_instruction, words_of_thread, lines_of_thread, lines_of, canonical_text, can_be_written, can_be_declared, are_apart, HasText}
 use Rattle.l4_script.proofs.Written.{are_line, line_lacks_end, after_line_read, instruction_is_line, instruction_read, declarable, thread_is_line, thread_line_read, format_read, processors_read, processors_is_line}
 

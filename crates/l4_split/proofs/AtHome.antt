@@ -9,8 +9,8 @@ use Rattle.l4_model.specs.Machine.{Declaration, Machine, place_of}
 use Rattle.l4_model.specs.Steps.{Step}
 use Rattle.l4_model.specs.World.{Name, Thread, Send, World, Phase, Ready, Sending, Receiving, Ordering, Ended, Deleted, opening_thread}
 use Rattle.l4_model.specs.Conditions.{◌>>=◌, ◌>>◌, Found, Pending, undecided}
-use Rattle.l4_model.specs.History.{Report, begun_name, report_of, state_of, view as report_view, waiting}
-use Rattle.l4_core_model.specs.Local.{Local, declared, undeclared}
+use Rattle.l4_model.specs.History.{Report, begun_name, report_of, state_of, waiting}
+use Rattle.l4_core_model.specs.Local.{declared, undeclared}
 use Rattle.l4_core_model.specs.Runs.{System, Posted, IsMachine, letters}
 use Rattle.l4_core_model.proofs.Changed.{same_nat}
 use Rattle.l4_split.specs.Laws.{AreAllHandled, IsToldAtHome, IsUndeleted, destination_of, home_report, home_reports, home_thread, home_waiting, is_deleted_state, thread_of}

@@ -1,11 +1,11 @@
 -- The first word of a line, by the digits in front of it.
-use Rattle.std.proofs.Common.{◌≡◌, ℕ, ◌+◌, ◌<◌, Bool, true, false, cond, List, [], ◌∷◌, length, take, drop, get_or, Option, Some, None, is_none, refl, sym, ap, ◌∙◌, arith}
+use Rattle.std.proofs.Common.{◌≡◌, ℕ, ◌+◌, ◌<◌, Bool, true, false, cond, List, [], ◌∷◌, length, take, drop, get_or, Option, Some, None, refl, sym, ap, ◌∙◌}
 use Rattle.std.specs.Prelude.{◌==◌}
 use Rattle.std.specs.Option.{option_map}
-use Rattle.std.specs.List.{prefix_len, position, slice_split, onto_first}
+use Rattle.std.specs.List.{prefix_len, position, onto_first}
 use Rattle.l4_model.specs.Conditions.{◌>>=◌}
 use Rattle.l4_words.specs.Numbers.{number_of}
-use Rattle.l4_words.specs.Words.{words_in, words_left, first_hexadecimal}
+use Rattle.l4_words.specs.Words.{words_in, first_hexadecimal}
 use Rattle.l4_words.proofs.Front.{is_digit}
 use Rattle.l4_words.proofs.Separators.{separator_behind, no_separator, spoiled, spoiled_whole}
 use Rattle.l4_words.proofs.Splits.{split_some, split_none}

@@ -1,5 +1,5 @@
 -- The place of the first byte that passes a test, as a search answers it.
-use Rattle.std.proofs.Common.{◌≡◌, ℕ, ◌<◌, Bool, true, false, cond, ltb, List, length, Option, Some, None, refl, sym, ◌∙◌, arith, le_refl}
+use Rattle.std.proofs.Common.{◌≡◌, ℕ, ◌<◌, Bool, List, length, Option, Some, None, refl, sym, arith, le_refl}
 use Rattle.std.specs.List.{position, position_or_len}
 use Rattle.std.proofs.lemmas.Bool.{lt-ltb, le-ltb, false_from_ne_true}
 use Rattle.std.proofs.lemmas.List.Sums.{position_or_len_is}

@@ -1,4 +1,4 @@
-use Rattle.std.proofs.Common.{List, map, ◌++◌, subst}
+use Rattle.std.proofs.Common.{List, map, subst}
 use Rattle.std.specs.Option.{option_to_list}
 use Rattle.l4_mail.specs.Ports.{AreOneFabric}
 use Rattle.l4_proc.specs.declared.processor.Processor.{Processor}

@@ -1,4 +1,4 @@
-use Rattle.std.proofs.Common.{◌≡◌, ◌++◌, ◌∷◌, [], drop, length, arith}
+use Rattle.std.proofs.Common.{◌≡◌, ◌∷◌, [], drop, arith}
 use Rattle.std.proofs.lemmas.Grind.{common_steps}
 use Rattle.l4_trace.proofs.Joined.{delivery_line}
 use Rattle.l4_trace.specs.Lines.{name_word, thread_word, hexadecimal}

@@ -1,4 +1,4 @@
-use Rattle.std.proofs.Common.{◌≡◌, ◌++◌, ◌∷◌, [], length, drop, arith, append_assoc, false}
+use Rattle.std.proofs.Common.{arith, append_assoc, false}
 use Rattle.std.proofs.lemmas.Fmt.{hex_one_digit}
 use Rattle.l4_words.proofs.Hexadecimal.{hexadecimal_step, length_step, length_one}
 use Rattle.l4_words.proofs.digits.write_hexadecimal.Goals as goal

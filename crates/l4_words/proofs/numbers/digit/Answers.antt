@@ -1,4 +1,4 @@
-use Rattle.std.proofs.Common.{◌≡◌, ◌∙◌, ◌<◌, ◌≤◌, arith}
+use Rattle.std.proofs.Common.{arith}
 use Rattle.l4_words.proofs.Faces.{digit_below, no_digit}
 use Rattle.l4_words.proofs.numbers.digit.Goals as goal
 

@@ -1,6 +1,5 @@
-use Rattle.std.proofs.Common.{◌≡◌, ◌<◌, ◌≤◌, ◌+◌, ◌∙◌, Some, sym, take, get_or, add-one, arith}
+use Rattle.std.proofs.Common.{sym, take, get_or, add-one, arith}
 use Rattle.std.proofs.Math.Seq.{take-suc}
-use Rattle.l4_words.specs.Numbers.{number_onto}
 use Rattle.l4_words.proofs.Few.{room_for_digit, next_is_small}
 use Rattle.l4_words.proofs.Front.{one_more}
 use Rattle.l4_words.proofs.numbers.few_in_front.Goals as goal

@@ -1,4 +1,3 @@
-use Rattle.std.proofs.Common.{◌≤◌, length}
 use Rattle.std.proofs.lemmas.List.Sums.{prefix_len-le-length}
 use Rattle.l4_words.proofs.Front.{is_digit}
 use Rattle.l4_words.proofs.numbers.hexadecimal_in_front.Goals as goal

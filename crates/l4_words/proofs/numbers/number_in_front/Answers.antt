@@ -1,7 +1,6 @@
-use Rattle.std.proofs.Common.{◌≡◌, ◌≤◌, ◌∙◌, sym, length, drop, arith}
-use Rattle.std.specs.List.{prefix_len}
+use Rattle.std.proofs.Common.{◌≡◌, ◌≤◌, ◌∙◌, sym, length, arith}
 use Rattle.std.proofs.lemmas.List.{take_rest}
-use Rattle.l4_words.proofs.Front.{is_digit, counted_few}
+use Rattle.l4_words.proofs.Front.{counted_few}
 use Rattle.l4_words.proofs.numbers.number_in_front.Goals as goal
 
 pub returns-then-has_leading_zero-clause-count : goal.returns-then-has_leading_zero-clause-count

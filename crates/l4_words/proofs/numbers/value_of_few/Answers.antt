@@ -1,4 +1,4 @@
-use Rattle.std.proofs.Common.{◌<◌, arith}
+use Rattle.std.proofs.Common.{arith}
 use Rattle.l4_words.proofs.Few.{room_for_digit}
 use Rattle.l4_words.proofs.numbers.value_of_few.Goals as goal
 

@@ -1,4 +1,4 @@
-use Rattle.std.proofs.Common.{◌≡◌, ◌<◌, ◌++◌, ◌∷◌, [], List, length, false, subst, sym, ap, ◌∙◌, arith}
+use Rattle.std.proofs.Common.{◌≡◌, ◌<◌, ◌++◌, ◌∷◌, [], List, length, false, subst, sym, ap, ◌∙◌}
 use Rattle.l4_model.specs.Machine.{Declaration, Machine, machine_of, most_threads}
 use Rattle.l4_script.specs.Machines.{is_taken}
 use Rattle.l4_script.proofs.Finding.{id_added}

@@ -46,8 +46,8 @@ impl From<RestFault> for RunFault {
 /// What the processors of one `assemble` of this machine, in any order, came to together, for callers with threads of their own. No other
 /// thread is at work on them any more. The history is in order of stamp, and of equal ones by processor.
 ///
-/// `Strangers`: they are not all processors of the machine, each once. `NoMemory`: memory was refused. The processors come back in their
-/// order, each as it was, but that letters under way may be kept where they go to; the call can be made again.
+/// `Strangers`: exactly where they are not all processors of the machine, each once. `NoMemory`: memory was refused. The processors come back
+/// in their order, each as it was, but that letters under way may be kept where they go to; the call can be made again.
 pub fn gather<'m>(
     alloc: Global,
     machine: &Machine,
@@ -56,6 +56,7 @@ pub fn gather<'m>(
     requires { AreOfOne machine.now processors.items }
     ensures ok { IfOk result (λ o. IsGathered machine.now processors.entry.items (findings_of o)) }
     ensures err { IfErr result (λ e. (e.0 ≡ RunFault.NoMemory) ⊎ (e.0 ≡ RunFault.Strangers)) }
+    ensures all { IfOk result (λ _. are_all (map (λ p. p.port) processors.entry.items) ≡ true) }
     ensures strangers { IfErr result (λ e. (e.0 ≡ RunFault.Strangers) ↔ (are_all (map (λ p. p.port) processors.entry.items) ≡ false)) }
     ensures back { IfErr result (λ e. AreAsBefore processors.entry.items e.1.items) }
 {
@@ -74,6 +75,7 @@ fn gathered(
     requires { AreOfOne machine.now processors.old.items }
     ensures ok { IfOk result (λ o. IsGathered machine.now processors.old.items (findings_of o)) }
     ensures err { IfErr result (λ fault. (fault ≡ RunFault.NoMemory) ⊎ (fault ≡ RunFault.Strangers)) }
+    ensures all { IfOk result (λ _. are_all (map (λ p. p.port) processors.old.items) ≡ true) }
     ensures strangers { IsErrOf result RunFault.Strangers ↔ (are_all (map (λ p. p.port) processors.old.items) ≡ false) }
     ensures same { AreAsBefore processors.old.items processors.new.items }
 {

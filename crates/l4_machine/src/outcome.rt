@@ -30,7 +30,7 @@ pub struct Outcome {
     pub waiting: Vec<(Name, ThreadId)>,
     /// What each thread has come to, in order of declaration.
     pub threads: Vec<ThreadView>,
-    /// Whether anything is left to do.
+    /// `Quiet` where no processor has anything to do, no letter is under way and no deadline is armed.
     pub ending: Ending,
     /// How many turns were taken, ticks and letters handled among them.
     pub turns: u64,
@@ -46,7 +46,7 @@ pub struct CompactOutcome<'m> {
     pub waiting: Vec<(Name, ThreadId)>,
     /// What each thread has come to, in order of declaration.
     pub threads: Vec<ThreadView>,
-    /// Whether anything is left to do.
+    /// `Quiet` where no processor has anything to do, no letter is under way and no deadline is armed.
     pub ending: Ending,
     /// How many turns were taken, ticks and letters handled among them.
     pub turns: u64,

@@ -21,7 +21,8 @@ pub enum RunHistory<'m> {
 }
 
 impl RunHistory<'_> {
-    /// The steps in compact form. Those of logs come in order of stamp, and of equal ones by processor.
+    /// The steps in compact form. Those of logs come in order of stamp, and of equal ones by processor. `NoMemory`: memory was refused, and the
+    /// history is gone.
     pub fn into_history(self, alloc: Global) -> Result<History, NoMemory>
         ensures { IfOk result (λ history. history.steps ≡ steps_of self.entry) }
     {

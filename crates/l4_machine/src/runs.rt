@@ -23,7 +23,7 @@ pub const MOST_TURNS: u64 = 1_000_000;
 ///
 /// Two runs of several processors may differ, since which letter comes first is up to the threads. Each is a history of the machine.
 ///
-/// `Turns`: the number of turns is 0 or above 1,000,000.
+/// `Turns`: the number of turns is 0 or above 1,000,000. `NoMemory`: it is not, and memory was refused.
 pub fn run<R: Threads + Sync, G: Gate + Sync>(
     rt: &R,
     alloc: Global,

@@ -93,7 +93,8 @@ fn are_too_many(entries: usize) -> bool
 /// deadline. Where a processor has nothing to do, or no deadline above its clock, there is no event. The empty schedule is lawful. The
 /// history is in the order told.
 ///
-/// `Turns`: there are more entries. `Schedule`: this entry, counted from 1, is the first of no processor of the machine.
+/// `Turns`: there are more entries. `Schedule`: this entry, counted from 1, is the first of no processor of the machine. `NoMemory`: memory was
+/// refused, which may come in the place of `Schedule`.
 pub fn replay(alloc: Global, machine: &Machine, schedule: &[u8]) -> Result<Outcome, RunFault>
     ensures ok { IfOk result (IsReplayed machine.now schedule.now) }
     ensures lawful { IfOk result (λ o. schedule_fault machine.now schedule.now ≡ None) }

@@ -28,6 +28,10 @@ rested_outcome-requires-clause-numbers c =
     let there = all_there m olds c.requires (are_all_then (are_all (map (λ (p : Processor). p.port) olds)) c.in_ok-all_handled.all_handled c.rest.result c.in_ok-all_handled.was c.rest.ensures.numbers.1) in
     subst (HaveNumbers m.cpus) (sym c.as_slice.ensures.value) (numbers_same m.cpus olds c.rest.new.processors.items c.rest.ensures.same there.numbers)
 
+pub returns-clause-all : goal.returns-clause-all
+returns-clause-all c =
+    are_all_then (are_all (map (λ (p : Processor). p.port) c.args.processors.now.items)) c.in_ok-all_handled.all_handled c.rest.result c.in_ok-all_handled.was c.rest.ensures.numbers.1
+
 pub returns-clause-ok : goal.returns-clause-ok
 returns-clause-ok c =
     let m = c.args.machine.now in

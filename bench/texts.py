@@ -166,3 +166,41 @@ def turning():
         "1,023 that wait, by the hundred for one time": machine(sleepers(shared_times(most))),
         "1,023 whose deadlines have one remainder": machine(sleepers(times_of_one_remainder(most))),
     }
+
+
+def going_round(cpus):
+    """Threads of which each is of a processor of its own. The first one sends to the second, each passes on what it gets, and so a message goes round for ever."""
+    members = [
+        (number, [f"ipc nil {(number - 2) % cpus + 1}.1 never never", f"ipc {number % cpus + 1}.1 nil never never", "jump 0"])
+        for number in range(1, cpus + 1)
+    ]
+    first = (1, [members[0][1][1], members[0][1][0], "jump 0"])
+    return [thread(number, script, number - 1) for number, script in [first] + members[1:]]
+
+
+def one_busy(cpus):
+    """A thread that adds for ever, and one that waits for ever on each other processor."""
+    return [thread(1, ["add 1 1", "jump 0"])] + [thread(number + 1, ["ipc nil any never never"], number) for number in range(1, cpus)]
+
+
+def crowd_across(count, cpus):
+    """So many threads of all processors, that send to one receiver of the first processor for ever."""
+    senders = [thread(number, [f"ipc {count + 1}.1 nil never never", "jump 0"], number % cpus) for number in range(1, count + 1)]
+    return senders + [thread(count + 1, ["ipc nil any never never", "jump 0"])]
+
+
+def sleepers_across(cpus):
+    """A thread of each processor that waits again and again, for a time of its own."""
+    return [thread(number + 1, [f"ipc nil any never {100 + number}", "jump 0"], number) for number in range(cpus)]
+
+
+def of_several():
+    """The machines of 16 processors whose runs are timed, each with its turns, by their names."""
+    cpus = MOST_CPUS
+    return {
+        "each waits for times of its own": (machine(sleepers_across(cpus), cpus), 20_000),
+        "one message goes round": (machine(going_round(cpus), cpus), 20_000),
+        "one is busy": (machine(one_busy(cpus), cpus), 1_000_000),
+        "127 senders to one": (machine(crowd_across(127, cpus), cpus), 300_000),
+        "pairs across": (machine(across(64, cpus), cpus), 1_000_000),
+    }

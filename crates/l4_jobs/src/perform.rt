@@ -212,8 +212,9 @@ fn job_output<'a, R: Threads + Sync, M: Source, T: Source>(
 /// was reported instead. The machine text is judged before anything is read of the trace, and only an audit reads that. The output is made
 /// whole before any of it is written, and it is written once. A fault is reported by its one line.
 ///
-/// A run has a host thread for each processor of the machine. So two runs of several processors may differ: each is a lawful one, and a replay
-/// finds out what else may happen.
+/// In a run several processors may work at the same time, each in a host thread. So two runs of several processors may differ, and each is
+/// lawful. A replay takes turns in the order of its schedule. Its turns take mail first, so some histories that runs have are those of no
+/// schedule.
 pub fn perform<R: Threads + Sync, M: Source, T: Source, W: Sink, E: Sink>(
     rt: &R,
     alloc: Global,

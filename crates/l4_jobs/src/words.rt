@@ -26,15 +26,17 @@ const RUN_EXAMPLE: &str = "Example: `l4run run ping.l4`, where the file ping.l4 
 prints a line for each step: 1.1 sends the word 10 to 2.1, which waits for anybody.
 With `--report` it prints what the two threads have come to in place of it.
 
-Each processor of a machine text is a thread of the host. So two runs of a text with several processors may differ:
-each is one that the machine can take, and `l4run replay` finds out what else may happen.";
+Several processors of a machine text work at the same time, each in a thread of the host. So two runs may differ:
+each is one that the machine can take. `l4run replay` takes turns in the order that you give.
+
+A run that ends with status 0 has nothing left to do. Threads may still wait for ever: `--report` shows which.";
 
 const REPLAY_EXAMPLE: &str =
     "Example: `l4run replay ping.l4 --schedule 0,0,0`, with the machine text that `l4run help run` shows,
 prints the steps of three turns of processor 0.
 
-An item 0 to 15 is one turn of that processor, t0 to t15 one tick of its clock to its least deadline. Where
-there is nothing to do, there is no step.";
+An item 0 to 15 is one turn of that processor, t0 to t15 one tick of its clock to its least deadline. A turn
+handles a letter first, if one has come. Where there is nothing to do, there is no step.";
 
 const AUDIT_EXAMPLE: &str =
     "Example: `l4run audit ping.l4 ping.trace`, with the machine text that `l4run help run` shows and what

@@ -14,12 +14,12 @@ use std::thread::Threads;
 /// A run has at most this many turns.
 pub const MOST_TURNS: u64 = 1_000_000;
 
-/// Runs a machine for so many turns, 1 to 1,000,000, or until nothing is left to do, each processor in a host thread of its own; a single one on
-/// the thread of the caller. In a round each takes at most the turns that are left divided by the number of processors, rounded up: mail
-/// first, else its core's turn. Where all are idle and no letter is under way, all clocks below it are advanced to the least deadline of all,
-/// each of which counts as a turn; where there is none, the run ends. It ends too behind the round, or the ticks, with which the turns are
-/// used up, which may be one more for each processor but one. The gate is asked before each attempt at a turn. The history is in order of
-/// stamp, and of equal ones by processor.
+/// Runs a machine for so many turns, 1 to 1,000,000, or until nothing is left to do, in rounds. In a round each processor takes at most the
+/// turns that are left divided by the number of processors, rounded up: mail first, else its core's turn. In rounds where two processors or more
+/// have something to do, they may work at the same time, each in a host thread of its own (`work_together`). Where all are idle and no letter is
+/// under way, all clocks below it are advanced to the least deadline of all, each of which counts as a turn; where there is none, the run ends.
+/// It ends too behind the round, or the ticks, with which the turns are used up, which may be one more for each processor but one. The gate is
+/// asked before each attempt at a turn. The history is in order of stamp, and of equal ones by processor.
 ///
 /// Two runs of several processors may differ, since which letter comes first is up to the threads. Each is a history of the machine.
 ///

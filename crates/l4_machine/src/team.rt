@@ -1,4 +1,4 @@
-//! The processors of a machine at work together, each in a thread of its own.
+//! The processors of a machine at work together, in rounds.
 ghost use Rattle.std.specs.Prelude.{ℕ, ◌≡◌, ◌≢◌, ◌<◌, ◌≤◌, ◌+◌, ◌-◌, ◌*◌, ◌^◌, ◌↔◌, ◌⊎◌, false, true, map, length, slice_get, IfOk, IfSome, IsTrue, OnOk, Some, None};
 ghost use Rattle.l4_model.specs.Words.{clock_limit, period_limit};
 ghost use Rattle.l4_core_model.specs.Schedules.{earliest};

@@ -1,10 +1,11 @@
 -- What the two ends of a way have carried: the outlet of the poster, and the inlet of the receiver.
-use Rattle.std.specs.Prelude.{ℕ, ◌-◌, List, [], ◌++◌, Option, Some, None}
+use Rattle.std.specs.Prelude.{ℕ, ◌-◌, List, [], ◌++◌, Bool, not, Option, Some, None}
 use Rattle.std.specs.VecDeque.{deque_len, deque_capacity}
 use Rattle.std.specs.declared.alloc.Global.{Global}
 use denote.RawPtr.{Ptr}
 use Rattle.rtrb.specs.Shared.{Names}
 use Rattle.rtrb.specs.Ring.{sent}
+use Rattle.l4_core_model.specs.Runs.{is_empty}
 use Rattle.l4_types.specs.declared.letters.Letter.{Letter}
 use Rattle.l4_mail.specs.declared.outlets.Outlet.{Outlet}
 use Rattle.l4_mail.specs.declared.inlets.Inlet.{Inlet}
@@ -63,3 +64,7 @@ taken (Some i) = inlet_taken i
 abbrev pub kept : Option Inlet → List Letter
 kept None = []
 kept (Some i) = inlet_kept i
+
+-- Whether a letter is put by here.
+abbrev pub keeps : Option Inlet → Bool
+keeps end = not (is_empty (kept end))

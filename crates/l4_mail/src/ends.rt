@@ -1,6 +1,6 @@
 //! The ends of ways by the other processor. A port has none for its own.
 ghost use Rattle.std.specs.Prelude.{◌≡◌, ◌↔◌, ◌≤◌, ◌<◌, ◌+◌, [], ◌∷◌, ◌++◌, false, OnOk, IfSome, IfNone, IsTrue, Option, None, ◌⊎◌};
-ghost use Rattle.l4_mail.specs.Ends.{ring_out, posted, room, ring_in, taken, kept};
+ghost use Rattle.l4_mail.specs.Ends.{ring_out, posted, room, ring_in, taken, kept, keeps};
 
 use crate::inlets::Inlet;
 use crate::outlets::Outlet;
@@ -45,6 +45,15 @@ pub fn flush(end: &mut Option<Outlet>)
 {
     if let Some(outlet) = end {
         outlet.flush();
+    }
+}
+
+pub fn keeps_mail(end: &Option<Inlet>) -> bool
+    ensures { result ≡ keeps end.now }
+{
+    match end {
+        Some(inlet) => inlet.keeps_mail(),
+        None => false,
     }
 }
 

@@ -16,8 +16,16 @@ pub struct Inlet {
 }
 
 impl Inlet {
-    ghost use Rattle.std.specs.Prelude.{◌≡◌, [], ◌∷◌, ◌++◌, false, IfSome, IfNone};
+    ghost use Rattle.std.specs.Prelude.{◌≡◌, [], ◌∷◌, ◌++◌, false, not, IfSome, IfNone};
+    ghost use Rattle.l4_core_model.specs.Runs.{is_empty};
     ghost use Rattle.l4_mail.specs.Ends.{inlet_ring, inlet_taken, inlet_kept};
+
+    /// Whether a letter is here that a rest put by.
+    pub fn keeps_mail(&self) -> bool
+        ensures { result ≡ not (is_empty (inlet_kept self.now)) }
+    {
+        !self.kept.is_empty()
+    }
 
     /// Whether a letter is here: one that a rest put by, or one that has come.
     pub fn has_mail(&mut self) -> bool

@@ -75,6 +75,13 @@ impl Port {
         }
     }
 
+    /// Whether it keeps a letter that a rest put by and that was not taken since.
+    pub fn keeps_mail(&self) -> bool
+        ensures { (result ≡ false) ↔ ((from : ℕ) → kept_from self.now from ≡ []) }
+    {
+        takes::keeps_mail(&self.inlets)
+    }
+
     /// Whether there is a letter to take. Where there is none, none is kept that a rest put by, and when each ring was looked at it had none.
     pub fn has_mail(&mut self) -> bool
         ensures same { IsAsBefore self.old self.new }

@@ -1,13 +1,21 @@
 //! Taking a letter at the first of a port's inlets that has one.
 ghost use Rattle.std.specs.Prelude.{◌≡◌, ◌≤◌, false, length, map, IfSome, IfNone};
+ghost use Rattle.std.specs.List.{list_any};
 ghost use Rattle.l4_model.specs.Machine.{most_processors};
-ghost use Rattle.l4_mail.specs.Ends.{kept};
+ghost use Rattle.l4_mail.specs.Ends.{kept, keeps};
 ghost use Rattle.l4_mail.specs.Takes.{NoneIsKept, NoneIsTaken, IsTaken, WasKept, IsFirst};
 
 use crate::ends;
 use crate::ends::{take_come, take_kept};
 use crate::inlets::Inlet;
 use l4_types::letters::Letter;
+
+/// Whether a letter is at one of the inlets that a rest put by.
+pub fn keeps_mail(inlets: &[Option<Inlet>]) -> bool
+    ensures { result ≡ list_any keeps inlets.now }
+{
+    inlets.iter().any(ends::keeps_mail)
+}
 
 /// Whether a letter is at one of the inlets.
 pub fn has_mail(inlets: &mut [Option<Inlet>]) -> bool

@@ -1,10 +1,9 @@
 -- Turns that a processor takes among others: those of several calls, with looks between them.
-use Rattle.std.proofs.Common.{◌≡◌, ℕ, zero, suc, Some, List, [], ◌∷◌, length, get_or, set, ◌+◌, ◌<◌, ◌≤◌, refl, ◌∙◌, subst, sym, arith}
-use Rattle.std.specs.Prelude.{◌≢◌, slice_get}
-use Rattle.l4_model.proofs.Chains.{some_is}
+use Rattle.std.proofs.Common.{◌≡◌, ℕ, ◌+◌, ◌<◌, ◌≤◌, refl, ◌∙◌, subst, sym, arith}
+use Rattle.std.specs.Prelude.{◌≢◌}
 use Rattle.l4_merge.specs.Pasts.{HasTurned}
 use Rattle.l4_merge.proofs.Worked.{turned_trans}
-use Rattle.l4_proc.specs.Working.{IsIdle, past, turns_of, HasGoneOn, HasTakenUpTo, HasWorkedOn, HaveWorkedOn, IsStopped}
+use Rattle.l4_proc.specs.Working.{IsIdle, past, turns_of, HasGoneOn, HasTakenUpTo, HasWorkedOn, IsStopped}
 use Rattle.l4_proc.specs.declared.processor.Processor.{Processor}
 use Rattle.l4_proc.specs.declared.stops.Stop.{Stop}
 use Rattle.l4_proc.specs.declared.stops.Stop.TheVariants as stop
@@ -112,13 +111,3 @@ looked_and_worked turns left old middle seen new worked look found all some rest
     ended turns rest old seen new new.worker.stop
     (onward_trans old middle seen (onward turns old middle _ worked) (onward 1 middle seen _ look)) (omega arith)
     (λ same. absurd (let least = worked.least in omega arith)) more
-
--- A single one worked.
-pub alone : (turns : ℕ) (ps : List Processor) (new d : Processor) → length ps ≡ 1 → HasWorkedOn turns (get_or ps 0 d) new → HaveWorkedOn turns ps (set ps 0 new)
-alone turns [] new d one worked = absurd (omega arith)
-alone turns (p ∷ q ∷ ps) new d one worked = absurd (omega arith)
-alone turns (p ∷ []) new d one worked = record { for_each = refl; each = each }
-  where
-    each : (i : ℕ) (a b : Processor) → slice_get (p ∷ []) i ≡ Some a → slice_get (new ∷ []) i ≡ Some b → HasWorkedOn turns a b
-    each zero a b was now = subst (HasWorkedOn turns a) (some_is new b now) (subst (λ (x : Processor). HasWorkedOn turns x new) (some_is p a was) worked)
-    each (suc i) a b was now = absurd cc

@@ -2,6 +2,7 @@ pub mod Assembling
 pub mod Ends
 pub mod Going
 pub mod Handled
+pub mod Idling
 pub mod Joint
 pub mod Logging
 pub mod Readying

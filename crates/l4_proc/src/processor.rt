@@ -88,6 +88,14 @@ impl<'m> Processor<'m> {
         self.worker.log.turns()
     }
 
+    /// Whether it has something to do: a letter in hand or one that a rest put by, or a turn of its own. A letter that has come since is not
+    /// looked for.
+    pub fn has_work(&self) -> bool
+        ensures { (result ≡ false) ↔ IsIdle self.now }
+    {
+        self.in_hand() || self.port.keeps_mail() || self.worker.core.busy()
+    }
+
     /// Why its last `work` stopped, `Used` where it has not worked yet.
     pub fn stop(&self) -> Stop
         ensures { result ≡ self.now.worker.stop }

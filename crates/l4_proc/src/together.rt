@@ -1,5 +1,5 @@
 //! Processors that work at the same time.
-ghost use Rattle.std.specs.Prelude.{◌≡◌, ◌↔◌, ◌+◌, IsTrue};
+ghost use Rattle.std.specs.Prelude.{◌≡◌, ◌↔◌, ◌<◌, ◌+◌, IsTrue, length};
 ghost use Rattle.l4_proc.specs.Working.{turns_of, HasWorkedOn, HaveWorkedOn, IsStopped};
 ghost use Rattle.l4_proc.specs.declared.stops.Stop.TheVariants as stop;
 
@@ -10,11 +10,12 @@ use std::sync::atomic::{AtomicUsize, Ordering};
 use std::thread;
 use std::thread::Threads;
 
-// So often in a row a processor that finds nothing looks again, some seconds long. Nobody is to wait for ever where another one is held back.
-const LOOKS: u32 = 10_000_000;
+// So often in a row a processor that finds nothing looks again: about as long as a letter takes to come. What comes later is for the next
+// round, so nobody waits where the host runs another one late or not at all.
+const LOOKS: u32 = 200;
 
 // So often in a row it looks again where nobody is at work: another one may be about to take a letter, and will be at work then.
-const LAST_LOOKS: u32 = 100;
+const LAST_LOOKS: u32 = 2;
 
 // A processor that has found nothing looks on until it takes a turn, and answers whether it did. It gives up where it stops for another
 // reason, where nobody has been at work for a while, and after so many looks. So it waits for nobody, whatever the others do.
@@ -52,10 +53,11 @@ fn take_turns<G: Gate>(processor: &mut Processor<'_>, turns: u64, gate: &G) -> u
     processor.turns() - before
 }
 
-// Takes at most so many turns, where others may be at work too. No promise rests on how many are.
+// Takes at most so many turns, where others may be at work too. It counts as at work once it has begun. No promise rests on how many are.
 fn work_among<G: Gate>(processor: &mut Processor<'_>, turns: u64, gate: &G, at_work: &AtomicUsize)
     ensures { HasWorkedOn turns processor.old processor.new }
 {
+    at_work.fetch_add(1, Ordering::SeqCst);
     let mut left = turns - take_turns(processor, turns, gate);
     at_work.fetch_sub(1, Ordering::SeqCst);
     while processor.stop() == Stop::Idle {
@@ -69,9 +71,63 @@ fn work_among<G: Gate>(processor: &mut Processor<'_>, turns: u64, gate: &G, at_w
     }
 }
 
-/// Each processor takes at most so many turns, in a host thread of its own; one of them, or a single one, on the thread of the caller. A processor that finds
-/// nothing to do looks on while another one is at work, so that a letter that comes meanwhile does not cost a call; but it need not be taken
-/// in this call.
+// Each takes at most so many turns, in order, on the thread of the caller.
+fn work_in_order<R: Threads + Sync, G: Gate + Sync>(
+    rt: &R,
+    processors: &mut [Processor<'_>],
+    turns: u64,
+    gate: &G,
+)
+    ensures { HaveWorkedOn turns processors.old processors.new }
+{
+    thread::for_each_mut(
+        rt,
+        processors,
+        1,
+        &|_, processor: &mut Processor<'_>|
+            ensures { HasWorkedOn turns processor.entry.now processor.exit.now }
+        {
+            take_turns(processor, turns, gate);
+        },
+    );
+}
+
+// Each takes at most so many turns, in a host thread of its own.
+fn work_side_by_side<R: Threads + Sync, G: Gate + Sync>(
+    rt: &R,
+    processors: &mut [Processor<'_>],
+    turns: u64,
+    gate: &G,
+)
+    requires { 0 < length processors.old }
+    ensures { HaveWorkedOn turns processors.old processors.new }
+{
+    let threads = processors.len();
+    let at_work = AtomicUsize::new(0);
+    thread::for_each_mut(
+        rt,
+        processors,
+        threads,
+        &|_, processor: &mut Processor<'_>|
+            ensures { HasWorkedOn turns processor.entry.now processor.exit.now }
+        { work_among(processor, turns, gate, &at_work) },
+    );
+}
+
+// How many of them have something to do, and did not run out of it when they worked last.
+fn count_busy(processors: &[Processor<'_>]) -> usize {
+    processors
+        .iter()
+        .filter(|processor| processor.stop() == Stop::Used && processor.has_work())
+        .count()
+}
+
+/// Each processor takes at most so many turns. Where two of them or more have something to do, and did not run out of it when they worked last, each
+/// works in a host thread of its own, one of them on the thread of the caller. Else they work in order on the thread of the caller: what they have
+/// to do takes less than to start threads.
+///
+/// A processor that finds nothing to do looks on for a while where another one is at work, so that a letter that comes meanwhile does not cost a
+/// call; but it need not be taken in this call. Where the host starts fewer threads, one thread works for several processors.
 ///
 /// Each remembers why it stopped (`Processor::stop`).
 pub fn work_together<R: Threads + Sync, G: Gate + Sync>(
@@ -82,21 +138,9 @@ pub fn work_together<R: Threads + Sync, G: Gate + Sync>(
 )
     ensures { HaveWorkedOn turns processors.old processors.new }
 {
-    if processors.is_empty() {
-        return;
+    if processors.is_empty() || count_busy(processors) < 2 {
+        work_in_order(rt, processors, turns, gate);
+    } else {
+        work_side_by_side(rt, processors, turns, gate);
     }
-    if processors.len() == 1 {
-        take_turns(&mut processors[0], turns, gate);
-        return;
-    }
-    let threads = processors.len();
-    let at_work = AtomicUsize::new(threads);
-    thread::for_each_mut(
-        rt,
-        processors,
-        threads,
-        &|_, processor: &mut Processor<'_>|
-            ensures { HasWorkedOn turns processor.entry.now processor.exit.now }
-        { work_among(processor, turns, gate, &at_work) },
-    );
 }

@@ -8,5 +8,5 @@ abbrev pub invariant-loop : goal.invariant-loop
 invariant-loop g l = record {
   worked : HasWorkedOn 1 l.fn.processor l.processor;
   idle : l.processor.worker.stop ≡ stop.Idle;
-  few : l.last_looks ≤ 100;
+  few : l.last_looks ≤ 2;
 }

@@ -1,4 +1,4 @@
-#!/usr/bin/env python3
+#!/usr/bin/env -S python3 -B
 """Tries the mistakes of crates many at a time: mistakes-at-once.py CRATE.. (all crates that have some, where none is named).
 
 `bench/mistakes.sh` plants one mistake, checks its crate, and takes it out again. Most of that time goes into what the mistake does not touch. Here those of
@@ -17,41 +17,12 @@ import subprocess
 import sys
 import tempfile
 
+from edits import function_at, pairs_of
+
 TOP = pathlib.Path(__file__).resolve().parent.parent
-FUNCTION = re.compile(r"\s*(?:pub(?:\([^)]*\))?\s+)?(?:const\s+)?fn\s+(\w+)")
-IMPL = re.compile(r"impl(?:<[^{]*?>)?\s+(?:[\w:<>', ]+\s+for\s+)?(\w+)")
 VERDICT = re.compile(r"fn \w+::(\S+): (.*)")
 UNREAD = re.compile(r"src/\S+: error\[.*")
 ERROR = re.compile(r"(?:so far: )?\./proofs/(\S+)/Answers\.antt:\d+:\d+: error: (.*)")
-
-
-def pairs_of(path):
-    """The places of a mistake: file, old text, new text."""
-    pairs, file, old = [], None, None
-    for line in path.read_text().splitlines():
-        key, _, text = line.partition(": ")
-        if key == "file":
-            file = text
-        elif key == "old":
-            old = text
-        elif key == "new":
-            pairs.append((file, old, text))
-    return pairs
-
-
-def function_at(text, at):
-    """The function around a place, as `Type::name` where it is one of a type, else its name."""
-    rows = text.split("\n")
-    row = text[:at].count("\n")
-    name = next((found.group(1) for line in rows[row::-1] if (found := FUNCTION.match(line))), None)
-    if not rows[row].startswith((" ", "fn", "pub fn", "pub(")):
-        return name
-    for line in rows[row::-1]:
-        if line.startswith("impl"):
-            return f"{IMPL.match(line).group(1)}::{name}"
-        if line.startswith("}"):
-            return name
-    return name
 
 
 class Batch(dict):

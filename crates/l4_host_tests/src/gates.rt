@@ -2,9 +2,11 @@
 // end, and its history is one of the machine. A gate holds nobody for ever: it looks so often, and then lets go.
 use crate::runs::comes_to;
 use l4_proc::gate::Gate;
+use std::alloc::AllocError;
+use std::process::Abort;
 use std::sync::atomic::{AtomicU64, Ordering};
-use std::test::Fail;
 use std::thread;
+use std::thread::Threads;
 
 const CPUS: u8 = 16;
 
@@ -13,25 +15,43 @@ const SHARE: u64 = 100;
 
 const TURNS: u64 = 1_600;
 
-/// On each of 16 processors a thread that calls the server of the next one, a server, and one that cancels what goes on two processors further and
-/// calls the server there.
-pub(crate) fn busy_machine<R: AllocGlobal>(rt: &R) -> Result<String, Fail> {
-    let mut text = format!(in rt.alloc(); "l4 1 64\ncpus {CPUS}\n")?;
-    for cpu in 0..16u32 {
-        let next = 100 + (cpu + 1) % 16;
-        let (other, server) = (1 + (cpu + 2) % 16, 100 + (cpu + 2) % 16);
-        writeln!(text, "thread {}.1 cpu {cpu} space 1", cpu + 1)?;
-        writeln!(text, "ipc {next}.1 {next}.1 never never\nadd 1 1\njump 0")?;
-        writeln!(text, "thread {}.1 cpu {cpu} space 1", 100 + cpu)?;
-        writeln!(
-            text,
-            "ipc nil any never never\nipc last any 7 never\njump 1"
-        )?;
-        writeln!(text, "thread {}.1 cpu {cpu} space 1", 200 + cpu)?;
-        writeln!(text, "exregs {other}.1 SR\nipc {server}.1 {server}.1 5 9")?;
-        writeln!(text, "exregs {server}.1 S\njump 0")?;
+// Writes the threads of a processor: one that calls the server of the next one, a server, and one that cancels what goes on two processors further and
+// calls the server there.
+fn write_threads(text: &mut String, cpu: u8) -> Result<(), AllocError> {
+    let cpu = u32::from(cpu);
+    let next = 100 + (cpu + 1) % 16;
+    let (other, server) = (1 + (cpu + 2) % 16, 100 + (cpu + 2) % 16);
+    writeln!(
+        text,
+        "thread {}.1 cpu {cpu} space 1\nipc {next}.1 {next}.1 never never\nadd 1 1\njump 0",
+        cpu + 1
+    )?;
+    writeln!(
+        text,
+        "thread {}.1 cpu {cpu} space 1\nipc nil any never never\nipc last any 7 never\njump 1",
+        100 + cpu
+    )?;
+    writeln!(
+        text,
+        "thread {}.1 cpu {cpu} space 1\nexregs {other}.1 SR\nipc {server}.1 {server}.1 5 9",
+        200 + cpu
+    )?;
+    writeln!(text, "exregs {server}.1 S\njump 0")
+}
+
+/// The text of a machine with these threads on each of 16 processors.
+pub(crate) fn busy_text<R: AllocGlobal + Abort>(rt: &R) -> String {
+    let mut text = format!(in rt.alloc(); "l4 1 64\ncpus {CPUS}\n").expect(rt, "memory");
+    for cpu in 0..CPUS {
+        assert!(rt; write_threads(&mut text, cpu).is_ok());
     }
-    Ok(text)
+    text
+}
+
+// Tests that a run of the machine under a gate comes to its end.
+fn ends<R: AllocGlobal + Abort + Threads + Sync, G: Gate + Sync>(rt: &R, text: &str, gate: &G) {
+    let outcome = comes_to(rt, text, TURNS, gate);
+    assert!(rt; outcome.turns >= TURNS);
 }
 
 // Looks until the number has come to this value, at most so often. Answers whether it has.
@@ -65,14 +85,12 @@ impl Gate for Stopped {
 }
 
 #[test]
-fn one_is_stopped_at_every_turn(rt: HostRuntime) -> Result<(), Fail> {
-    let text = busy_machine(&rt)?;
+fn one_is_stopped_at_every_turn(rt: HostRuntime) {
+    let text = busy_text(&rt);
     for cpu in [0, 7, 15] {
         let looks = AtomicU64::new(0);
-        let outcome = comes_to(&rt, text.as_str(), TURNS, &Stopped { cpu, looks });
-        assert!(rt; outcome.turns >= TURNS, "{cpu}");
+        ends(&rt, text.as_str(), &Stopped { cpu, looks });
     }
-    Ok(())
 }
 
 // Lets one processor take its share alone. The others may begin when it has tried its last turn, or finds nothing and tries a turn again.
@@ -107,16 +125,19 @@ impl Gate for Alone {
     }
 }
 
+// Tests that all wait for a processor to take its share, in a run that comes to its end.
+fn has_its_share_first<R: AllocGlobal + Abort + Threads + Sync>(rt: &R, text: &str, cpu: u8) {
+    let gate = Alone::new(cpu);
+    ends(rt, text, &gate);
+    assert_eq!(rt; gate.missed.load(Ordering::SeqCst), 0, "{cpu}");
+}
+
 #[test]
-fn each_has_its_share_alone_first(rt: HostRuntime) -> Result<(), Fail> {
-    let text = busy_machine(&rt)?;
+fn each_has_its_share_alone_first(rt: HostRuntime) {
+    let text = busy_text(&rt);
     for cpu in 0..CPUS {
-        let gate = Alone::new(cpu);
-        let outcome = comes_to(&rt, text.as_str(), TURNS, &gate);
-        assert!(rt; outcome.turns >= TURNS, "{cpu}");
-        assert_eq!(rt; gate.missed.load(Ordering::SeqCst), 0, "{cpu}");
+        has_its_share_first(&rt, text.as_str(), cpu);
     }
-    Ok(())
 }
 
 // Lets the processors take one turn after the other, at odd turns in the order of their numbers, at even ones against it. One that has nothing to do
@@ -143,14 +164,10 @@ impl Gate for Reversed {
 }
 
 #[test]
-fn the_order_is_turned_round_at_each_turn(rt: HostRuntime) -> Result<(), Fail> {
-    let text = busy_machine(&rt)?;
+fn the_order_is_turned_round_at_each_turn(rt: HostRuntime) {
+    let text = busy_text(&rt);
     for _ in 0..4 {
-        let gate = Reversed {
-            place: AtomicU64::new(u64::from(CPUS)),
-        };
-        let outcome = comes_to(&rt, text.as_str(), TURNS, &gate);
-        assert!(rt; outcome.turns >= TURNS);
+        let place = AtomicU64::new(u64::from(CPUS));
+        ends(&rt, text.as_str(), &Reversed { place });
     }
-    Ok(())
 }

@@ -4,6 +4,7 @@ ghost use Rattle.l4_machine.specs.Gathers.{AreOfOne};
 ghost use Rattle.l4_proc.specs.Working.{HasGoneOn};
 ghost use Rattle.l4_mail.specs.Fabrics.{most_room};
 
+use crate::runs::machine_of;
 use l4_jobs::report_lines::write_report;
 use l4_machine::{Outcome, RunFault, gather};
 use l4_proc::assembly::assemble;
@@ -147,61 +148,67 @@ pub(crate) fn has<R: AllocGlobal + Abort>(
     assert_eq!(rt; outcome.turns, turns);
 }
 
+// Tests what the processors of a text come to.
+fn come_to<R: AllocGlobal + Abort + Print>(
+    rt: &R,
+    text: &str,
+    room: usize,
+    shares: &[(usize, u64)],
+    wanted: (&str, &str, u64),
+)
+    requires { (0 < room) × (room ≤ most_room) }
+{
+    let (lines, report, turns) = wanted;
+    let machine = machine_of(rt, text);
+    let outcome = gathered(rt, &machine, room, shares).expect(rt, "an outcome");
+    has(rt, &outcome, lines, report, turns);
+}
+
 #[test]
-fn two_logs_make_one_history(rt: HostRuntime) -> Result<(), Fail> {
-    let machine = Machine::parse(rt.alloc(), ACROSS.as_bytes())
-        .ok()
-        .ok_or("a machine")?;
+fn two_logs_make_one_history(rt: HostRuntime) {
     let shares = [(1, 1), (0, 3), (1, 1), (0, 2), (1, 1)];
-    let outcome = gathered(&rt, &machine, 64, &shares).ok_or("an outcome")?;
     let lines =
         "local 1.1\nwait 2.1\nlocal 1.1\nbegin 1.1#1\nqueue 1.1#1\ndeliver 1.1#1 2.1 1.1 1.1 74001 a\nlocal 2.1\nlocal 1.1\n";
     let report =
         "thread 1.1 ended 0 nil nil 0 a\nthread 2.1 ended 0 1.1 1.1 74001 a\nending quiet\n";
-    has(&rt, &outcome, lines, report, 8);
-    Ok(())
+    come_to(&rt, ACROSS, 64, &shares, (lines, report, 8));
 }
 
 // There is room for one letter between the two: the others wait in the outbox. Two sends and one answer are under way.
 #[test]
-fn full_rings_hold_nothing_back(rt: HostRuntime) -> Result<(), Fail> {
-    let machine = Machine::parse(rt.alloc(), QUEUED.as_bytes())
-        .ok()
-        .ok_or("a machine")?;
-    let outcome = gathered(&rt, &machine, 1, &[(0, 3), (1, 3)]).ok_or("an outcome")?;
+fn full_rings_hold_nothing_back(rt: HostRuntime) {
     let lines =
         "begin 1.1#1\nbegin 2.1#1\nqueue 1.1#1\nbegin 3.1#1\nwait 4.1\ndeliver 1.1#1 4.1 1.1 1.1 4000\n";
     let report =
         "thread 1.1 ready 0 nil nil 0\nthread 2.1 sending 0 nil nil 0\nthread 3.1 sending 0 nil nil 0\nthread 4.1 ready 0 1.1 1.1 4000\nwaiting 2.1#1 4.1\nwaiting 3.1#1 4.1\nending spent\n";
-    has(&rt, &outcome, lines, report, 6);
-    Ok(())
+    come_to(&rt, QUEUED, 1, &[(0, 3), (1, 3)], (lines, report, 6));
 }
 
 // None of two is there.
 #[test]
-fn nobody_is_not_all(rt: HostRuntime) -> Result<(), Fail> {
-    let machine = Machine::parse(rt.alloc(), ACROSS.as_bytes())
-        .ok()
-        .ok_or("a machine")?;
+fn nobody_is_not_all(rt: HostRuntime) {
+    let machine = machine_of(&rt, ACROSS);
     assert!(rt; gather(rt.alloc(), &machine, Vec::new(rt.alloc())).is_err());
-    Ok(())
+}
+
+// Tests that these are the first two processors, each with two turns in its log.
+fn are_the_first_two<R: Abort>(rt: &R, processors: &[Processor<'_>]) {
+    assert_eq!(rt; processors.len(), 2);
+    for (cpu, processor) in processors.iter().enumerate() {
+        assert_eq!(rt; usize::from(processor.cpu()), cpu);
+        assert_eq!(rt; processor.turns(), 2);
+        assert_eq!(rt; processor.log().len(), 2);
+    }
 }
 
 // The last of three is missing: the two others come back in their order, with all that they did. That one is there twice is ruled out by
 // ownership, since no processor can be copied.
 #[test]
 fn one_of_them_is_missing(rt: HostRuntime) -> Result<(), Fail> {
-    let machine = Machine::parse(rt.alloc(), TOGETHER.as_bytes())
-        .ok()
-        .ok_or("a machine")?;
+    let machine = machine_of(&rt, TOGETHER);
     let processors = worked(&rt, &machine, 1, &[(1, 2), (2, 1), (0, 2)]).ok_or("processors")?;
     let (fault, back) = gathered_without_last(rt.alloc(), &machine, processors).ok_or("a fault")?;
     assert_eq!(rt; fault, RunFault::Strangers);
-    assert_eq!(rt; back.len(), 2);
-    for place in 0..2 {
-        assert_eq!(rt; usize::from(back[place].cpu()), place);
-        assert_eq!(rt; back[place].turns(), 2);
-        assert_eq!(rt; back[place].log().len(), 2);
-    }
+    are_the_first_two(&rt, back.as_slice());
     Ok(())
 }

@@ -4,8 +4,8 @@ ghost use Rattle.std.specs.Prelude.{map};
 ghost use Rattle.l4_mail.specs.Ports.{AreOneFabric};
 
 use crate::gathers::has;
-use crate::processors::{has_stamps, runs_idle};
-use crate::runs::is_right;
+use crate::processors::{have_rested, last, runs_idle};
+use crate::runs::{is_right, machine_of};
 use l4_audit::audit::{Audit, AuditFault, check};
 use l4_machine::{Outcome, RunFault, replay, run};
 use l4_mail::rests::RestFault;
@@ -26,13 +26,6 @@ const REPORT: &str =
 
 const SCHEDULE: [u8; 8] = [1, 0, 0, 0, 1, 0, 0, 1];
 
-// The machine of two threads on two processors.
-fn machine_of<R: AllocGlobal + Abort>(rt: &R) -> Machine {
-    Machine::parse(rt.alloc(), ACROSS.as_bytes())
-        .ok()
-        .expect(rt, "a machine")
-}
-
 // The processors of the machine, made again where memory was refused.
 fn assembled<'m, R: AllocGlobal + Abort + Print>(
     rt: &R,
@@ -47,15 +40,20 @@ fn assembled<'m, R: AllocGlobal + Abort + Print>(
     }
 }
 
-#[test]
-fn processors_are_assembled(rt: HostRuntime) {
-    let machine = machine_of(&rt);
-    let processors = assembled(&rt, &machine);
-    assert_eq!(rt; processors.len(), 2);
+// Tests that processors stand in the order of their numbers, and have done nothing.
+fn are_fresh<R: Abort>(rt: &R, processors: &[Processor<'_>]) {
     for (cpu, processor) in processors.iter().enumerate() {
         assert_eq!(rt; usize::from(processor.cpu()), cpu);
         assert!(rt; processor.log().is_empty() && processor.turns() == 0);
     }
+}
+
+#[test]
+fn processors_are_assembled(rt: HostRuntime) {
+    let machine = machine_of(&rt, ACROSS);
+    let processors = assembled(&rt, &machine);
+    assert_eq!(rt; processors.len(), 2);
+    are_fresh(&rt, processors.as_slice());
 }
 
 // The clock goes on, by a second call where memory was refused: then nothing was changed.
@@ -74,17 +72,19 @@ fn ticks<R: Abort + Print>(rt: &R, processor: &mut Processor<'_>, to: u64) {
     assert_eq!(rt; processor.core().clock(), to);
 }
 
-#[test]
-fn a_clock_goes_on(rt: HostRuntime) -> Result<(), Fail> {
-    let machine = machine_of(&rt);
-    let mut processors = assemble(rt.alloc(), &machine, 1)?;
-    let mut processor = processors.pop().ok_or("a processor")?;
+// Tests that a clock goes on 19 times, and that the one thread of the processor then begins to wait.
+fn ticks_on<R: Abort + Print>(rt: &R, processor: &mut Processor<'_>) {
     for clock in 1..20 {
-        ticks(&rt, &mut processor, clock);
+        ticks(rt, processor, clock);
     }
     assert!(rt; processor.work(2, &Open) == Stop::Idle);
     assert!(rt; processor.turns() == 1 && processor.log().len() == 20);
-    Ok(())
+}
+
+#[test]
+fn a_clock_goes_on(rt: HostRuntime) {
+    let machine = machine_of(&rt, ACROSS);
+    ticks_on(&rt, &mut last(&rt, &machine));
 }
 
 // Whether letters have come to rest, by a second call where memory was refused.
@@ -109,17 +109,14 @@ fn rested<R: AllocGlobal + Abort + Print>(
 
 #[test]
 fn letters_come_to_rest(rt: HostRuntime) -> Result<(), Fail> {
-    let machine = machine_of(&rt);
+    let machine = machine_of(&rt, ACROSS);
     let mut processors = assemble(rt.alloc(), &machine, 1)?;
     assert!(rt; runs_idle(&mut processors, 0));
     assert_eq!(rt; rested(&rt, &mut processors), Some(false));
     assert!(rt; runs_idle(&mut processors, 1));
     assert!(rt; runs_idle(&mut processors, 0));
     assert_eq!(rt; rested(&rt, &mut processors), Some(true));
-    let other = processors.pop().ok_or("a processor")?;
-    let home = processors.pop().ok_or("a processor")?;
-    assert!(rt; has_stamps(home.log(), &[1, 2, 3, 7, 8]));
-    assert!(rt; has_stamps(other.log(), &[4, 5, 6, 7]));
+    have_rested(&rt, processors.as_slice());
     Ok(())
 }
 
@@ -145,7 +142,7 @@ fn ran<R: AllocGlobal + Abort + Print + Threads + Sync>(
 
 #[test]
 fn a_machine_runs(rt: HostRuntime) {
-    let machine = machine_of(&rt);
+    let machine = machine_of(&rt, ACROSS);
     let outcome = ran(&rt, &machine, 1_000);
     is_right(&rt, &machine, 1_000, &outcome);
     assert!(rt; outcome.turns == 8 || outcome.turns == 9);
@@ -184,12 +181,17 @@ fn audited<R: AllocGlobal + Abort + Print>(rt: &R, machine: &Machine, outcome: &
     }
 }
 
-#[test]
-fn a_schedule_is_replayed_and_audited(rt: HostRuntime) {
-    let machine = machine_of(&rt);
-    let outcome = replayed(&rt, &machine);
-    has(&rt, &outcome, ACROSS_TRACE, REPORT, 8);
-    let audit = audited(&rt, &machine, &outcome);
+// Tests that an audit finds what the outcome says.
+fn finds_the_same<R: AllocGlobal + Abort + Print>(rt: &R, machine: &Machine, outcome: &Outcome) {
+    let audit = audited(rt, machine, outcome);
     assert!(rt; audit.threads.as_slice() == outcome.threads.as_slice());
     assert!(rt; audit.waiting.is_empty() && audit.ending == outcome.ending);
+}
+
+#[test]
+fn a_schedule_is_replayed_and_audited(rt: HostRuntime) {
+    let machine = machine_of(&rt, ACROSS);
+    let outcome = replayed(&rt, &machine);
+    has(&rt, &outcome, ACROSS_TRACE, REPORT, 8);
+    finds_the_same(&rt, &machine, &outcome);
 }

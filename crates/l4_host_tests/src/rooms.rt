@@ -4,14 +4,15 @@ ghost use Rattle.std.specs.Prelude.{◌<◌, ◌≤◌, IfSome};
 ghost use Rattle.l4_machine.specs.Gathers.{AreOfOne};
 ghost use Rattle.l4_mail.specs.Fabrics.{most_room};
 
-use crate::gates::busy_machine;
+use crate::gates::busy_text;
 use crate::gathers::gathered_again;
-use crate::runs::passes;
+use crate::runs::{machine_of, passes};
+use l4_machine::Outcome;
 use l4_proc::assembly::assemble;
 use l4_proc::gate::Open;
 use l4_proc::processor::Processor;
 use l4_script::machine::Machine;
-use std::test::Fail;
+use std::process::Abort;
 
 // So often a processor is asked to take turns, and so many at most each time.
 const CALLS: u64 = 400;
@@ -49,19 +50,27 @@ fn mixed<'m, R: AllocGlobal>(
     Some(processors)
 }
 
+// What they come to.
+fn mixed_outcome<R: AllocGlobal + Print>(rt: &R, machine: &Machine, room: usize) -> Option<Outcome>
+    requires { (0 < room) × (room ≤ most_room) }
+{
+    let processors = mixed(rt, machine, room)?;
+    gathered_again(rt, machine, processors)
+}
+
+// Tests that with rings of this room they come to a history.
+fn come_to_a_history<R: AllocGlobal + Abort + Print>(rt: &R, machine: &Machine, room: usize)
+    requires { (0 < room) × (room ≤ most_room) }
+{
+    let outcome = mixed_outcome(rt, machine, room).expect(rt, "an outcome");
+    passes(rt, machine, &outcome);
+    assert!(rt; outcome.turns > CALLS, "{room}");
+}
+
 #[test]
-fn processors_come_to_a_history_whatever_room_their_rings_have(
-    rt: HostRuntime,
-) -> Result<(), Fail> {
-    let text = busy_machine(&rt)?;
-    let machine = Machine::parse(rt.alloc(), text.as_str().as_bytes())
-        .ok()
-        .ok_or("a machine")?;
+fn processors_come_to_a_history_whatever_room_their_rings_have(rt: HostRuntime) {
+    let machine = machine_of(&rt, busy_text(&rt).as_str());
     for room in 1..65 {
-        let processors = mixed(&rt, &machine, room).ok_or("processors")?;
-        let outcome = gathered_again(&rt, &machine, processors).ok_or("an outcome")?;
-        passes(&rt, &machine, &outcome);
-        assert!(rt; outcome.turns > CALLS, "{room}");
+        come_to_a_history(&rt, &machine, room);
     }
-    Ok(())
 }

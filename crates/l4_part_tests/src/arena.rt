@@ -1,4 +1,4 @@
-// Blocks of a processor in its lists: who waits at whom, and who is armed for which deadline.
+// Blocks of a processor in the lists of those that wait.
 ghost use Rattle.std.specs.Prelude.{◌≡◌, false};
 
 use l4_types::errors::NoMemory;
@@ -35,31 +35,6 @@ fn sends_leave_from_the_middle_and_come_back_at_the_end(rt: HostRuntime) -> Resu
     assert_eq!(rt; arena.first_accepted(3, &ANY), Some(1));
     arena.unqueue_send(1);
     assert_eq!(rt; arena.first_accepted(3, &ANY), Some(3));
-    Ok(())
-}
-
-#[test]
-fn armed_blocks_come_by_deadline_and_then_by_arming(rt: HostRuntime) -> Result<(), Fail> {
-    let mut arena = Arena::new(rt.alloc(), 3)?;
-    arena.arm(0, 70);
-    arena.arm(1, 6);
-    arena.arm(2, 70);
-    assert_eq!(rt; arena.least_deadline(), Some(6));
-    assert_eq!(rt; arena.pop_due(5), None);
-    assert_eq!(rt; arena.pop_due(70), Some(1));
-    assert_eq!(rt; arena.pop_due(70), Some(0));
-    assert_eq!(rt; arena.pop_due(70), Some(2));
-    assert_eq!(rt; arena.pop_due(70), None);
-    Ok(())
-}
-
-#[test]
-fn the_earlier_deadline_is_due_first(rt: HostRuntime) -> Result<(), Fail> {
-    let mut arena = Arena::new(rt.alloc(), 2)?;
-    arena.arm(0, 128);
-    arena.arm(1, 65);
-    assert_eq!(rt; arena.pop_due(200), Some(1));
-    assert_eq!(rt; arena.pop_due(200), Some(0));
     Ok(())
 }
 

@@ -138,6 +138,14 @@ pub(crate) fn busy_core<'m, R: AllocGlobal + Abort>(rt: &R, machine: &'m Machine
     core
 }
 
+// Tests where a letter goes, its stamp, and what it says.
+fn posts<R: Abort>(rt: &R, told: &(u8, Letter), stamp: u64, wanted: &(u8, Content)) {
+    let (to, letter) = told;
+    let (cpu, content) = wanted;
+    assert_eq!(rt; (*to, letter.stamp), (*cpu, stamp));
+    assert_eq!(rt; &letter.content, content);
+}
+
 // Tests the stamp of an event, the lines of its steps, and the letters that it posts.
 fn tells<R: AllocGlobal + Abort>(
     rt: &R,
@@ -152,12 +160,13 @@ fn tells<R: AllocGlobal + Abort>(
         write_event(step, &mut spelled).expect(rt, "memory");
     }
     assert_eq!(rt; spelled.as_slice(), lines.as_bytes());
-    assert_eq!(rt; event.stamp, stamp, "{lines}");
-    assert_eq!(rt; posted.len(), letters.len(), "{lines}");
-    for ((to, letter), (cpu, content)) in posted.iter().zip(letters) {
-        assert_eq!(rt; to, cpu, "{lines}");
-        assert_eq!(rt; letter.stamp, stamp, "{lines}");
-        assert_eq!(rt; &letter.content, content, "{lines}");
+    assert_eq!(rt;
+        (event.stamp, posted.len()),
+        (stamp, letters.len()),
+        "{lines}"
+    );
+    for (told, wanted) in posted.iter().zip(letters) {
+        posts(rt, told, stamp, wanted);
     }
 }
 
@@ -191,63 +200,77 @@ fn handles<R: AllocGlobal + Abort>(
     tells(rt, &told, stamp, lines, letters);
 }
 
+// Tests whether a processor has work, its clock, and its least deadline.
+fn stands<R: Abort>(rt: &R, core: &Core<'_>, busy: bool, clock: u64, deadline: Option<u64>) {
+    assert_eq!(rt; core.busy(), busy);
+    assert_eq!(rt; core.clock(), clock);
+    assert_eq!(rt; core.least_deadline(), deadline);
+}
+
+// A receive of five microseconds begins and is timed out.
+fn waits_five<R: AllocGlobal + Abort>(rt: &R, core: &mut Core<'_>) {
+    stands(rt, core, true, 0, None);
+    takes_turn(rt, core, 1, "wait 1.1\n", &[]);
+    stands(rt, core, false, 0, Some(5));
+    assert!(rt; turn(rt, core).is_none());
+    let event = core.advance(5).expect(rt, "a tick");
+    tells(rt, &(event, ArrayVec::new()), 2, "tick 0 5\n", &[]);
+    stands(rt, core, true, 5, Some(5));
+    takes_turn(rt, core, 3, "rtimeout 1.1\n", &[]);
+    takes_turn(rt, core, 4, "local 1.1\n", &[]);
+    stands(rt, core, false, 5, None);
+}
+
 #[test]
 fn a_processor_waits_for_its_clock(rt: HostRuntime) {
     let machine = machine_of(&rt, TIMED);
-    let mut core = core(&rt, &machine, 0);
-    assert!(rt; core.busy() && core.clock() == 0 && core.least_deadline().is_none());
-    takes_turn(&rt, &mut core, 1, "wait 1.1\n", &[]);
-    assert!(rt; !core.busy() && core.clock() == 0 && core.least_deadline() == Some(5));
-    assert!(rt; turn(&rt, &mut core).is_none());
-    let event = core.advance(5).expect(&rt, "a tick");
-    tells(&rt, &(event, ArrayVec::new()), 2, "tick 0 5\n", &[]);
-    assert!(rt; core.busy() && core.clock() == 5 && core.least_deadline() == Some(5));
-    takes_turn(&rt, &mut core, 3, "rtimeout 1.1\n", &[]);
-    takes_turn(&rt, &mut core, 4, "local 1.1\n", &[]);
-    assert!(rt; !core.busy() && core.clock() == 5 && core.least_deadline().is_none());
+    waits_five(&rt, &mut core(&rt, &machine, 0));
+}
+
+// The clock goes to its last value, and no further.
+fn goes_to_the_last_clock<R: AllocGlobal + Abort>(rt: &R, fresh: &mut Core<'_>) {
+    assert!(rt; fresh.can_stamp(END - 2) && !fresh.can_stamp(END - 1));
+    for to in [0, END] {
+        assert_eq!(rt; fresh.advance(to), Err(Fault::Clock), "{to}");
+    }
+    let last = (
+        fresh.advance(END - 1).expect(rt, "the last clock"),
+        ArrayVec::new(),
+    );
+    tells(rt, &last, 1, "tick 0 4611686018427387903\n", &[]);
+    assert_eq!(rt; fresh.advance(END - 1), Err(Fault::Clock));
 }
 
 #[test]
 fn clocks_and_stamps_end_below_two_to_the_62nd(rt: HostRuntime) {
     let machine = machine_of(&rt, TEXT);
-    let mut fresh = core(&rt, &machine, 0);
-    assert!(rt; fresh.can_stamp(END - 2) && !fresh.can_stamp(END - 1));
-    for to in [0, END] {
-        assert_eq!(rt; fresh.advance(to), Err(Fault::Clock), "{to}");
-    }
-    let last = fresh.advance(END - 1).expect(&rt, "the last clock");
-    tells(
-        &rt,
-        &(last, ArrayVec::new()),
-        1,
-        "tick 0 4611686018427387903\n",
-        &[],
-    );
-    assert_eq!(rt; fresh.advance(END - 1), Err(Fault::Clock));
+    goes_to_the_last_clock(&rt, &mut core(&rt, &machine, 0));
+}
+
+// Tests that a letter of the last stamp is answered with a fault.
+fn is_late<R: Abort>(rt: &R, core: &mut Core<'_>, content: Content, fault: Fault) {
+    let letter = Letter {
+        stamp: END - 1,
+        content,
+    };
+    assert!(rt; core.handle(&letter) == Err(fault));
+}
+
+fn uses_up_the_stamps<R: AllocGlobal + Abort>(rt: &R, core: &mut Core<'_>) {
+    is_late(rt, core, begun(6, 3, false), Fault::Stamp);
+    // Whether it is lawful is judged first.
+    is_late(rt, core, begun(6, 5, false), Fault::Mail);
+    let letter = (END - 2, begun(6, 3, false));
+    handles(rt, core, letter, END - 1, "queue 6.1#1\n", &[]);
+    assert!(rt; !core.can_stamp(0) && core.busy());
+    assert_eq!(rt; core.advance(1), Err(Fault::Stamp));
+    assert_eq!(rt; core.advance(0), Err(Fault::Clock));
 }
 
 #[test]
 fn the_stamps_are_used_up(rt: HostRuntime) {
     let machine = busy_machine(&rt);
-    let mut core = busy_core(&rt, &machine);
-    let late = |content| Letter {
-        stamp: END - 1,
-        content,
-    };
-    assert!(rt; core.handle(&late(begun(6, 3, false))) == Err(Fault::Stamp));
-    // Whether it is lawful is judged first.
-    assert!(rt; core.handle(&late(begun(6, 5, false))) == Err(Fault::Mail));
-    handles(
-        &rt,
-        &mut core,
-        (END - 2, begun(6, 3, false)),
-        END - 1,
-        "queue 6.1#1\n",
-        &[],
-    );
-    assert!(rt; !core.can_stamp(0) && core.busy());
-    assert_eq!(rt; core.advance(1), Err(Fault::Stamp));
-    assert_eq!(rt; core.advance(0), Err(Fault::Clock));
+    uses_up_the_stamps(&rt, &mut busy_core(&rt, &machine));
 }
 
 // Tests what the busy processor does with a letter: the stamp is one more than those of the letter and of the last event.
@@ -262,108 +285,124 @@ fn does<R: AllocGlobal + Abort>(
     handles(rt, &mut core, (9, content), 10, lines, letters);
 }
 
-#[test]
-fn a_send_that_comes_is_queued_or_refused(rt: HostRuntime) {
-    let machine = busy_machine(&rt);
+fn sends_that_come_are_queued_or_refused<R: AllocGlobal + Abort>(rt: &R, machine: &Machine) {
     let refused = [(1, done(6, TIMED_OUT))];
-    does(&rt, &machine, begun(6, 3, false), "queue 6.1#1\n", &[]);
-    does(
-        &rt,
-        &machine,
-        begun(6, 4, true),
-        "stimeout 6.1#1\n",
-        &refused,
-    );
+    does(rt, machine, begun(6, 3, false), "queue 6.1#1\n", &[]);
+    does(rt, machine, begun(6, 4, true), "stimeout 6.1#1\n", &refused);
 }
 
-#[test]
-fn a_send_that_waits_is_withdrawn(rt: HostRuntime) {
-    let machine = busy_machine(&rt);
+fn sends_that_wait_are_withdrawn<R: AllocGlobal + Abort>(rt: &R, machine: &Machine) {
     for (cause, line, refusal) in [
         (Cause::ByTimeout, "stimeout 5.1#1\n", Refusal::TimedOut),
         (Cause::ByCancel, "scancel 5.1#1\n", Refusal::Cancelled),
         (Cause::ByDeletion, "drop 5.1#1\n", Refusal::Dropped),
     ] {
+        let answer = [(1, done(5, Decision::Refused(refusal)))];
         // Where it waits counts, and not at whom the letter looks for it.
         for receiver in [3, 4] {
-            let answer = [(1, done(5, Decision::Refused(refusal)))];
-            does(&rt, &machine, withdrawn(5, receiver, cause), line, &answer);
+            does(rt, machine, withdrawn(5, receiver, cause), line, &answer);
         }
-        does(&rt, &machine, withdrawn(6, 3, cause), "", &[]);
+        does(rt, machine, withdrawn(6, 3, cause), "", &[]);
     }
 }
 
-#[test]
-fn an_order_is_obeyed_and_answered(rt: HostRuntime) {
-    let machine = busy_machine(&rt);
+fn orders_are_obeyed_and_answered<R: AllocGlobal + Abort>(rt: &R, machine: &Machine) {
     for (target, what) in [
         (4, What::CancelBoth),
         (4, What::Delete),
         (1, What::CancelReceive),
     ] {
         let answer = [(1, Content::OrderDone(id(5)))];
-        does(&rt, &machine, order(5, target, what), "obey 5.1\n", &answer);
+        does(rt, machine, order(5, target, what), "obey 5.1\n", &answer);
     }
-    // The send that the target has elsewhere is withdrawn.
+}
+
+fn orders_withdraw_what_the_target_has_elsewhere<R: AllocGlobal + Abort>(
+    rt: &R,
+    machine: &Machine,
+) {
     for (what, cause) in [
         (What::CancelSend, Cause::ByCancel),
         (What::CancelBoth, Cause::ByCancel),
         (What::Delete, Cause::ByDeletion),
     ] {
         let answers = [(1, withdrawn(1, 5, cause)), (1, Content::OrderDone(id(5)))];
-        does(&rt, &machine, order(5, 1, what), "obey 5.1\n", &answers);
+        does(rt, machine, order(5, 1, what), "obey 5.1\n", &answers);
     }
 }
 
+fn what_is_only_noted_tells_no_step<R: AllocGlobal + Abort>(rt: &R, machine: &Machine) {
+    does(rt, machine, done(1, Decision::Delivered), "", &[]);
+    does(rt, machine, done(1, TIMED_OUT), "", &[]);
+    does(rt, machine, Content::Gone(id(5)), "", &[]);
+    does(rt, machine, Content::OrderDone(id(3)), "", &[]);
+}
+
 #[test]
-fn what_is_only_noted_tells_no_step(rt: HostRuntime) {
+fn each_lawful_letter_has_its_steps_and_its_answers(rt: HostRuntime) {
     let machine = busy_machine(&rt);
-    for content in [
-        done(1, Decision::Delivered),
-        done(1, TIMED_OUT),
-        Content::Gone(id(5)),
-        Content::OrderDone(id(3)),
-    ] {
-        does(&rt, &machine, content, "", &[]);
-    }
+    sends_that_come_are_queued_or_refused(&rt, &machine);
+    sends_that_wait_are_withdrawn(&rt, &machine);
+    orders_are_obeyed_and_answered(&rt, &machine);
+    orders_withdraw_what_the_target_has_elsewhere(&rt, &machine);
+    what_is_only_noted_tells_no_step(&rt, &machine);
+}
+
+// A caller is deleted, and what it asked for is done.
+fn deletes_a_caller<R: AllocGlobal + Abort>(rt: &R, core: &mut Core<'_>) {
+    let letter = (1, order(6, 3, What::Delete));
+    let answer = [(1, Content::OrderDone(id(6)))];
+    handles(rt, core, letter, 6, "obey 6.1\n", &answer);
+    handles(rt, core, (1, Content::OrderDone(id(3))), 7, "", &[]);
+}
+
+// Its order and those that wait at it are dealt with as before.
+fn refuses_those_that_wait<R: AllocGlobal + Abort>(rt: &R, core: &mut Core<'_>) {
+    let refused = [(1, done(5, Decision::Refused(Refusal::Nobody)))];
+    takes_turn(rt, core, 8, "snobody 2.1#1\n", &[]);
+    takes_turn(rt, core, 9, "snobody 5.1#1\n", &refused);
+}
+
+// A letter about a send that is refused finds nothing, and the deletion is told.
+fn tells_of_the_deletion<R: AllocGlobal + Abort>(rt: &R, core: &mut Core<'_>) {
+    let late = (8, withdrawn(5, 3, Cause::ByTimeout));
+    handles(rt, core, late, 10, "", &[]);
+    takes_turn(rt, core, 11, "", &[(1, Content::Gone(id(3)))]);
+    takes_turn(rt, core, 12, "local 4.1\n", &[]);
+    takes_turn(rt, core, 13, "local 2.1\n", &[]);
 }
 
 #[test]
 fn a_letter_may_find_nothing_left_to_do(rt: HostRuntime) {
     let machine = busy_machine(&rt);
     let mut core = busy_core(&rt, &machine);
-    let obeyed = (1, Content::OrderDone(id(6)));
-    handles(
-        &rt,
-        &mut core,
-        (1, order(6, 3, What::Delete)),
-        6,
-        "obey 6.1\n",
-        &[obeyed],
-    );
-    // The caller is deleted, and what it asked for is done.
-    handles(&rt, &mut core, (1, Content::OrderDone(id(3))), 7, "", &[]);
-    // Its order and those that wait at it are dealt with as before.
-    let nobody = Decision::Refused(Refusal::Nobody);
-    takes_turn(&rt, &mut core, 8, "snobody 2.1#1\n", &[]);
-    takes_turn(
-        &rt,
-        &mut core,
-        9,
-        "snobody 5.1#1\n",
-        &[(1, done(5, nobody))],
-    );
-    handles(
-        &rt,
-        &mut core,
-        (8, withdrawn(5, 3, Cause::ByTimeout)),
-        10,
-        "",
-        &[],
-    );
-    takes_turn(&rt, &mut core, 11, "", &[(1, Content::Gone(id(3)))]);
-    takes_turn(&rt, &mut core, 12, "local 4.1\n", &[]);
-    takes_turn(&rt, &mut core, 13, "local 2.1\n", &[]);
+    deletes_a_caller(&rt, &mut core);
+    refuses_those_that_wait(&rt, &mut core);
+    tells_of_the_deletion(&rt, &mut core);
+}
+
+// A thread begins a send to another processor, and waits for its end.
+fn begins_a_send<R: AllocGlobal + Abort>(rt: &R, home: &mut Core<'_>) {
+    takes_turn(rt, home, 1, "local 1.1\n", &[]);
+    takes_turn(rt, home, 2, "local 1.1\n", &[]);
+    takes_turn(rt, home, 3, "begin 1.1#1\n", &[(1, begun(1, 2, false))]);
+    assert!(rt; !home.busy() && turn(rt, home).is_none());
+}
+
+// The send is taken by the thread that waits for it, and a letter tells of it.
+fn delivers_the_send<R: AllocGlobal + Abort>(rt: &R, other: &mut Core<'_>) {
+    let delivered = "queue 1.1#1\ndeliver 1.1#1 2.1 1.1 1.1 74001 a\n";
+    let answer = [(0, done(1, Decision::Delivered))];
+    handles(rt, other, (3, begun(1, 2, false)), 4, delivered, &answer);
+    takes_turn(rt, other, 5, "local 2.1\n", &[]);
+    assert!(rt; !other.busy());
+}
+
+// The letter comes, and the sender goes on.
+fn learns_of_the_delivery<R: AllocGlobal + Abort>(rt: &R, home: &mut Core<'_>) {
+    handles(rt, home, (4, done(1, Decision::Delivered)), 5, "", &[]);
+    takes_turn(rt, home, 6, "local 1.1\n", &[]);
+    assert!(rt; !home.busy());
 }
 
 #[test]
@@ -372,68 +411,55 @@ fn two_processors_talk_by_letters(rt: HostRuntime) {
     let mut home = core(&rt, &machine, 0);
     let mut other = core(&rt, &machine, 1);
     takes_turn(&rt, &mut other, 1, "wait 2.1\n", &[]);
-    takes_turn(&rt, &mut home, 1, "local 1.1\n", &[]);
-    takes_turn(&rt, &mut home, 2, "local 1.1\n", &[]);
-    takes_turn(
-        &rt,
-        &mut home,
-        3,
-        "begin 1.1#1\n",
-        &[(1, begun(1, 2, false))],
-    );
-    assert!(rt; !home.busy() && turn(&rt, &mut home).is_none());
-    let delivered = "queue 1.1#1\ndeliver 1.1#1 2.1 1.1 1.1 74001 a\n";
-    let answer = || done(1, Decision::Delivered);
-    handles(
-        &rt,
-        &mut other,
-        (3, begun(1, 2, false)),
-        4,
-        delivered,
-        &[(0, answer())],
-    );
-    handles(&rt, &mut home, (4, answer()), 5, "", &[]);
-    takes_turn(&rt, &mut home, 6, "local 1.1\n", &[]);
-    takes_turn(&rt, &mut other, 5, "local 2.1\n", &[]);
-    assert!(rt; !home.busy() && !other.busy());
+    begins_a_send(&rt, &mut home);
+    delivers_the_send(&rt, &mut other);
+    learns_of_the_delivery(&rt, &mut home);
 }
 
-#[test]
-fn two_deletions_meet_on_their_way(rt: HostRuntime) {
-    let text = "l4 1 64
+// Two threads, of which each asks for the deletion of the other one.
+const HOSTILE: &str = "l4 1 64
 cpus 2
 thread 1.1 cpu 0 space 1
 delete 2.1
 thread 2.1 cpu 1 space 2
 delete 1.1
 ";
-    let machine = machine_of(&rt, text);
-    for (cpu, away, own, other) in [(0, 1, 1, 2), (1, 0, 2, 1)] {
+
+// The order of a thread goes to the processor of the other one, from which one comes about the thread itself.
+fn orders_cross<R: AllocGlobal + Abort>(
+    rt: &R,
+    core: &mut Core<'_>,
+    (away, own, other): (u8, u32, u32),
+    (ordered, obeyed): (&str, &str),
+) {
+    let asks = [(away, order(own, other, What::Delete))];
+    takes_turn(rt, core, 1, ordered, &asks);
+    let asked = (1, order(other, own, What::Delete));
+    let answer = [(away, Content::OrderDone(id(other)))];
+    handles(rt, core, asked, 2, obeyed, &answer);
+}
+
+// The order is done, and both threads are gone.
+fn both_are_gone<R: AllocGlobal + Abort>(
+    rt: &R,
+    core: &mut Core<'_>,
+    (away, own, other): (u8, u32, u32),
+) {
+    handles(rt, core, (2, Content::OrderDone(id(own))), 3, "", &[]);
+    takes_turn(rt, core, 4, "", &[(away, Content::Gone(id(own)))]);
+    handles(rt, core, (4, Content::Gone(id(other))), 5, "", &[]);
+    assert!(rt; !core.busy());
+}
+
+#[test]
+fn two_deletions_meet_on_their_way(rt: HostRuntime) {
+    let machine = machine_of(&rt, HOSTILE);
+    for (cpu, ids, lines) in [
+        (0, (1, 1, 2), ("order 1.1 2.1 delete\n", "obey 2.1\n")),
+        (1, (0, 2, 1), ("order 2.1 1.1 delete\n", "obey 1.1\n")),
+    ] {
         let mut core = core(&rt, &machine, cpu);
-        let asked = format!(in rt.alloc(); "order {own}.1 {other}.1 delete\n").expect(
-            &rt, "memory",
-        );
-        let obeyed = format!(in rt.alloc(); "obey {other}.1\n").expect(&rt, "memory");
-        let asks = |caller, target| order(caller, target, What::Delete);
-        takes_turn(
-            &rt,
-            &mut core,
-            1,
-            asked.as_str(),
-            &[(away, asks(own, other))],
-        );
-        let answer = [(away, Content::OrderDone(id(other)))];
-        handles(
-            &rt,
-            &mut core,
-            (1, asks(other, own)),
-            2,
-            obeyed.as_str(),
-            &answer,
-        );
-        handles(&rt, &mut core, (2, Content::OrderDone(id(own))), 3, "", &[]);
-        takes_turn(&rt, &mut core, 4, "", &[(away, Content::Gone(id(own)))]);
-        handles(&rt, &mut core, (4, Content::Gone(id(other))), 5, "", &[]);
-        assert!(rt; !core.busy());
+        orders_cross(&rt, &mut core, ids, lines);
+        both_are_gone(&rt, &mut core, ids);
     }
 }

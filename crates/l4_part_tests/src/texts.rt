@@ -1,9 +1,8 @@
-// Machine texts that end too early, and numbers and bytes that no text has.
+// Machine texts that end too early or are too long, and bytes that no text has.
 use l4_samples::PING;
 use l4_script::machine::Machine;
 use l4_script::text::{TextFault, TextFaultKind};
 use std::process::Abort;
-use std::test::Fail;
 
 // The lengths of the beginnings of the text that are whole lines.
 const LINE_ENDS: [usize; 8] = [8, 15, 40, 49, 61, 85, 110, 134];
@@ -53,49 +52,35 @@ fn each_beginning_of_a_text_is_a_text_or_names_the_line_that_is_cut(rt: HostRunt
 }
 
 // Tests that the text with a carriage return in the place of this byte is faulty in its line.
-fn is_noticed<R: AllocGlobal + Abort>(rt: &R, place: usize) -> Result<(), Fail> {
-    let mut text = PING.as_bytes().to_vec(rt.alloc())?;
-    *text.get_mut(place).ok_or("a place")? = b'\r';
-    assert_eq!(rt;
-        fault_of(rt, text.as_slice()),
-        bad_line(line_at(place)),
-        "{place}"
-    );
-    Ok(())
+fn is_noticed<R: AllocGlobal + Abort>(rt: &R, place: usize) {
+    let mut text = PING.as_bytes().to_vec(rt.alloc()).expect(rt, "memory");
+    *text.get_mut(place).expect(rt, "a place") = b'\r';
+    let fault = fault_of(rt, text.as_slice());
+    assert_eq!(rt; fault, bad_line(line_at(place)), "{place}");
 }
 
 #[test]
-fn a_carriage_return_is_found_wherever_it_stands(rt: HostRuntime) -> Result<(), Fail> {
+fn a_carriage_return_is_found_wherever_it_stands(rt: HostRuntime) {
     for place in 0..134 {
-        is_noticed(&rt, place)?;
+        is_noticed(&rt, place);
     }
-    Ok(())
+}
+
+// A text of a mebibyte, whose third line is one long comment.
+fn a_mebibyte<R: AllocGlobal + Abort>(rt: &R) -> Vec<u8> {
+    let mut text = b"l4 1 64\ncpus 1\n".to_vec(rt.alloc()).expect(rt, "memory");
+    text.resize(1_048_575, b';').expect(rt, "memory");
+    text.push(b'\n').expect(rt, "memory");
+    text
 }
 
 #[test]
-fn a_number_is_a_word_and_a_register_can_be_written(rt: HostRuntime) -> Result<(), Fail> {
-    let begun = "l4 1 64\ncpus 1\nthread 1.1 cpu 0 space 1\n";
-    let kind = TextFaultKind::BadNumber;
-    for line in ["set 1 18446744073709551616\n", "set 0 1\n"] {
-        let text = format!(in rt.alloc(); "{begun}{line}")?;
-        let fault = fault_of(&rt, text.as_str().as_bytes());
-        assert_eq!(rt; fault, Some(TextFault { line: 4, kind }), "{line}");
-    }
-    let text = format!(in rt.alloc(); "{begun}set 63 18446744073709551615\n")?;
-    assert_eq!(rt; fault_of(&rt, text.as_str().as_bytes()), None);
-    Ok(())
-}
-
-#[test]
-fn a_text_may_have_a_mebibyte(rt: HostRuntime) -> Result<(), Fail> {
-    let mut text = b"l4 1 64\ncpus 1\n".to_vec(rt.alloc())?;
-    text.resize(1_048_575, b';')?;
-    text.push(b'\n')?;
+fn a_text_may_have_a_mebibyte(rt: HostRuntime) {
+    let mut text = a_mebibyte(&rt);
     assert_eq!(rt; text.len(), 1_048_576);
     assert_eq!(rt; fault_of(&rt, text.as_slice()), None);
-    text.push(b'\n')?;
+    text.push(b'\n').expect(&rt, "memory");
     let kind = TextFaultKind::TooLong;
     let fault = fault_of(&rt, text.as_slice());
     assert_eq!(rt; fault, Some(TextFault { line: 0, kind }));
-    Ok(())
 }

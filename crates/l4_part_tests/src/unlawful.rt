@@ -26,33 +26,39 @@ const ORDERS: [What; 4] = [
     What::Delete,
 ];
 
-// Tests that two processors do the same from now on, with the letters that they wait for.
-fn go_on_alike<R: AllocGlobal + Abort>(
+// Tests that two processors take the same turn. Answers whether there was one.
+fn turn_alike<R: Abort>(rt: &R, what: &Letter, one: &mut Core<'_>, other: &mut Core<'_>) -> bool {
+    let next = turn(rt, one);
+    assert!(rt; next == turn(rt, other), "{what:?}");
+    next.is_some()
+}
+
+// Tests that two processors take a turn, and then do the same with a letter that they wait for.
+fn answer_alike<R: Abort>(
     rt: &R,
     what: &Letter,
     one: &mut Core<'_>,
     other: &mut Core<'_>,
+    content: Content,
 ) {
+    assert!(rt; turn_alike(rt, what, one, other), "{what:?}");
+    let letter = Letter { stamp: 1, content };
+    let handled = one.handle(&letter);
+    assert!(rt; handled == other.handle(&letter), "{what:?}");
+    assert!(rt; handled.is_ok(), "{what:?}");
+}
+
+// Tests that two processors do the same from now on, with the letters that they wait for.
+fn go_on_alike<R: Abort>(rt: &R, what: &Letter, one: &mut Core<'_>, other: &mut Core<'_>) {
     assert!(rt;
         one.can_stamp(0) && one.clock() == other.clock(),
         "{what:?}"
     );
-    for content in [
-        done(1, Decision::Delivered),
-        Content::OrderDone(id(3)),
-        withdrawn(5, 3, Cause::ByCancel),
-    ] {
-        let next = turn(rt, one);
-        assert!(rt; next.is_some() && next == turn(rt, other), "{what:?}");
-        let letter = Letter { stamp: 1, content };
-        let handled = one.handle(&letter);
-        assert!(rt;
-            handled.is_ok() && handled == other.handle(&letter),
-            "{what:?}"
-        );
-    }
+    answer_alike(rt, what, one, other, done(1, Decision::Delivered));
+    answer_alike(rt, what, one, other, Content::OrderDone(id(3)));
+    answer_alike(rt, what, one, other, withdrawn(5, 3, Cause::ByCancel));
     for _ in 0..4 {
-        assert!(rt; turn(rt, one) == turn(rt, other), "{what:?}");
+        turn_alike(rt, what, one, other);
     }
 }
 
@@ -80,58 +86,67 @@ fn sent(name: Name, receiver: GlobalId, shown: u32, actual: u32) -> Content {
     }
 }
 
-#[test]
-fn a_send_is_of_a_thread_elsewhere_and_goes_to_one_here(rt: HostRuntime) {
-    let machine = busy_machine(&rt);
-    for zero_timeout in [false, true] {
+fn a_send_must_be_of_a_thread_elsewhere_to_one_here<R: AllocGlobal + Abort>(
+    rt: &R,
+    machine: &Machine,
+) {
+    for (thread, receiver) in [
         // To a thread of another processor, and to nobody; of a thread of this processor, and of nobody.
-        is_refused(&rt, &machine, begun(6, 5, zero_timeout));
-        is_refused(&rt, &machine, begun(6, 7, zero_timeout));
-        is_refused(&rt, &machine, begun(4, 3, zero_timeout));
-        is_refused(&rt, &machine, begun(7, 3, zero_timeout));
+        (6, 5),
+        (6, 7),
+        (4, 3),
+        (7, 3),
         // Of a thread that has a send here already.
-        is_refused(&rt, &machine, begun(5, 3, zero_timeout));
-        is_refused(&rt, &machine, begun(5, 2, zero_timeout));
-    }
-    for content in [
-        sent(send(6, 1), renewed(), 6, 6),
-        sent(send(5, 2), id(3), 5, 5),
-        // The message names another sender, and it shows nobody.
-        sent(send(6, 1), id(3), 6, 5),
-        sent(send(6, 1), id(3), 6, 1),
-        sent(send(6, 1), id(3), 7, 6),
-        sent(send(7, 1), id(3), 6, 7),
+        (5, 3),
+        (5, 2),
     ] {
-        is_refused(&rt, &machine, content);
+        is_refused(rt, machine, begun(thread, receiver, false));
+        is_refused(rt, machine, begun(thread, receiver, true));
     }
 }
 
-#[test]
-fn a_decision_is_of_the_split_send_of_a_thread_here(rt: HostRuntime) {
-    let machine = busy_machine(&rt);
+fn a_send_must_name_its_sender_and_its_receiver<R: AllocGlobal + Abort>(rt: &R, machine: &Machine) {
+    for (name, receiver, shown, actual) in [
+        (send(6, 1), renewed(), 6, 6),
+        (send(5, 2), id(3), 5, 5),
+        // The message names another sender, and it shows nobody.
+        (send(6, 1), id(3), 6, 5),
+        (send(6, 1), id(3), 6, 1),
+        (send(6, 1), id(3), 7, 6),
+        (send(7, 1), id(3), 6, 7),
+    ] {
+        is_refused(rt, machine, sent(name, receiver, shown, actual));
+    }
+}
+
+fn a_decision_must_be_of_the_split_send_of_a_thread_here<R: AllocGlobal + Abort>(
+    rt: &R,
+    machine: &Machine,
+) {
     for decision in DECISIONS {
         // A send that waits at a thread of this processor, threads that have none, threads of another processor, and nobody.
         for thread in [2, 3, 4, 5, 6, 7] {
-            is_refused(&rt, &machine, done(thread, decision));
+            is_refused(rt, machine, done(thread, decision));
         }
         let name = send(1, 2);
-        is_refused(&rt, &machine, Content::Done { name, decision });
+        is_refused(rt, machine, Content::Done { name, decision });
     }
 }
 
-#[test]
-fn a_withdrawal_is_of_a_send_from_elsewhere_to_a_thread_here(rt: HostRuntime) {
-    let machine = busy_machine(&rt);
+fn a_withdrawal_must_be_of_a_send_from_elsewhere_to_a_thread_here<R: AllocGlobal + Abort>(
+    rt: &R,
+    machine: &Machine,
+) {
     for cause in CAUSES {
         // From a thread of another processor, and from nobody; of threads of this processor, and of nobody.
         for (thread, receiver) in [(5, 6), (5, 7), (1, 3), (2, 3), (7, 3)] {
-            is_refused(&rt, &machine, withdrawn(thread, receiver, cause));
+            is_refused(rt, machine, withdrawn(thread, receiver, cause));
         }
         let name = send(5, 1);
         let receiver = renewed();
         is_refused(
-            &rt,
-            &machine,
+            rt,
+            machine,
             Content::Withdraw {
                 name,
                 receiver,
@@ -141,27 +156,26 @@ fn a_withdrawal_is_of_a_send_from_elsewhere_to_a_thread_here(rt: HostRuntime) {
     }
 }
 
-#[test]
-fn a_deletion_is_told_of_a_thread_elsewhere(rt: HostRuntime) {
-    let machine = busy_machine(&rt);
+fn a_deletion_must_be_of_a_thread_elsewhere<R: AllocGlobal + Abort>(rt: &R, machine: &Machine) {
     for thread in [id(1), id(2), id(3), id(4), id(7), renewed()] {
-        is_refused(&rt, &machine, Content::Gone(thread));
+        is_refused(rt, machine, Content::Gone(thread));
     }
 }
 
-#[test]
-fn an_order_is_of_a_thread_elsewhere_about_one_here(rt: HostRuntime) {
-    let machine = busy_machine(&rt);
+fn an_order_must_be_of_a_thread_elsewhere_about_one_here<R: AllocGlobal + Abort>(
+    rt: &R,
+    machine: &Machine,
+) {
     for what in ORDERS {
         // About a thread of another processor, and about nobody; of threads of this processor, and of nobody.
         for (caller, target) in [(5, 6), (5, 5), (5, 7), (3, 2), (4, 4), (7, 2)] {
-            is_refused(&rt, &machine, order(caller, target, what));
+            is_refused(rt, machine, order(caller, target, what));
         }
         let caller = id(5);
         let target = renewed();
         is_refused(
-            &rt,
-            &machine,
+            rt,
+            machine,
             Content::Order {
                 caller,
                 target,
@@ -171,10 +185,23 @@ fn an_order_is_of_a_thread_elsewhere_about_one_here(rt: HostRuntime) {
     }
 }
 
-#[test]
-fn an_order_is_done_for_a_thread_here_that_gave_one(rt: HostRuntime) {
-    let machine = busy_machine(&rt);
+fn the_end_of_an_order_must_be_for_a_thread_here_that_gave_one<R: AllocGlobal + Abort>(
+    rt: &R,
+    machine: &Machine,
+) {
     for caller in [id(1), id(2), id(4), id(5), id(6), id(7), renewed()] {
-        is_refused(&rt, &machine, Content::OrderDone(caller));
+        is_refused(rt, machine, Content::OrderDone(caller));
     }
+}
+
+#[test]
+fn letters_that_are_not_lawful_are_refused(rt: HostRuntime) {
+    let machine = busy_machine(&rt);
+    a_send_must_be_of_a_thread_elsewhere_to_one_here(&rt, &machine);
+    a_send_must_name_its_sender_and_its_receiver(&rt, &machine);
+    a_decision_must_be_of_the_split_send_of_a_thread_here(&rt, &machine);
+    a_withdrawal_must_be_of_a_send_from_elsewhere_to_a_thread_here(&rt, &machine);
+    a_deletion_must_be_of_a_thread_elsewhere(&rt, &machine);
+    an_order_must_be_of_a_thread_elsewhere_about_one_here(&rt, &machine);
+    the_end_of_an_order_must_be_for_a_thread_here_that_gave_one(&rt, &machine);
 }

@@ -9,24 +9,23 @@ use l4_types::steps::{Delivery, Name, Step, Tick};
 use l4_types::tags::{MsgTag, TagFault};
 use l4_types::times::{Period, time_of, timeouts};
 use std::alloc::AllocError;
-use std::test::Fail;
+use std::process::Abort;
 
 #[test]
-fn ids_have_their_words(rt: HostRuntime) -> Result<(), Fail> {
-    let id = GlobalId::new(2, 65).ok_or("a global id")?;
+fn ids_have_their_words(rt: HostRuntime) {
+    let id = GlobalId::new(2, 65).expect(&rt, "a global id");
     let same = ThreadId::from_raw(8589934657);
     assert_eq!(rt; [id.id().raw(), ThreadId::from(id).raw()], [8589934657; 2]);
     assert!(rt; same.as_global() == Some(id) && ThreadId::global(2, 65) == Some(same));
     let (number, version) = (id.number(), id.version());
     assert!(rt; same.kind() == Kind::Global { number, version });
     assert!(rt; GlobalId::new(4294967295, 4294967295).is_none());
-    Ok(())
 }
 
 #[test]
-fn tags_have_their_words(rt: HostRuntime) -> Result<(), Fail> {
-    let tag = MsgTag::new(7, 1, false).ok_or("a tag")?;
-    let asking = MsgTag::new(5, 1, true).ok_or("a tag")?;
+fn tags_have_their_words(rt: HostRuntime) {
+    let tag = MsgTag::new(7, 1, false).expect(&rt, "a tag");
+    let asking = MsgTag::new(5, 1, true).expect(&rt, "a tag");
     let words = [
         tag.raw(),
         tag.received(true, false).raw(),
@@ -41,7 +40,6 @@ fn tags_have_their_words(rt: HostRuntime) -> Result<(), Fail> {
     );
     assert!(rt; MsgTag::from_raw(0x51001) == Ok(asking));
     assert!(rt; MsgTag::from_raw(0x41) == Err(TagFault::TypedItems));
-    Ok(())
 }
 
 #[test]
@@ -61,16 +59,21 @@ fn times_have_their_periods(rt: HostRuntime) {
     );
 }
 
-#[test]
-fn a_delivery_has_the_received_tag(rt: HostRuntime) -> Result<(), Fail> {
-    let id = GlobalId::new(1, 1).ok_or("a global id")?;
-    let name = Name::new(id, 3).ok_or("a name")?;
-    let message = Message::new(7, false, ArrayVec::from([10; 63]), id, id).ok_or("a message")?;
+// Tests that a message of 63 words shows its sender, of which it is the third send.
+fn shows_its_sender<R: Abort>(rt: &R, message: &Message, name: Name) {
     assert!(rt; name.thread() == message.shown() && name.thread() == message.actual());
-    assert!(rt; message.copy() == message && !message.propagated());
+    assert!(rt; message.copy() == *message && !message.propagated());
     assert_eq!(rt; message.words().last(), Some(&10));
     let numbers = [name.k(), message.label(), message.tag().raw()];
     assert_eq!(rt; numbers, [3, 7, 0x7003f]);
+}
+
+#[test]
+fn a_delivery_has_the_received_tag(rt: HostRuntime) {
+    let id = GlobalId::new(1, 1).expect(&rt, "a global id");
+    let name = Name::new(id, 3).expect(&rt, "a name");
+    let message = Message::new(7, false, ArrayVec::from([10; 63]), id, id).expect(&rt, "a message");
+    shows_its_sender(&rt, &message, name);
     let delivery = Delivery {
         name,
         receiver: id,
@@ -78,12 +81,11 @@ fn a_delivery_has_the_received_tag(rt: HostRuntime) -> Result<(), Fail> {
         cross: true,
     };
     assert_eq!(rt; delivery.tag().raw(), 0x7403f);
-    Ok(())
 }
 
 #[test]
-fn rooms_for_steps_and_letters(rt: HostRuntime) -> Result<(), Fail> {
-    let tick = Tick::new(15, 24).ok_or("a tick")?;
+fn rooms_for_steps_and_letters(rt: HostRuntime) {
+    let tick = Tick::new(15, 24).expect(&rt, "a tick");
     assert!(rt; tick.cpu() == 15 && tick.clock() == 24);
     let mut steps: ArrayVec<Step, 3> = ArrayVec::new();
     steps.push(Step::Tick(tick));
@@ -91,7 +93,6 @@ fn rooms_for_steps_and_letters(rt: HostRuntime) -> Result<(), Fail> {
     let content = Content::Gone(GlobalId::default());
     letters.push((1, Letter { stamp: 4, content }));
     assert_eq!(rt; (steps.len(), letters.len()), (1, 1));
-    Ok(())
 }
 
 #[test]

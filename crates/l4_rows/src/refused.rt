@@ -7,6 +7,17 @@ use std::process::Abort;
 use std::test::Fail;
 use std::thread::Threads;
 
+const REPLAY: Job<'static> = Job::Replay {
+    file: "m.l4",
+    schedule: "1,0,0,0,1,0,0,1",
+    report: false,
+};
+
+const AUDIT: Job<'static> = Job::Audit {
+    file: "m.l4",
+    trace: "m.trace",
+};
+
 // The job that the words ask for, read again where memory was refused.
 fn asked<'a, R: AllocGlobal + Abort + Print>(rt: &R, words: &'a [&'a str]) -> Job<'a> {
     call_begins(rt, "job_of");
@@ -19,23 +30,6 @@ fn asked<'a, R: AllocGlobal + Abort + Print>(rt: &R, words: &'a [&'a str]) -> Jo
             job_of(rt.alloc(), words).ok().expect(rt, "a job")
         }
     }
-}
-
-#[test]
-fn words_are_read(rt: HostRuntime) {
-    let words = ["l4run", "run", "m.l4", "--turns", "5", "--report"];
-    let job = Job::Run {
-        file: "m.l4",
-        turns: 5,
-        report: true,
-    };
-    assert_eq!(rt; asked(&rt, &words), job);
-    let words = ["l4run", "audit", "m.l4", "m.trace"];
-    let job = Job::Audit {
-        file: "m.l4",
-        trace: "m.trace",
-    };
-    assert_eq!(rt; asked(&rt, &words), job);
 }
 
 // Why the words ask for no job, read again where memory was refused.
@@ -51,11 +45,34 @@ fn refused<R: AllocGlobal + Abort + Print>(rt: &R, words: &[&str]) -> WordsFault
 }
 
 #[test]
-fn words_are_explained(rt: HostRuntime) {
+fn words_are_read_and_explained(rt: HostRuntime) {
+    let words = ["l4run", "run", "m.l4", "--turns", "5", "--report"];
+    let job = Job::Run {
+        file: "m.l4",
+        turns: 5,
+        report: true,
+    };
+    assert_eq!(rt; asked(&rt, &words), job);
+    let words = ["l4run", "audit", "m.l4", "m.trace"];
+    assert_eq!(rt; asked(&rt, &words), AUDIT);
     let help = refused(&rt, &["l4run", "--help"]);
     assert!(rt; matches!(help, WordsFault::Help(_)));
     let usage = refused(&rt, &["l4run", "run", "m.l4", "--turns", "many"]);
     assert!(rt; matches!(usage, WordsFault::Usage(_)));
+}
+
+// Does a job for a text and a trace.
+fn done<R: AllocGlobal + Threads + Sync>(
+    rt: &R,
+    job: &Job<'_>,
+    text: &str,
+    told: &str,
+    out: &mut Vec<u8>,
+    faults: &mut Vec<u8>,
+) -> u8 {
+    let mut machine = text.as_bytes();
+    let mut trace = told.as_bytes();
+    perform(rt, rt.alloc(), job, &mut machine, &mut trace, out, faults)
 }
 
 // Tests that a job comes to this status and output, done again where memory was refused: then it has said so, and has written nothing else.
@@ -69,32 +86,14 @@ fn performs<R: AllocGlobal + Abort + Print + Threads + Sync>(
     // Room for all that may be written, so that the writers need none.
     let mut out = Vec::with_capacity(rt.alloc(), 1_000)?;
     let mut faults = Vec::with_capacity(rt.alloc(), 1_000)?;
-    let (mut machine, mut trace) = (text.as_bytes(), told.as_bytes());
     call_begins(rt, "perform");
-    let status = perform(
-        rt,
-        rt.alloc(),
-        job,
-        &mut machine,
-        &mut trace,
-        &mut out,
-        &mut faults,
-    );
+    let status = done(rt, job, text, told, &mut out, &mut faults);
     call_ends(rt);
     if status == 1 {
         assert_eq!(rt; faults.as_slice(), b"l4run: no memory\n".as_slice());
         assert_eq!(rt; out.len(), 0);
         faults.clear();
-        let (mut machine, mut trace) = (text.as_bytes(), told.as_bytes());
-        let again = perform(
-            rt,
-            rt.alloc(),
-            job,
-            &mut machine,
-            &mut trace,
-            &mut out,
-            &mut faults,
-        );
+        let again = done(rt, job, text, told, &mut out, &mut faults);
         assert_eq!(rt; again, 0);
     }
     assert!(rt; status <= 1 && faults.is_empty());
@@ -112,26 +111,9 @@ fn run(report: bool) -> Job<'static> {
 }
 
 #[test]
-fn a_run_is_performed(rt: HostRuntime) -> Result<(), Fail> {
+fn jobs_are_performed(rt: HostRuntime) -> Result<(), Fail> {
     performs(&rt, &run(false), PING, "", PING_TRACE)?;
-    performs(&rt, &run(true), PING, "", PING_REPORT)
-}
-
-#[test]
-fn a_replay_is_performed(rt: HostRuntime) -> Result<(), Fail> {
-    let replay = Job::Replay {
-        file: "m.l4",
-        schedule: "1,0,0,0,1,0,0,1",
-        report: false,
-    };
-    performs(&rt, &replay, ACROSS, "", ACROSS_TRACE)
-}
-
-#[test]
-fn an_audit_is_performed(rt: HostRuntime) -> Result<(), Fail> {
-    let audit = Job::Audit {
-        file: "m.l4",
-        trace: "m.trace",
-    };
-    performs(&rt, &audit, ACROSS, ACROSS_TRACE, "passed 8 quiet\n")
+    performs(&rt, &run(true), PING, "", PING_REPORT)?;
+    performs(&rt, &REPLAY, ACROSS, "", ACROSS_TRACE)?;
+    performs(&rt, &AUDIT, ACROSS, ACROSS_TRACE, "passed 8 quiet\n")
 }

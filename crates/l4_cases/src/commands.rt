@@ -1,0 +1,75 @@
+//! Doing a command as the program does it.
+
+use crate::audits::audit;
+use crate::case::Case;
+use crate::outcome::Outcome;
+use l4_jobs::files::perform_on_files;
+use l4_jobs::job::Job;
+use l4_jobs::perform::perform;
+use l4_jobs::refusal::refuse;
+use l4_jobs::words::job_of;
+use std::alloc::{AllocError, Global};
+use std::io;
+use std::rt::Files;
+use std::thread::Threads;
+
+// The words of a line. Between quotes a word may have spaces, or be empty.
+fn words_of(alloc: Global, line: &str) -> Result<Vec<&str>, AllocError> {
+    let mut words = Vec::new(alloc);
+    let mut is_quoted = false;
+    for part in line.split('\'') {
+        if is_quoted {
+            words.push(part)?;
+        } else {
+            push_words(&mut words, part)?;
+        }
+        is_quoted = !is_quoted;
+    }
+    Ok(words)
+}
+
+fn push_words<'a>(words: &mut Vec<&'a str>, part: &'a str) -> Result<(), AllocError> {
+    for word in part.split_whitespace() {
+        words.push(word)?;
+    }
+    Ok(())
+}
+
+// Does a job, and answers the exit status.
+fn do_job<R: Files + AllocGlobal + Threads + Sync>(
+    rt: &R,
+    case: &Case<'_>,
+    job: &Job<'_>,
+    trace: &[u8],
+    done: &mut Outcome,
+) -> u8 {
+    let output = &mut done.output;
+    let faults = &mut done.faults;
+    if !case.is_apart && job.trace_file() != Some("-") {
+        return perform_on_files(rt, rt.alloc(), rt, job, output, faults);
+    }
+    let mut text = case.text;
+    let mut trace = trace;
+    perform(rt, rt.alloc(), job, &mut text, &mut trace, output, faults)
+}
+
+/// Does the command of a line, with this trace as its standard input. A trace that it prints is audited.
+pub fn do_command<R: Files + AllocGlobal + Threads + Sync>(
+    rt: &R,
+    case: &Case<'_>,
+    line: &str,
+    trace: &[u8],
+) -> io::Result<Outcome> {
+    let words = words_of(rt.alloc(), line)?;
+    let mut done = Outcome::new(rt.alloc());
+    match job_of(rt.alloc(), words.as_slice()) {
+        Ok(job) => {
+            done.status = do_job(rt, case, &job, trace, &mut done);
+            audit(rt, case, &job, &mut done)?;
+        }
+        Err(fault) => {
+            done.status = refuse(rt.alloc(), &fault, &mut done.output, &mut done.faults);
+        }
+    }
+    Ok(done)
+}

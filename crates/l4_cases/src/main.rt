@@ -1,0 +1,112 @@
+//! Does the commands of the cases that its words name, and prints each that comes to something else than its case says. A case is a file of `data/`,
+//! and is named as it lies there. The gate compares what is printed.
+#![tactic(auto)]
+
+mod audits;
+mod case;
+mod commands;
+mod differences;
+mod outcome;
+mod said;
+
+use crate::case::Case;
+use crate::commands::do_command;
+use crate::differences::print_difference;
+use crate::said::said_of;
+use std::process::ExitCode;
+use std::rt::{Env, Files};
+use std::thread::Threads;
+use std::{env, fs, io};
+
+// Does a command of a case, and prints where it comes to something else than is said behind it. Answers whether it does.
+fn is_other<R: Files + AllocGlobal + Threads + Sync + Print>(
+    rt: &R,
+    case: &Case<'_>,
+    block: &str,
+) -> io::Result<bool> {
+    let (line, lines) = block.split_once('\n').unwrap_or((block, ""));
+    let said = said_of(rt, lines, case.mark)?;
+    let done = do_command(rt, case, line, said.trace.as_slice())?;
+    if done == said.outcome {
+        return Ok(false);
+    }
+    let name = case.name;
+    println!(rt; "{name}: {line}")?;
+    print_difference(rt, &said.outcome, &done)?;
+    Ok(true)
+}
+
+// Does the commands of a case, and answers how many come to something else than it says. One without a command is counted too.
+fn count_other<R: Files + AllocGlobal + Threads + Sync + Print>(
+    rt: &R,
+    case: &Case<'_>,
+) -> io::Result<usize> {
+    let mut commands = 0usize;
+    let mut others = 0usize;
+    for block in case.blocks() {
+        commands = commands.saturating_add(1);
+        if is_other(rt, case, block)? {
+            others = others.saturating_add(1);
+        }
+    }
+    if commands == 0 {
+        let name = case.name;
+        println!(rt; "{name}: no command")?;
+        return Ok(1);
+    }
+    Ok(others)
+}
+
+// Does the commands of the case of this name, and answers how many come to something else than it says.
+fn count_of_case<R: Files + AllocGlobal + Threads + Sync + Print>(
+    rt: &R,
+    name: &str,
+) -> io::Result<usize> {
+    let bytes = fs::read(rt, name)?;
+    let case = match name.ends_with(".case") {
+        true => Case::apart(name, bytes.as_slice()),
+        false => Case::in_comments(name, bytes.as_slice()),
+    };
+    let Some(case) = case else {
+        println!(rt; "{name}: no text")?;
+        return Ok(1);
+    };
+    count_other(rt, &case)
+}
+
+// The same, but that what stops the case is printed and counted.
+fn count_or_print<R: Files + AllocGlobal + Threads + Sync + Print>(
+    rt: &R,
+    name: &str,
+) -> io::Result<usize> {
+    match count_of_case(rt, name) {
+        Ok(others) => Ok(others),
+        Err(error) => {
+            println!(rt; "{name}: {error}")?;
+            Ok(1)
+        }
+    }
+}
+
+// Does the commands of all cases, and answers how many come to something else than they say.
+fn count_of_cases<R: Files + AllocGlobal + Threads + Sync + Print>(
+    rt: &R,
+    names: &[String],
+) -> io::Result<usize> {
+    let mut others = 0usize;
+    for name in names {
+        others = others.saturating_add(count_or_print(rt, name.as_str())?);
+    }
+    Ok(others)
+}
+
+fn main(rt: HostRuntime) -> io::Result<ExitCode> {
+    let names: Vec<String> = env::args(&rt)?.skip(1).collect(rt.alloc())?;
+    let others = count_of_cases(&rt, names.as_slice())?;
+    if others != 0 {
+        println!(rt; "{others} commands differ")?;
+        return Ok(ExitCode::FAILURE);
+    }
+    println!(rt; "all cases as wanted")?;
+    Ok(ExitCode::SUCCESS)
+}

@@ -1,8 +1,8 @@
 -- What an instruction, a message and a failure do to the registers of a thread, and what an instruction asks for.
-use Rattle.std.specs.Prelude.{ℕ, ◌+◌, ◌*◌, ◌/◌, ◌%◌, ◌^◌, Bool, if◌then◌else◌, ◌==◌, not, false, Option, Some, None, is_some, unwrap_or, true, ◌∷◌, ◌++◌, take, drop, length, slice_index, slice_set}
+use Rattle.std.specs.Prelude.{ℕ, ◌+◌, ◌*◌, ◌/◌, ◌%◌, ◌^◌, Bool, if◌then◌else◌, ◌==◌, not, ◌&&◌, false, Option, Some, None, is_some, unwrap_or, true, ◌∷◌, ◌++◌, take, drop, length, slice_index, slice_set}
 use Rattle.l4_model.specs.Words.{GlobalId, Id, NilThread, AnyThread, AnyLocalThread, LocalThread, GlobalThread, same_id, Period}
 use Rattle.l4_model.specs.Machine.{Tag, To, ToId, ToLast, What, Delete, Instr, Set, Copy, Add, Vs, Ipc, Ask, Jump, OnErr, End, Machine, is_declared, same_space, same_cpu}
-use Rattle.l4_model.specs.World.{Context, Receive, Message, Send, Asked}
+use Rattle.l4_model.specs.World.{Name, Context, Receive, Message, Send, Asked, Owed}
 
 -- Who is accepted (manual: Ipc, `FromSpecifier`): anythread takes every sender, anylocalthread those of the receiver's address
 -- space, a global id that sender alone. What is compared is the sender that the message shows.
@@ -141,6 +141,13 @@ bit b = if b then 1 else 0
 abbrev pub received_tag : (cross : Bool) → Message → ℕ
 received_tag cross message =
     message.label * 2 ^ 16 + bit cross * 2 ^ 14 + bit message.propagated * 2 ^ 12 + length message.words
+
+-- The retarget that the delivery of a send leaves owed: at a machine of profile 2, of a propagated message (own).
+abbrev pub owed_by : Machine → Name → Message → (receiver : GlobalId) → Option Owed
+owed_by m s message receiver =
+    if m.retargeting && message.propagated
+    then Some (record { send = s; originator = message.shown; old_partner = message.actual; new_partner = receiver })
+    else None
 
 -- A message comes from another processor: the one that sent it, and not the originator, is on another (own).
 abbrev pub is_cross : Machine → GlobalId → Message → Bool

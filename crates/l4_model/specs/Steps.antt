@@ -3,9 +3,9 @@ use Rattle.std.specs.Prelude.{ℕ, ◌+◌, Bool, ◌==◌, not, ◌&&◌, nat_l
 use Rattle.std.specs.Str.{bytes_eq}
 use Rattle.l4_model.specs.Words.{GlobalId, same_id, clock_limit}
 use Rattle.l4_model.specs.Machine.{What, CancelSend, CancelReceive, CancelBoth, Delete, Machine, place_of}
-use Rattle.l4_model.specs.World.{Name, Receive, Send, Asked, Phase, Receiving, Thread, World, change, queued, unqueued, is_ready, is_deleted, is_alive, receive_now}
-use Rattle.l4_model.specs.Rules.{Act, RunsAlone, Sends, Receives, Orders, received_tag, is_cross}
-use Rattle.l4_model.specs.Effects.{runs, begins, waits, fails, decided, refused, receives, delivered, asked, orders, obeyed}
+use Rattle.l4_model.specs.World.{Name, Receive, Send, Asked, Owed, Phase, Receiving, Thread, World, change, queued, unqueued, owed_of, others_owed, one_more, must_wait, is_ready, is_deleted, is_alive, receive_now}
+use Rattle.l4_model.specs.Rules.{Act, RunsAlone, Sends, Receives, Orders, received_tag, is_cross, owed_by}
+use Rattle.l4_model.specs.Effects.{runs, begins, waits, fails, decided, refused, receives, delivered, asked, orders, obeyed, turns}
 use Rattle.l4_model.specs.Conditions.{◌>>=◌, ◌>>◌, Found, found, found_by, Pending, undecided, receiver_of, instruction, act_of, is_waiting, first_accepted, is_nobody, is_no_destination, has_passed, is_timed_out}
 
 -- What a history tells: a step for each change of a phase, a send, an order or a clock, and `Local` where a thread runs an
@@ -26,6 +26,7 @@ pub data Step : Type 0 where
   Order : (caller target : GlobalId) → What → Step
   Obey : GlobalId → Step
   Tick : (cpu clock : ℕ) → Step
+  Retarget : Name → Step
 
 -- A number for each demand, to compare them by.
 abbrev pub what_code : What → ℕ
@@ -67,17 +68,22 @@ after_begin m w s = do
   send ← send_of (act_of m t)
   Some (change w t.at (begins send))
 
--- An undecided send is appended to the list of its destination.
+-- An undecided send is appended to the list of its destination. Not while the destination owes it to turn to the sender (own, profile 2).
 abbrev pub after_queue : Machine → World → Name → Option World
 after_queue m w s = do
   p ← undecided m w s
   r ← receiver_of m w p
   is_alive r.now.phase
   not (is_waiting w p)
+  not (must_wait w.owed s.thread p.send.to)
   Some (queued w r.at p.sender.at)
 
+-- One more retarget is owed, or none.
+abbrev pub owing : Option Owed → World → World
+owing o w = record w { owed = one_more o w.owed }
+
 -- The receiver waits, the send is the first in its list that it accepts, and the message is as it was sent (manual: Ipc). In the same
--- step the sender goes on.
+-- step the sender goes on, and a retarget may be owed (own, profile 2).
 abbrev pub after_deliver : Machine → World → Name → (receiver shown actual : GlobalId) → (tag : ℕ) → (words : List ℕ) → Option World
 after_deliver m w s receiver shown actual tag words = do
   p ← undecided m w s
@@ -90,7 +96,7 @@ after_deliver m w s receiver shown actual tag words = do
   same_id actual p.send.message.actual
   tag == received_tag (is_cross m receiver p.send.message) p.send.message
   bytes_eq words p.send.message.words
-  Some (change (change (unqueued w p.sender.at) r.at (receives p.send.message tag)) p.sender.at (delivered p.send p.sender.clock))
+  Some (owing (owed_by m s p.send.message receiver) (change (change (unqueued w p.sender.at) r.at (receives p.send.message tag)) p.sender.at (delivered p.send p.sender.clock)))
 
 -- A thread begins a receive phase without a send phase (manual: Ipc, receive phase).
 abbrev pub after_wait : Machine → World → GlobalId → Option World
@@ -104,18 +110,20 @@ after_wait m w id = do
 abbrev pub without_send : World → Pending → (Thread → Thread) → World
 without_send w p f = change (unqueued w p.sender.at) p.sender.at f
 
--- A send is refused since its time is over (manual: Ipc, Time): ErrorCode 2.
+-- A send is refused since its time is over (manual: Ipc, Time): ErrorCode 2. Like `queue`, not while it must wait (own, profile 2).
 abbrev pub after_send_timeout : Machine → World → Name → Option World
 after_send_timeout m w s = do
   p ← undecided m w s
   is_timed_out m w p
+  not (must_wait w.owed s.thread p.send.to)
   Some (without_send w p (refused 2))
 
--- A send is refused since nobody is there: ErrorCode 4.
+-- A send is refused since nobody is there: ErrorCode 4. Not while it must wait (own, profile 2).
 abbrev pub after_send_nobody : Machine → World → Name → Option World
 after_send_nobody m w s = do
   p ← undecided m w s
   is_no_destination p.send.to (receiver_of m w p)
+  not (must_wait w.owed s.thread p.send.to)
   Some (without_send w p (refused 4))
 
 -- A waiting send is cancelled (manual: ExchangeRegisters, `S`): ErrorCode 6.
@@ -182,6 +190,13 @@ after_obey m w caller = do
   target ← place_of m order.target
   Some (change (change w target (asked order.what)) t.at obeyed)
 
+-- The originator of a delivered send turns to the thread that received it, and no longer owes it (own, profile 2). It is always declared.
+abbrev pub after_retarget : Machine → World → Name → Option World
+after_retarget m w s = do
+  o ← owed_of w.owed s
+  t ← found m w o.originator
+  Some (change (record w { owed = others_owed w.owed s }) t.at (turns o))
+
 -- The clock of a processor goes on.
 abbrev pub after_tick : Machine → World → (cpu clock : ℕ) → Option World
 after_tick m w cpu clock = do
@@ -206,3 +221,4 @@ next m w (Drop s) = after_drop m w s
 next m w (Order caller target what) = after_order m w caller target what
 next m w (Obey caller) = after_obey m w caller
 next m w (Tick cpu clock) = after_tick m w cpu clock
+next m w (Retarget s) = after_retarget m w s

@@ -3,6 +3,7 @@ pub mod Relation
 pub mod Frames
 pub mod Sends
 pub mod Orders
+pub mod Retargets
 pub mod Turns
 pub mod Letters
 pub mod Promises

@@ -4,14 +4,14 @@ use Rattle.std.specs.Prelude.{IfSome}
 use Rattle.std.specs.List.{AllByRecursion}
 use Rattle.l4_model.specs.Machine.{Machine}
 use Rattle.l4_model.specs.World.{Thread, Send, Phase, Ready, Sending, Receiving, Ordering, Ended, Deleted, is_deleted, is_ready}
-use Rattle.l4_core_model.specs.Letters.{Content, SendLetter, DoneLetter, WithdrawLetter, GoneLetter, OrderLetter, OrderDoneLetter, Cause}
+use Rattle.l4_core_model.specs.Letters.{Content, SendLetter, DoneLetter, WithdrawLetter, GoneLetter, OrderLetter, OrderDoneLetter, RetargetLetter, Cause}
 use Rattle.l4_core_model.specs.Local.{armed_for, armed_period}
 use Rattle.l4_core_model.specs.Runs.{Posted}
 use Rattle.l4_core_model.proofs.Fit.{IsGood}
 use Rattle.l4_core_model.proofs.Lists.{all-map}
 use Rattle.l4_split.proofs.Frames.Locals.{come}
 use Rattle.l4_split.proofs.Relation.Views.{Kept, View, kept, home, notices, locators}
-use Rattle.l4_split.proofs.Relation.Rows.{seats, Agrees, learned, Row, RowOf, IsKept, IsUnplaced, IsKeptAtHome, IsKeptElsewhere, deadlines, IsCause, IsNotice, IsNoticeOf, Known}
+use Rattle.l4_split.proofs.Relation.Rows.{seats, Agrees, learned, Row, RowOf, IsKept, IsUnplaced, IsKeptAtHome, IsKeptElsewhere, deadlines, IsCause, IsNotice, IsNoticeOf, Known, OwesIn}
 
 abbrev pub at_home : Machine → ℕ → View → Kept
 at_home m i v = v.kept (home m i)
@@ -81,6 +81,7 @@ moved_notice m i k after p (WithdrawLetter s receiver cause) stays_true h = reco
 moved_notice m i k after p (GoneLetter id) stays_true h = (stays_true.deleted h.0, h.1)
 moved_notice m i k after p (OrderLetter caller target what) stays_true h = h
 moved_notice m i k after p (OrderDoneLetter caller) stays_true h = h
+moved_notice m i k after p (RetargetLetter o) stays_true h = tt
 
 moved_notices : (m : Machine) (i : ℕ) (v after : View) → IsKept m i v → Moves m i v after →
     AllByRecursion (IsNotice m i (at_home m i after)) (notices after.mail)
@@ -133,5 +134,5 @@ fresh_armed i clock Ended send h = refl
 fresh_armed i clock Deleted send h = refl
 
 pub come_kept : (i : ℕ) (f : Thread → Thread) (k : Kept) → IsGood k.clock (f k.thread) → IsFresh k.clock (f k.thread).phase (f k.thread).send →
-    IsKeptAtHome i (come i f k)
-come_kept i f k good fresh = record { good = good; armed = inl (fresh_armed i k.clock (f k.thread).phase (f k.thread).send fresh) }
+    OwesIn (f k.thread).phase k.owed → IsKeptAtHome i (come i f k)
+come_kept i f k good fresh owes = record { good = good; owes = owes; armed = inl (fresh_armed i k.clock (f k.thread).phase (f k.thread).send fresh) }

@@ -1,5 +1,4 @@
 -- What is asked of a thread is done in the world and at home, and they agree as before.
-use Rattle.l4_model.proofs.Sends.{Status, status-asked}
 use Rattle.std.proofs.Common.{◌≡◌, ℕ, false, Option, Some, None, refl, ap, sym, ◌∙◌, subst}
 use Rattle.l4_model.specs.Machine.{What, CancelSend, CancelReceive, CancelBoth, Delete}
 use Rattle.l4_model.specs.World.{Thread, Send, Receive, Asked, Phase, Ready, Sending, Receiving, Ordering, Ended, Deleted, is_alive}
@@ -149,7 +148,10 @@ ended_wish (Refused Cancelled) clock t send has = cond_both (λ (u : Thread). u.
 ended_wish (Refused Dropped) clock t send has = cond_both (λ (u : Thread). u.cancel_send) false (is_alive t.phase) _ (decided t) refl refl
 
 pub send_asked : (what : What) (t : Thread) → (asked what t).send ≡ t.send
-send_asked what t = ap (λ (s : Status). s.send) (status-asked what t)
+send_asked CancelSend t = refl
+send_asked CancelReceive t = refl
+send_asked CancelBoth t = refl
+send_asked Delete t = refl
 
 -- A thread is asked while the answer to its send is under way: they agree again once it hears.
 pub asked_while_decided : (what : What) (result : Result) (clock : ℕ) (world t : Thread) (send : Send) → t.send ≡ Some send → t.order ≡ None →

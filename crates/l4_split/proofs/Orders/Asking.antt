@@ -20,6 +20,7 @@ use Rattle.l4_split.proofs.Relation.Rows.{seats, Agrees, learns, learned, IsOrde
 use Rattle.l4_split.proofs.Frames.Moves.{at_home, StaysTrue, same_alike, Moves, moves_kept}
 use Rattle.l4_split.proofs.Sends.Waiting.{agrees_send, agrees_begun}
 use Rattle.l4_split.proofs.Turns.Ending.{agrees_wish}
+use Rattle.l4_split.proofs.Frames.Owes.{deleted_owes}
 use Rattle.l4_split.proofs.Orders.Asked.{agrees_order, asked_agrees, asked_while_decided, asked_obeyed, send_asked}
 use Rattle.l4_model.proofs.Keeping.{order-asked}
 use Rattle.l4_core_model.specs.Plain as plain
@@ -115,10 +116,10 @@ asked_kept Delete j k = record k { thread = asked Delete k.thread; ready = []; a
 asked_kept what j k = record k { thread = asked what k.thread }
 
 pub asked_at_home : (what : What) (j : ℕ) (k : Kept) → IsKeptAtHome j k → IsKeptAtHome j (asked_kept what j k)
-asked_at_home CancelSend j k h = record { good = asked_good CancelSend k.clock k.thread h.good; armed = h.armed }
-asked_at_home CancelReceive j k h = record { good = asked_good CancelReceive k.clock k.thread h.good; armed = h.armed }
-asked_at_home CancelBoth j k h = record { good = asked_good CancelBoth k.clock k.thread h.good; armed = h.armed }
-asked_at_home Delete j k h = record { good = asked_good Delete k.clock k.thread h.good; armed = inr refl }
+asked_at_home CancelSend j k h = record { good = asked_good CancelSend k.clock k.thread h.good; armed = h.armed; owes = h.owes }
+asked_at_home CancelReceive j k h = record { good = asked_good CancelReceive k.clock k.thread h.good; armed = h.armed; owes = h.owes }
+asked_at_home CancelBoth j k h = record { good = asked_good CancelBoth k.clock k.thread h.good; armed = h.armed; owes = h.owes }
+asked_at_home Delete j k h = record { good = asked_good Delete k.clock k.thread h.good; armed = inr refl; owes = deleted_owes k.owed }
 
 asked_ready : (what : What) (j : ℕ) (k : Kept) → k.ready ≡ readied k.thread.phase j [] →
     (asked_kept what j k).ready ≡ readied (asked_kept what j k).thread.phase j []
@@ -240,6 +241,12 @@ asks_clock CancelReceive l j = refl
 asks_clock CancelBoth l j = refl
 asks_clock Delete l j = refl
 
+pub asks_owed : (what : What) (l : Local) (j : ℕ) → (asks what j l).owed ≡ l.owed
+asks_owed CancelSend l j = refl
+asks_owed CancelReceive l j = refl
+asks_owed CancelBoth l j = refl
+asks_owed Delete l j = refl
+
 pub asks_lists : (what : What) (l : Local) (j : ℕ) → (asks what j l).lists.waiting ≡ l.lists.waiting
 asks_lists CancelSend l j = refl
 asks_lists CancelReceive l j = refl
@@ -269,6 +276,7 @@ asks_relates m cpu j what except s w x here matches rel =
     (record {
       sized = asks_sized m what j except x.local here.within;
       clock = asks_clock what x.local j;
+      owed = asks_owed what x.local j;
       kept = λ i out. asks_other what x.local j i (λ e. out.0 (sym e));
     }) (asks_lists what x.local j) rel))
     (asked_matches m j what v after (get-changed (asked what) w.threads j opening_thread in_world) refl

@@ -3,7 +3,7 @@ use Rattle.std.proofs.Common.{◌≡◌, ℕ, ◌≤◌, Bool, true, false, cond
 use Rattle.l4_model.specs.World.{Thread, Send, Receive, Message, Phase, Ready, Sending, Receiving, Ordering, Ended, Deleted, is_ready, is_alive}
 use Rattle.l4_model.specs.Effects.{fails, decided, receives, goes_on}
 use Rattle.l4_model.specs.Reached.{Suits}
-use Rattle.l4_core_model.specs.Letters.{Result, Delivered, Refused, TimedOut, Nobody, Cancelled, Dropped, Content, SendLetter, DoneLetter, WithdrawLetter, GoneLetter, OrderLetter, OrderDoneLetter}
+use Rattle.l4_core_model.specs.Letters.{Result, Delivered, Refused, TimedOut, Nobody, Cancelled, Dropped, Content, SendLetter, DoneLetter, WithdrawLetter, GoneLetter, OrderLetter, OrderDoneLetter, RetargetLetter}
 use Rattle.l4_core_model.specs.Local.{after_decision, was_delivered}
 use Rattle.l4_core_model.specs.Runs.{Posted}
 use Rattle.l4_split.proofs.Relation.Rows.{IsEarlier, IsLeft, AgreesIn, Agrees, learns, learned}
@@ -108,6 +108,7 @@ learns_later (WithdrawLetter s receiver cause) now later world t le a = a
 learns_later (GoneLetter id) now later world t le a = a
 learns_later (OrderLetter caller target what) now later world t le a = a
 learns_later (OrderDoneLetter caller) now later world t le a = a
+learns_later (RetargetLetter o) now later world t le a = a
 
 pub learned_later : (ps : List Posted) (now later : ℕ) (world t : Thread) → now ≤ later → Agrees world (learned ps now t) → Agrees world (learned ps later t)
 learned_later [] now later world t le a = a

@@ -9,7 +9,7 @@ use Rattle.l4_model.proofs.Places.{known}
 use Rattle.l4_split.proofs.Relation.Rows.{Agrees, IsDecided, IsObeyed, IsOrdered, IsPlain, IsSent, IsWaiting, Known, Row, RowOf, learned, learns, seats}
 use Rattle.l4_model.specs.Effects.{decided, obeyed, waits}
 use Rattle.std.proofs.Common.{List, None, Option, Some, [], refl, sym, ℕ, ◌∙◌, ◌∷◌, ◌≡◌}
-use Rattle.l4_core_model.specs.Letters.{Content, DoneLetter, GoneLetter, OrderDoneLetter, OrderLetter, Result, SendLetter, WithdrawLetter}
+use Rattle.l4_core_model.specs.Letters.{Content, DoneLetter, GoneLetter, OrderDoneLetter, OrderLetter, RetargetLetter, Result, SendLetter, WithdrawLetter}
 use Rattle.l4_split.proofs.Relation.Views.{View, home, locators}
 
 -- It has neither; its send waits; it is under way; it is decided; its order is under way; it is done.
@@ -38,6 +38,7 @@ where_then {G = G} m i v known plain waits sent decided ordered done = by (locat
     letter p (GoneLetter id) is content row a = absurd row
     letter p (OrderLetter caller target what) is content row a = ordered p is row a
     letter p (OrderDoneLetter caller) is content row a = done p caller is content row a
+    letter p (RetargetLetter o) is content row a = absurd row
 
     by : (ps : List Posted) → locators v.mail ≡ ps → (o : Option Send) → t.send ≡ o → Row m i (seats m i v) ps o → Agrees v.world (learned ps clock t) → G
     by [] is None has row a = plain is has row a

@@ -62,7 +62,7 @@ decided_away m cpu i except s w x result send g here at is rel =
     let left = unqueues m cpu i (i ∷ except) s w x (first_about i except) at.elsewhere rel in
     let dropped = local_changes m cpu (i ∷ except) s u y (changes i decided)
     (changes_spares m i (i ∷ except) y.local decided (first_about i except)) refl left in
-    let sent = letter_posted m cpu (home m i) i (DoneLetter name result) (i ∷ except) s u z placed (first_about i except) dropped in
+    let sent = letter_posted m cpu (home m i) i (DoneLetter name result) (i ∷ except) s u z placed refl (first_about i except) dropped in
     let relates = world_changes m i (i ∷ except) (amid cpu s a) u g (first_about i except) sent in
     let mail : after.mail ≡ v.mail ++ p ∷ [] = mail_here m cpu (home m i) i (DoneLetter name result) s u z placed in
     let locator : locators after.mail ≡ p ∷ [] =

@@ -1,13 +1,13 @@
 -- Letters that bring a send to its receiver, and its decision home.
-use Rattle.std.proofs.Common.{◌≡◌, ℕ, zero, suc, ◌<◌, Bool, Some, None, List, [], ◌∷◌, length, refl, ap, sym, ◌∙◌, subst, arith}
-use Rattle.l4_model.specs.Words.{GlobalId}
+use Rattle.std.proofs.Common.{◌≡◌, ℕ, zero, suc, ◌<◌, Bool, Some, None, List, [], ◌∷◌, length, refl, ap, sym, ◌∙◌, subst, arith, false}
+use Rattle.l4_model.specs.Words.{GlobalId, Id}
 use Rattle.l4_model.specs.Machine.{Machine, place_of}
-use Rattle.l4_model.specs.World.{Thread, World, Send, Message, Name, changed, change}
+use Rattle.l4_model.specs.World.{Thread, World, Send, Message, Name, changed, change, must_wait}
 use Rattle.l4_model.specs.Conditions.{is_zero}
 use Rattle.l4_model.proofs.Chains.{some_is}
 use Rattle.l4_model.specs.Reached.{Suits}
 use Rattle.l4_core_model.specs.Letters.{Result, SendLetter, DoneLetter}
-use Rattle.l4_core_model.specs.Local.{declared, thread, changes, comes_to, readied, after_decision, stand_in, stands_in}
+use Rattle.l4_core_model.specs.Local.{declared, thread, owed_beside, changes, comes_to, readied, after_decision, stand_in, stands_in, destination_place}
 use Rattle.l4_core_model.specs.Acts.{Work, ◌▷◌, does, arrives}
 use Rattle.l4_core_model.specs.Runs.{Posted}
 use Rattle.l4_core_model.proofs.Standing.{destination_within}
@@ -15,13 +15,13 @@ use Rattle.l4_core_model.proofs.Fit.{IsGood}
 use Rattle.l4_core_model.proofs.Apart.{same_or_apart}
 use Rattle.l4_split.proofs.Frames.Locals.{changes_here}
 use Rattle.l4_split.proofs.Relation.Views.{Scene, Kept, View, kept, view, home, amid, notices, locators}
-use Rattle.l4_split.proofs.Relation.Rows.{seats, Agrees, learns, learned, Row, RowOf, name_of, IsSent, IsDecided, IsKept, IsKeptAtHome, Matches}
+use Rattle.l4_split.proofs.Relation.Rows.{seats, Agrees, learns, learned, Row, RowOf, name_of, IsSent, IsDecided, IsKept, IsKeptAtHome, Matches, OwesIn}
 use Rattle.l4_split.proofs.Relation.Relates.{IsSized, RelatesExcept}
 use Rattle.l4_split.proofs.Frames.Places.{first_about, takes_in, local_changes, changes_spares}
 use Rattle.l4_split.proofs.Frames.Lists.{put_here}
 use Rattle.l4_split.proofs.Frames.Moves.{at_home, StaysTrue, IsAlike, same_alike, Moves, moves_kept}
 use Rattle.l4_split.proofs.Frames.Going.{Goes, IsHere, IsQuiet, home_is, put_other, comes, quiet_matches}
-use Rattle.l4_split.proofs.Sends.Deciding.{sender_unready, ended_good, ended_none, ended_fresh, ended_stays_true}
+use Rattle.l4_split.proofs.Sends.Deciding.{sender_unready, ended_good, ended_none, ended_fresh, ended_owes, ended_stays_true}
 use Rattle.l4_split.proofs.Sends.Answering.{IsAway, same_stays_true}
 use Rattle.l4_split.proofs.Sends.Delivering.{arrives_goes}
 
@@ -90,6 +90,8 @@ done_relates m cpu i s w x before p name result here content t rel =
       agrees = subst (λ u. Agrees u (f (thread x.local i))) (sym t.world) agrees;
       good = ended_good result x.local.clock (thread x.local i) row.goes.send has good;
       fresh = ended_fresh result x.local.clock (thread x.local i) row.goes.send has;
+      owes = ended_owes result x.local.clock (thread x.local i) row.goes.send (owed_beside x.local i) has suits
+          (subst (λ (k : Kept). OwesIn k.thread.phase k.owed) was t.matches.known.kept.at_home.owes);
       stays_true = ended_stays_true result (kept x.local i) i row.goes.send has order;
     } in
     subst (RelatesExcept m (Matches m) [] (amid cpu s (x ▷ does (comes_to i f)))) (ap (λ ts. record w { threads = ts }) (unchanged w.threads i))
@@ -116,8 +118,9 @@ letter_of m i r t send name receiver message zero_timeout h =
 pub send_goes : (m : Machine) (cpu i r : ℕ) (s : Scene) (w : World) (x : Work) (before : View) (p : Posted) (name : Name) (receiver : GlobalId)
     (message : Message) (zero_timeout : Bool) → IsAway m cpu i → p.to ≡ cpu → p.letter.content ≡ SendLetter name receiver message zero_timeout →
     (e : Goes m cpu s w (i ∷ []) x) → IsTakenOut m i before (view m (amid cpu s x) e.now i) p → place_of m receiver ≡ Some r → r < length m.threads →
+    ((to : Id) → destination_place m to ≡ Some r → home m i ≡ p.from → home m r ≡ cpu → must_wait e.now.owed (declared m i).id to ≡ false) →
     Goes m cpu s w [] (x ▷ does (changes i (stands_in name.k (stand_in receiver message zero_timeout))) ▷ arrives m cpu r i)
-send_goes m cpu i r s w x before p name receiver message zero_timeout here to content e t placed lt =
+send_goes m cpu i r s w x before p name receiver message zero_timeout here to content e t placed lt free =
     let now = e.now in
     let v : View = view m (amid cpu s x) now i in
     let row : IsSent m i (seats m i before) p = subst (RowOf m i (seats m i before) p) content (taken_row m i before v p t) in
@@ -161,7 +164,7 @@ send_goes m cpu i r s w x before p name receiver message zero_timeout here to co
         machine = here.machine;
         processor = here.processor;
         within = here.within;
-        goes = record { now = now; reaches = e.reaches; relates = rel };
+        goes = record { starts = e.starts; now = now; reaches = e.reaches; relates = rel };
         at = record {
           kept = moves_kept m i v after kept_now moves (subst (IsKeptAtHome i) (sym home_same) kept_now.at_home);
           out = ap (λ (k : Kept). k.ready) home_old ∙ t.matches.ready
@@ -185,4 +188,4 @@ send_goes m cpu i r s w x before p name receiver message zero_timeout here to co
         };
       };
       free = λ q. sym (ap (λ l. (kept l i).listed q) (put_here cpu cpu y.local s.locals refl)) ∙ listed cpu q;
-    }) at_r lt (row.goes.to ∙ ap Some which)
+    }) at_r lt (row.goes.to ∙ ap Some which) (free send.to (row.goes.to ∙ ap Some which) (sym row.from) at_r)

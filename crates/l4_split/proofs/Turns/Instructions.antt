@@ -7,7 +7,8 @@ use Rattle.l4_model.specs.World.{Thread, World, Send, Receive, is_ready, Asked}
 use Rattle.l4_model.specs.Steps.{Local as RanLocal, Wait, runs_alone, receive_of}
 use Rattle.l4_model.specs.Conditions.{instruction, act_of, found}
 use Rattle.l4_model.specs.Effects.{runs, waits, phase_after, receives}
-use Rattle.l4_core_model.specs.Local.{declared, thread, held}
+use Rattle.l4_core_model.specs.Local.{declared, thread, held, owed_beside}
+use Rattle.l4_split.proofs.Frames.Owes.{none_owed}
 use Rattle.l4_core_model.specs.Acts.{Work, runs_alone_at, waits_at}
 use Rattle.l4_core_model.proofs.Fit.{IsGood}
 use Rattle.l4_core_model.proofs.Good.{ready_has_none, runs_good, waits_good}
@@ -41,6 +42,7 @@ pub record IsPicked (m : Machine) (cpu i : ℕ) (s : Scene) (x : Work) (w : Worl
   pub known : Known m i (view m (amid cpu s x) w i)
   pub out : (kept x.local i).ready ≡ []
   pub ready : is_ready (thread x.local i).phase ≡ true
+  pub nothing_owed : owed_beside x.local i ≡ None
 
 -- The same, with what follows for a ready thread.
 pub record IsRunning (m : Machine) (cpu i : ℕ) (s : Scene) (x : Work) (w : World) : Type 0 where
@@ -92,6 +94,7 @@ running_quiet m cpu i s w x f e r send order begun good fresh =
       agrees = same_agrees (f (world_thread e.now i)) (f (thread x.local i)) (ap f is.same);
       good = good is.good;
       fresh = fresh;
+      owes = none_owed (f (thread x.local i)).phase (owed_beside x.local i) r.nothing_owed;
       stays_true = record {
         deleted = λ gone. ready_is_alive (thread x.local i).phase gone r.ready;
         begun = omega (arith, begun);

@@ -16,10 +16,10 @@ pub returns-then-not-take-clause-refused : goal.returns-then-not-take-clause-ref
 returns-then-not-take-clause-refused c =
     let l = c.loop-place in
     refused_here c.args.machine.now c.args.history.now.steps l.place l.world _ l.invariant c.step-step.ensures
-    (rw c.if-not-take.true at c.take.ensures.step)
+    (rw c.if-not-take.true at c.in_ok-take.ensures.step)
 
 pub loop-place-preserved : goal.loop-place-preserved
 loop-place-preserved c =
     let l = c.loop-place in
     one_more c.args.machine.now c.args.history.now.steps l.place l.world c.take.new.self _ l.invariant c.step-step.ensures
-    (rw c.if-not-take.false at c.take.ensures.step) c.take.ensures.ids
+    (rw c.if-not-take.false at c.in_ok-take.ensures.step) c.take.ensures.ids

@@ -6,6 +6,6 @@ use Rattle.l4_audit.proofs.world.World.new.Goals as goal
 
 pub returns : goal.returns
 returns c =
-    opened_is c.args.machine.now _ _ _ c.in_ok-blocks.ensures
+    opened_is c.args.machine.now _ _ _ _ c.in_ok-blocks.ensures
     (ap (λ (p : Plain). p.waiting) c.in_ok-new.ensures ∙ ap (λ ds. replicate (length ds) []) c.threads.ensures.value)
-    c.in_ok-clocks.ensures
+    c.in_ok-clocks.ensures refl

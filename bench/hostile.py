@@ -17,14 +17,14 @@ PASSED = re.compile(rb"passed \d+ (quiet|spent)\n")
 QUIET, FAULT, SPENT = 0, 1, 3
 
 NUMBERS = ["0", "1", "63", "64", "15", "16", "17", "0x3f", "18446744073709551615", "18446744073709551616", "4294967296", "-1", "0x", "00", "1.", ""]
-WORDS = ["never", "zero", "nil", "any", "anylocal", "last", "S", "R", "SR", "1.1", "2.1", "3.65", "1.64", "1.0", "#0000000000000001", ";", "cpu", "end", "tick"]
+WORDS = ["never", "zero", "nil", "any", "anylocal", "last", "S", "R", "SR", "1.1", "2.1", "3.65", "1.64", "1.0", "#0000000000000001", ";", "cpu", "end", "tick", "retarget"]
 BYTES = [0, 9, 10, 13, 32, 59, 127, 128, 255]
 
 
 def machine(dice):
     """A small machine, most of whose threads talk."""
     threads, cpus = dice.randint(1, 5), dice.choice([1, 1, 2, 3, 16])
-    lines = ["l4 1 64", f"cpus {cpus}"]
+    lines = [f"l4 {dice.choice([1, 2])} 64", f"cpus {cpus}"]
 
     def thread():
         return f"{dice.randint(1, threads)}.1"

@@ -14,6 +14,8 @@ from second import machines, model, randoms, traces
 SEED = 20_261_125
 QUIET, FAULT, SPENT = 0, 1, 3
 FAULTS = "l4run: "
+# Half of all machines are of profile 2, and hand messages on.
+KINDS = (randoms.General, randoms.HandingOn, randoms.Conflicts, randoms.HandingOn)
 
 
 class Case:
@@ -65,26 +67,30 @@ def tried(case, dice, kind, counts):
     """Compares the replay of a random machine of this kind by a random schedule, and the audit of its trace."""
     text = kind(dice).text()
     machine = machines.read(text)
-    entries, replay = randoms.random_replay(dice, machine)
+    entries, replay = randoms.random_replay(dice, machine, kind.lengths)
     case.take(text, ",".join(map(str, entries)))
     at_rest, trace = replay.is_at_rest(), traces.text(replay.history)
     case.replay("trace", trace, at_rest)
     case.audit(machine, trace)
     case.replay("report", model.world_of(machine, replay.history).report(at_rest), at_rest, "--report")
-    if trace:
-        ending = case.audit(machine, randoms.spoilt(dice, machine, trace))
-        counts["audits of spoilt traces"] += 1
-        counts[f"audits of spoilt traces: {ending}"] += 1
+    for what, other in [("spoilt traces", trace and randoms.spoilt(dice, machine, trace)), ("late retargets", randoms.retargeted_late(dice, trace))]:
+        if other:
+            ending = case.audit(machine, other)
+            counts[f"audits of {what}"] += 1
+            counts[f"audits of {what}: {ending}"] += 1
     counts["machines"] += 1
+    counts[f"machines of profile {machine.profile}"] += 1
     counts["entries of schedules"] += len(entries)
     counts["steps"] += len(replay.history)
-    counts["deliveries"] += sum(1 for verb, *_ in replay.history if verb == "deliver")
+    counts["deliveries"] += traces.count("deliver", replay.history)
+    counts["retargets"] += traces.count("retarget", replay.history)
+    counts["retargets that turned"] += replay.turned()
 
 
 def main(program, folder, count, part):
     case, dice, counts = Case(program, folder, part), random.Random(SEED + part), collections.Counter()
     for number in range(count):
-        tried(case, dice, (randoms.General, randoms.Conflicts)[number % 2], counts)
+        tried(case, dice, KINDS[number % len(KINDS)], counts)
     for what, number in counts.items():
         print(f"{what}\t{number}")
 

@@ -21,6 +21,9 @@ WATCHED_TURNS = 200
 DECISIONS = {"deliver", "stimeout", "snobody", "scancel", "drop"}
 # Bit 14 of a delivery's tag: the message came from another processor.
 ACROSS = 0x4000
+PROFILES = (1, 2)
+# How often a script of each profile hands a message on, in place of another instruction.
+HANDS_ON = {1: 0.02, 2: 0.2}
 
 
 def thread(number):
@@ -56,15 +59,27 @@ def instruction(dice, threads, lines):
     return f"jump {dice.randrange(lines)}"
 
 
-def text(dice, cpus):
-    """A machine of so many processors and up to as many threads as there may be. Most scripts go on for ever."""
+def handed_on(dice, threads):
+    """Lines that receive a message, and send one in the name of a thread to another one."""
+    originator, receiver = thread(dice.randint(1, threads)), thread(dice.randint(1, threads))
+    return ["ipc nil any never never", f"vs {originator}", "tag 0x1000", f"ipc {receiver} nil never never"]
+
+
+def script(dice, threads, profile):
+    """Up to so many lines, and a few more. Most scripts go on for ever."""
+    lines, most = [], dice.randint(1, MOST_LINES)
+    while len(lines) < most - 1:
+        lines += handed_on(dice, threads) if dice.random() < HANDS_ON[profile] else [instruction(dice, threads, most)]
+    return lines + ["jump 0" if dice.random() < 0.9 else "end"]
+
+
+def text(dice, cpus, profile):
+    """A machine of so many processors and up to as many threads as there may be."""
     threads = dice.choice([dice.randint(2, 64), dice.randint(2, texts.MOST_THREADS), texts.MOST_THREADS])
-    told = [f"l4 1 64\ncpus {cpus}\n"]
+    told = [f"l4 {profile} 64\ncpus {cpus}\n"]
     for number in range(1, threads + 1):
-        lines = dice.randint(1, MOST_LINES)
         told.append(f"thread {thread(number)} cpu {dice.randrange(cpus)} space {dice.randint(1, 4)}\n")
-        told.extend(instruction(dice, threads, lines) + "\n" for _ in range(lines - 1))
-        told.append("jump 0\n" if dice.random() < 0.9 else "end\n")
+        told.extend(line + "\n" for line in script(dice, threads, profile))
     return "".join(told)
 
 
@@ -126,15 +141,16 @@ def main(program, folder, runs, part):
     dice = random.Random(SEED + part)
     counts, different = collections.Counter(), set()
     for number in range(runs):
-        cpus = dice.randint(2, texts.MOST_CPUS)
+        cpus, profile = dice.randint(2, texts.MOST_CPUS), dice.choice(PROFILES)
         with open(machine, "w") as file:
-            file.write(text(dice, cpus))
+            file.write(text(dice, cpus, profile))
         run = [program, "run", machine, "--turns", str(TURNS)]
         told = done(run, (QUIET, SPENT))
         audited(program, machine, trace, told)
         lines = told.stdout.splitlines()
         counts["sends undecided at the end of a run"] += len(undecided(lines))
         counts["steps of runs"] += len(lines)
+        counts["retargets of runs"] += sum(1 for line in lines if line.startswith("retarget "))
         counts["deliveries across processors"] += sum(1 for line in lines if line.startswith("deliver ") and int(line.split()[5], 16) & ACROSS)
         different.add(told.stdout)
         replay = [program, "replay", machine, "--schedule", schedule(dice, cpus)]

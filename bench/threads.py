@@ -4,7 +4,8 @@
 
 LIBRARY is what threads.c makes. Each text of examples/ and a machine of 16 busy processors is run with no thread, with little address space, and with one
 thread refused: the first, then the second, until a run ends in which none was refused. RUNS is how many runs of each text there are at most, SECONDS
-how long one may take. The space is 8 MiB, in which no thread can be started; 16 processors need more for their mail alone, and get 20.
+how long one may take. The space is 8 MiB, in which no thread can be started; the run is short then, since a trace is made
+whole before it is written.
 """
 
 import itertools
@@ -20,7 +21,7 @@ import texts
 EXAMPLES = pathlib.Path(__file__).resolve().parent.parent / "examples"
 ENDS = (0, 3)
 LITTLE_SPACE = 8 << 20
-SPACE_OF_16 = 20 << 20
+TURNS, FEW_TURNS = 20_000, 500
 
 
 def busy():
@@ -51,7 +52,7 @@ class Judge:
         added = {} if refused is None else {"LD_PRELOAD": str(self.library), "REFUSE_THREAD": str(refused), "REFUSE_TO": str(told)}
         begun = time.perf_counter()
         done = subprocess.run(
-            [self.program, "run", str(text), "--turns", "20000"],
+            [self.program, "run", str(text), "--turns", str(FEW_TURNS if space else TURNS)],
             capture_output=True,
             env=os.environ | added,
             preexec_fn=limited_to(space) if space else None,
@@ -79,7 +80,7 @@ def main(program, library, folder, runs="100000", seconds="1"):
     path = pathlib.Path(folder) / "busy.l4"
     path.write_text(busy())
     for text in [path] + sorted(EXAMPLES.glob("*.l4")):
-        judge.run(text, space=SPACE_OF_16 if text is path else LITTLE_SPACE)
+        judge.run(text, space=LITTLE_SPACE)
         judge.run(text, refused=0)
         for place in itertools.islice(itertools.count(1), int(runs)):
             if not judge.run(text, place):

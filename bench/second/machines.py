@@ -7,6 +7,8 @@ from second import words
 NEVER, ZERO = "never", "zero"
 LAST = "last"
 DELETE = "delete"
+# The profile in which the originator of a message that was handed on waits for the thread that received it.
+RETARGETING = 2
 RAW_ID = "#"
 NAMED_IDS = {"nil": words.NIL, "any": words.ANY, "anylocal": words.ANY_LOCAL}
 HEXADECIMAL = "0x"
@@ -93,10 +95,14 @@ class Declaration:
 
 @dataclasses.dataclass(frozen=True)
 class Machine:
-    """The number of processors, and the threads by their ids, in order of declaration."""
+    """The profile, the number of processors, and the threads by their ids, in order of declaration."""
 
+    profile: int
     cpus: int
     threads: dict
+
+    def retargets(self):
+        return self.profile == RETARGETING
 
     def cpu(self, thread):
         return self.threads[thread].cpu
@@ -154,8 +160,8 @@ def instruction(line):
 def read(text):
     """The machine of a text."""
     lines = [line for line in text.splitlines() if line and not line.startswith(COMMENT)]
-    _, cpus, *declared = lines
-    machine = Machine(number(cpus.split()[1]), {})
+    first, cpus, *declared = lines
+    machine = Machine(number(first.split()[1]), number(cpus.split()[1]), {})
     script = []
     for line in declared:
         match line.split():

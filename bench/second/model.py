@@ -69,6 +69,8 @@ class World:
         # The undecided sends by their names, in order of beginning, and those of them that are to be cancelled.
         self.sends = {}
         self.send_wishes = set()
+        # The owed retargets by their names.
+        self.owed = {}
         self.clocks = [0] * machine.cpus
 
     def member(self, thread):
@@ -93,6 +95,11 @@ class World:
         accepted = (name for name in member.waiting if threads.accepts(self.machine, thread, member.source, self.sends[name]))
         return next(accepted, None)
 
+    def must_wait(self, name):
+        """Whether a send must wait since its receiver may not have turned to the sender yet."""
+        destination = self.sends[name].destination
+        return any(owed.originator == destination and owed.new_partner == name.thread for owed in self.owed.values())
+
     def receives_from_none(self, thread):
         """Whether a thread is receiving, and nobody whom it accepts waits at it."""
         return thread in self.members and self.members[thread].receives() and self.first_accepted(thread) is None
@@ -100,7 +107,9 @@ class World:
     # Whether steps are possible. The clock of a thread is asked of a function.
 
     def can_queue(self, name):
-        return name in self.sends and not self.waits(name) and not self.is_nobody(self.sends[name].destination)
+        if name not in self.sends or self.waits(name) or self.must_wait(name):
+            return False
+        return not self.is_nobody(self.sends[name].destination)
 
     def can_deliver(self, name):
         if not self.waits(name):
@@ -111,6 +120,8 @@ class World:
     def can_stimeout(self, name, clock):
         send = self.sends.get(name)
         if send is None or send.period is None or clock(name.thread) < send.begun + send.period:
+            return False
+        if self.must_wait(name):
             return False
         return self.waits(name) if send.period else self.may_refuse(send)
 
@@ -129,7 +140,7 @@ class World:
         return self.machine.cpu(call.destination) == self.machine.cpu(receiver) or not threads.accepts(self.machine, receiver, call.source, send)
 
     def can_snobody(self, name):
-        return name in self.sends and self.is_nobody(self.sends[name].destination)
+        return name in self.sends and not self.must_wait(name) and self.is_nobody(self.sends[name].destination)
 
     def can_scancel(self, name):
         return name in self.send_wishes and self.waits(name)
@@ -204,6 +215,9 @@ class World:
         receiver.phase = Phase.READY
         receiver.receive_wish = False
         self.decide(name)
+        owed = threads.owed_by(self.machine, send)
+        if owed:
+            self.owed[name] = owed
         if not sender.alive:
             return
         if send.is_call:
@@ -277,6 +291,16 @@ class World:
         if "R" in bits and (target.phase is Phase.RECEIVING or sending and target.send.is_call):
             target.receive_wish = True
 
+    def do_retarget(self, name):
+        need(name in self.owed)
+        owed = self.owed.pop(name)
+        originator = self.members[owed.originator]
+        phase = originator.phase if originator.alive else None
+        if phase is Phase.RECEIVING and originator.source == owed.old_partner:
+            originator.source = owed.new_partner
+        elif phase is Phase.SENDING and originator.send.source == owed.old_partner:
+            originator.send.source = owed.new_partner
+
     def do_tick(self, cpu, clock):
         need(cpu < self.machine.cpus and clock > self.clocks[cpu])
         self.clocks[cpu] = clock
@@ -284,7 +308,9 @@ class World:
     # What is said of a world.
 
     def is_still(self):
-        """Whether no step but a tick is possible, now or after any ticks."""
+        """Whether no step but a tick is possible, now or after any ticks. What is owed can be done at any time."""
+        if self.owed:
+            return False
         if any(member.order is not None or member.alive and member.phase is Phase.READY for member in self.members.values()):
             return False
         decisions = (self.can_queue, self.can_deliver, self.can_snobody, self.can_scancel, self.can_drop)

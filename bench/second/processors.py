@@ -7,7 +7,7 @@ import enum
 import functools
 
 from second import machines, threads, words
-from second.threads import Context, Name, Phase, Send
+from second.threads import Context, Name, Owed, Phase, Send
 from second.words import ErrorCode
 
 
@@ -73,6 +73,13 @@ class OrderDone:
     caller: int
 
 
+@dataclasses.dataclass(frozen=True)
+class Retarget:
+    """An originator is to turn."""
+
+    owed: Owed
+
+
 @dataclasses.dataclass(eq=False)
 class Block:
     """A thread as its own processor has it."""
@@ -89,6 +96,8 @@ class Block:
     source: int = words.NIL
     # The lowest processor that was not told of the deletion.
     untold: int = 0
+    # What an originator of this processor owes since this thread received a message.
+    owed: Owed | None = None
 
     @property
     def thread(self):
@@ -106,6 +115,8 @@ class Processor:
         self.deadlines = []
         self.clock = 0
         self.gone = set()
+        # How many retargets have turned an originator.
+        self.turned = 0
         self.steps = []
         self.letters = []
 
@@ -217,6 +228,33 @@ class Processor:
         self.disarm(block)
         self.end_ipc(block)
         self.decide(send, Decision.DELIVERED)
+        owed = threads.owed_by(self.machine, send)
+        if owed:
+            self.owe(block, owed)
+
+    # Retargets.
+
+    def owe(self, receiver, owed):
+        """The originator turns by a duty of the receiver, or where it has another processor, by a letter."""
+        if owed.originator in self.own:
+            receiver.owed = owed
+        else:
+            self.post(self.machine.cpu(owed.originator), Retarget(owed))
+
+    def retarget(self, owed):
+        self.tell("retarget", owed.name)
+        originator = self.own[owed.originator]
+        phase = None if originator.deleted else originator.phase
+        if phase is Phase.RECEIVING and originator.source == owed.old_partner:
+            originator.source = owed.new_partner
+            self.turned += 1
+        elif phase is Phase.SENDING and originator.send.source == owed.old_partner:
+            originator.send.source = owed.new_partner
+            self.turned += 1
+
+    def retarget_for(self, receiver):
+        owed, receiver.owed = receiver.owed, None
+        self.retarget(owed)
 
     def arrive(self, send):
         """A send has come to the processor of its receiver."""
@@ -270,6 +308,8 @@ class Processor:
     def duties(self):
         """What is to be done for the own threads before any instruction runs, in the order in which it is tried, each as something to call."""
         for block in self.own.values():
+            if block.owed:
+                yield functools.partial(self.retarget_for, block)
             if block.deleted:
                 yield from self.duties_of_deleted(block)
                 continue
@@ -395,6 +435,8 @@ class Processor:
                 self.post(self.machine.cpu(caller), OrderDone(caller))
             case OrderDone(caller):
                 self.end_order(self.own[caller])
+            case Retarget(owed):
+                self.retarget(owed)
 
 
 @dataclasses.dataclass(frozen=True)
@@ -415,6 +457,10 @@ class Replay:
         self.processors = [Processor(machine, cpu) for cpu in range(machine.cpus)]
         self.mail = [[collections.deque() for _ in self.processors] for _ in self.processors]
         self.history = []
+
+    def turned(self):
+        """How many retargets have turned an originator."""
+        return sum(processor.turned for processor in self.processors)
 
     def has_mail(self, cpu):
         return any(self.mail[cpu])

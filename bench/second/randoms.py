@@ -1,4 +1,5 @@
-"""Random machine texts of two kinds, random schedules that go by what the processors have to do, and traces with one field spoilt."""
+"""Random machine texts of three kinds, random schedules that go by what the processors have to do, and traces with one field spoilt or one retarget
+late."""
 
 from second import machines, traces, words
 from second.processors import Entry, Replay
@@ -37,8 +38,15 @@ FEW_SPACES = [[1], [1], [1, 1, 1, 2]]
 FEW_VERSIONS = [1, 1, 1, 65]
 FEW_PERIODS = ["never", "never", "zero", "1", "2", "3", "0x403"]
 
+# What machines are drawn from in which messages are handed on. Most threads are of one space, as who hands on has to be of the originator's.
+HANDING_CPUS = [1, 1, 2, 2, 3, 3, 4]
+HANDING_SPACES = [[1], [1, 1, 1, 2]]
+# The periods of one machine: in most there is no time.
+HANDING_PERIODS = [["never"], ["never"], [*["never"] * 12, "zero", "1", "3"]]
+
 # The least and the greatest length of a schedule.
 LENGTHS = [(0, 10), (5, 40), (5, 40), (30, 90), (30, 90), (60, 150), (60, 150), (60, 150)]
+LONG = [(30, 90), (60, 150), (60, 150)]
 TICKS = [0, 0.05, 0.1, 0.2]
 # How often a turn or a tick is tried where nothing may be to be done.
 IDLE = 0.015
@@ -48,6 +56,9 @@ NEAR_THE_END = 5
 
 class Text:
     """A machine text in the making: its threads with their processors and spaces, and two of them that most others talk to."""
+
+    profile = 1
+    lengths = LENGTHS
 
     def __init__(self, dice, cpus, live, numbers, versions, spaces):
         self.dice = dice
@@ -76,7 +87,7 @@ class Text:
         return ["add 1 1"] * self.dice.randint(0, most)
 
     def text(self):
-        lines = ["l4 1 64", f"cpus {self.cpus}"]
+        lines = [f"l4 {self.profile} 64", f"cpus {self.cpus}"]
         for thread in self.threads:
             self.me = thread
             lines.append(f"thread {words.spelled(thread)} cpu {self.cpu[thread]} space {self.space[thread]}")
@@ -262,6 +273,85 @@ class Conflicts(Text):
         return [instruction() for _ in range(self.dice.randint(2, 6))]
 
 
+class HandingOn(Text):
+    """Small machines of profile 2, whose clients call one of few servers. These hand messages on in the client's name, to others that do the same or
+    answer."""
+
+    profile = machines.RETARGETING
+    lengths = LONG
+
+    def __init__(self, dice):
+        cpus, threads = dice.choice(HANDING_CPUS), dice.choice(FEW_THREADS)
+        super().__init__(dice, cpus, range(cpus), range(1, threads + 1), FEW_VERSIONS, dice.choice(HANDING_SPACES))
+        count = dice.choice([1, 1, 2])
+        self.clients, self.servers = self.threads[:count], self.threads[count:]
+        self.periods = dice.choice(HANDING_PERIODS)
+
+    def one_of(self, threads):
+        return words.spelled(self.dice.choice(threads if self.chance(0.9) else self.threads))
+
+    def to(self):
+        """A server, most often one behind the thread, so that few wait for each other."""
+        return self.one_of([thread for thread in self.servers if thread > self.me] or self.servers)
+
+    def client(self):
+        return self.one_of(self.clients)
+
+    def period(self):
+        return self.dice.choice(self.periods)
+
+    def ipc(self, to, source):
+        return f"ipc {to} {source} {self.period()} {self.period()}"
+
+    def script(self):
+        roles, shares = [self.hands_on, self.answers, self.mixture, self.cancels, self.deletes], [12, 4, 1, 1, 1]
+        if self.me == self.threads[0]:
+            roles, shares = [self.calls, self.sends_before_it_calls], [3, 1]
+        elif self.me in self.clients:
+            roles, shares = [self.calls, self.sends_before_it_calls, self.waits], [3, 1, 1]
+        elif self.me == self.threads[-1]:
+            roles, shares = [self.answers, self.hands_on], [4, 1]
+        lines = self.dice.choices(roles, shares)[0]()
+        return lines + ["jump 0"] if self.chance(0.8) else lines
+
+    def calls(self):
+        to = self.to()
+        return [self.ipc(to, self.dice.choice([to, to, to, to, self.to(), "any"]))] * self.dice.randint(1, 2)
+
+    def sends_before_it_calls(self):
+        """The message is handed on while its originator is in the send phase of a call that waits for the old partner."""
+        to = self.to()
+        return [self.ipc(to, "nil"), self.ipc(self.to(), to)]
+
+    def waits(self):
+        return [self.ipc("nil", self.dice.choice([self.to(), "any"]))] * self.dice.randint(1, 3)
+
+    def tag(self):
+        return f"tag {self.dice.randint(0, 7) << words.LABEL_SHIFT | words.PROPAGATED | self.dice.randint(0, 2)}"
+
+    def hands_on(self):
+        receive = [self.ipc("nil", "any")] if self.chance(0.9) else []
+        return [*receive, f"vs {self.client()}", self.tag(), self.ipc(self.to(), self.dice.choice(["nil", "nil", "nil", "any", self.client()]))]
+
+    def answers(self):
+        fresh_tag = ["tag 0"] if self.chance(0.5) else []
+        return [self.ipc("nil", "any"), *fresh_tag, self.ipc(self.dice.choice(["last", "last", self.client()]), "nil")]
+
+    def cancels(self):
+        mates = self.mates()
+        return [self.exregs(self.one_of([thread for thread in mates if thread in self.clients] or mates)), self.ipc("nil", "any")]
+
+    def deletes(self):
+        return [*self.additions(8), f"delete {self.one_of(self.threads)}", self.ipc("nil", "any")]
+
+    def mixture(self):
+        def instruction():
+            send = self.ipc(self.to(), self.dice.choice(["nil", self.to(), "any"]))
+            return self.dice.choice([send, send, self.ipc("nil", "any"), f"vs {self.client()}", self.tag(), "onerr 0"])
+
+        return [instruction() for _ in range(self.dice.randint(2, 6))]
+
+
 # Habits of schedules: which of the processors that have something to do may be next.
 
 
@@ -295,11 +385,11 @@ def mail_last(replay, busy, _entries):
 HABITS = [blindly, evenly, steadily, unfairly, unfairly, mail_first, mail_last, mail_last]
 
 
-def random_replay(dice, machine):
-    """A random schedule, and the replay of the machine by it."""
+def random_replay(dice, machine, lengths):
+    """A random schedule with one of these ranges of lengths, and the replay of the machine by it."""
     replay, entries = Replay(machine), []
     habit, ticks = dice.choice(HABITS), dice.choice(TICKS)
-    for _ in range(dice.randint(*dice.choice(LENGTHS))):
+    for _ in range(dice.randint(*dice.choice(lengths))):
         entries.append(next_entry(dice, replay, habit, ticks, entries))
         replay.take(entries[-1])
     return entries, replay
@@ -325,6 +415,19 @@ def spoilt(dice, machine, trace):
     place = dice.randrange(len(fields))
     fields[place] = dice.choice([other for other in others(dice, machine, fields, place) if other != fields[place]])
     lines[at] = " ".join(fields)
+    return "".join(line + "\n" for line in lines)
+
+
+def retargeted_late(dice, trace):
+    """The trace with one retarget a few lines later, or left out. Nothing where it has none."""
+    lines = trace.splitlines()
+    places = [place for place, line in enumerate(lines) if line.startswith("retarget ")]
+    if not places:
+        return ""
+    place = dice.choice(places)
+    late = lines.pop(place)
+    if dice.random() < 0.8:
+        lines.insert(place + dice.randint(1, NEAR_THE_END), late)
     return "".join(line + "\n" for line in lines)
 
 

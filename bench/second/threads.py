@@ -52,6 +52,16 @@ class Send:
         return self.source != words.NIL
 
 
+class Owed(typing.NamedTuple):
+    """A retarget, named by a propagated send that was delivered: its originator is to wait for who received it, the new partner, where it waits for who sent
+    it, the old one."""
+
+    name: Name
+    originator: int
+    old_partner: int
+    new_partner: int
+
+
 class Context:
     """The registers of a thread, its place in its script and how many sends it began."""
 
@@ -157,6 +167,13 @@ def received_tag(machine, send):
     across = machine.cpu(send.actual) != machine.cpu(send.destination)
     flags = (words.ACROSS if across else 0) | (words.PROPAGATED if send.propagated else 0)
     return send.label << words.LABEL_SHIFT | flags | len(send.message)
+
+
+def owed_by(machine, send):
+    """The retarget that the delivery of a send leaves owed, or nothing."""
+    if machine.retargets() and send.propagated:
+        return Owed(send.name, send.shown, send.actual, send.destination)
+    return None
 
 
 def accepts(machine, receiver, source, send):

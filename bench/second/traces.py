@@ -6,7 +6,7 @@ from second import machines, words
 from second.threads import Name
 
 OF_THREADS = ("local", "wait", "rtimeout", "rnobody", "rcancel", "obey")
-OF_SENDS = ("begin", "queue", "stimeout", "snobody", "scancel", "drop")
+OF_SENDS = ("begin", "queue", "stimeout", "snobody", "scancel", "drop", "retarget")
 ORDERS = ("S", "R", "SR", machines.DELETE)
 
 DECIMAL = re.compile(r"0|[1-9][0-9]*")
@@ -41,6 +41,10 @@ def line(step):
 
 def text(history):
     return "".join(line(step) + "\n" for step in history)
+
+
+def count(verb, history):
+    return sum(1 for step in history if step[0] == verb)
 
 
 def decimal(word, least, most):

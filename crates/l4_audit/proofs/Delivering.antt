@@ -1,15 +1,15 @@
 -- A message goes over from its sender to its receiver.
-use Rattle.std.proofs.Common.{◌≡◌, ℕ, zero, suc, Bool, true, map, Some, List, [], ◌∷◌, refl, ap, sym, ◌∙◌}
+use Rattle.std.proofs.Common.{◌≡◌, ℕ, zero, suc, Bool, true, map, Option, Some, List, [], ◌∷◌, refl, ap, sym, ◌∙◌}
 use Rattle.std.specs.Prelude.{slice_get, ◌==◌, ◌&&◌}
 use Rattle.std.specs.Str.{bytes_eq}
 use Rattle.std.proofs.lemmas.Slice.Eq.{bytes_eq-Decides}
 use Rattle.l4_model.specs.Words.{same_id, GlobalId, Id, NilThread, AnyThread, AnyLocalThread, LocalThread, GlobalThread}
 use Rattle.l4_model.specs.Machine.{Machine, place_of}
-use Rattle.l4_model.specs.World.{Name, Thread, Send, Receive, Message, World, change, changed, unqueued, receive_now}
-use Rattle.l4_model.specs.Rules.{received_tag, is_cross}
+use Rattle.l4_model.specs.World.{Name, Thread, Send, Receive, Message, Owed, World, change, changed, unqueued, receive_now}
+use Rattle.l4_model.specs.Rules.{received_tag, is_cross, owed_by}
 use Rattle.l4_model.specs.Effects.{receives, delivered}
 use Rattle.l4_model.specs.Conditions.{Found, Pending, found, found_by, undecided, receiver_of, first_accepted}
-use Rattle.l4_model.specs.Steps.{after_deliver}
+use Rattle.l4_model.specs.Steps.{after_deliver, owing}
 use Rattle.l4_model.proofs.Chains.{some_is, get-map, map-changed_same}
 use Rattle.l4_model.proofs.Places.{and_true, same_id_is, eqb_same, known, known_send, id_of, sender_found, receiver_there}
 use Rattle.l4_core_model.specs.Letters.{Delivered}
@@ -47,11 +47,11 @@ receiver_is_found m w AnyLocalThread r is = cc
 receiver_is_found m w (LocalThread word) r is = cc
 receiver_is_found m w (GlobalThread t) r is = is_found m w t r is
 
-pub delivers_now : (m : Machine) (a v : Audited) (d : DeliveryRef) (p : Pending) (r : Found) (receive : Receive) → undecided m a.world d.name ≡ Some p → receiver_of m a.world p ≡ Some r →
+pub delivers_now : (m : Machine) (a x v : Audited) (d : DeliveryRef) (p : Pending) (r : Found) (receive : Receive) (o : Option Owed) → undecided m a.world d.name ≡ Some p → receiver_of m a.world p ≡ Some r →
     receive_now r.now.phase ≡ Some receive → first_accepted m a.world r receive.from ≡ Some p.sender.at → is_delivery m d p r ≡ true →
-    v ≡ with_world a (taken_over p.sender.at r.at d p.sender.clock a.world) →
+    x ≡ with_world a (taken_over p.sender.at r.at d p.sender.clock a.world) → o ≡ owed_by m d.name p.send.message d.receiver → v ≡ with_world x (owing o x.world) →
     after_deliver m a.world d.name d.receiver d.message.shown d.message.actual (received_tag d.cross d.message) d.message.words ≡ Some v.world
-delivers_now m a v d p r receive is to receiving first tells ends =
+delivers_now m a x v d p r receive o is to receiving first tells ends owes more =
     let w : World = a.world in
     let s : ℕ = p.sender.at in
     let tag : ℕ = received_tag d.cross d.message in
@@ -70,7 +70,7 @@ delivers_now m a v d p r receive is to receiving first tells ends =
     let words : d.message.words ≡ p.send.message.words = (bytes_eq-Decides d.message.words p.send.message.words).0 one.1 in
     let here : (s == s) ≡ true = eqb_same s in
     let chain : after_deliver m w d.name d.receiver d.message.shown d.message.actual tag d.message.words
-    ≡ Some (change (change (unqueued w s) r.at (receives p.send.message tag)) s (delivered p.send p.sender.clock)) =
+    ≡ Some (owing (owed_by m d.name p.send.message d.receiver) (change (change (unqueued w s) r.at (receives p.send.message tag)) s (delivered p.send p.sender.clock))) =
     rw (is, to, receiving, first, here, four.0, four.1, three.1, two.1, one.1) refl in
     let got : change (unqueued w s) r.at (receives d.message tag) ≡ change (unqueued w s) r.at (receives p.send.message tag) =
     changes_at (unqueued w s) r.at (receives d.message tag) (receives p.send.message tag) r.now (receiver_there m w p.send.to r to) (same_receives d.message p.send.message tag r.now shown actual words) in
@@ -82,5 +82,7 @@ delivers_now m a v d p r receive is to receiving first tells ends =
     let ended_so : change u s (after_decision Delivered p.sender.clock) ≡ change u s (delivered p.send p.sender.clock) =
     ap (λ ts. record u { threads = ts })
     (changed_where (λ (t : Thread). t.send) (after_decision Delivered p.sender.clock) (delivered p.send p.sender.clock) u.threads s (Some p.send) has (λ t e. same_end p.send p.sender.clock t e)) in
-    let final : v.world ≡ change u s (delivered p.send p.sender.clock) = ap (λ (x : Audited). x.world) ends ∙ ap (λ x. change x s (after_decision Delivered p.sender.clock)) got ∙ ended_so in
+    let gone : x.world ≡ change u s (delivered p.send p.sender.clock) = ap (λ (y : Audited). y.world) ends ∙ ap (λ y. change y s (after_decision Delivered p.sender.clock)) got ∙ ended_so in
+    let final : v.world ≡ owing (owed_by m d.name p.send.message d.receiver) (change u s (delivered p.send p.sender.clock)) =
+    ap (λ (y : Audited). y.world) more ∙ ap (λ q. owing q x.world) owes ∙ ap (owing (owed_by m d.name p.send.message d.receiver)) gone in
     chain ∙ ap Some (sym final)

@@ -2,7 +2,9 @@ pub mod Deciding
 pub mod Delivering
 pub mod Lists
 pub mod Obeying
+pub mod Owing
 pub mod Placing
+pub mod Quieting
 pub mod Replaying
 pub mod Reporting
 pub mod Starting

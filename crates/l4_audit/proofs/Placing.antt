@@ -4,15 +4,15 @@ use Rattle.std.specs.Prelude.{slice_get, is_some, unwrap_or}
 use Rattle.std.proofs.lemmas.Option.{slice_get_within}
 use Rattle.l4_model.specs.Words.{GlobalId}
 use Rattle.l4_model.specs.Machine.{Machine, Declaration, Instr, End, What, CancelSend, CancelReceive, CancelBoth, Delete}
-use Rattle.l4_model.specs.World.{Thread, Asked, Send, Receive, Phase, Ready, Sending, Receiving, Ordering, Ended, Deleted, World, change, changed, opening, opening_thread, unqueued, is_ready}
+use Rattle.l4_model.specs.World.{Thread, Asked, Send, Receive, Owed, Phase, Ready, Sending, Receiving, Ordering, Ended, Deleted, World, change, changed, opening, opening_thread, unqueued, others_owed, is_ready}
 use Rattle.l4_model.specs.Rules.{act}
-use Rattle.l4_model.specs.Effects.{runs, begins, waits, fails, decided, refused, receives, delivered, goes_on, asked, orders, obeyed}
+use Rattle.l4_model.specs.Effects.{runs, begins, waits, fails, decided, refused, receives, delivered, goes_on, asked, orders, obeyed, turns}
 use Rattle.l4_model.specs.Conditions.{Found, found, instruction}
 use Rattle.l4_model.specs.Steps as steps
 use Rattle.l4_model.specs.Reached.{Suits, WorldFacts}
 use Rattle.l4_model.proofs.Chains.{some_is, map-changed_same, get-map}
 use Rattle.l4_model.proofs.Places.{known}
-use Rattle.l4_model.proofs.Inversions.{local_taken, begin_taken, queue_taken, deliver_taken, wait_taken, send_timeout_taken, send_nobody_taken, send_cancel_taken, drop_taken, receive_timeout_taken, receive_nobody_taken, receive_cancel_taken, order_taken, obey_taken, tick_taken}
+use Rattle.l4_model.proofs.Inversions.{local_taken, begin_taken, queue_taken, deliver_taken, wait_taken, send_timeout_taken, send_nobody_taken, send_cancel_taken, drop_taken, receive_timeout_taken, receive_nobody_taken, receive_cancel_taken, order_taken, obey_taken, tick_taken, retarget_taken}
 
 -- What of a thread is spoken of: whether it asked for something, and its place.
 pub record Part : Type 0 where
@@ -73,6 +73,17 @@ obeyed_part : (t : Thread) → (part (obeyed t)).asks ≡ false
 obeyed_part t = by t.phase
   where
     by : (p : Phase) → (part (obeyed (record t { phase = p }))).asks ≡ false
+    by Ready = refl
+    by Sending = refl
+    by (Receiving receive since) = refl
+    by Ordering = refl
+    by Ended = refl
+    by Deleted = refl
+
+turned_part : (o : Owed) (t : Thread) → part (turns o t) ≡ part t
+turned_part o t = by t.phase
+  where
+    by : (p : Phase) → part (turns o (record t { phase = p })) ≡ part t
     by Ready = refl
     by Sending = refl
     by (Receiving receive since) = refl
@@ -173,9 +184,11 @@ step_placed m w v (steps.Begin s) facts h placed =
 step_placed m w v (steps.Queue s) facts h placed = let k = queue_taken m w v s h in subst (Placed m) k.leads_to placed
 step_placed m w v (steps.Deliver s receiver shown actual tag words) facts h placed =
     let k = deliver_taken m w v s receiver shown actual tag words h in
-    kept m (change (unqueued w k.p.sender.at) k.r.at (receives k.p.send.message tag)) v (change (unqueued w k.p.sender.at) k.r.at (receives k.p.send.message tag)) k.p.sender.at
-    (delivered k.p.send k.p.sender.clock) (delivered_part k.p.send k.p.sender.clock) refl k.leads_to
-    (kept m w (change (unqueued w k.p.sender.at) k.r.at (receives k.p.send.message tag)) (unqueued w k.p.sender.at) k.r.at (receives k.p.send.message tag) (λ t. refl) refl refl placed)
+    let got : World = change (unqueued w k.p.sender.at) k.r.at (receives k.p.send.message tag) in
+    let gone : World = change got k.p.sender.at (delivered k.p.send k.p.sender.clock) in
+    subst (Placed m) k.leads_to
+    (kept m got gone got k.p.sender.at (delivered k.p.send k.p.sender.clock) (delivered_part k.p.send k.p.sender.clock) refl refl
+    (kept m w got (unqueued w k.p.sender.at) k.r.at (receives k.p.send.message tag) (λ t. refl) refl refl placed))
 step_placed m w v (steps.Wait id) facts h placed =
     let k = wait_taken m w v id h in
     subst (Placed m) k.leads_to (ready_placed m w id k.t (waits k.receive k.t.clock) facts k.found k.ready refl placed)
@@ -201,3 +214,6 @@ step_placed m w v (steps.Obey caller) facts h placed =
     let u : World = change w k.target (asked k.order.what) in
     subst (Placed m) k.leads_to (silent_placed m u k.t.at obeyed obeyed_part (kept m w u w k.target (asked k.order.what) (asked_part k.order.what) refl refl placed))
 step_placed m w v (steps.Tick cpu clock) facts h placed = let k = tick_taken m w v cpu clock h in subst (Placed m) k.leads_to placed
+step_placed m w v (steps.Retarget s) facts h placed =
+    let k = retarget_taken m w v s h in
+    kept m w v (record w { owed = others_owed w.owed s }) k.t.at (turns k.o) (turned_part k.o) refl k.leads_to placed

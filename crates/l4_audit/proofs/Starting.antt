@@ -6,7 +6,7 @@ use Rattle.std.proofs.lemmas.List.{length-map}
 use Rattle.std.proofs.lemmas.Option.{slice_get-map, get_or_from_slice_get}
 use Rattle.l4_model.specs.Words.{Id, NilThread, AnyThread, AnyLocalThread, LocalThread, GlobalThread, GlobalId, global_id, Period}
 use Rattle.l4_model.specs.Machine.{Machine, Declaration, Instr, Set, Copy, Add, Tag, Vs, Ipc, Ask, Jump, OnErr, End}
-use Rattle.l4_model.specs.World.{Thread, Send, Receive, World, Name, change, changed, is_ready}
+use Rattle.l4_model.specs.World.{Thread, Send, Receive, Owed, World, Name, change, changed, is_ready}
 use Rattle.l4_model.specs.Rules.{Act, RunsAlone, Sends, Receives, Orders, act, ipc_act, destination, receive_phase}
 use Rattle.l4_model.specs.Effects.{begins, waits}
 use Rattle.l4_model.specs.Conditions.{Found, found, act_of, instruction}
@@ -39,9 +39,9 @@ record StartsHere (m : Machine) (a : Audited) (place : ℕ) (i : Instr) (permitt
   id : id_at a place ≡ old.id
   thread : IsStarting m (id_at a place) i permitted old.thread
 
-starts_here : (m : Machine) (bs : List Block) (ws : List (List ℕ)) (cs : List ℕ) (a : Audited) (place : ℕ) (i : Instr) (permitted : Bool) (old : Block) → audited bs ws cs ≡ a →
+starts_here : (m : Machine) (bs : List Block) (ws : List (List ℕ)) (cs : List ℕ) (os : List Owed) (a : Audited) (place : ℕ) (i : Instr) (permitted : Bool) (old : Block) → audited bs ws cs os ≡ a →
     CanStart m a place i permitted → old ≡ get_or bs place old → StartsHere m a place i permitted old
-starts_here m bs ws cs a place i permitted old is can at =
+starts_here m bs ws cs os a place i permitted old is can at =
     let lt : place < length a.world.threads = is_within (IsStarting m (id_at a place) i permitted) a.world.threads place can in
     let size : length bs ≡ length a.world.threads = sym (length-map bs (λ (b : Block). b.thread)) ∙ ap (λ (x : Audited). length x.world.threads) is in
     let there : slice_get a.world.threads place ≡ Some old.thread = ap (λ (x : Audited). slice_get x.world.threads place) (sym is) ∙ thread_there bs place old (omega (arith, size)) at in
@@ -52,22 +52,22 @@ starts_here m bs ws cs a place i permitted old is can at =
     }
 
 -- An originator that may be shown is named by a global id.
-pub start_shown : (m : Machine) (bs : List Block) (ws : List (List ℕ)) (cs : List ℕ) (a : Audited) (place : ℕ) (i : Instr) (permitted : Bool) (old : Block) → audited bs ws cs ≡ a →
+pub start_shown : (m : Machine) (bs : List Block) (ws : List (List ℕ)) (cs : List ℕ) (os : List Owed) (a : Audited) (place : ℕ) (i : Instr) (permitted : Bool) (old : Block) → audited bs ws cs os ≡ a →
     CanStart m a place i permitted → old ≡ get_or bs place old → permitted ≡ true → IsSome (global_of old.thread.context.actual)
-start_shown m bs ws cs a place i permitted old is can at shown =
-    let here = starts_here m bs ws cs a place i permitted old is can at in
+start_shown m bs ws cs os a place i permitted old is can at shown =
+    let here = starts_here m bs ws cs os a place i permitted old is can at in
     shown_is_global m (id_at a place) old.thread.context.actual (sym here.thread.shows ∙ shown)
 
-pub started : (m : Machine) (bs : List Block) (ws : List (List ℕ)) (cs : List ℕ) (a : Audited) (place : ℕ) (i : Instr) (permitted : Bool) (now : ℕ) (old new : Block) → audited bs ws cs ≡ a →
+pub started : (m : Machine) (bs : List Block) (ws : List (List ℕ)) (cs : List ℕ) (os : List Owed) (a : Audited) (place : ℕ) (i : Instr) (permitted : Bool) (now : ℕ) (old new : Block) → audited bs ws cs os ≡ a →
     CanStart m a place i permitted → old ≡ get_or bs place old →
     ((n : Machine) → permitted ≡ may_show n old.id old.thread.context.actual → new ≡ record old { thread = starts (act n old.id now old.thread.context i) now old.thread }) →
-    audited (set bs place new) ws cs ≡ with_world a (change a.world place (starts_at m (id_at a place) now i))
-started m bs ws cs a place i permitted now old new is can at gives =
-    let here = starts_here m bs ws cs a place i permitted old is can at in
+    audited (set bs place new) ws cs os ≡ with_world a (change a.world place (starts_at m (id_at a place) now i))
+started m bs ws cs os a place i permitted now old new is can at gives =
+    let here = starts_here m bs ws cs os a place i permitted old is can at in
     let shows : permitted ≡ may_show m old.id old.thread.context.actual = here.thread.shows ∙ ap (λ id. may_show m id old.thread.context.actual) here.id in
     let e : new ≡ record old { thread = starts_at m (id_at a place) now i old.thread } =
     gives m shows ∙ ap (λ id. record old { thread = starts (act m id now old.thread.context i) now old.thread }) (sym here.id) in
-    written bs ws cs a place (starts_at m (id_at a place) now i) old new is here.within at e
+    written bs ws cs os a place (starts_at m (id_at a place) now i) old new is here.within at e
 
 -- Of a thread that was found.
 

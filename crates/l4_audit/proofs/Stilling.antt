@@ -6,7 +6,7 @@ use Rattle.std.specs.Option.{option_map}
 use Rattle.l4_model.proofs.Chains.{some_is}
 use Rattle.l4_model.specs.Words.{GlobalId}
 use Rattle.l4_model.specs.Machine.{Machine, place_of, is_place}
-use Rattle.l4_model.specs.World.{Send, Receive, Asked, World, Name, is_ready, is_deleted, is_alive, receive_now}
+use Rattle.l4_model.specs.World.{Send, Receive, Asked, Owed, World, Name, is_ready, is_deleted, is_alive, receive_now}
 use Rattle.l4_model.specs.Rules.{Act, RunsAlone, Sends, Receives, Orders, received_tag, is_cross}
 use Rattle.l4_model.specs.Conditions.{Found, found, found_by, Pending, undecided, receiver_of, act_of, is_waiting, first_accepted, is_nobody, is_no_destination, is_timed_out, ◌>>=◌, ◌>>◌}
 use Rattle.l4_model.specs.Steps.{Step, next, what_code, runs_alone, send_of, receive_of, order_of, receive_passed, after_local, after_begin, after_wait, after_obey, after_receive_timeout, after_receive_nobody, after_receive_cancel, after_queue, after_send_timeout, after_send_nobody, after_send_cancel, after_drop}
@@ -24,8 +24,9 @@ all_late : (v : ℕ) (cs : List ℕ) → map (λ c. v) cs ≡ replicate (length 
 all_late v [] = refl
 all_late v (c ∷ cs) = ap (λ xs. v ∷ xs) (all_late v cs)
 
-pub stopped : (bs : List Block) (ws : List (List ℕ)) (cs new : List ℕ) (a : Audited) → audited bs ws cs ≡ a → new ≡ replicate (length cs) (2 ^ 62 - 1) → audited bs ws new ≡ with_world a (late a.world)
-stopped bs ws cs new a is e = rw (← is, e) (ap (λ xs. audited bs ws xs) (sym (all_late (2 ^ 62 - 1) cs)))
+pub stopped : (bs : List Block) (ws : List (List ℕ)) (cs new : List ℕ) (os : List Owed) (a : Audited) → audited bs ws cs os ≡ a → new ≡ replicate (length cs) (2 ^ 62 - 1) →
+    audited bs ws new os ≡ with_world a (late a.world)
+stopped bs ws cs new os a is e = rw (← is, e) (ap (λ xs. audited bs ws xs os) (sym (all_late (2 ^ 62 - 1) cs)))
 
 -- Tests
 
@@ -246,12 +247,12 @@ arrives : (m : Machine) (w : World) (p : Pending) (o : Option Found) →
 arrives m w p None = refl
 arrives m w p (Some r) = refl
 
-sends_still : (m : Machine) (w : World) (s : Name) (t : Found) (o : Option Send) → undecided m w s ≡ option_map (λ send. record { sender = t; send = send }) o →
+sends_still : (m : Machine) (w : World) (s : Name) (t : Found) (o : Option Send) → undecided m w s ≡ option_map (λ send. record { sender = t; send = send }) o → w.owed ≡ [] →
     (is_none (after_queue m w s) && (is_none (after_send_timeout m w s) && (is_none (after_send_nobody m w s) && (is_none (after_send_cancel m w s)
     && (is_none (after_drop m w s) && list_all (λ step. is_none (next m w step)) (deliveries m w (undecided m w s) s))))))
     ≡ not (may_send m w t o)
-sends_still m w s t None u = rw u refl
-sends_still m w s t (Some send) u =
+sends_still m w s t None u none = rw u refl
+sends_still m w s t (Some send) u none =
     let p : Pending = pending_of t send in
     let is : undecided m w s ≡ Some p = u in
     let alive : Found → Bool = λ r. is_alive r.now.phase in
@@ -263,9 +264,9 @@ sends_still m w s t (Some send) u =
     let waits : Bool = is_waiting w p in
     let c : Bool = p.sender.now.cancel_send in
     let g : Bool = is_deleted p.sender.now.phase in
-    let queues : is_none (after_queue m w s) ≡ not (holds to (λ r. alive r && out r)) = rw is (guards_bound to alive out _) in
-    let times : is_none (after_send_timeout m w s) ≡ not st = rw is (one_guard st _) in
-    let nobodies : is_none (after_send_nobody m w s) ≡ not sn = rw is (one_guard sn _) in
+    let queues : is_none (after_queue m w s) ≡ not (holds to (λ r. alive r && out r)) = rw (is, none) (guards_bound to alive out _) in
+    let times : is_none (after_send_timeout m w s) ≡ not st = rw (is, none) (one_guard st _) in
+    let nobodies : is_none (after_send_nobody m w s) ≡ not sn = rw (is, none) (one_guard sn _) in
     let cancels : is_none (after_send_cancel m w s) ≡ not (waits && c) = rw is (two_guards waits c _) in
     let drops : is_none (after_drop m w s) ≡ not (waits && g) = rw is (two_guards waits g _) in
     let delivers : list_all (λ step. is_none (next m w step)) (deliveries m w (undecided m w s) s) ≡ not (holds to taken) =
@@ -309,8 +310,9 @@ seven : (a b d e f g h a2 b2 d2 e2 f2 g2 h2 : Bool) → a ≡ a2 → b ≡ b2 �
     (a && (b && (d && (e && (f && (g && h)))))) ≡ (a2 && (b2 && (d2 && (e2 && (f2 && (g2 && h2))))))
 seven a b d e f g h a2 b2 d2 e2 f2 g2 h2 p q r s t u v = rw (p, q, r, s, t, u, v) refl
 
-pub still_is : (m : Machine) (w : World) (id : GlobalId) (t : Found) → found m w id ≡ Some t → is_still_thread m w id ≡ is_still_found m w t
-still_is m w id t is =
+-- Where no retarget is owed.
+pub still_is : (m : Machine) (w : World) (id : GlobalId) (t : Found) → found m w id ≡ Some t → w.owed ≡ [] → is_still_thread m w id ≡ is_still_found m w t
+still_is m w id t is nothing =
     let same = (id_of m w id t is).0 in
     let here : found m w t.declared.id ≡ Some t = ap (found m w) same ∙ is in
     let tid : GlobalId = t.declared.id in
@@ -336,5 +338,5 @@ still_is m w id t is =
     ∙ ap (λ b. l1 && (l2 && (l3 && (ob && (rt && (rn && (rc && (qu && (st && (sn && (sc && (dr && b)))))))))))) (list_all-append none ds os)
     ∙ ap (λ b. l1 && (l2 && (l3 && (ob && b)))) (grouped rt rn rc qu st sn sc dr (list_all none ds) (list_all none os))
     ∙ seven _ _ _ _ _ _ _ _ _ _ _ _ _ _ (locals m w t here) (begins_is m w t here) (waits_is m w t here) (obeys m w t here) (stops m w t here)
-    (sends_still m w last t t.now.send (undecided_is m w t here)) (orders_is m w t here)
+    (sends_still m w last t t.now.send (undecided_is m w t here) nothing) (orders_is m w t here)
     ∙ finished (act_of m t) (is_ready t.now.phase) (may_obey m t.now.order) (may_stop m w t (receive_now t.now.phase)) (may_send m w t t.now.send)

@@ -1,9 +1,11 @@
--- Where a thread can be in for no step but by a tick, with the clocks as they are.
-use Rattle.std.specs.Prelude.{ℕ, Bool, false, not, ◌&&◌, ◌||◌, Option, Some, None, is_some, is_none}
+-- Where no step but a tick is possible, with the clocks as they are.
+use Rattle.std.specs.Prelude.{ℕ, Bool, false, not, ◌==◌, ◌&&◌, ◌||◌, Option, Some, None, is_some, is_none, length}
+use Rattle.std.specs.List.{list_all}
 use Rattle.l4_model.specs.Machine.{Machine, place_of, is_place}
 use Rattle.l4_model.specs.World.{Receive, Send, Asked, World, is_ready, is_deleted, is_alive, receive_now}
 use Rattle.l4_model.specs.Conditions.{Found, found_by, Pending, receiver_of, is_waiting, first_accepted, is_nobody, is_no_destination, is_timed_out}
 use Rattle.l4_model.specs.Steps.{receive_passed}
+use Rattle.l4_model.specs.Still.{is_still_thread}
 
 -- What it asked for can be done.
 abbrev pub may_obey : Machine → Option Asked → Bool
@@ -41,3 +43,10 @@ may_send m w t (Some send) = may_decide m w (record { sender = t; send = send })
 abbrev pub is_still_found : Machine → World → Found → Bool
 is_still_found m w t =
     not (is_ready t.now.phase || (may_obey m t.now.order || (may_stop m w t (receive_now t.now.phase) || may_send m w t t.now.send)))
+
+-- No retarget is owed, and no thread can be in for a step but by a tick, with the clocks as they are.
+abbrev pub owes_nothing : World → Bool
+owes_nothing w = length w.owed == 0
+
+abbrev pub is_still_now : Machine → World → Bool
+is_still_now m w = owes_nothing w && list_all (λ d. is_still_thread m w d.id) m.threads

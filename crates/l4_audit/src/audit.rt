@@ -3,7 +3,8 @@ ghost use Rattle.std.specs.Prelude.{◌≡◌, IfOk, IfErr, map};
 ghost use Rattle.l4_types.specs.StepView.{step_of};
 ghost use Rattle.l4_audit.specs.Audits.{Passes, Blames, IsReached, is_quiet};
 ghost use Rattle.l4_audit.specs.Audited.{IsOf};
-ghost use Rattle.l4_model.specs.Still.{is_still};
+ghost use Rattle.l4_audit.specs.Stillness.{is_still_now};
+ghost use Rattle.l4_model.specs.Still.{late};
 
 use crate::world::World;
 use l4_history::history::History;
@@ -88,7 +89,7 @@ fn replayed(alloc: Global, machine: &Machine, history: &History) -> Result<World
     let mut world = World::new(alloc, machine)?;
     for place in 0..history.len() {
         let step = history.step(place);
-        if !world.take(machine, &step) {
+        if !world.take(machine, &step)? {
             return Err(AuditFault::Refused { place: place + 1 });
         }
     }
@@ -98,7 +99,7 @@ fn replayed(alloc: Global, machine: &Machine, history: &History) -> Result<World
 // Whether nothing but clocks can go on in a world.
 fn ending(machine: &Machine, world: World) -> Result<Ending, NoMemory>
     requires { IsOf machine.now world }
-    ensures { IfOk result (λ ending. is_quiet ending ≡ is_still machine.now world.world) }
+    ensures { IfOk result (λ ending. is_quiet ending ≡ is_still_now machine.now (late world.world)) }
 {
     let mut world = world;
     world.stop_clocks()?;

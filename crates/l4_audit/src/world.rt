@@ -7,6 +7,7 @@ mod effects;
 mod looks;
 mod opening;
 mod receives;
+mod retargets;
 mod sends;
 mod steps;
 mod still;
@@ -17,28 +18,31 @@ use crate::found::{Found, Pending};
 use l4_script::machine::Machine;
 use l4_thread::tcb::Tcb;
 use l4_types::ids::{GlobalId, ThreadId};
+use l4_types::owed::Owed;
 use l4_types::steps::Name;
 use std::marker::Model;
 use tcb_arena::Arena;
 
-/// All threads in order of declaration, for each the senders that wait at it by their places, and the clocks of the processors. Of the
-/// lists only those of the waiting senders are used.
+/// All threads in order of declaration, for each the senders that wait at it by their places, the clocks of the processors, and the owed
+/// retargets in order of delivery. Of the lists only those of the waiting senders are used.
 #[derive(Drop)]
 pub struct World {
     threads: Vec<Tcb>,
     lists: Arena,
     clocks: Vec<u64>,
+    owed: Vec<Owed>,
 }
 
 impl Model for World {
     ghost use Rattle.std.specs.Prelude.{map};
+    ghost use Rattle.l4_types.specs.OwedView.{owed_of};
     ghost use Rattle.l4_audit.specs.Audited.{Audited, senders_of};
 
     ghost Value = { Audited };
 
     ghost view = { λ w. record {
       ids = map (λ b. b.id) w.threads.items;
-      world = record { threads = map (λ b. b.thread) w.threads.items; waiting = senders_of w.lists.waiting; clocks = w.clocks.items };
+      world = record { threads = map (λ b. b.thread) w.threads.items; waiting = senders_of w.lists.waiting; clocks = w.clocks.items; owed = map owed_of w.owed.items };
     } };
 }
 

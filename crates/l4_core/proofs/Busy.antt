@@ -13,7 +13,7 @@ use Rattle.l4_core.proofs.Choosing.{chooses_duty, chooses_other}
 
 pub with_duty : (p : Processor) (o : Option (ℕ × Duty)) → IsFound o p → is_some o ≡ true → true ≡ is_some (turns.choice p.machine p.cpu p.local)
 with_duty p None found e = cc
-with_duty p (Some x) found e = sym (ap is_some (chooses_duty p.machine p.cpu p.local x.0 (duty_of x.1) found))
+with_duty p (Some x) found e = sym (ap is_some (chooses_duty p.machine p.cpu p.local x.0 (duty_of p.local.owed x.0 x.1) found))
 
 pub no_duty : (p : Processor) (o : Option (ℕ × Duty)) → IsFound o p → is_some o ≡ false → HasNoDuty p.machine p.cpu p.local
 no_duty p None found e = found

@@ -6,22 +6,24 @@ use Rattle.std.specs.List.{list_any}
 use Rattle.std.proofs.lemmas.Bool.{and_parts, or_parts, eqb-true, cases_eq, ne_eqb, eq-eqb}
 use Rattle.l4_model.specs.Words.{Id, NilThread, AnyThread, AnyLocalThread, LocalThread, GlobalThread}
 use Rattle.l4_model.specs.Machine.{Machine, place_of}
-use Rattle.l4_model.specs.World.{Receive, Thread, changed, receive_now, is_deleted}
-use Rattle.l4_model.specs.Conditions.{is_gone}
+use Rattle.l4_model.specs.World.{Receive, Send, Owed, Phase, Ready, Sending, Receiving, Ordering, Ended, Deleted, Thread, changed, receive_now, is_deleted}
+use Rattle.l4_model.specs.Conditions.{Found, is_gone}
+use Rattle.l4_model.specs.Effects.{turned_send, turns, turns_in}
 use Rattle.l4_model.specs.Rules.{takes}
 use Rattle.l4_core_model.specs.Plain as plain
 use Rattle.l4_core_model.specs.Plain.{Plain}
-use Rattle.l4_core_model.specs.Local.{Local, is_own, thread, held, changes, comes_to, relists}
+use Rattle.l4_core_model.specs.Local.{Local, is_own, thread, held, changes, comes_to, keeps_beside, owed_beside, relists}
 use Rattle.l4_core_model.specs.Acts.{zero_refusable}
-use Rattle.l4_core_model.specs.Turns.{CancelsOwn, clock_is, has_told}
+use Rattle.l4_core_model.specs.Turns.{Duty, CancelsOwn, clock_is, has_told}
 use Rattle.l4_core_model.proofs.Fit.{get_other, get_cases}
 use Rattle.l4_core.specs.Places.{has, count}
 use Rattle.l4_core.specs.Settled.{IsOwn}
-use Rattle.l4_core.specs.Covered.{duty_at, names_nobody, untold_of, or_tell, deleted_duty, or_close, or_refuse, receive_duty, living_duty, duty_of_thread, Covers}
+use Rattle.l4_core.specs.Covered.{after_retarget, duty_at, names_nobody, untold_of, or_tell, deleted_duty, or_close, or_refuse, receive_duty, living_duty, duty_of_thread, Covers}
 use Rattle.l4_core.proofs.PlaceSets.{count_less}
 use Rattle.l4_core.proofs.Zeros.{apart_in, is_somewhere, find-filter, get-map, get_apart, send_same}
 use Rattle.l4_core.proofs.Settling.{or_cases}
-use Rattle.l4_core.proofs.Parting.{duty_is, same_duty, refusable_same}
+use Rattle.l4_core.proofs.Parting.{duty_is, same_duty, refusable_alike, refusable_same}
+use Rattle.l4_core.proofs.Turned.{turned_deleted}
 
 -- What is removed was in, and is in no more.
 still_in : (d e : List ℕ) (place : ℕ) → ((o : ℕ) → has e o ≡ (has d o && not (o == place))) → (o : ℕ) → has e o ≡ true → has d o ≡ true
@@ -79,24 +81,24 @@ nobody_as m k l e (GlobalThread id) = by (place_of m id)
     by (Some i) = e i
 
 -- The threads, the waiting sends and what was told are all that matters.
-pub covers-same : (d : List ℕ) (m : Machine) (cpu : ℕ) (k l : Local) → ((i : ℕ) → thread k i ≡ thread l i) → k.lists.waiting ≡ l.lists.waiting → k.told ≡ l.told → Covers d m cpu l → Covers d m cpu k
-covers-same d m cpu k l threads waiting told c = record {
+pub covers-same : (d : List ℕ) (m : Machine) (cpu : ℕ) (k l : Local) → ((i : ℕ) → thread k i ≡ thread l i) → k.lists.waiting ≡ l.lists.waiting → k.told ≡ l.told → k.owed ≡ l.owed → Covers d m cpu l → Covers d m cpu k
+covers-same d m cpu k l threads waiting told owed c = record {
   within = c.within;
   others = λ o own h.
-      same_duty m cpu k l o (nobody_as m k l (λ i. ap (λ (t : Thread). is_deleted t.phase) (threads i))) (threads o) (ap (λ ess. list_any (list_any (λ (w : plain.Waiting). o == w.block)) ess) waiting) (ap (λ ess. slice_index_or ess o []) waiting) (ap (λ ns. slice_index_or ns o 0) told)
+      same_duty m cpu k l o (nobody_as m k l (λ i. ap (λ (t : Thread). is_deleted t.phase) (threads i))) (threads o) (ap (λ ess. list_any (list_any (λ (w : plain.Waiting). o == w.block)) ess) waiting) (ap (λ ess. slice_index_or ess o []) waiting) (ap (λ ns. slice_index_or ns o 0) told) (ap (λ os. slice_index_or os o None) owed)
       (refusable_same m k l o (plain.list_of k.lists o) (threads o) (λ w there. ap (λ (t : Thread). t.send) (threads w.block)) ∙ ap (λ ess. find (λ w. zero_refusable m (held m l o) (thread l w.block).send) (slice_index_or ess o [])) waiting)
       ∙ c.others o own h;
 }
 
 pub covers-clocked : (d : List ℕ) (m : Machine) (cpu : ℕ) (l : Local) (to : ℕ) → Covers d m cpu l → Covers d m cpu (clock_is to l)
-covers-clocked d m cpu l to c = covers-same d m cpu (clock_is to l) l (λ i. refl) refl refl c
+covers-clocked d m cpu l to c = covers-same d m cpu (clock_is to l) l (λ i. refl) refl refl refl c
 
 pub covers-stamped : (d : List ℕ) (m : Machine) (cpu : ℕ) (l : Local) (s : ℕ) → Covers d m cpu l → Covers d m cpu (record l { stamp = s })
-covers-stamped d m cpu l s c = covers-same d m cpu (record l { stamp = s }) l (λ i. refl) refl refl c
+covers-stamped d m cpu l s c = covers-same d m cpu (record l { stamp = s }) l (λ i. refl) refl refl refl c
 
 -- The ready and the armed ones are of no matter.
 pub covers-relisted : (d : List ℕ) (m : Machine) (cpu : ℕ) (l : Local) (k : Plain) → k.waiting ≡ l.lists.waiting → Covers d m cpu l → Covers d m cpu (record l { lists = k })
-covers-relisted d m cpu l k e c = covers-same d m cpu (record l { lists = k }) l (λ i. refl) e refl c
+covers-relisted d m cpu l k e c = covers-same d m cpu (record l { lists = k }) l (λ i. refl) e refl refl c
 
 -- A thread changes, and its place is in where it is of this processor. It is deleted before and after, or neither.
 pub covers-changed : (d : List ℕ) (m : Machine) (cpu : ℕ) (l : Local) (i : ℕ) (f : Thread → Thread) → Covers d m cpu l → i < length l.threads → (is_own m cpu i ≡ true → has d i ≡ true) →
@@ -110,7 +112,7 @@ covers-changed d m cpu l i f c lt there alive kept = record { within = c.within;
     others o own h =
         let ne : i ≡ o → ⊥ = λ same. apart_in d i o (there (subst (λ k. is_own m cpu k ≡ true) (sym same) own.own)) h same in
         let at : thread (changes i f l) o ≡ thread l o = get_other f l.threads i o ne in
-        same_duty m cpu (changes i f l) l o (nobody_as m (changes i f l) l deleted) at refl refl refl
+        same_duty m cpu (changes i f l) l o (nobody_as m (changes i f l) l deleted) at refl refl refl refl
         (refusable_same m (changes i f l) l o (plain.list_of l.lists o) at (λ w stands. send_same i w.block f l lt kept (is_somewhere (λ (v : plain.Waiting). w.block == v.block) l.lists.waiting o stands)))
         ∙ c.others o own h
 
@@ -123,9 +125,51 @@ pub covers-told : (d : List ℕ) (m : Machine) (cpu : ℕ) (l : Local) (to i : �
 covers-told d m cpu l to i there c = record {
   within = c.within;
   others = λ o own h.
-      same_duty m cpu (has_told to i l) l o (nobody_as m (has_told to i l) l (λ j. refl)) refl refl refl (get_apart (λ n. to + 1) l.told i o 0 (apart_in d i o there h)) refl
+      same_duty m cpu (has_told to i l) l o (nobody_as m (has_told to i l) l (λ j. refl)) refl refl refl (get_apart (λ n. to + 1) l.told i o 0 (apart_in d i o there h)) refl refl
       ∙ c.others o own h;
 }
+
+-- A retarget is kept beside a thread, or taken out, and its place is in.
+pub covers-kept : (d : List ℕ) (m : Machine) (cpu : ℕ) (l : Local) (i : ℕ) (kept : Option Owed) → has d i ≡ true → Covers d m cpu l → Covers d m cpu (keeps_beside i kept l)
+covers-kept d m cpu l i kept there c = record {
+  within = c.within;
+  others = λ o own h.
+      same_duty m cpu (keeps_beside i kept l) l o (nobody_as m (keeps_beside i kept l) l (λ j. refl)) refl refl refl refl (get_apart (λ old. kept) l.owed i o None (apart_in d i o there h)) refl
+      ∙ c.others o own h;
+}
+
+-- A thread turns to a new partner, and its place is in where it is of this processor. Its send is refused as before.
+
+turned_refusable : (m : Machine) (r : Found) (owed : Owed) (t : Thread) → zero_refusable m r (turns owed t).send ≡ zero_refusable m r t.send
+turned_refusable m r owed t = by t.phase
+  where
+    sends : (o : Option Send) → zero_refusable m r (option_map (turned_send owed) o) ≡ zero_refusable m r o
+    sends None = refl
+    sends (Some send) = refl
+
+    by : (p : Phase) → zero_refusable m r (turns_in p owed t).send ≡ zero_refusable m r t.send
+    by Ready = refl
+    by Sending = sends t.send
+    by (Receiving receive since) = refl
+    by Ordering = refl
+    by Ended = refl
+    by Deleted = refl
+
+pub covers-turned : (d : List ℕ) (m : Machine) (cpu : ℕ) (l : Local) (i : ℕ) (owed : Owed) → Covers d m cpu l → i < length l.threads → (is_own m cpu i ≡ true → has d i ≡ true) → Covers d m cpu (changes i (turns owed) l)
+covers-turned d m cpu l i owed c lt there = record { within = c.within; others = others }
+  where
+    deleted : (o : ℕ) → is_deleted (thread (changes i (turns owed) l) o).phase ≡ is_deleted (thread l o).phase
+    deleted o = get_cases (λ t. is_deleted t.phase ≡ is_deleted (thread l o).phase) (turns owed) l.threads i o lt (λ same. turned_deleted owed (thread l i) ∙ ap (λ k. is_deleted (thread l k).phase) same) (λ ne. refl)
+
+    others : (o : ℕ) → IsOwn m cpu o → has d o ≡ false → duty_at m cpu (changes i (turns owed) l) o ≡ None
+    others o own h =
+        let ne : i ≡ o → ⊥ = λ same. apart_in d i o (there (subst (λ k. is_own m cpu k ≡ true) (sym same) own.own)) h same in
+        let at : thread (changes i (turns owed) l) o ≡ thread l o = get_other (turns owed) l.threads i o ne in
+        same_duty m cpu (changes i (turns owed) l) l o (nobody_as m (changes i (turns owed) l) l deleted) at refl refl refl refl
+        (refusable_alike m (changes i (turns owed) l) l o (plain.list_of l.lists o) at
+        (λ w stands. get_cases (λ t. zero_refusable m (held m l o) t.send ≡ zero_refusable m (held m l o) (thread l w.block).send) (turns owed) l.threads i w.block lt
+        (λ same. turned_refusable m (held m l o) owed (thread l i) ∙ ap (λ k. zero_refusable m (held m l o) (thread l k).send) same) (λ ne. refl)))
+        ∙ c.others o own h
 
 -- A send is queued, and the places of its receiver and its sender are in where they are of this processor.
 
@@ -146,7 +190,7 @@ covers-queued d m cpu l r w c at_r at_w = record { within = c.within; others = o
         let ne_r : r ≡ o → ⊥ = λ same. apart_in d r o (at_r (subst (λ k. IsOwn m cpu k) (sym same) own)) h same in
         let ne_w : w.block ≡ o → ⊥ = λ same. apart_in d w.block o (at_w (subst (λ k. IsOwn m cpu k) (sym same) own)) h same in
         let list = get_apart (λ ws. ws ++ w ∷ []) l.lists.waiting r o [] ne_r in
-        same_duty m cpu (relists (plain.queued r w) l) l o (nobody_as m (relists (plain.queued r w) l) l (λ j. refl)) refl (queued_apart r o w l.lists.waiting ne_w) list refl
+        same_duty m cpu (relists (plain.queued r w) l) l o (nobody_as m (relists (plain.queued r w) l) l (λ j. refl)) refl (queued_apart r o w l.lists.waiting ne_w) list refl refl
         (ap (λ ws. find (λ (v : plain.Waiting). zero_refusable m (held m l o) (thread l v.block).send) ws) list)
         ∙ c.others o own h
 
@@ -222,14 +266,20 @@ thread_still : (nobody : Id → Bool) (i : ℕ) (t : Thread) (d a b : Bool) (ws 
 thread_still nobody i t true a b ws u z y f g e = deleted_still i a b ws u f e
 thread_still nobody i t false a b ws u z y f g e = living_still nobody i t t.cancel_send a b ws z y f g e
 
+kept_still : (kept : Option Owed) (d e : Option Duty) → (d ≡ None → e ≡ None) → after_retarget kept d ≡ None → after_retarget kept e ≡ None
+kept_still None d e f h = f h
+kept_still (Some owed) d e f h = cc
+
 still_none : (m : Machine) (cpu : ℕ) (l : Local) (i o : ℕ) → duty_at m cpu l o ≡ None → duty_at m cpu (relists (plain.unqueued i) l) o ≡ None
 still_none m cpu l i o e =
     let test : plain.Waiting → Bool = λ w. zero_refusable m (held m l o) (thread l w.block).send in
     let list : plain.list_of (plain.unqueued i l.lists) o ≡ others_of i (plain.list_of l.lists o) = get-map (others_of i) l.lists.waiting o refl in
     duty_is m cpu (relists (plain.unqueued i) l) o
-    ∙ ap (λ ws. duty_of_thread (names_nobody m l) (thread l o) (plain.is_queued (plain.unqueued i l.lists) o) ws (untold_of m cpu l o) (find test ws)) list
-    ∙ thread_still (names_nobody m l) i (thread l o) (is_deleted (thread l o).phase) (plain.is_queued l.lists o) (plain.is_queued (plain.unqueued i l.lists) o) (plain.list_of l.lists o) (untold_of m cpu l o) (find test (plain.list_of l.lists o)) (find test (others_of i (plain.list_of l.lists o)))
-    (unqueued_still i o l.lists.waiting) (find-filter test (λ (w : plain.Waiting). not (i == w.block)) (plain.list_of l.lists o)) (sym (duty_is m cpu l o) ∙ e)
+    ∙ ap (λ ws. after_retarget (owed_beside l o) (duty_of_thread (names_nobody m l) (thread l o) (plain.is_queued (plain.unqueued i l.lists) o) ws (untold_of m cpu l o) (find test ws))) list
+    ∙ kept_still (owed_beside l o) _ _
+    (λ h. thread_still (names_nobody m l) i (thread l o) (is_deleted (thread l o).phase) (plain.is_queued l.lists o) (plain.is_queued (plain.unqueued i l.lists) o) (plain.list_of l.lists o) (untold_of m cpu l o) (find test (plain.list_of l.lists o)) (find test (others_of i (plain.list_of l.lists o)))
+    (unqueued_still i o l.lists.waiting) (find-filter test (λ (w : plain.Waiting). not (i == w.block)) (plain.list_of l.lists o)) h)
+    (sym (duty_is m cpu l o) ∙ e)
 
 pub covers-unqueued : (d : List ℕ) (m : Machine) (cpu : ℕ) (l : Local) (i : ℕ) → Covers d m cpu l → Covers d m cpu (relists (plain.unqueued i) l)
 covers-unqueued d m cpu l i c = record { within = c.within; others = λ o own h. still_none m cpu l i o (c.others o own h) }

@@ -1,4 +1,4 @@
--- A message is delivered.
+-- A message is handed over.
 use Rattle.std.proofs.Common.{◌≡◌, ℕ, true, not, is_some, Option, Some, None, refl, ap, sym, ◌∙◌, subst}
 use Rattle.std.specs.Option.{option_map}
 use Rattle.l4_model.specs.World.{Message, Send, Thread, receive_now}
@@ -7,7 +7,7 @@ use Rattle.l4_model.specs.Effects.{receives}
 use Rattle.l4_model.specs.Steps as steps
 use Rattle.l4_core_model.specs.Letters.{Delivered}
 use Rattle.l4_core_model.specs.Local.{declared, is_own, last_name, thread, comes_to}
-use Rattle.l4_core_model.specs.Acts.{Work, delivers, delivers_message, delivers_send, decides_send}
+use Rattle.l4_core_model.specs.Acts.{Work, decides_send}
 use Rattle.l4_core_model.proofs.Fit.{get_other}
 use Rattle.l4_history.specs.declared.step_ref.DeliveryRef.{DeliveryRef}
 use Rattle.l4_history.specs.Seen.{delivered}
@@ -15,7 +15,7 @@ use Rattle.l4_core.specs.Changing.{receives_from}
 use Rattle.l4_core.specs.Parts.{AreCore}
 use Rattle.l4_core.specs.Processor.{Processor, with_local}
 use Rattle.l4_core.specs.Tellings.{Told, with_step}
-use Rattle.l4_core.specs.Turning.{work, Does, IsSender, IsReceiver}
+use Rattle.l4_core.specs.Turning.{hands_message, hands_over, hands_send, work, Does, IsSender, IsReceiver}
 use Rattle.l4_core.proofs.Crossing.{crosses}
 use Rattle.l4_core.proofs.Fitting.{waits_not_sends}
 
@@ -33,23 +33,23 @@ message_in : (o : Option Send) (message : Message) → option_map (λ (s : Send)
 message_in None message e = cc
 message_in (Some send) message e = (send, refl, cc)
 
-delivered_is : (p : Processor) (r i : ℕ) (send : Send) (x : Work) → (thread x.local i).send ≡ Some send →
-    delivers p.machine p.cpu r i x ≡ delivers_message p.machine p.cpu r i send.message (received_tag (is_cross p.machine (declared p.machine r).id send.message) send.message) x
-delivered_is p r i send x has = ap (λ o. delivers_send p.machine p.cpu r i o x) has
+handed_is : (p : Processor) (r i : ℕ) (send : Send) (x : Work) → (thread x.local i).send ≡ Some send →
+    hands_over p.machine p.cpu r i x ≡ hands_message p.machine p.cpu r i send.message (received_tag (is_cross p.machine (declared p.machine r).id send.message) send.message) x
+handed_is p r i send x has = ap (λ o. hands_send p.machine p.cpu r i o x) has
 
-pub deliver_does : (p q u : Processor) (r i : ℕ) (before middle after : Told) (d : DeliveryRef) (tag : ℕ) → AreCore p → IsReceiver p r → IsSender p i →
+pub hand_over_does : (p q u : Processor) (r i : ℕ) (before middle after : Told) (d : DeliveryRef) (tag : ℕ) → AreCore p → IsReceiver p r → IsSender p i →
     d.name ≡ last_name p.machine p.local i → d.receiver ≡ (declared p.machine r).id → option_map (λ (s : Send). s.message) (thread p.local i).send ≡ Some d.message → d.message.actual ≡ (declared p.machine i).id → d.cross ≡ not (is_own p.machine p.cpu i) →
     tag ≡ received_tag d.cross d.message → middle ≡ with_step (delivered d) before → q ≡ with_local p (comes_to r (receives_from (thread p.local i).send tag) p.local) → Does (decides_send q.machine q.cpu Delivered i) q u middle after →
-    Does (delivers p.machine p.cpu r i) p u before after
-deliver_does p q u r i before middle after d tag core receiver sender named to carries from crossing tagged tells passed doing =
+    Does (hands_over p.machine p.cpu r i) p u before after
+hand_over_does p q u r i before middle after d tag core receiver sender named to carries from crossing tagged tells passed doing =
     let s = message_in (thread p.local i).send d.message carries in
     let is : q ≡ with_local p (comes_to r (receives d.message tag) p.local) =
     passed ∙ ap (λ o. with_local p (comes_to r (receives_from o tag) p.local)) s.1 ∙ ap (λ (n : Message). with_local p (comes_to r (receives n tag) p.local)) s.2 in
     let crossed : is_cross p.machine (declared p.machine r).id d.message ≡ d.cross = crosses p.machine p.cpu r i d.message core.machine receiver.own sender.within from ∙ sym crossing in
     let tag_is : received_tag (is_cross p.machine (declared p.machine r).id d.message) d.message ≡ tag = ap (λ b. received_tag b d.message) crossed ∙ sym tagged in
-    let whole : delivers p.machine p.cpu r i (work p.local before) ≡ delivers_message p.machine p.cpu r i d.message tag (work p.local before) =
-    delivered_is p r i s.0 (work p.local before) s.1 ∙ ap (λ (n : Message). delivers_message p.machine p.cpu r i n (received_tag (is_cross p.machine (declared p.machine r).id n) n) (work p.local before)) s.2
-    ∙ ap (λ t. delivers_message p.machine p.cpu r i d.message t (work p.local before)) tag_is in
+    let whole : hands_over p.machine p.cpu r i (work p.local before) ≡ hands_message p.machine p.cpu r i d.message tag (work p.local before) =
+    handed_is p r i s.0 (work p.local before) s.1 ∙ ap (λ (n : Message). hands_message p.machine p.cpu r i n (received_tag (is_cross p.machine (declared p.machine r).id n) n) (work p.local before)) s.2
+    ∙ ap (λ t. hands_message p.machine p.cpu r i d.message t (work p.local before)) tag_is in
     let step : delivered d ≡ steps.Deliver (last_name p.machine p.local i) (declared p.machine r).id d.message.shown d.message.actual tag d.message.words =
     ap (λ t. steps.Deliver d.name d.receiver d.message.shown d.message.actual t d.message.words) (sym tagged) ∙ ap (λ n. steps.Deliver n d.receiver d.message.shown d.message.actual tag d.message.words) named
     ∙ ap (λ g. steps.Deliver (last_name p.machine p.local i) g d.message.shown d.message.actual tag d.message.words) to in

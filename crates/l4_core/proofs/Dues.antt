@@ -1,16 +1,16 @@
 -- What a duty says of the threads and the lists.
-use Rattle.std.proofs.Common.{◌≡◌, ℕ, zero, suc, Bool, true, false, cond, ◌&&◌, ◌||◌, Option, Some, None, List, [], ◌∷◌, refl, ap, sym, ◌∙◌, subst}
+use Rattle.std.proofs.Common.{◌≡◌, ℕ, zero, suc, Bool, true, false, cond, ◌&&◌, ◌||◌, Option, Some, None, List, [], ◌∷◌, refl, ap, sym, ◌∙◌, subst, inl, inr, ◌⊎◌}
 use Rattle.std.specs.Prelude.{◌==◌, find, nat_le, slice_get, slice_index_or}
 use Rattle.std.specs.Option.{option_map}
 use Rattle.std.specs.List.{list_any}
 use Rattle.std.proofs.lemmas.Bool.{eq-eqb}
 use Rattle.l4_model.specs.Words.{Id, AnyThread}
-use Rattle.l4_model.specs.World.{Receive, Thread, is_deleted, receive_now}
+use Rattle.l4_model.specs.World.{Receive, Thread, Owed, is_deleted, receive_now}
 use Rattle.l4_model.specs.Rules.{takes}
 use Rattle.l4_core_model.specs.Plain as plain
-use Rattle.l4_core_model.specs.Local.{thread}
-use Rattle.l4_core_model.specs.Turns.{Duty, DropsOwn, RefusesFirst, TellsGone, CancelsOwn, CancelsReceive, DeliversFirst, ClosesReceive, RefusesZero}
-use Rattle.l4_core.specs.Covered.{duty_at, names_nobody, first_refusable, untold_of, or_tell, deleted_duty, or_close, receive_duty, or_refuse}
+use Rattle.l4_core_model.specs.Local.{thread, owed_beside}
+use Rattle.l4_core_model.specs.Turns.{Duty, Retargets, DropsOwn, RefusesFirst, TellsGone, CancelsOwn, CancelsReceive, DeliversFirst, ClosesReceive, RefusesZero}
+use Rattle.l4_core.specs.Covered.{after_retarget, duty_at, duty_of_thread, names_nobody, first_refusable, untold_of, or_tell, deleted_duty, or_close, receive_duty, or_refuse}
 use Rattle.l4_core.specs.Parts.{AreCore}
 use Rattle.l4_core.specs.Processor.{Processor}
 use Rattle.l4_core.specs.Turning.{IsSender}
@@ -25,6 +25,7 @@ abbrev NamesWaiting : List plain.Waiting → Duty → Type 0
 NamesWaiting ws (RefusesFirst s) = Waits ws s
 NamesWaiting ws (DeliversFirst s) = Waits ws s
 NamesWaiting ws (RefusesZero s) = Waits ws s
+NamesWaiting ws (Retargets owed) = ⊥
 NamesWaiting ws d = Unit {0}
 
 found_waits : (p : plain.Waiting → Bool) (ws : List plain.Waiting) (v : plain.Waiting) → find p ws ≡ Some v → Waits ws v.block
@@ -70,11 +71,19 @@ either nobody t false true true ws untold zeros d g e = let same : CancelsOwn �
 either nobody t false true false ws untold zeros d g e = refuses ws (receive_duty nobody t.cancel_receive ws (receive_now t.phase)) zeros d (λ x f. receives nobody t.cancel_receive ws (receive_now t.phase) x f) g e
 either nobody t false false queued ws untold zeros d g e = refuses ws (receive_duty nobody t.cancel_receive ws (receive_now t.phase)) zeros d (λ x f. receives nobody t.cancel_receive ws (receive_now t.phase) x f) g e
 
-names : (p : Processor) (i : ℕ) (d : Duty) → duty_at p.machine p.cpu p.local i ≡ Some d → NamesWaiting (plain.list_of p.local.lists i) d
-names p i d e =
-    let t = thread p.local i in
-    either (names_nobody p.machine p.local) t (is_deleted t.phase) t.cancel_send (plain.is_queued p.local.lists i) (plain.list_of p.local.lists i) (untold_of p.machine p.cpu p.local i) (first_refusable p.machine p.local i) d
-    (λ v f. found_waits _ (plain.list_of p.local.lists i) v f) (sym (duty_is p.machine p.cpu p.local i) ∙ e)
+-- A duty is that of a retarget which is kept, or it names what waits.
+abbrev IsNamed : Processor → ℕ → Duty → Type 0
+IsNamed p i d = ((owed : Owed) × (owed_beside p.local i ≡ Some owed) × (Retargets owed ≡ d)) ⊎ NamesWaiting (plain.list_of p.local.lists i) d
+
+names : (p : Processor) (i : ℕ) (d : Duty) → duty_at p.machine p.cpu p.local i ≡ Some d → IsNamed p i d
+names p i d e = by (owed_beside p.local i) refl (sym (duty_is p.machine p.cpu p.local i) ∙ e)
+  where
+    by : (o : Option Owed) → owed_beside p.local i ≡ o →
+        after_retarget o (duty_of_thread (names_nobody p.machine p.local) (thread p.local i) (plain.is_queued p.local.lists i) (plain.list_of p.local.lists i) (untold_of p.machine p.cpu p.local i) (first_refusable p.machine p.local i)) ≡ Some d → IsNamed p i d
+    by (Some owed) at h = inl (owed, at, cc)
+    by None at h =
+        inr (either (names_nobody p.machine p.local) (thread p.local i) (is_deleted (thread p.local i).phase) (thread p.local i).cancel_send (plain.is_queued p.local.lists i) (plain.list_of p.local.lists i) (untold_of p.machine p.cpu p.local i) (first_refusable p.machine p.local i) d
+        (λ v f. found_waits _ (plain.list_of p.local.lists i) v f) h)
 
 somewhere : {A : Type 0} (p : A → Bool) (xss : List (List A)) (r : ℕ) → list_any p (slice_index_or xss r []) ≡ true → list_any (list_any p) xss ≡ true
 somewhere p [] r e = e
@@ -87,13 +96,33 @@ waits_sends p i s core e =
     record { within = waits.within; sends = waits.sends }
 
 pub refused_sends : (p : Processor) (i s : ℕ) → AreCore p → duty_at p.machine p.cpu p.local i ≡ Some (RefusesFirst s) → IsSender p s
-refused_sends p i s core e = waits_sends p i s core (names p i (RefusesFirst s) e)
+refused_sends p i s core e = by (names p i (RefusesFirst s) e)
+  where
+    by : IsNamed p i (RefusesFirst s) → IsSender p s
+    by (inl kept) = let wrong : Retargets kept.0 ≡ RefusesFirst s = kept.2 in cc
+    by (inr waits) = waits_sends p i s core waits
 
 pub delivered_sends : (p : Processor) (i s : ℕ) → AreCore p → duty_at p.machine p.cpu p.local i ≡ Some (DeliversFirst s) → IsSender p s
-delivered_sends p i s core e = waits_sends p i s core (names p i (DeliversFirst s) e)
+delivered_sends p i s core e = by (names p i (DeliversFirst s) e)
+  where
+    by : IsNamed p i (DeliversFirst s) → IsSender p s
+    by (inl kept) = let wrong : Retargets kept.0 ≡ DeliversFirst s = kept.2 in cc
+    by (inr waits) = waits_sends p i s core waits
 
 pub zero_sends : (p : Processor) (i s : ℕ) → AreCore p → duty_at p.machine p.cpu p.local i ≡ Some (RefusesZero s) → IsSender p s
-zero_sends p i s core e = waits_sends p i s core (names p i (RefusesZero s) e)
+zero_sends p i s core e = by (names p i (RefusesZero s) e)
+  where
+    by : IsNamed p i (RefusesZero s) → IsSender p s
+    by (inl kept) = let wrong : Retargets kept.0 ≡ RefusesZero s = kept.2 in cc
+    by (inr waits) = waits_sends p i s core waits
+
+-- The retarget that a duty is about is kept.
+pub kept_there : (p : Processor) (i : ℕ) (owed : Owed) → duty_at p.machine p.cpu p.local i ≡ Some (Retargets owed) → owed_beside p.local i ≡ Some owed
+kept_there p i owed e = by (names p i (Retargets owed) e)
+  where
+    by : IsNamed p i (Retargets owed) → owed_beside p.local i ≡ Some owed
+    by (inl kept) = let h : Retargets kept.0 ≡ Retargets owed = kept.2 in let same : kept.0 ≡ owed = cc in kept.1 ∙ ap Some same
+    by (inr none) = absurd none
 
 -- A due thread is armed.
 pub due_armed : (clock : ℕ) (es : List (ℕ × ℕ)) (i : ℕ) → plain.due_block clock es ≡ Some i → list_any (λ (e : ℕ × ℕ). i == e.1) es ≡ true

@@ -16,12 +16,13 @@ use Rattle.l4_core_model.specs.Turns.{next_stamp, opened}
 use Rattle.l4_types.specs.declared.letters.Cause.{Cause}
 use Rattle.l4_types.specs.declared.letters.Cause.TheVariants.{ByTimeout, ByCancel, ByDeletion}
 use Rattle.l4_types.specs.declared.letters.Content.{Content}
-use Rattle.l4_types.specs.declared.letters.Content.TheVariants.{Send, Done, Withdraw, Gone, Order, OrderDone}
+use Rattle.l4_types.specs.declared.letters.Content.TheVariants.{Send, Done, Withdraw, Gone, Order, OrderDone, Retarget}
 use Rattle.l4_types.specs.declared.letters.Letter.{Letter}
 use Rattle.l4_types.specs.LetterView.{content_of, letter_of, cause_of_withdrawal, refusal_of_send}
 use Rattle.l4_core_model.specs.Letters.{refusal_of}
 use Rattle.l4_core.specs.declared.known.tasks.Task.{Task}
 use Rattle.l4_core.specs.declared.known.tasks.Task.TheVariants.{Arrive, End, Refuse, Leave, NoteGone, Obey, FinishOrder}
+use Rattle.l4_core.specs.declared.known.tasks.Task.TheVariants as tasks
 use Rattle.l4_core.specs.Processor.{Processor, with_local}
 use Rattle.l4_core.specs.Tasks.{does_task, refusal_for, refused_if, task_of, IsArrival, IsCaller, IsSplit, IsTask}
 use Rattle.l4_core.specs.Tellings.{Told, IsOpen}
@@ -89,6 +90,13 @@ found_all f (Some r) (Some i) a b c t = by (a i) b c
     by true false c = refl
     by false b c = refl
 
+found_lawful : (f : Task → Work) (a : Bool) (o : Option ℕ) (b c : Bool) (t : ℕ → Task) → (a >> (o >>= λ j. b >> (c >> Some (f (t j))))) ≡ option_map f (a >> (o >>= λ j. b >> (c >> Some (t j))))
+found_lawful f false o b c t = refl
+found_lawful f true None b c t = refl
+found_lawful f true (Some j) true true t = refl
+found_lawful f true (Some j) true false t = refl
+found_lawful f true (Some j) false c t = refl
+
 withdrawn_both : (m : Machine) (cpu k : ℕ) (cause : Cause) (x : Work) (o q : Option ℕ) →
     (o >>= λ r. q >>= λ i. Some (withdraws_here m cpu i k (cause_of_withdrawal cause) x)) ≡ (o >>= λ r. q >>= λ i. Some (does_task m cpu (refused_if (waits_here x.local i k) i (refusal_for cause)) x))
 withdrawn_both m cpu k cause x None q = refl
@@ -108,6 +116,8 @@ handled_is m cpu (Gone id) x = found (λ t. does_task m cpu t x) (foreign_place 
 handled_is m cpu (Order caller target what) x = found_both (λ t. does_task m cpu t x) (own_place m cpu target) (foreign_place m cpu caller) (λ j i. Obey j i caller what)
 handled_is m cpu (OrderDone caller) x =
     found_if (λ t. does_task m cpu t x) (own_place m cpu caller) (λ i. is_deleted (thread x.local i).phase || is_ordering (thread x.local i).phase) (λ i. FinishOrder i)
+handled_is m cpu (Retarget o) x =
+    found_lawful (λ t. does_task m cpu t x) m.retargeting (own_place m cpu o.originator) (is_declared m o.old_partner) (is_some (foreign_place m cpu o.new_partner)) (λ j. tasks.Retarget j o)
 
 -- The stamp is of no matter for what a letter asks for.
 task_stamped : (m : Machine) (cpu : ℕ) (l : Local) (stamp : ℕ) (c : Content) → task_of m cpu (record l { stamp = stamp }) c ≡ task_of m cpu l c
@@ -117,6 +127,7 @@ task_stamped m cpu l stamp (Withdraw name to cause) = refl
 task_stamped m cpu l stamp (Gone id) = refl
 task_stamped m cpu l stamp (Order caller target what) = refl
 task_stamped m cpu l stamp (OrderDone caller) = refl
+task_stamped m cpu l stamp (Retarget o) = refl
 
 handle_is : (m : Machine) (cpu : ℕ) (l : Local) (letter : Letter) → handle m cpu l (letter_of letter) ≡ option_map (λ t. does_task m cpu t (opened letter.stamp l)) (task_of m cpu l letter.content)
 handle_is m cpu l letter =
@@ -141,6 +152,7 @@ task_kept p q task stamp t is = subst (IsTask task) (sym is) (by task t)
     by (NoteGone i) t = record { within = t.within; foreign = t.foreign }
     by (Obey j i caller what) t = record { own = t.own; caller = record { within = t.caller.within; foreign = t.caller.foreign } }
     by (FinishOrder i) t = record { own = t.own; waits = t.waits }
+    by (tasks.Retarget j o) t = t
 
 pub handled_event : (p q r : Processor) (letter : Letter) (task : Task) (before after : Told) (stamp : ℕ) → Some task ≡ task_of p.machine p.cpu p.local letter.content →
     q ≡ with_local p (record p.local { stamp = next_stamp letter.stamp p.local }) → stamp ≡ next_stamp letter.stamp p.local → IsOpen before → Does (does_task q.machine q.cpu task) q r before after →

@@ -12,9 +12,11 @@ mod Elsewhere
 mod Fitting
 mod Going
 mod Handling
+mod Keeping
 mod Noting
 mod Opening
 mod Ordering
+mod Owing
 mod Parting
 mod Passing
 mod PlaceSets
@@ -22,6 +24,7 @@ mod Queueing
 mod Sending
 mod Settling
 mod Starting
+mod Turned
 mod Turning
 mod Writing
 mod Zeros

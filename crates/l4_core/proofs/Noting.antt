@@ -1,13 +1,13 @@
 -- The two sets of a processor leave no place out, after each effect.
-use Rattle.std.proofs.Common.{◌≡◌, ℕ, ◌<◌, ◌+◌, Bool, true, false, None, List, [], ◌||◌, length, refl, ap, sym, ◌∙◌, subst, inl, inr, ◌⊎◌, arith}
+use Rattle.std.proofs.Common.{◌≡◌, ℕ, ◌<◌, ◌+◌, Bool, true, false, Option, None, List, [], ◌||◌, length, refl, ap, sym, ◌∙◌, subst, inl, inr, ◌⊎◌, arith}
 use Rattle.std.specs.Prelude.{◌==◌}
 use Rattle.std.proofs.lemmas.Bool.{cases_eq, eq-eqb}
 use Rattle.l4_model.specs.Machine.{Machine, What, CancelSend, CancelReceive, CancelBoth, Delete}
-use Rattle.l4_model.specs.World.{Thread, is_deleted, opening_thread}
+use Rattle.l4_model.specs.World.{Thread, Owed, is_deleted, opening_thread}
 use Rattle.l4_core_model.specs.Plain as plain
-use Rattle.l4_core_model.specs.Local.{is_own, thread, changes, comes_to, relists}
+use Rattle.l4_core_model.specs.Local.{is_own, thread, changes, comes_to, keeps_beside, relists}
 use Rattle.l4_model.specs.Rules.{Act, RunsAlone, Sends, Receives, Orders}
-use Rattle.l4_model.specs.Effects.{asked, begins, waits}
+use Rattle.l4_model.specs.Effects.{asked, begins, turns, waits}
 use Rattle.l4_core_model.specs.Local.{opening_local}
 use Rattle.l4_core_model.specs.Acts.{asks}
 use Rattle.l4_core_model.specs.Turns.{has_told}
@@ -19,8 +19,8 @@ use Rattle.l4_core.specs.Places.{has}
 use Rattle.l4_core.specs.Processor.{Processor, with_local}
 use Rattle.l4_core.specs.Covered.{CoversZeros, IsCovered, duty_at, first_zero, is_zero_send}
 use Rattle.l4_core.specs.Settled.{IsOwn}
-use Rattle.l4_core.proofs.Covering.{covers-filled, covers-put, covers-relisted, covers-changed, covers-comes, covers-queued, covers-stamped, covers-told, covers-unqueued}
-use Rattle.l4_core.proofs.Zeros.{zeros-relisted, zeros-changed, zeros-comes, zeros-queued, zeros-stamped, zeros-told, zeros-unqueued}
+use Rattle.l4_core.proofs.Covering.{covers-filled, covers-put, covers-relisted, covers-changed, covers-comes, covers-kept, covers-queued, covers-stamped, covers-told, covers-turned, covers-unqueued}
+use Rattle.l4_core.proofs.Zeros.{zeros-relisted, zeros-changed, zeros-comes, zeros-kept, zeros-queued, zeros-stamped, zeros-told, zeros-turned, zeros-unqueued}
 
 or_true : (b : Bool) → (b || true) ≡ true
 or_true true = refl
@@ -98,13 +98,20 @@ covered-opening d z m cpu p none is = subst (IsCovered d z) (sym is) (record {
         let t = get-map opening_thread m.threads o in
         let ws = get-map {B = List plain.Waiting} [] m.threads o in
         let q = none_queued m.threads o in
-        rw (t, ws, q) refl
+        let kept = get-map {B = Option Owed} None m.threads o in
+        rw (t, ws, q, kept) refl
 
 pub covered-stamped : (d z : List ℕ) (p q : Processor) (stamp : ℕ) → IsCovered d z p → q ≡ with_local p (record p.local { stamp = stamp }) → IsCovered d z q
 covered-stamped d z p q stamp c is = subst (IsCovered d z) (sym is) (record { covers = covers-stamped d p.machine p.cpu p.local stamp c.covers; waiting = zeros-stamped z stamp p.local c.waiting })
 
 pub covered-told : (d z : List ℕ) (p q : Processor) (i to : ℕ) → IsCovered d z p → has d i ≡ true → q ≡ with_local p (has_told to i p.local) → IsCovered d z q
 covered-told d z p q i to c there is = subst (IsCovered d z) (sym is) (record { covers = covers-told d p.machine p.cpu p.local to i there c.covers; waiting = zeros-told z to i p.local c.waiting })
+
+pub covered-kept : (d z : List ℕ) (p q : Processor) (i : ℕ) (kept : Option Owed) → IsCovered d z p → has d i ≡ true → q ≡ with_local p (keeps_beside i kept p.local) → IsCovered d z q
+covered-kept d z p q i kept c there is = subst (IsCovered d z) (sym is) (record { covers = covers-kept d p.machine p.cpu p.local i kept there c.covers; waiting = zeros-kept z i kept p.local c.waiting })
+
+pub covered-turned : (d z : List ℕ) (p q : Processor) (i : ℕ) (owed : Owed) → IsCovered d z p → i < length p.local.threads → (is_own p.machine p.cpu i ≡ true → has d i ≡ true) → q ≡ with_local p (changes i (turns owed) p.local) → IsCovered d z q
+covered-turned d z p q i owed c lt there is = subst (IsCovered d z) (sym is) (record { covers = covers-turned d p.machine p.cpu p.local i owed c.covers lt there; waiting = zeros-turned z p.local i owed c.waiting lt })
 
 -- All places of this processor below one that is noted too are in.
 pub noted_below : (d e : List ℕ) (m : Machine) (cpu n : ℕ) → ((o : ℕ) → has d o ≡ true → has e o ≡ true) → (is_own m cpu n ≡ true → has e n ≡ true) → ((o : ℕ) → o < n → IsOwn m cpu o → has d o ≡ true) →

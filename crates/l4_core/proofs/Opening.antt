@@ -1,11 +1,11 @@
 -- A processor where nothing has happened.
-use Rattle.std.proofs.Common.{◌≡◌, ℕ, zero, suc, ◌+◌, ◌<◌, ◌≤◌, Bool, true, false, cond, is_some, List, [], ◌∷◌, ◌++◌, map, filter, length, refl, ap, sym, ◌∙◌, subst, take, arith}
+use Rattle.std.proofs.Common.{◌≡◌, ℕ, zero, suc, ◌+◌, ◌<◌, ◌≤◌, Bool, true, false, cond, Option, None, is_some, List, [], ◌∷◌, ◌++◌, map, filter, length, refl, ap, sym, ◌∙◌, subst, take, arith}
 use Rattle.std.specs.Prelude.{slice_index_or, replicate, ◌==◌, ◌||◌}
 use Rattle.std.specs.List.{list_any, range_with_len}
 use Rattle.std.proofs.lemmas.Bool.{eqb-true}
 use Rattle.std.proofs.lemmas.List.{map_push}
 use Rattle.l4_model.specs.Machine.{Declaration, Machine}
-use Rattle.l4_model.specs.World.{Thread, opening_thread}
+use Rattle.l4_model.specs.World.{Thread, Owed, opening_thread}
 use Rattle.l4_core_model.specs.Plain as plain
 use Rattle.l4_core_model.specs.Local.{Local, declared, undeclared, is_own, opening_local}
 use Rattle.l4_core_model.specs.Runs.{IsMachine}
@@ -117,6 +117,7 @@ opened-settled m cpu = record {
   threads = length-map (λ d. opening_thread) m.threads;
   lists = length-map (λ d. []) m.threads;
   told = length-map (λ d. 0) m.threads;
+  owed = length-map (λ d. None) m.threads;
   known = λ i. let none = get-map {B = ℕ} 0 m.threads i in omega (arith, none);
   sent = λ i. subst (λ (t : Thread). IsSent (declared m i).id t.send t.context.begun) (sym (get-map opening_thread m.threads i)) tt;
   sending = λ i own e. let none = ap (λ (t : Thread). is_some t.send) (get-map opening_thread m.threads i) in let wrong : true ≡ false = sym e ∙ none in cc;
@@ -136,16 +137,17 @@ opened-settled m cpu = record {
     differ true e f = cc
     differ false e f = cc
 
-pub opened-is : (m : Machine) (cpu : ℕ) (bs : List Block) (lists : plain.Plain) (told : List ℕ) → threads_of bs ≡ replicate (length m.threads) opening_thread → lists ≡ opening_lists m cpu → told ≡ map (λ d. 0) m.threads →
-    local_of bs lists told 0 0 ≡ opening_local m cpu
-opened-is m cpu bs lists told threads is untold =
-    let put : List Thread → plain.Plain → List ℕ → Local = λ us s ns. record { threads = us; lists = s; told = ns; clock = 0; stamp = 0 } in
-    ap (λ us. put us lists told) (threads ∙ replicate-map opening_thread m.threads) ∙ ap (λ s. put (map (λ d. opening_thread) m.threads) s told) is ∙ ap (λ ns. put (map (λ d. opening_thread) m.threads) (opening_lists m cpu) ns) untold
+pub opened-is : (m : Machine) (cpu : ℕ) (bs : List Block) (lists : plain.Plain) (told : List ℕ) (owed : List (Option Owed)) → threads_of bs ≡ replicate (length m.threads) opening_thread → lists ≡ opening_lists m cpu → told ≡ map (λ d. 0) m.threads → owed ≡ map (λ d. None) m.threads →
+    local_of bs lists told owed 0 0 ≡ opening_local m cpu
+opened-is m cpu bs lists told owed threads is untold free =
+    let put : List Thread → plain.Plain → List ℕ → List (Option Owed) → Local = λ us s ns os. record { threads = us; lists = s; told = ns; owed = os; clock = 0; stamp = 0 } in
+    ap (λ us. put us lists told owed) (threads ∙ replicate-map opening_thread m.threads) ∙ ap (λ s. put (map (λ d. opening_thread) m.threads) s told owed) is
+    ∙ ap (λ ns. put (map (λ d. opening_thread) m.threads) (opening_lists m cpu) ns owed) untold ∙ ap (λ os. put (map (λ d. opening_thread) m.threads) (opening_lists m cpu) (map (λ d. 0) m.threads) os) free
 
-pub opened-kept : (m : Machine) (cpu : ℕ) (bs : List Block) (lists : plain.Plain) (told : List ℕ) → IsMachine m → cpu < m.cpus → length m.threads ≤ 1024 → threads_of bs ≡ replicate (length m.threads) opening_thread → ids_of bs ≡ map (λ d. d.id) m.threads →
-    lists ≡ opening_lists m cpu → told ≡ map (λ d. 0) m.threads → IsKept m cpu bs lists told 0 0
-opened-kept m cpu bs lists told machine below few threads ids is untold = record {
-  core = record { machine = machine; processor = below; few = few; settled = subst (IsSettled m cpu) (sym (opened-is m cpu bs lists told threads is untold)) (opened-settled m cpu) };
+pub opened-kept : (m : Machine) (cpu : ℕ) (bs : List Block) (lists : plain.Plain) (told : List ℕ) (owed : List (Option Owed)) → IsMachine m → cpu < m.cpus → length m.threads ≤ 1024 → threads_of bs ≡ replicate (length m.threads) opening_thread → ids_of bs ≡ map (λ d. d.id) m.threads →
+    lists ≡ opening_lists m cpu → told ≡ map (λ d. 0) m.threads → owed ≡ map (λ d. None) m.threads → IsKept m cpu bs lists told owed 0 0
+opened-kept m cpu bs lists told owed machine below few threads ids is untold free = record {
+  core = record { machine = machine; processor = below; few = few; settled = subst (IsSettled m cpu) (sym (opened-is m cpu bs lists told owed threads is untold free)) (opened-settled m cpu) };
   ids = ids;
 }
 

@@ -5,13 +5,13 @@ use Rattle.std.specs.Option.{option_map}
 use Rattle.std.specs.List.{list_any}
 use Rattle.l4_model.specs.Words.{GlobalId, Id, NilThread, AnyThread, AnyLocalThread, LocalThread, GlobalThread}
 use Rattle.l4_model.specs.Machine.{Machine, Declaration}
-use Rattle.l4_model.specs.World.{Receive, Send, Phase, Ready, Sending, Receiving, Ordering, Ended, Deleted, Thread, is_deleted, is_alive, receive_now}
+use Rattle.l4_model.specs.World.{Receive, Send, Owed, Phase, Ready, Sending, Receiving, Ordering, Ended, Deleted, Thread, is_deleted, is_alive, receive_now}
 use Rattle.l4_model.specs.Conditions.{Found, is_nobody, is_zero, may_still_accept, call_accepts, ◌>>=◌, ◌>>◌}
 use Rattle.l4_core_model.specs.Plain as plain
-use Rattle.l4_core_model.specs.Local.{Local, thread, held, held_by, declared}
+use Rattle.l4_core_model.specs.Local.{Local, thread, held, held_by, declared, owed_beside}
 use Rattle.l4_core_model.specs.Acts.{first_of_list, zero_refusable}
-use Rattle.l4_core_model.specs.Turns.{Duty, DropsOwn, RefusesFirst, TellsGone, CancelsOwn, CancelsReceive, DeliversFirst, ClosesReceive, RefusesZero, next_untold, first_some}
-use Rattle.l4_core.specs.Covered.{duty_at, is_zero_send, first_zero, names_nobody, first_refusable, untold_of, deleted_duty, or_close, or_refuse, receive_duty, living_duty, duty_of_thread}
+use Rattle.l4_core_model.specs.Turns.{Duty, Retargets, DropsOwn, RefusesFirst, TellsGone, CancelsOwn, CancelsReceive, DeliversFirst, ClosesReceive, RefusesZero, next_untold, first_some}
+use Rattle.l4_core.specs.Covered.{after_retarget, duty_at, is_zero_send, first_zero, names_nobody, first_refusable, untold_of, deleted_duty, or_close, or_refuse, receive_duty, living_duty, duty_of_thread}
 use Rattle.l4_core.proofs.Zeros.{find_same}
 
 -- A deleted thread's sends of timeout zero are not refused as such.
@@ -40,7 +40,7 @@ first_waits : (ws : List plain.Waiting) → (slice_get ws 0 >>= λ first. Some (
 first_waits [] = refl
 first_waits (w ∷ ws) = refl
 
--- The eight duties, of which those of a deleted thread come first.
+-- The other duties, of which those of a deleted thread come first.
 
 abbrev alive : (own : Option Duty) (cancels delivers closes : Option Duty) (zero : Option plain.Waiting) → Option Duty
 alive own cancels delivers closes zero = first_some (None ∷ None ∷ None ∷ own ∷ cancels ∷ delivers ∷ closes ∷ (zero >>= λ w. Some (RefusesZero w.block)) ∷ [])
@@ -88,17 +88,32 @@ by_phase m l Ordering s i q cs cr u z e = alive_idle q cs z
 by_phase m l Ended s i q cs cr u z e = alive_idle q cs z
 by_phase m l Deleted s i q cs cr u z e = dead q cs (plain.list_of s i) u z (e refl)
 
-pub duty_is : (m : Machine) (cpu : ℕ) (l : Local) (i : ℕ) → duty_at m cpu l i ≡ duty_of_thread (names_nobody m l) (thread l i) (plain.is_queued l.lists i) (plain.list_of l.lists i) (untold_of m cpu l i) (first_refusable m l i)
-duty_is m cpu l i = by_phase m l (thread l i).phase l.lists i (plain.is_queued l.lists i) (thread l i).cancel_send (thread l i).cancel_receive (untold_of m cpu l i) (first_refusable m l i) (dead_refuses_none m l i)
+-- A retarget comes before them.
+retarget_first : (o : Option Owed) (others : List (Option Duty)) → first_some ((o >>= λ owed. Some (Retargets owed)) ∷ others) ≡ after_retarget o (first_some others)
+retarget_first None others = refl
+retarget_first (Some owed) others = refl
 
-pub deleted_is : (m : Machine) (cpu : ℕ) (l : Local) (i : ℕ) → is_deleted (thread l i).phase ≡ true → duty_at m cpu l i ≡ deleted_duty (plain.is_queued l.lists i) (plain.list_of l.lists i) (untold_of m cpu l i)
-deleted_is m cpu l i e =
-    duty_is m cpu l i
+pub duty_is : (m : Machine) (cpu : ℕ) (l : Local) (i : ℕ) →
+    duty_at m cpu l i ≡ after_retarget (owed_beside l i) (duty_of_thread (names_nobody m l) (thread l i) (plain.is_queued l.lists i) (plain.list_of l.lists i) (untold_of m cpu l i) (first_refusable m l i))
+duty_is m cpu l i =
+    retarget_first (owed_beside l i) _
+    ∙ ap (after_retarget (owed_beside l i))
+    (by_phase m l (thread l i).phase l.lists i (plain.is_queued l.lists i) (thread l i).cancel_send (thread l i).cancel_receive (untold_of m cpu l i) (first_refusable m l i) (dead_refuses_none m l i))
+
+nothing_kept : (o : Option Owed) (d : Option Duty) → is_some o ≡ false → after_retarget o d ≡ d
+nothing_kept None d e = refl
+nothing_kept (Some owed) d e = cc
+
+pub deleted_is : (m : Machine) (cpu : ℕ) (l : Local) (i : ℕ) → is_some (owed_beside l i) ≡ false → is_deleted (thread l i).phase ≡ true →
+    duty_at m cpu l i ≡ deleted_duty (plain.is_queued l.lists i) (plain.list_of l.lists i) (untold_of m cpu l i)
+deleted_is m cpu l i none e =
+    duty_is m cpu l i ∙ nothing_kept (owed_beside l i) _ none
     ∙ ap (λ b. cond b (deleted_duty (plain.is_queued l.lists i) (plain.list_of l.lists i) (untold_of m cpu l i)) (living_duty (names_nobody m l) (thread l i) (plain.is_queued l.lists i) (plain.list_of l.lists i) (first_refusable m l i))) e
 
-pub living_is : (m : Machine) (cpu : ℕ) (l : Local) (i : ℕ) → is_deleted (thread l i).phase ≡ false → duty_at m cpu l i ≡ living_duty (names_nobody m l) (thread l i) (plain.is_queued l.lists i) (plain.list_of l.lists i) (first_refusable m l i)
-living_is m cpu l i e =
-    duty_is m cpu l i
+pub living_is : (m : Machine) (cpu : ℕ) (l : Local) (i : ℕ) → is_some (owed_beside l i) ≡ false → is_deleted (thread l i).phase ≡ false →
+    duty_at m cpu l i ≡ living_duty (names_nobody m l) (thread l i) (plain.is_queued l.lists i) (plain.list_of l.lists i) (first_refusable m l i)
+living_is m cpu l i none e =
+    duty_is m cpu l i ∙ nothing_kept (owed_beside l i) _ none
     ∙ ap (λ b. cond b (deleted_duty (plain.is_queued l.lists i) (plain.list_of l.lists i) (untold_of m cpu l i)) (living_duty (names_nobody m l) (thread l i) (plain.is_queued l.lists i) (plain.list_of l.lists i) (first_refusable m l i))) e
 
 -- Where no send of timeout zero waits, none is refused.
@@ -158,14 +173,19 @@ blind m at d t a b (Some send) = ap (λ may. is_zero send.period && (is_alive t.
 
 -- What two local states may differ in, where the duty of a thread is the same.
 
-pub refusable_same : (m : Machine) (k l : Local) (o : ℕ) (ws : List plain.Waiting) → thread k o ≡ thread l o → ((w : plain.Waiting) → list_any (λ (v : plain.Waiting). w.block == v.block) ws ≡ true → (thread k w.block).send ≡ (thread l w.block).send) →
+pub refusable_alike : (m : Machine) (k l : Local) (o : ℕ) (ws : List plain.Waiting) → thread k o ≡ thread l o →
+    ((w : plain.Waiting) → list_any (λ (v : plain.Waiting). w.block == v.block) ws ≡ true → zero_refusable m (held m l o) (thread k w.block).send ≡ zero_refusable m (held m l o) (thread l w.block).send) →
     find (λ w. zero_refusable m (held m k o) (thread k w.block).send) ws ≡ find (λ w. zero_refusable m (held m l o) (thread l w.block).send) ws
-refusable_same m k l o ws e f =
+refusable_alike m k l o ws e f =
     find_same (λ w. zero_refusable m (held m k o) (thread k w.block).send) (λ w. zero_refusable m (held m l o) (thread l w.block).send) ws
     (λ w there.
     ap (λ (t : Thread). zero_refusable m (record { at = o; declared = declared m o; now = t; clock = k.clock }) (thread k w.block).send) e
     ∙ blind m o (declared m o) (thread l o) k.clock l.clock (thread k w.block).send
-    ∙ ap (λ send. zero_refusable m (held m l o) send) (f w there))
+    ∙ f w there)
+
+pub refusable_same : (m : Machine) (k l : Local) (o : ℕ) (ws : List plain.Waiting) → thread k o ≡ thread l o → ((w : plain.Waiting) → list_any (λ (v : plain.Waiting). w.block == v.block) ws ≡ true → (thread k w.block).send ≡ (thread l w.block).send) →
+    find (λ w. zero_refusable m (held m k o) (thread k w.block).send) ws ≡ find (λ w. zero_refusable m (held m l o) (thread l w.block).send) ws
+refusable_same m k l o ws e f = refusable_alike m k l o ws e (λ w there. ap (λ send. zero_refusable m (held m l o) send) (f w there))
 
 receive_same : (f g : Id → Bool) (cancelled : Bool) (ws : List plain.Waiting) (r : Option Receive) → ((from : Id) → f from ≡ g from) → receive_duty f cancelled ws r ≡ receive_duty g cancelled ws r
 receive_same f g cancelled ws None e = refl
@@ -175,13 +195,15 @@ pub nobody_for : (f g : Id → Bool) (t : Thread) (q : Bool) (ws : List plain.Wa
 nobody_for f g t q ws u z e = ap (λ d. cond (is_deleted t.phase) (deleted_duty q ws u) (cond (t.cancel_send && q) (Some CancelsOwn) (or_refuse d z))) (receive_same f g t.cancel_receive ws (receive_now t.phase) e)
 
 pub same_duty : (m : Machine) (cpu : ℕ) (k l : Local) (o : ℕ) → ((from : Id) → names_nobody m k from ≡ names_nobody m l from) → thread k o ≡ thread l o → plain.is_queued k.lists o ≡ plain.is_queued l.lists o → plain.list_of k.lists o ≡ plain.list_of l.lists o →
-    slice_index_or k.told o 0 ≡ slice_index_or l.told o 0 → first_refusable m k o ≡ first_refusable m l o → duty_at m cpu k o ≡ duty_at m cpu l o
-same_duty m cpu k l o nobody t q ws u z =
+    slice_index_or k.told o 0 ≡ slice_index_or l.told o 0 → owed_beside k o ≡ owed_beside l o → first_refusable m k o ≡ first_refusable m l o → duty_at m cpu k o ≡ duty_at m cpu l o
+same_duty m cpu k l o nobody t q ws u kept z =
     duty_is m cpu k o
-    ∙ nobody_for (names_nobody m k) (names_nobody m l) (thread k o) (plain.is_queued k.lists o) (plain.list_of k.lists o) (untold_of m cpu k o) (first_refusable m k o) nobody
+    ∙ ap (after_retarget (owed_beside k o))
+    (nobody_for (names_nobody m k) (names_nobody m l) (thread k o) (plain.is_queued k.lists o) (plain.list_of k.lists o) (untold_of m cpu k o) (first_refusable m k o) nobody
     ∙ ap (λ (x : Thread). duty_of_thread (names_nobody m l) x (plain.is_queued k.lists o) (plain.list_of k.lists o) (untold_of m cpu k o) (first_refusable m k o)) t
     ∙ ap (λ b. duty_of_thread (names_nobody m l) (thread l o) b (plain.list_of k.lists o) (untold_of m cpu k o) (first_refusable m k o)) q
     ∙ ap (λ x. duty_of_thread (names_nobody m l) (thread l o) (plain.is_queued l.lists o) x (untold_of m cpu k o) (first_refusable m k o)) ws
     ∙ ap (λ n. duty_of_thread (names_nobody m l) (thread l o) (plain.is_queued l.lists o) (plain.list_of l.lists o) (next_untold m cpu n) (first_refusable m k o)) u
-    ∙ ap (λ x. duty_of_thread (names_nobody m l) (thread l o) (plain.is_queued l.lists o) (plain.list_of l.lists o) (untold_of m cpu l o) x) z
+    ∙ ap (λ x. duty_of_thread (names_nobody m l) (thread l o) (plain.is_queued l.lists o) (plain.list_of l.lists o) (untold_of m cpu l o) x) z)
+    ∙ ap (λ x. after_retarget x (duty_of_thread (names_nobody m l) (thread l o) (plain.is_queued l.lists o) (plain.list_of l.lists o) (untold_of m cpu l o) (first_refusable m l o))) kept
     ∙ sym (duty_is m cpu l o)

@@ -1,8 +1,8 @@
 -- A message goes from block to block.
-use Rattle.std.proofs.Common.{◌≡◌, ℕ, zero, suc, ◌<◌, true, is_some, Some, List, [], ◌∷◌, ◌++◌, length, get_or, set, refl, ap, sym, ◌∙◌, arith, length-append}
+use Rattle.std.proofs.Common.{◌≡◌, ℕ, zero, suc, ◌<◌, true, is_some, Option, Some, List, [], ◌∷◌, ◌++◌, length, get_or, set, refl, ap, sym, ◌∙◌, arith, length-append}
 use Rattle.std.proofs.Math.Seq.{set-append_left}
 use Rattle.l4_model.specs.Machine.{Machine}
-use Rattle.l4_model.specs.World.{Send, Thread, opening_thread}
+use Rattle.l4_model.specs.World.{Send, Thread, Owed, opening_thread}
 use Rattle.l4_model.specs.Effects.{receives}
 use Rattle.l4_core_model.specs.Local.{Local, declared, thread}
 use Rattle.l4_core_model.specs.Plain.{Plain}
@@ -59,14 +59,14 @@ pub record IsPassed (l : Local) (bs news : List Block) (r i tag : ℕ) : Type 0 
   pub at : old ≡ get_or bs r old
   pub is : news ≡ set bs r (record { id = old.id; thread = receives send.message tag old.thread })
 
-pub passed_is : (m : Machine) (cpu : ℕ) (bs : List Block) (s : Plain) (told : List ℕ) (clock stamp r i tag : ℕ) (was news : List Block) → IsKept m cpu bs s told clock stamp → r < length m.threads → i < length m.threads →
-    is_some (thread (local_of bs s told clock stamp) i).send ≡ true → was ≡ bs → ((d : Block) → news ≡ set was r (passed tag (get_or was i d) (get_or was r d))) → IsPassed (local_of bs s told clock stamp) bs news r i tag
-passed_is m cpu bs s told clock stamp r i tag was news k receiver sender sends blocks is =
+pub passed_is : (m : Machine) (cpu : ℕ) (bs : List Block) (s : Plain) (told : List ℕ) (owed : List (Option Owed)) (clock stamp r i tag : ℕ) (was news : List Block) → IsKept m cpu bs s told owed clock stamp → r < length m.threads → i < length m.threads →
+    is_some (thread (local_of bs s told owed clock stamp) i).send ≡ true → was ≡ bs → ((d : Block) → news ≡ set was r (passed tag (get_or was i d) (get_or was r d))) → IsPassed (local_of bs s told owed clock stamp) bs news r i tag
+passed_is m cpu bs s told owed clock stamp r i tag was news k receiver sender sends blocks is =
     let d : Block = record { id = (declared m r).id; thread = opening_thread } in
     let size : length bs ≡ length m.threads = sym (length-threads bs) ∙ k.core.settled.threads in
-    let some = has_send (thread (local_of bs s told clock stamp) i).send sends in
+    let some = has_send (thread (local_of bs s told owed clock stamp) i).send sends in
     let same : (get_or bs i d).thread.send ≡ Some some.0 =
-    ap (λ (t : Thread). t.send) (block_thread m cpu bs s told clock stamp i (get_or bs i d) k sender (there_is bs i d (omega (arith, size, sender)))) ∙ some.1 in
+    ap (λ (t : Thread). t.send) (block_thread m cpu bs s told owed clock stamp i (get_or bs i d) k sender (there_is bs i d (omega (arith, size, sender)))) ∙ some.1 in
     record {
       send = some.0;
       has = some.1;

@@ -5,10 +5,10 @@ use Rattle.std.specs.Option.{option_map}
 use Rattle.std.specs.List.{list_any}
 use Rattle.std.proofs.lemmas.Bool.{eqb-true}
 use Rattle.l4_model.specs.Machine.{Machine}
-use Rattle.l4_model.specs.World.{Phase, Ready, Sending, Receiving, Ordering, Ended, Deleted, Thread, changed, opening_thread, is_ready}
+use Rattle.l4_model.specs.World.{Phase, Ready, Sending, Receiving, Ordering, Ended, Deleted, Thread, Owed, changed, opening_thread, is_ready}
 use Rattle.l4_core_model.specs.Plain as plain
 use Rattle.l4_core.specs.Settling.{settles}
-use Rattle.l4_core_model.specs.Local.{Local, declared, is_own, thread, changes, comes_to, relists, readied}
+use Rattle.l4_core_model.specs.Local.{Local, declared, is_own, thread, changes, comes_to, keeps_beside, relists, readied}
 use Rattle.l4_core_model.specs.Acts.{split_receiver}
 use Rattle.l4_core_model.specs.Mail.{is_ordering}
 use Rattle.l4_core_model.specs.Turns.{has_told, clock_is}
@@ -131,6 +131,7 @@ settled-stamped m cpu l stamp le s = record {
   threads = s.threads;
   lists = s.lists;
   told = s.told;
+  owed = s.owed;
   known = s.known;
   sent = s.sent;
   sending = s.sending;
@@ -148,6 +149,7 @@ settled-clocked m cpu l clock le lt s = record {
   threads = s.threads;
   lists = s.lists;
   told = s.told;
+  owed = s.owed;
   known = s.known;
   sent = s.sent;
   sending = s.sending;
@@ -165,6 +167,7 @@ settled-told m cpu l i to lt s = record {
   threads = s.threads;
   lists = s.lists;
   told = length-changed (λ n. to + 1) l.told i ∙ s.told;
+  owed = s.owed;
   known = λ j. by j (s.known j);
   sent = s.sent;
   sending = s.sending;
@@ -187,11 +190,30 @@ settled-told m cpu l i to lt s = record {
     by : (j : ℕ) → slice_index_or l.told j 0 ≤ m.cpus → slice_index_or (changed (λ n. to + 1) l.told i) j 0 ≤ m.cpus
     by j h = told l.told i j h
 
+pub settled-kept : (m : Machine) (cpu : ℕ) (l : Local) (i : ℕ) (kept : Option Owed) → IsSettled m cpu l → IsSettled m cpu (keeps_beside i kept l)
+settled-kept m cpu l i kept s = record {
+  threads = s.threads;
+  lists = s.lists;
+  told = s.told;
+  owed = length-changed (λ old. kept) l.owed i ∙ s.owed;
+  known = s.known;
+  sent = s.sent;
+  sending = s.sending;
+  begun = s.begun;
+  ordering = s.ordering;
+  queued = λ i e. stays_queued m cpu l _ i refl (s.queued i e);
+  ready = λ i e. stays_readied m cpu l _ i refl (s.ready i e);
+  armed = s.armed;
+  near = s.near;
+  clock = s.clock;
+}
+
 pub settled-popped : (m : Machine) (cpu : ℕ) (l : Local) → IsSettled m cpu l → IsSettled m cpu (relists plain.popped l)
 settled-popped m cpu l s = record {
   threads = s.threads;
   lists = s.lists;
   told = s.told;
+  owed = s.owed;
   known = s.known;
   sent = s.sent;
   sending = s.sending;
@@ -209,6 +231,7 @@ settled-dropped m cpu l block s = record {
   threads = s.threads;
   lists = s.lists;
   told = s.told;
+  owed = s.owed;
   known = s.known;
   sent = s.sent;
   sending = s.sending;
@@ -226,6 +249,7 @@ settled-readied m cpu l i own ready s = record {
   threads = s.threads;
   lists = s.lists;
   told = s.told;
+  owed = s.owed;
   known = s.known;
   sent = s.sent;
   sending = s.sending;
@@ -243,6 +267,7 @@ settled-disarmed m cpu l i s = record {
   threads = s.threads;
   lists = s.lists;
   told = s.told;
+  owed = s.owed;
   known = s.known;
   sent = s.sent;
   sending = s.sending;
@@ -260,6 +285,7 @@ settled-popped_due m cpu l s = record {
   threads = s.threads;
   lists = s.lists;
   told = s.told;
+  owed = s.owed;
   known = s.known;
   sent = s.sent;
   sending = s.sending;
@@ -277,6 +303,7 @@ settled-unqueued m cpu l i s = record {
   threads = s.threads;
   lists = length_map _ l.lists.waiting ∙ s.lists;
   told = s.told;
+  owed = s.owed;
   known = s.known;
   sent = s.sent;
   sending = s.sending;
@@ -298,6 +325,7 @@ settled-queued m cpu l r w sends s = record {
   threads = s.threads;
   lists = length-changed (λ ws. ws ++ w ∷ []) l.lists.waiting r ∙ s.lists;
   told = s.told;
+  owed = s.owed;
   known = s.known;
   sent = s.sent;
   sending = s.sending;
@@ -330,6 +358,7 @@ settled-changed m cpu l i f s c =
       threads = length-changed f l.threads i ∙ s.threads;
       lists = s.lists;
       told = s.told;
+      owed = s.owed;
       known = s.known;
       sent = λ j. get_cases (λ t. IsSent (declared m j).id t.send t.context.begun) f l.threads i j within (λ e. let P : ℕ → Type 0 = λ k. IsSent (declared m k).id (f (thread l i)).send (f (thread l i)).context.begun in subst P e c.sent) (λ ne. s.sent j);
       sending = λ j own. get_cases (λ t. is_some t.send ≡ true → MaySend t.phase) f l.threads i j within (λ e. c.sending (subst (λ k. is_own m cpu k ≡ true) (sym e) own)) (λ ne. s.sending j own);
@@ -378,6 +407,7 @@ settled-armed m cpu l i deadline own near s = record {
   threads = s.threads;
   lists = s.lists;
   told = s.told;
+  owed = s.owed;
   known = s.known;
   sent = s.sent;
   sending = s.sending;

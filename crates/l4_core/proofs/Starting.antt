@@ -1,10 +1,10 @@
 -- An ipc begins its first phase.
-use Rattle.std.proofs.Common.{◌≡◌, ℕ, zero, suc, ◌<◌, Bool, true, false, cond, is_some, [], ◌∷◌, inl, List, map, length, get_or, set, refl, ap, sym, ◌∙◌, subst, arith}
+use Rattle.std.proofs.Common.{◌≡◌, ℕ, zero, suc, ◌<◌, Bool, true, false, cond, Option, is_some, [], ◌∷◌, inl, List, map, length, get_or, set, refl, ap, sym, ◌∙◌, subst, arith}
 use Rattle.std.specs.Prelude.{slice_index_or, IsSome}
 use Rattle.l4_model.specs.Words.{GlobalId, Id, NilThread, AnyThread, AnyLocalThread, LocalThread, GlobalThread}
 use Rattle.l4_model.specs.Machine as model
 use Rattle.l4_model.specs.Machine.{Declaration, Machine, Instr}
-use Rattle.l4_model.specs.World.{Context, Receive, Send, Thread, Ready, changed, is_deleted}
+use Rattle.l4_model.specs.World.{Context, Receive, Send, Thread, Owed, Ready, changed, is_deleted}
 use Rattle.l4_model.specs.Rules.{Act, RunsAlone, Sends, Receives, Orders, act, ask_act, destination, receive_phase, is_admitted}
 use Rattle.l4_model.specs.Conditions.{act_of, instruction}
 use Rattle.l4_model.specs.Effects.{begins, waits}
@@ -35,8 +35,8 @@ read-id (b ∷ bs) [] i old e lt at = absurd (omega arith)
 read-id (b ∷ bs) (d ∷ ds) zero old e lt at = let same : b.id ≡ d.id = cc in ap (λ (x : Block). x.id) at ∙ same
 read-id (b ∷ bs) (d ∷ ds) (suc i) old e lt at = let rest : ids_of bs ≡ map (λ (x : Declaration). x.id) ds = cc in read-id bs ds i old rest (omega arith) at
 
-pub block_id : (m : Machine) (cpu : ℕ) (bs : List Block) (s : Plain) (told : List ℕ) (clock stamp i : ℕ) (old : Block) → IsKept m cpu bs s told clock stamp → i < length m.threads → old ≡ get_or bs i old → old.id ≡ (declared m i).id
-block_id m cpu bs s told clock stamp i old k lt at = read-id bs m.threads i old k.ids lt at
+pub block_id : (m : Machine) (cpu : ℕ) (bs : List Block) (s : Plain) (told : List ℕ) (owed : List (Option Owed)) (clock stamp i : ℕ) (old : Block) → IsKept m cpu bs s told owed clock stamp → i < length m.threads → old ≡ get_or bs i old → old.id ≡ (declared m i).id
+block_id m cpu bs s told owed clock stamp i old k lt at = read-id bs m.threads i old k.ids lt at
 
 -- A send that an instruction asks for is its thread's own.
 own_act : (m : Machine) (id : GlobalId) (now : ℕ) (c : Context) (i : Instr) (send : Send) → act m id now c i ≡ Sends send → send.message.actual ≡ id
@@ -70,62 +70,62 @@ fits-starts m cpu l i (Orders order) now f g h = h
 
 -- What the program was told of the thread is what the definition reads.
 
-abbrev here : Machine → (cpu : ℕ) → List Block → Plain → (told : List ℕ) → (clock stamp : ℕ) → Processor
-here m cpu bs s told clock stamp = record { machine = m; cpu = cpu; local = local_of bs s told clock stamp }
+abbrev here : Machine → (cpu : ℕ) → List Block → Plain → (told : List ℕ) → (owed : List (Option Owed)) → (clock stamp : ℕ) → Processor
+here m cpu bs s told owed clock stamp = record { machine = m; cpu = cpu; local = local_of bs s told owed clock stamp }
 
-shows : (m : Machine) (cpu : ℕ) (bs : List Block) (s : Plain) (told : List ℕ) (clock stamp i : ℕ) (old : Block) (permitted : Bool) (p : Processor) → here m cpu bs s told clock stamp ≡ p → IsKept m cpu bs s told clock stamp → i < length m.threads → old ≡ get_or bs i old →
+shows : (m : Machine) (cpu : ℕ) (bs : List Block) (s : Plain) (told : List ℕ) (owed : List (Option Owed)) (clock stamp i : ℕ) (old : Block) (permitted : Bool) (p : Processor) → here m cpu bs s told owed clock stamp ≡ p → IsKept m cpu bs s told owed clock stamp → i < length m.threads → old ≡ get_or bs i old →
     permitted ≡ may_show p.machine (declared p.machine i).id (thread p.local i).context.actual → permitted ≡ may_show m old.id old.thread.context.actual
-shows m cpu bs s told clock stamp i old permitted p view k lt at e =
+shows m cpu bs s told owed clock stamp i old permitted p view k lt at e =
     e ∙ ap (λ (q : Processor). may_show q.machine (declared q.machine i).id (thread q.local i).context.actual) (sym view)
-    ∙ ap (λ g. may_show m g (thread (local_of bs s told clock stamp) i).context.actual) (sym (block_id m cpu bs s told clock stamp i old k lt at))
-    ∙ ap (λ (t : Thread). may_show m old.id t.context.actual) (sym (block_thread m cpu bs s told clock stamp i old k lt at))
+    ∙ ap (λ g. may_show m g (thread (local_of bs s told owed clock stamp) i).context.actual) (sym (block_id m cpu bs s told owed clock stamp i old k lt at))
+    ∙ ap (λ (t : Thread). may_show m old.id t.context.actual) (sym (block_thread m cpu bs s told owed clock stamp i old k lt at))
 
 -- An originator that may be shown is named by a global id.
-pub start_shown : (m : Machine) (cpu : ℕ) (bs : List Block) (s : Plain) (told : List ℕ) (clock stamp i : ℕ) (old : Block) (permitted : Bool) (p : Processor) → here m cpu bs s told clock stamp ≡ p → IsKept m cpu bs s told clock stamp → i < length p.machine.threads → old ≡ get_or bs i old →
+pub start_shown : (m : Machine) (cpu : ℕ) (bs : List Block) (s : Plain) (told : List ℕ) (owed : List (Option Owed)) (clock stamp i : ℕ) (old : Block) (permitted : Bool) (p : Processor) → here m cpu bs s told owed clock stamp ≡ p → IsKept m cpu bs s told owed clock stamp → i < length p.machine.threads → old ≡ get_or bs i old →
     permitted ≡ may_show p.machine (declared p.machine i).id (thread p.local i).context.actual → permitted ≡ true → IsSome (global_of old.thread.context.actual)
-start_shown m cpu bs s told clock stamp i old permitted p view k within at e is =
+start_shown m cpu bs s told owed clock stamp i old permitted p view k within at e is =
     let lt : i < length m.threads = subst (λ (q : Processor). i < length q.machine.threads) (sym view) within in
-    shown_is_global m old.id old.thread.context.actual (sym (shows m cpu bs s told clock stamp i old permitted p view k lt at e) ∙ is)
+    shown_is_global m old.id old.thread.context.actual (sym (shows m cpu bs s told owed clock stamp i old permitted p view k lt at e) ∙ is)
 
-same_act : (m : Machine) (cpu : ℕ) (bs : List Block) (s : Plain) (told : List ℕ) (clock stamp i : ℕ) (instr : Instr) (old : Block) (p : Processor) → here m cpu bs s told clock stamp ≡ p → IsKept m cpu bs s told clock stamp → i < length m.threads → old ≡ get_or bs i old →
-    instr ≡ instruction (held p.machine p.local i) → act m old.id clock old.thread.context instr ≡ act_of m (held m (local_of bs s told clock stamp) i)
-same_act m cpu bs s told clock stamp i instr old p view k lt at is =
+same_act : (m : Machine) (cpu : ℕ) (bs : List Block) (s : Plain) (told : List ℕ) (owed : List (Option Owed)) (clock stamp i : ℕ) (instr : Instr) (old : Block) (p : Processor) → here m cpu bs s told owed clock stamp ≡ p → IsKept m cpu bs s told owed clock stamp → i < length m.threads → old ≡ get_or bs i old →
+    instr ≡ instruction (held p.machine p.local i) → act m old.id clock old.thread.context instr ≡ act_of m (held m (local_of bs s told owed clock stamp) i)
+same_act m cpu bs s told owed clock stamp i instr old p view k lt at is =
     ap (λ j. act m old.id clock old.thread.context j) (is ∙ ap (λ (q : Processor). instruction (held q.machine q.local i)) (sym view))
-    ∙ ap (λ g. act m g clock old.thread.context (instruction (held m (local_of bs s told clock stamp) i))) (block_id m cpu bs s told clock stamp i old k lt at)
-    ∙ ap (λ (t : Thread). act m (declared m i).id clock t.context (instruction (held m (local_of bs s told clock stamp) i))) (block_thread m cpu bs s told clock stamp i old k lt at)
+    ∙ ap (λ g. act m g clock old.thread.context (instruction (held m (local_of bs s told owed clock stamp) i))) (block_id m cpu bs s told owed clock stamp i old k lt at)
+    ∙ ap (λ (t : Thread). act m (declared m i).id clock t.context (instruction (held m (local_of bs s told owed clock stamp) i))) (block_thread m cpu bs s told owed clock stamp i old k lt at)
 
-pub start_began : (m : Machine) (cpu : ℕ) (bs : List Block) (s : Plain) (told : List ℕ) (clock stamp i : ℕ) (instr : Instr) (old : Block) (permitted : Bool) (began : Began) (p : Processor) → here m cpu bs s told clock stamp ≡ p → IsKept m cpu bs s told clock stamp → i < length p.machine.threads → old ≡ get_or bs i old →
+pub start_began : (m : Machine) (cpu : ℕ) (bs : List Block) (s : Plain) (told : List ℕ) (owed : List (Option Owed)) (clock stamp i : ℕ) (instr : Instr) (old : Block) (permitted : Bool) (began : Began) (p : Processor) → here m cpu bs s told owed clock stamp ≡ p → IsKept m cpu bs s told owed clock stamp → i < length p.machine.threads → old ≡ get_or bs i old →
     instr ≡ instruction (held p.machine p.local i) → permitted ≡ may_show p.machine (declared p.machine i).id (thread p.local i).context.actual →
     ((n : Machine) → permitted ≡ may_show n old.id old.thread.context.actual → began ≡ began_of (act n old.id clock old.thread.context instr)) → began ≡ began_of (act_of p.machine (held p.machine p.local i))
-start_began m cpu bs s told clock stamp i instr old permitted began p view k within at is e f =
+start_began m cpu bs s told owed clock stamp i instr old permitted began p view k within at is e f =
     let lt : i < length m.threads = subst (λ (q : Processor). i < length q.machine.threads) (sym view) within in
-    f m (shows m cpu bs s told clock stamp i old permitted p view k lt at e) ∙ ap began_of (same_act m cpu bs s told clock stamp i instr old p view k lt at is) ∙ ap (λ (q : Processor). began_of (act_of q.machine (held q.machine q.local i))) view
+    f m (shows m cpu bs s told owed clock stamp i old permitted p view k lt at e) ∙ ap began_of (same_act m cpu bs s told owed clock stamp i instr old p view k lt at is) ∙ ap (λ (q : Processor). began_of (act_of q.machine (held q.machine q.local i))) view
 
 -- The block that is written.
-block_is : (m : Machine) (cpu : ℕ) (bs : List Block) (s : Plain) (told : List ℕ) (clock stamp i : ℕ) (instr : Instr) (old new : Block) (permitted : Bool) (p : Processor) → here m cpu bs s told clock stamp ≡ p → IsKept m cpu bs s told clock stamp → i < length m.threads → old ≡ get_or bs i old →
+block_is : (m : Machine) (cpu : ℕ) (bs : List Block) (s : Plain) (told : List ℕ) (owed : List (Option Owed)) (clock stamp i : ℕ) (instr : Instr) (old new : Block) (permitted : Bool) (p : Processor) → here m cpu bs s told owed clock stamp ≡ p → IsKept m cpu bs s told owed clock stamp → i < length m.threads → old ≡ get_or bs i old →
     instr ≡ instruction (held p.machine p.local i) → permitted ≡ may_show p.machine (declared p.machine i).id (thread p.local i).context.actual →
     ((n : Machine) → permitted ≡ may_show n old.id old.thread.context.actual → new ≡ record old { thread = starts (act n old.id clock old.thread.context instr) clock old.thread }) →
-    new ≡ record { id = old.id; thread = starts (act_of m (held m (local_of bs s told clock stamp) i)) clock old.thread }
-block_is m cpu bs s told clock stamp i instr old new permitted p view k lt at is e f =
-    f m (shows m cpu bs s told clock stamp i old permitted p view k lt at e) ∙ ap (λ (a : Act). record old { thread = starts a clock old.thread }) (same_act m cpu bs s told clock stamp i instr old p view k lt at is)
+    new ≡ record { id = old.id; thread = starts (act_of m (held m (local_of bs s told owed clock stamp) i)) clock old.thread }
+block_is m cpu bs s told owed clock stamp i instr old new permitted p view k lt at is e f =
+    f m (shows m cpu bs s told owed clock stamp i old permitted p view k lt at e) ∙ ap (λ (a : Act). record old { thread = starts a clock old.thread }) (same_act m cpu bs s told owed clock stamp i instr old p view k lt at is)
 
-pub start_is : (m : Machine) (cpu : ℕ) (bs : List Block) (s : Plain) (told : List ℕ) (clock stamp i : ℕ) (instr : Instr) (old new : Block) (permitted : Bool) (p : Processor) → here m cpu bs s told clock stamp ≡ p → IsKept m cpu bs s told clock stamp → i < length p.machine.threads → old ≡ get_or bs i old →
+pub start_is : (m : Machine) (cpu : ℕ) (bs : List Block) (s : Plain) (told : List ℕ) (owed : List (Option Owed)) (clock stamp i : ℕ) (instr : Instr) (old new : Block) (permitted : Bool) (p : Processor) → here m cpu bs s told owed clock stamp ≡ p → IsKept m cpu bs s told owed clock stamp → i < length p.machine.threads → old ≡ get_or bs i old →
     instr ≡ instruction (held p.machine p.local i) → permitted ≡ may_show p.machine (declared p.machine i).id (thread p.local i).context.actual →
     ((n : Machine) → permitted ≡ may_show n old.id old.thread.context.actual → new ≡ record old { thread = starts (act n old.id clock old.thread.context instr) clock old.thread }) →
-    here m cpu (set bs i new) s told clock stamp ≡ with_local p (changes i (starts (act_of p.machine (held p.machine p.local i)) p.local.clock) p.local)
-start_is m cpu bs s told clock stamp i instr old new permitted p view k within at is e f =
+    here m cpu (set bs i new) s told owed clock stamp ≡ with_local p (changes i (starts (act_of p.machine (held p.machine p.local i)) p.local.clock) p.local)
+start_is m cpu bs s told owed clock stamp i instr old new permitted p view k within at is e f =
     let lt : i < length m.threads = subst (λ (q : Processor). i < length q.machine.threads) (sym view) within in
-    let a : Act = act_of m (held m (local_of bs s told clock stamp) i) in
-    change-written m cpu bs s told clock stamp i (starts a clock) old new (here m cpu bs s told clock stamp) k lt at (block_is m cpu bs s told clock stamp i instr old new permitted p view k lt at is e f) refl
+    let a : Act = act_of m (held m (local_of bs s told owed clock stamp) i) in
+    change-written m cpu bs s told owed clock stamp i (starts a clock) old new (here m cpu bs s told owed clock stamp) k lt at (block_is m cpu bs s told owed clock stamp i instr old new permitted p view k lt at is e f) refl
     ∙ ap (λ (q : Processor). with_local q (changes i (starts (act_of q.machine (held q.machine q.local i)) q.local.clock) q.local)) view
 
-pub start_kept : (m : Machine) (cpu : ℕ) (bs : List Block) (s : Plain) (told : List ℕ) (clock stamp i : ℕ) (instr : Instr) (old new : Block) (permitted : Bool) (p : Processor) → here m cpu bs s told clock stamp ≡ p → IsKept m cpu bs s told clock stamp → IsAtHand p i →
+pub start_kept : (m : Machine) (cpu : ℕ) (bs : List Block) (s : Plain) (told : List ℕ) (owed : List (Option Owed)) (clock stamp i : ℕ) (instr : Instr) (old new : Block) (permitted : Bool) (p : Processor) → here m cpu bs s told owed clock stamp ≡ p → IsKept m cpu bs s told owed clock stamp → IsAtHand p i →
     (thread p.local i).context.begun < p.local.stamp → instr ≡ instruction (held p.machine p.local i) → old ≡ get_or bs i old →
     permitted ≡ may_show p.machine (declared p.machine i).id (thread p.local i).context.actual →
-    ((n : Machine) → permitted ≡ may_show n old.id old.thread.context.actual → new ≡ record old { thread = starts (act n old.id clock old.thread.context instr) clock old.thread }) → IsKept m cpu (set bs i new) s told clock stamp
-start_kept m cpu bs s told clock stamp i instr old new permitted p view k hand count is at e f =
+    ((n : Machine) → permitted ≡ may_show n old.id old.thread.context.actual → new ≡ record old { thread = starts (act n old.id clock old.thread.context instr) clock old.thread }) → IsKept m cpu (set bs i new) s told owed clock stamp
+start_kept m cpu bs s told owed clock stamp i instr old new permitted p view k hand count is at e f =
     let mine = subst (λ (q : Processor). IsAtHand q i) (sym view) hand in
-    let l : Local = local_of bs s told clock stamp in
+    let l : Local = local_of bs s told owed clock stamp in
     let settled = k.core.settled in
     let a : Act = act_of m (held m l i) in
     let counted : (thread l i).context.begun < l.stamp = subst (λ (q : Processor). (thread q.local i).context.begun < q.local.stamp) (sym view) count in
@@ -138,7 +138,7 @@ start_kept m cpu bs s told clock stamp i instr old new permitted p view k hand c
     fits-starts m cpu l i a clock
     (λ send sends. fits-begins m cpu l i send settled mine.own mine.unready un_queued (own_act m (declared m i).id clock (thread l i).context (instruction (held m l i)) send sends) counted)
     (λ receive. fits-keeps m cpu l i (waits receive clock (thread l i)) settled mine.own mine.unready un_queued (λ e. absurd (none_sends e)) (λ e. cc) (keeps-waits receive clock (thread l i) alive)) same in
-    kept-changed m cpu bs s told clock stamp i (starts a clock) old new k at (block_is m cpu bs s told clock stamp i instr old new permitted p view k mine.own.within at is e f) fits
+    kept-changed m cpu bs s told owed clock stamp i (starts a clock) old new k at (block_is m cpu bs s told owed clock stamp i instr old new permitted p view k mine.own.within at is e f) fits
 
 -- A phase begins.
 

@@ -20,15 +20,15 @@ pub opened_work : (l : Local) (t : Told) → IsOpen t → work l t ≡ record { 
 opened_work l t untold = rw (untold.steps, untold.letters) refl
 
 -- What was chosen is the turn.
-pub turned_event : (p q r : Processor) (chosen : Choice) (before after : Told) (stamp : ℕ) → Some (choice_of chosen) ≡ choice p.machine p.cpu p.local →
-    q ≡ with_local p (record p.local { stamp = next_stamp 0 p.local }) → stamp ≡ next_stamp 0 p.local → IsOpen before → Does (does_choice q.machine q.cpu (choice_of chosen)) q r before after →
+pub turned_event : (p q r : Processor) (chosen : Choice) (before after : Told) (stamp : ℕ) → Some (choice_of p.local.owed chosen) ≡ choice p.machine p.cpu p.local →
+    q ≡ with_local p (record p.local { stamp = next_stamp 0 p.local }) → stamp ≡ next_stamp 0 p.local → IsOpen before → Does (does_choice q.machine q.cpu (choice_of q.local.owed chosen)) q r before after →
     IsEvent (turn p.machine p.cpu p.local) p r before after stamp
 turned_event p q r chosen before after stamp e is stamped untold d = record {
   machine = d.machine ∙ ap (λ (x : Processor). x.machine) is;
   cpu = d.cpu ∙ ap (λ (x : Processor). x.cpu) is;
   kept = d.kept;
   is = ap (option_map (λ c. does_choice p.machine p.cpu c (opened 0 p.local))) (sym e)
-      ∙ ap Some (sym (d.work ∙ ap (λ (x : Processor). does_choice x.machine x.cpu (choice_of chosen) (work x.local before)) is ∙ ap (does_choice p.machine p.cpu (choice_of chosen)) (opened_work _ before untold)));
+      ∙ ap Some (sym (d.work ∙ ap (λ (x : Processor). does_choice x.machine x.cpu (choice_of x.local.owed chosen) (work x.local before)) is ∙ ap (does_choice p.machine p.cpu (choice_of p.local.owed chosen)) (opened_work _ before untold)));
   stamped = stamped ∙ sym (d.stamp ∙ ap (λ (x : Processor). x.local.stamp) is);
 }
 

@@ -4,16 +4,18 @@ use Rattle.std.specs.Prelude.{◌==◌, find, slice_index_or, is_some}
 use Rattle.std.specs.Option.{option_map}
 use Rattle.std.specs.List.{list_any}
 use Rattle.std.proofs.lemmas.Bool.{cases_eq, ne_eqb}
-use Rattle.l4_model.specs.World.{Thread, changed}
+use Rattle.l4_model.specs.World.{Thread, Owed, changed}
+use Rattle.l4_model.specs.Effects.{turns}
 use Rattle.l4_core_model.specs.Plain as plain
 use Rattle.l4_core_model.specs.Plain.{Plain}
-use Rattle.l4_core_model.specs.Local.{Local, thread, changes, comes_to, relists}
+use Rattle.l4_core_model.specs.Local.{Local, thread, changes, comes_to, keeps_beside, relists}
 use Rattle.l4_core_model.specs.Turns.{clock_is, has_told}
 use Rattle.l4_core_model.proofs.Fit.{get_cases}
 use Rattle.l4_core_model.proofs.Changed.{same_nat}
 use Rattle.l4_core.specs.Places.{has}
 use Rattle.l4_core.specs.Covered.{is_zero_send, first_zero, CoversZeros}
 use Rattle.l4_core.proofs.Settling.{sooner, later}
+use Rattle.l4_core.proofs.Turned.{turned_zero}
 
 -- Lists
 
@@ -113,6 +115,14 @@ zeros-stamped z s l c = c
 
 pub zeros-told : (z : List ℕ) (to i : ℕ) (l : Local) → CoversZeros z l → CoversZeros z (has_told to i l)
 zeros-told z to i l c = c
+
+pub zeros-kept : (z : List ℕ) (i : ℕ) (kept : Option Owed) (l : Local) → CoversZeros z l → CoversZeros z (keeps_beside i kept l)
+zeros-kept z i kept l c = c
+
+pub zeros-turned : (z : List ℕ) (l : Local) (i : ℕ) (owed : Owed) → CoversZeros z l → i < length l.threads → CoversZeros z (changes i (turns owed) l)
+zeros-turned z l i owed c lt o h =
+    find_same (λ w. is_zero_send (thread (changes i (turns owed) l) w.block).send) (λ w. is_zero_send (thread l w.block).send) (plain.list_of l.lists o)
+    (λ w there. get_cases (λ t. is_zero_send t.send ≡ is_zero_send (thread l w.block).send) (turns owed) l.threads i w.block lt (λ same. turned_zero owed (thread l i) ∙ ap (λ k. is_zero_send (thread l k).send) same) (λ ne. refl)) ∙ c o h
 
 pub zeros-relisted : (z : List ℕ) (l : Local) (k : Plain) → k.waiting ≡ l.lists.waiting → CoversZeros z l → CoversZeros z (record l { lists = k })
 zeros-relisted z l k e c o h = ap (λ ess. first_zero l (slice_index_or ess o [])) e ∙ c o h

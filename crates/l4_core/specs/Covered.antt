@@ -3,12 +3,12 @@ use Rattle.std.specs.Prelude.{◌≡◌, ℕ, ◌<◌, Bool, true, false, if◌t
 use Rattle.std.specs.Option.{option_map}
 use Rattle.l4_model.specs.Words.{Id, AnyThread}
 use Rattle.l4_model.specs.Machine.{Machine}
-use Rattle.l4_model.specs.World.{Receive, Send, Thread, is_deleted, receive_now}
+use Rattle.l4_model.specs.World.{Receive, Send, Thread, Owed, is_deleted, receive_now}
 use Rattle.l4_model.specs.Conditions.{is_zero, is_nobody}
 use Rattle.l4_core_model.specs.Plain.{Waiting, list_of, first_taken}
 use Rattle.l4_core_model.specs.Local.{Local, thread, held, held_by}
 use Rattle.l4_core_model.specs.Acts.{zero_refusable}
-use Rattle.l4_core_model.specs.Turns.{Duty, DropsOwn, RefusesFirst, TellsGone, CancelsOwn, CancelsReceive, DeliversFirst, ClosesReceive, RefusesZero, next_untold, duty_of}
+use Rattle.l4_core_model.specs.Turns.{Duty, Retargets, DropsOwn, RefusesFirst, TellsGone, CancelsOwn, CancelsReceive, DeliversFirst, ClosesReceive, RefusesZero, next_untold, duty_of}
 use Rattle.l4_core.specs.Places.{has}
 use Rattle.l4_core.specs.Processor.{Processor}
 use Rattle.l4_core.specs.Settled.{IsOwn}
@@ -87,3 +87,8 @@ living_duty nobody t queued ws zero =
 abbrev pub duty_of_thread : (nobody : Id → Bool) → Thread → (queued : Bool) → List Waiting → (untold : Option ℕ) → (zero : Option Waiting) → Option Duty
 duty_of_thread nobody t queued ws untold zero =
     if is_deleted t.phase then deleted_duty queued ws untold else living_duty nobody t queued ws zero
+
+-- A retarget that is kept beside a thread comes before its other duties.
+abbrev pub after_retarget : Option Owed → (other : Option Duty) → Option Duty
+after_retarget None other = other
+after_retarget (Some owed) other = Some (Retargets owed)

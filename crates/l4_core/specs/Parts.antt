@@ -1,12 +1,16 @@
 -- What a processor is made of, and what is kept of it.
-use Rattle.std.specs.Prelude.{◌≡◌, ℕ, ◌<◌, ◌≤◌, List, map, length}
+use Rattle.std.specs.Prelude.{◌≡◌, ℕ, ◌<◌, ◌≤◌, if◌then◌else◌, Option, None, List, map, length}
+use Rattle.std.specs.Option.{option_map}
 use Rattle.l4_model.specs.Words.{GlobalId}
 use Rattle.l4_model.specs.Machine.{Machine, most_threads}
+use Rattle.l4_model.specs.World as world
 use Rattle.l4_model.specs.World.{Thread}
 use Rattle.l4_core_model.specs.Plain.{Plain}
 use Rattle.l4_core_model.specs.Local.{Local}
 use Rattle.l4_core_model.specs.Runs.{IsMachine}
 use Rattle.l4_thread.specs.Parts.{Block}
+use Rattle.l4_types.specs.declared.owed.Owed.{Owed}
+use Rattle.l4_types.specs.OwedView.{owed_of}
 use Rattle.l4_core.specs.Changing.{receives_from}
 use Rattle.l4_core.specs.Processor.{Processor}
 use Rattle.l4_core.specs.Settled.{IsSettled}
@@ -17,9 +21,14 @@ threads_of blocks = map (λ b. b.thread) blocks
 abbrev pub ids_of : List Block → List GlobalId
 ids_of blocks = map (λ b. b.id) blocks
 
--- The blocks of all threads, their lists, and for each the first processor that may not yet know of its deletion.
-abbrev pub local_of : List Block → Plain → (told : List ℕ) → (clock stamp : ℕ) → Local
-local_of blocks lists told clock stamp = record { threads = threads_of blocks; lists = lists; told = told; clock = clock; stamp = stamp }
+-- What is kept beside each thread. At a machine of profile 1 that is nothing, and there is no place for it.
+abbrev pub kept_of : Machine → List (Option Owed) → List (Option world.Owed)
+kept_of m owed = if m.retargeting then map (option_map owed_of) owed else map (λ d. None) m.threads
+
+-- The blocks of all threads, their lists, for each the first processor that may not yet know of its deletion, and the retarget that is kept
+-- beside it.
+abbrev pub local_of : List Block → Plain → (told : List ℕ) → (owed : List (Option world.Owed)) → (clock stamp : ℕ) → Local
+local_of blocks lists told owed clock stamp = record { threads = threads_of blocks; lists = lists; told = told; owed = owed; clock = clock; stamp = stamp }
 
 -- What the message of one block's send makes of another block, which receives it with this tag.
 abbrev pub passed : (tag : ℕ) → (sender receiver : Block) → Block
@@ -36,6 +45,6 @@ abbrev pub AreCore : Processor → Type 0
 AreCore p = IsCore p.machine p.cpu p.local
 
 -- Each block has the id of its thread.
-pub record IsKept (m : Machine) (cpu : ℕ) (blocks : List Block) (lists : Plain) (told : List ℕ) (clock stamp : ℕ) : Type 0 where
-  pub core : IsCore m cpu (local_of blocks lists told clock stamp)
+pub record IsKept (m : Machine) (cpu : ℕ) (blocks : List Block) (lists : Plain) (told : List ℕ) (owed : List (Option world.Owed)) (clock stamp : ℕ) : Type 0 where
+  pub core : IsCore m cpu (local_of blocks lists told owed clock stamp)
   pub ids : ids_of blocks ≡ map (λ d. d.id) m.threads

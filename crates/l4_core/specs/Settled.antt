@@ -50,6 +50,7 @@ pub record IsSettled (m : Machine) (cpu : ℕ) (l : Local) : Type 0 where
   pub threads : length l.threads ≡ length m.threads
   pub lists : length l.lists.waiting ≡ length m.threads
   pub told : length l.told ≡ length m.threads
+  pub owed : length l.owed ≡ length m.threads
   pub known : (i : ℕ) → slice_index_or l.told i 0 ≤ m.cpus
   pub sent : (i : ℕ) → IsSent (declared m i).id (thread l i).send (thread l i).context.begun
   pub sending : (i : ℕ) → is_own m cpu i ≡ true → is_some (thread l i).send ≡ true → MaySend (thread l i).phase

@@ -7,7 +7,7 @@ use Rattle.l4_model.specs.Effects.{obeyed}
 use Rattle.l4_model.specs.Conditions.{◌>>=◌, ◌>>◌}
 use Rattle.l4_core_model.specs.Letters.{OrderDoneLetter}
 use Rattle.l4_core_model.specs.Local.{Local, declared, is_own, thread, changes, comes_to, after_decision, stand_in, stands_in, is_gone_now}
-use Rattle.l4_core_model.specs.Acts.{Work, ◌▷◌, does, posts, arrives, refuses, obeys, split_place}
+use Rattle.l4_core_model.specs.Acts.{Work, ◌▷◌, does, posts, arrives, refuses, retargets, obeys, split_place}
 use Rattle.l4_core_model.specs.Mail.{own_place, foreign_place, is_ordering, waits_here}
 use Rattle.l4_types.specs.declared.letters.Refusal.{Refusal}
 use Rattle.l4_types.specs.declared.letters.Refusal.TheVariants.{TimedOut, Cancelled, Dropped}
@@ -16,9 +16,10 @@ use Rattle.l4_types.specs.declared.letters.Cause.TheVariants.{ByTimeout, ByCance
 use Rattle.l4_types.specs.declared.letters.Content.{Content}
 use Rattle.l4_types.specs.declared.letters.Content.TheVariants as content
 use Rattle.l4_types.specs.LetterView.{decision_of, refusal_of_send}
+use Rattle.l4_types.specs.OwedView.{owed_of}
 use Rattle.l4_types.specs.StepView.{what_of}
 use Rattle.l4_core.specs.declared.known.tasks.Task.{Task}
-use Rattle.l4_core.specs.declared.known.tasks.Task.TheVariants.{Arrive, End, Refuse, Leave, NoteGone, Obey, FinishOrder}
+use Rattle.l4_core.specs.declared.known.tasks.Task.TheVariants.{Arrive, End, Refuse, Leave, NoteGone, Obey, FinishOrder, Retarget}
 use Rattle.l4_core.specs.Processor.{Processor}
 use Rattle.l4_core.specs.Turning.{IsOwnOf, IsSender}
 
@@ -60,6 +61,12 @@ task_of m cpu l (content.OrderDone caller) = do
   i ← own_place m cpu caller
   is_deleted (thread l i).phase || is_ordering (thread l i).phase
   Some (FinishOrder i)
+task_of m cpu l (content.Retarget o) = do
+  m.retargeting
+  j ← own_place m cpu o.originator
+  is_declared m o.old_partner
+  is_some (foreign_place m cpu o.new_partner)
+  Some (Retarget j o)
 
 abbrev pub does_task : Machine → (cpu : ℕ) → Task → Work → Work
 does_task m cpu (Arrive r i name to message zero_timeout) x = x ▷ does (changes i (stands_in name.k (stand_in to message zero_timeout))) ▷ arrives m cpu r i
@@ -69,6 +76,7 @@ does_task m cpu Leave x = x
 does_task m cpu (NoteGone i) x = x ▷ does (changes i is_gone_now)
 does_task m cpu (Obey j i caller what) x = x ▷ obeys m cpu caller (what_of what) j ▷ posts (declared m i).cpu (OrderDoneLetter caller)
 does_task m cpu (FinishOrder i) x = x ▷ does (comes_to i obeyed)
+does_task m cpu (Retarget j o) x = x ▷ retargets (owed_of o) j
 
 -- A thread of another processor.
 pub record IsForeign (p : Processor) (i : ℕ) : Type 0 where
@@ -105,3 +113,4 @@ IsTask Leave p = Unit {0}
 IsTask (NoteGone i) p = IsForeign p i
 IsTask (Obey j i caller what) p = IsObedience p j i
 IsTask (FinishOrder i) p = IsCaller p i
+IsTask (Retarget j o) p = IsOwnOf p j

@@ -1,12 +1,15 @@
 -- What an event of the program is in the core run.
 use Rattle.std.specs.Prelude.{◌≡◌, ℕ, true, false, Option, Some, None, is_some}
-use Rattle.l4_model.specs.World.{Ready, receive_now}
-use Rattle.l4_model.specs.Rules.{Act, Sends, Receives}
-use Rattle.l4_model.specs.Effects.{begins, waits, fails}
+use Rattle.l4_model.specs.Options.{if_some}
+use Rattle.l4_model.specs.Machine.{Machine}
+use Rattle.l4_model.specs.World.{Message, Send, Ready, receive_now}
+use Rattle.l4_model.specs.Rules.{Act, Sends, Receives, received_tag, is_cross}
+use Rattle.l4_model.specs.Effects.{begins, waits, fails, receives}
 use Rattle.l4_model.specs.Steps as steps
 use Rattle.l4_core_model.specs.Plain as plain
-use Rattle.l4_core_model.specs.Local.{Local, is_own, thread, comes_to}
-use Rattle.l4_core_model.specs.Acts.{Work, tells, does, split_place, ◌▷◌}
+use Rattle.l4_core_model.specs.Letters.{Delivered}
+use Rattle.l4_core_model.specs.Local.{Local, declared, is_own, last_name, thread, comes_to}
+use Rattle.l4_core_model.specs.Acts.{Work, tells, does, decides_send, split_place, ◌▷◌}
 use Rattle.l4_core_model.specs.Turns as turns
 use Rattle.tcb_arena.specs.Blocks.{is_ready as is_ready_in}
 use Rattle.l4_core.specs.Processor.{Processor}
@@ -28,6 +31,21 @@ pub record Does (piece : Work → Work) (old new : Processor) (before after : To
 -- A step is told, and the phase of a thread fails with a code.
 abbrev pub fails_with : steps.Step → (code place : ℕ) → Work → Work
 fails_with step code place x = x ▷ tells step ▷ does (comes_to place (fails code))
+
+-- A message comes to its receiver, and its send is decided: a delivery but for the retarget that it may leave owed.
+abbrev pub hands_message : Machine → (cpu r i : ℕ) → Message → (tag : ℕ) → Work → Work
+hands_message m cpu r i message tag x =
+    x
+    ▷ tells (steps.Deliver (last_name m x.local i) (declared m r).id message.shown message.actual tag message.words)
+    ▷ does (comes_to r (receives message tag))
+    ▷ decides_send m cpu Delivered i
+
+abbrev pub hands_send : Machine → (cpu r i : ℕ) → Option Send → Work → Work
+hands_send m cpu r i =
+    if_some (λ send. hands_message m cpu r i send.message (received_tag (is_cross m (declared m r).id send.message) send.message))
+
+abbrev pub hands_over : Machine → (cpu r i : ℕ) → Work → Work
+hands_over m cpu r i x = hands_send m cpu r i (thread x.local i).send x
 
 -- What the phase that an ipc begins makes of the local state.
 abbrev pub begun_by : Act → (place : ℕ) → Local → Local

@@ -1,5 +1,5 @@
 //! What one processor knows: its threads, their lists, its clock, and of other processors' threads what it was told.
-ghost use Rattle.std.specs.Prelude.{◌≡◌, ◌<◌, ◌≤◌, ◌+◌, Some, length, false, is_some, map, replicate, IfOk, IfSome, slice_get};
+ghost use Rattle.std.specs.Prelude.{◌≡◌, ◌<◌, ◌≤◌, ◌+◌, None, Some, length, false, is_some, map, replicate, IfOk, IfSome, slice_get};
 ghost use Rattle.std.specs.Option.{option_map};
 ghost use Rattle.l4_model.specs.Machine.{place_of, is_place, most_processors, most_threads, most_instructions};
 ghost use Rattle.l4_model.specs.World.{Send, is_deleted, opening_thread, receive_now};
@@ -18,7 +18,7 @@ ghost use Rattle.l4_core_model.specs.Acts.{entry, first_acceptable, split_place}
 ghost use Rattle.l4_core_model.specs.Turns.{can_stamp};
 ghost use Rattle.l4_core.specs.Covered.{is_zero_send};
 ghost use Rattle.l4_core.specs.Opening.{lists_below, opening_lists};
-ghost use Rattle.l4_core.specs.Parts.{threads_of, ids_of, AreCore};
+ghost use Rattle.l4_core.specs.Parts.{kept_of, threads_of, ids_of, AreCore};
 ghost use Rattle.l4_core.specs.Turning.{IsSender};
 
 use l4_history::message_ref::MessageRef;
@@ -28,6 +28,7 @@ use l4_thread::sends::{Receive, SendRef};
 use l4_thread::tcb::Tcb;
 use l4_types::errors::NoMemory;
 use l4_types::ids::{GlobalId, ThreadId};
+use l4_types::owed::Owed;
 use l4_types::reports::ThreadView;
 use l4_types::steps::{CLOCKS, Name, What};
 use l4_types::times::Period;
@@ -37,6 +38,7 @@ use tcb_arena::{Arena, Waiting};
 
 pub(crate) mod duties;
 mod effects;
+mod retargets;
 mod settling;
 pub(crate) mod tasks;
 
@@ -50,19 +52,21 @@ pub(crate) struct Known<'m> {
     lists: Arena,
     // For each thread the first processor that may not yet know of its deletion.
     told: Vec<u8>,
+    // Beside each thread the retarget that is owed since it received a message. At a machine of profile 1 it has no places.
+    owed: Vec<Option<Owed>>,
     clock: u64,
     stamp: u64,
 }
 
 impl<'m> Model for Known<'m> {
     ghost use Rattle.l4_core.specs.Processor.{Processor};
-    ghost use Rattle.l4_core.specs.Parts.{local_of, IsKept};
+    ghost use Rattle.l4_core.specs.Parts.{kept_of, local_of, IsKept};
 
     ghost Value = { Processor };
 
-    ghost view = { λ c. record { machine = c.machine.now; cpu = c.cpu; local = local_of c.threads.items c.lists c.told.items c.clock c.stamp } };
+    ghost view = { λ c. record { machine = c.machine.now; cpu = c.cpu; local = local_of c.threads.items c.lists c.told.items (kept_of c.machine.now c.owed.items) c.clock c.stamp } };
 
-    ghost invariant = { λ c. IsKept c.machine.now c.cpu c.threads.items c.lists c.told.items c.clock c.stamp };
+    ghost invariant = { λ c. IsKept c.machine.now c.cpu c.threads.items c.lists c.told.items (kept_of c.machine.now c.owed.items) c.clock c.stamp };
 }
 
 impl<'m> Known<'m> {
@@ -75,12 +79,14 @@ impl<'m> Known<'m> {
         let threads = opening_threads(alloc, machine)?;
         let lists = opening_lists(alloc, machine, cpu)?;
         let told = untold(alloc, machine)?;
+        let owed = nothing_owed(alloc, machine)?;
         Ok(Known {
             machine,
             cpu,
             threads,
             lists,
             told,
+            owed,
             clock: 0,
             stamp: 0,
         })
@@ -411,4 +417,20 @@ fn untold(alloc: Global, machine: &Machine) -> Result<Vec<u8>, NoMemory>
         told.push(0)?;
     }
     Ok(told)
+}
+
+// Nothing is owed. Only a machine of profile 2 has a place for each thread.
+fn nothing_owed(alloc: Global, machine: &Machine) -> Result<Vec<Option<Owed>>, NoMemory>
+    ensures { IfOk result (λ owed. kept_of machine.now owed.items ≡ map (λ d. None) machine.now.threads) }
+{
+    if !machine.retargets() {
+        return Ok(Vec::new(alloc));
+    }
+    let declared = machine.threads();
+    let mut owed = Vec::with_capacity(alloc, declared.len())?;
+    for place in 0..declared.len() {
+        let _ = place;
+        owed.push(None)?;
+    }
+    Ok(owed)
 }

@@ -33,6 +33,7 @@ mod effects;
 mod events;
 mod handling;
 mod instructions;
+mod retargets;
 mod sends;
 pub mod values;
 
@@ -188,7 +189,7 @@ impl<'m> Core<'m> {
 
     // What the next turn is about.
     fn choice(&mut self) -> Option<Choice>
-        ensures choice { option_map choice_of result ≡ choice self.old.machine self.old.cpu self.old.local }
+        ensures choice { option_map (choice_of self.old.local.owed) result ≡ choice self.old.machine self.old.cpu self.old.local }
         ensures possible { IfSome result (λ choice. IsPossible choice self.new) }
         ensures same { self.new ≡ self.old }
     {

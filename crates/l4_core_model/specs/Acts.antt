@@ -3,14 +3,14 @@ use Rattle.std.specs.Prelude.{ℕ, Bool, false, if◌then◌else◌, ◌&&◌, O
 use Rattle.l4_model.specs.Options.{if_some}
 use Rattle.l4_model.specs.Words.{GlobalId}
 use Rattle.l4_model.specs.Machine.{Machine, What, Delete, same_space, place_of, is_place}
-use Rattle.l4_model.specs.World.{Receive, Message, Send, Asked, Phase, Receiving, is_deleted, Name}
-use Rattle.l4_model.specs.Rules.{RunsAlone, Sends, Receives, Orders, Act, received_tag, is_cross}
-use Rattle.l4_model.specs.Steps.{Step, Local as RanLocal, Begin, Queue, Deliver, Wait, Order, Obey}
+use Rattle.l4_model.specs.World.{Receive, Message, Send, Asked, Owed, Phase, Receiving, is_deleted, Name}
+use Rattle.l4_model.specs.Rules.{RunsAlone, Sends, Receives, Orders, Act, received_tag, is_cross, owed_by}
+use Rattle.l4_model.specs.Steps.{Step, Local as RanLocal, Begin, Queue, Deliver, Wait, Order, Obey, Retarget}
 use Rattle.l4_model.specs.Conditions.{Found, instruction, is_zero, is_refusable}
-use Rattle.l4_model.specs.Effects.{runs, begins, waits, fails, decided, receives, asked, orders, obeyed}
+use Rattle.l4_model.specs.Effects.{runs, begins, waits, fails, decided, receives, asked, orders, obeyed, turns}
 use Rattle.l4_core_model.specs.Plain as plain
-use Rattle.l4_core_model.specs.Letters.{Refusal, TimedOut, Nobody, Result, Delivered, Refused, Cause, Content, SendLetter, DoneLetter, WithdrawLetter, OrderLetter, Letter, refusal_step, cause_of}
-use Rattle.l4_core_model.specs.Local.{Local, declared, is_own, thread, held, destination_place, last_name, changes, relists, comes_to, after_decision}
+use Rattle.l4_core_model.specs.Letters.{Refusal, TimedOut, Nobody, Result, Delivered, Refused, Cause, Content, SendLetter, DoneLetter, WithdrawLetter, OrderLetter, RetargetLetter, Letter, refusal_step, cause_of}
+use Rattle.l4_core_model.specs.Local.{Local, declared, is_own, thread, held, destination_place, last_name, changes, keeps_beside, relists, comes_to, after_decision}
 
 -- An event under way: the local state, the steps told so far, and the letters posted, each with the processor that it goes to.
 pub record Work : Type 0 where
@@ -48,6 +48,21 @@ decides_send m cpu result i x =
 abbrev pub refuses : Machine → (cpu : ℕ) → Refusal → ℕ → Work → Work
 refuses m cpu refusal i x = x ▷ tells_send m (refusal_step refusal) i ▷ decides_send m cpu (Refused refusal) i
 
+-- A retarget that is owed since a message came to the thread at place r. It is kept beside that thread where the originator is of this
+-- processor, else a letter goes to that one's.
+abbrev pub owes : Machine → (cpu r : ℕ) → Owed → Option ℕ → Work → Work
+owes m cpu r o =
+    if_some (λ j x.
+    if is_own m cpu j then (x ▷ does (keeps_beside r (Some o)))
+    else posts (declared m j).cpu (RetargetLetter o) x)
+
+abbrev pub owes_for : Machine → (cpu r : ℕ) → Option Owed → Work → Work
+owes_for m cpu r = if_some (λ o x. owes m cpu r o (place_of m o.originator) x)
+
+-- The originator, at place j, turns to the new partner.
+abbrev pub retargets : Owed → (j : ℕ) → Work → Work
+retargets o j x = x ▷ tells (Retarget o.send) ▷ does (changes j (turns o))
+
 -- The message of the sender at place i is delivered to the thread at place r.
 abbrev pub delivers_message : Machine → (cpu r i : ℕ) → Message → (tag : ℕ) → Work → Work
 delivers_message m cpu r i message tag x =
@@ -55,6 +70,7 @@ delivers_message m cpu r i message tag x =
     ▷ tells (Deliver (last_name m x.local i) (declared m r).id message.shown message.actual tag message.words)
     ▷ does (comes_to r (receives message tag))
     ▷ decides_send m cpu Delivered i
+    ▷ owes_for m cpu r (owed_by m (last_name m x.local i) message (declared m r).id)
 
 abbrev pub delivers_send : Machine → (cpu r i : ℕ) → Option Send → Work → Work
 delivers_send m cpu r i =

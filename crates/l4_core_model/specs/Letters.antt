@@ -2,7 +2,7 @@
 use Rattle.std.specs.Prelude.{ℕ, Bool, Option, Some, None}
 use Rattle.l4_model.specs.Words.{GlobalId}
 use Rattle.l4_model.specs.Machine.{What, CancelSend, CancelReceive, CancelBoth, Delete}
-use Rattle.l4_model.specs.World.{Message, Name}
+use Rattle.l4_model.specs.World.{Message, Name, Owed}
 use Rattle.l4_model.specs.Steps.{Step, SendTimeout, SendNobody, SendCancel, Drop}
 
 -- How a send is decided without a delivery, and how it is decided.
@@ -29,6 +29,7 @@ pub data Content : Type 0 where
   GoneLetter : GlobalId → Content
   OrderLetter : (caller target : GlobalId) → What → Content
   OrderDoneLetter : (caller : GlobalId) → Content
+  RetargetLetter : Owed → Content
 
 -- A letter has the stamp of the event that posted it.
 pub record Letter : Type 0 where

@@ -2,10 +2,11 @@
 use Rattle.std.specs.Prelude.{ℕ, ◌+◌, ◌==◌, Bool, if◌then◌else◌, Option, Some, None, List, [], ◌∷◌, ◌++◌, map, filter, length, slice_index_or}
 use Rattle.std.specs.Option.{option_map}
 use Rattle.std.specs.List.{range_with_len}
+use Rattle.l4_model.specs.Rules.{send_timeout_code, send_nobody_code, send_cancelled_code}
 use Rattle.l4_model.specs.Options.{if_some}
 use Rattle.l4_model.specs.Words.{GlobalId, Id, GlobalThread, Period}
 use Rattle.l4_model.specs.Machine.{Declaration, Machine, place_of}
-use Rattle.l4_model.specs.World.{Message, Send, Phase, Ready, Sending, Receiving, Deleted, Thread, changed, opening_thread, is_alive, Name}
+use Rattle.l4_model.specs.World.{Message, Send, Phase, Ready, Sending, Receiving, Deleted, Thread, Owed, changed, opening_thread, is_alive, Name}
 use Rattle.l4_model.specs.Conditions.{Found, is_zero}
 use Rattle.l4_model.specs.Effects.{decided, refused, delivered}
 use Rattle.l4_core_model.specs.Plain as plain
@@ -15,11 +16,13 @@ use Rattle.l4_core_model.specs.Letters.{TimedOut, Nobody, Cancelled, Dropped, Re
 -- `threads` has all that is known at its home. Another's is a stand-in: its phase says whether it is known here as deleted, its
 -- send is the one that waits here in its place, and its count is the number of that send, or of the last one. Its other fields
 -- say nothing of the thread. `told` is the first processor that may not yet know of a thread's deletion: all below it but this one
--- were told.
+-- were told. `owed` has beside a thread of this processor the retarget that is owed since it received a message, where the originator is of
+-- this processor too.
 pub record Local : Type 0 where
   pub threads : List Thread
   pub lists : plain.Plain
   pub told : List ℕ
+  pub owed : List (Option Owed)
   pub clock : ℕ
   pub stamp : ℕ
 
@@ -43,6 +46,7 @@ opening_local m cpu =
       threads = map (λ d. opening_thread) m.threads;
       lists = record { waiting = map (λ d. []) m.threads; ready = own_places m cpu; armed = [] };
       told = map (λ d. 0) m.threads;
+      owed = map (λ d. None) m.threads;
       clock = 0;
       stamp = 0;
     }
@@ -67,7 +71,14 @@ held_by m l id = option_map (held m l) (destination_place m id)
 abbrev pub last_name : Machine → Local → ℕ → Name
 last_name m l i = record { thread = (declared m i).id; k = (thread l i).context.begun }
 
+-- The retarget that is owed beside a thread.
+abbrev pub owed_beside : Local → ℕ → Option Owed
+owed_beside l i = slice_index_or l.owed i None
+
 -- Changing
+
+abbrev pub keeps_beside : ℕ → Option Owed → Local → Local
+keeps_beside i o l = record l { owed = changed (λ old. o) l.owed i }
 
 abbrev pub changes : ℕ → (Thread → Thread) → Local → Local
 changes i f l = record l { threads = changed f l.threads i }
@@ -115,9 +126,9 @@ was_dropped t = if is_alive t.phase then record (decided t) { phase = Ready } el
 -- What becomes of a thread whose send was decided.
 abbrev pub after_decision : Result → (now : ℕ) → Thread → Thread
 after_decision Delivered now t = was_delivered t.send now t
-after_decision (Refused TimedOut) now t = refused 2 t
-after_decision (Refused Nobody) now t = refused 4 t
-after_decision (Refused Cancelled) now t = refused 6 t
+after_decision (Refused TimedOut) now t = refused send_timeout_code t
+after_decision (Refused Nobody) now t = refused send_nobody_code t
+after_decision (Refused Cancelled) now t = refused send_cancelled_code t
 after_decision (Refused Dropped) now t = was_dropped t
 
 -- A send of another processor's thread stands here in its place. Of its period only zero is known.

@@ -6,9 +6,9 @@ use Rattle.l4_model.specs.World.{Phase, Ordering, is_deleted}
 use Rattle.l4_model.specs.Effects.{obeyed}
 use Rattle.l4_model.specs.Conditions.{◌>>=◌, ◌>>◌}
 use Rattle.l4_core_model.specs.Plain as plain
-use Rattle.l4_core_model.specs.Letters.{Cause, Content, SendLetter, DoneLetter, WithdrawLetter, GoneLetter, OrderLetter, OrderDoneLetter, Letter, refusal_of}
+use Rattle.l4_core_model.specs.Letters.{Cause, Content, SendLetter, DoneLetter, WithdrawLetter, GoneLetter, OrderLetter, OrderDoneLetter, RetargetLetter, Letter, refusal_of}
 use Rattle.l4_core_model.specs.Local.{Local, declared, is_own, thread, changes, comes_to, after_decision, stand_in, stands_in, is_gone_now}
-use Rattle.l4_core_model.specs.Acts.{Work, ◌▷◌, does, posts, arrives, refuses, obeys, split_place}
+use Rattle.l4_core_model.specs.Acts.{Work, ◌▷◌, does, posts, arrives, retargets, refuses, obeys, split_place}
 use Rattle.l4_core_model.specs.Turns.{opened}
 
 -- The place of a declared thread of this processor, and of another.
@@ -64,6 +64,12 @@ handled m cpu (OrderDoneLetter caller) x = do
   i ← own_place m cpu caller
   is_deleted (thread x.local i).phase || is_ordering (thread x.local i).phase
   Some (x ▷ does (comes_to i obeyed))
+handled m cpu (RetargetLetter o) x = do
+  m.retargeting
+  j ← own_place m cpu o.originator
+  is_declared m o.old_partner
+  is_some (foreign_place m cpu o.new_partner)
+  Some (x ▷ retargets o j)
 
 abbrev pub handle : Machine → (cpu : ℕ) → Local → Letter → Option Work
 handle m cpu l letter = handled m cpu letter.content (opened letter.stamp l)

@@ -1,15 +1,17 @@
 -- The core's turn: the first duty, else the first due timeout, else one instruction of the first ready thread.
+use Rattle.l4_model.specs.Rules.{receive_timeout_code, receive_nobody_code, receive_cancelled_code}
+use Rattle.l4_model.specs.Options.{if_some}
 use Rattle.std.specs.Prelude.{ℕ, ◌+◌, ◌==◌, max, nat_lt, Bool, if◌then◌else◌, Option, Some, None, is_some, List, [], ◌∷◌, find, slice_index_or, slice_get}
 use Rattle.std.specs.Option.{option_map}
 use Rattle.l4_model.specs.Words.{clock_limit}
-use Rattle.l4_model.specs.Machine.{Machine}
-use Rattle.l4_model.specs.World.{is_deleted, receive_now, changed}
+use Rattle.l4_model.specs.Machine.{Machine, place_of}
+use Rattle.l4_model.specs.World.{Owed, is_deleted, receive_now, changed}
 use Rattle.l4_model.specs.Steps.{ReceiveTimeout, ReceiveNobody, ReceiveCancel, Tick}
 use Rattle.l4_model.specs.Conditions.{Found, is_nobody, act_of, ◌>>=◌, ◌>>◌}
 use Rattle.l4_core_model.specs.Plain as plain
 use Rattle.l4_core_model.specs.Letters.{TimedOut, Nobody, Cancelled, Dropped, GoneLetter, ByTimeout}
-use Rattle.l4_core_model.specs.Local.{Local, declared, own_places, thread, held, held_by, relists}
-use Rattle.l4_core_model.specs.Acts.{Work, ◌▷◌, does, tells, posts, refuses, delivers, fails_receive, first_acceptable, zero_refusable, withdraws, split_place, acts}
+use Rattle.l4_core_model.specs.Local.{Local, declared, own_places, owed_beside, keeps_beside, thread, held, held_by, relists}
+use Rattle.l4_core_model.specs.Acts.{Work, ◌▷◌, does, tells, posts, retargets, refuses, delivers, fails_receive, first_acceptable, zero_refusable, withdraws, split_place, acts}
 
 -- Stamps
 
@@ -25,6 +27,7 @@ opened letter_stamp l = record { local = record l { stamp = next_stamp letter_st
 -- Duties
 
 pub data Duty : Type 0 where
+  Retargets : Owed → Duty
   DropsOwn : Duty
   RefusesFirst : (sender : ℕ) → Duty
   TellsGone : (cpu : ℕ) → Duty
@@ -33,6 +36,12 @@ pub data Duty : Type 0 where
   DeliversFirst : (sender : ℕ) → Duty
   ClosesReceive : Duty
   RefusesZero : (sender : ℕ) → Duty
+
+-- A retarget is owed beside it.
+abbrev pub duty_retargets : Local → Found → Option Duty
+duty_retargets l t = do
+  o ← owed_beside l t.at
+  Some (Retargets o)
 
 -- Deleted, its send waits in a list of this processor.
 abbrev pub duty_drops_own : Local → Found → Option Duty
@@ -102,7 +111,7 @@ first_some (Some x ∷ os) = Some x
 
 abbrev pub duty_of : Machine → (cpu : ℕ) → Local → Found → Option Duty
 duty_of m cpu l t =
-    first_some (duty_drops_own l t ∷ duty_refuses_waiting l t ∷ duty_tells_gone m cpu l t ∷ duty_cancels_own l t ∷ duty_cancels_receive t ∷ duty_delivers_first l t ∷ duty_closes_receive m l t ∷ duty_refuses_zero m l t ∷ [])
+    first_some (duty_retargets l t ∷ duty_drops_own l t ∷ duty_refuses_waiting l t ∷ duty_tells_gone m cpu l t ∷ duty_cancels_own l t ∷ duty_cancels_receive t ∷ duty_delivers_first l t ∷ duty_closes_receive m l t ∷ duty_refuses_zero m l t ∷ [])
 
 -- What the core's turn does: a duty of a thread, a due timeout, or an instruction.
 pub data Choice : Type 0 where
@@ -125,19 +134,20 @@ abbrev pub has_told : (cpu place : ℕ) → Local → Local
 has_told cpu i l = record l { told = changed (λ n. cpu + 1) l.told i }
 
 abbrev pub does_duty : Machine → (cpu i : ℕ) → Duty → Work → Work
+does_duty m cpu i (Retargets o) x = x ▷ does (keeps_beside i None) ▷ if_some (retargets o) (place_of m o.originator)
 does_duty m cpu i DropsOwn x = refuses m cpu Dropped i x
 does_duty m cpu i (RefusesFirst sender) x = refuses m cpu Nobody sender x
 does_duty m cpu i (TellsGone to) x = x ▷ does (has_told to i) ▷ posts to (GoneLetter (declared m i).id)
 does_duty m cpu i CancelsOwn x = refuses m cpu Cancelled i x
-does_duty m cpu i CancelsReceive x = fails_receive m ReceiveCancel 7 i x
+does_duty m cpu i CancelsReceive x = fails_receive m ReceiveCancel receive_cancelled_code i x
 does_duty m cpu i (DeliversFirst sender) x = delivers m cpu i sender x
-does_duty m cpu i ClosesReceive x = fails_receive m ReceiveNobody 5 i x
+does_duty m cpu i ClosesReceive x = fails_receive m ReceiveNobody receive_nobody_code i x
 does_duty m cpu i (RefusesZero sender) x = refuses m cpu TimedOut sender x
 
 -- A deadline is past: of a receive phase, of a send that waits here, or of a split send.
 abbrev pub times_out : Machine → (cpu i : ℕ) → Work → Work
 times_out m cpu i x =
-    if is_some (receive_now (thread x.local i).phase) then fails_receive m ReceiveTimeout 3 i x
+    if is_some (receive_now (thread x.local i).phase) then fails_receive m ReceiveTimeout receive_timeout_code i x
     else if plain.is_queued x.local.lists i then refuses m cpu TimedOut i x
     else withdraws m ByTimeout i (split_place m cpu x.local i) x
 

@@ -1,7 +1,7 @@
 -- What the rows of a history tell: its records, the heads of its deliveries, and the words of all of them.
 use Rattle.std.specs.Prelude.{◌≡◌, ℕ, ◌+◌, ◌<◌, ◌≤◌, ⊤, Bool, true, false, Option, Some, None, List, ◌++◌, length, map, take, drop, slice_get, All}
 use Rattle.l4_history.specs.declared.records.Record.{Record}
-use Rattle.l4_history.specs.declared.records.Record.TheVariants.{Local, Begin, Queue, Deliver, Wait, SendTimeout, ReceiveTimeout, SendNobody, ReceiveNobody, SendCancel, ReceiveCancel, Drop, Order, Obey, Tick}
+use Rattle.l4_history.specs.declared.records.Record.TheVariants.{Local, Begin, Queue, Deliver, Wait, SendTimeout, ReceiveTimeout, SendNobody, ReceiveNobody, SendCancel, ReceiveCancel, Drop, Order, Obey, Tick, Retarget}
 use Rattle.l4_history.specs.declared.records.Head.{Head}
 use Rattle.l4_history.specs.declared.step_ref.DeliveryRef.{DeliveryRef}
 use Rattle.l4_model.specs.Words.{global_id, label_limit, register_count}
@@ -44,6 +44,7 @@ step_at heads words (Drop s) = steps.Drop s
 step_at heads words (Order caller target what) = steps.Order caller target (what_of what)
 step_at heads words (Obey t) = steps.Obey t
 step_at heads words (Tick t) = steps.Tick t.cpu t.clock
+step_at heads words (Retarget s) = steps.Retarget s
 
 abbrev pub told : List Record → List Head → List ℕ → List steps.Step
 told records heads words = map (step_at heads words) records

@@ -1,7 +1,7 @@
 -- A step that is looked at as a step of the machine.
 use Rattle.l4_history.specs.declared.step_ref.DeliveryRef.{DeliveryRef}
 use Rattle.l4_history.specs.declared.step_ref.StepRef.{StepRef}
-use Rattle.l4_history.specs.declared.step_ref.StepRef.TheVariants.{Local, Begin, Queue, Deliver, Wait, SendTimeout, ReceiveTimeout, SendNobody, ReceiveNobody, SendCancel, ReceiveCancel, Drop, Order, Obey, Tick}
+use Rattle.l4_history.specs.declared.step_ref.StepRef.TheVariants.{Local, Begin, Queue, Deliver, Wait, SendTimeout, ReceiveTimeout, SendNobody, ReceiveNobody, SendCancel, ReceiveCancel, Drop, Order, Obey, Tick, Retarget}
 use Rattle.l4_model.specs.Rules.{received_tag}
 use Rattle.l4_model.specs.Steps as steps
 use Rattle.l4_types.specs.StepView.{what_of}
@@ -26,3 +26,4 @@ seen (Drop s) = steps.Drop s
 seen (Order caller target what) = steps.Order caller target (what_of what)
 seen (Obey t) = steps.Obey t
 seen (Tick t) = steps.Tick t.cpu t.clock
+seen (Retarget s) = steps.Retarget s

@@ -138,6 +138,7 @@ impl History {
             }),
             StepRef::Obey(caller) => self.push_whole(Record::Obey(caller)),
             StepRef::Tick(tick) => self.push_whole(Record::Tick(tick)),
+            StepRef::Retarget(name) => self.push_whole(Record::Retarget(name)),
         }
     }
 
@@ -257,6 +258,7 @@ impl History {
             },
             Record::Obey(caller) => StepRef::Obey(caller),
             Record::Tick(tick) => StepRef::Tick(tick),
+            Record::Retarget(name) => StepRef::Retarget(name),
         }
     }
 }

@@ -75,6 +75,8 @@ pub enum StepRef<'a> {
     Obey(GlobalId),
     /// The clock of a processor went on.
     Tick(Tick),
+    /// The originator of a delivered send turned to the thread that received it (profile 2).
+    Retarget(Name),
 }
 
 impl<'a> From<&'a Step> for StepRef<'a> {
@@ -110,6 +112,7 @@ impl<'a> From<&'a Step> for StepRef<'a> {
             },
             Step::Obey(caller) => StepRef::Obey(*caller),
             Step::Tick(tick) => StepRef::Tick(*tick),
+            Step::Retarget(name) => StepRef::Retarget(*name),
         }
     }
 }
@@ -148,6 +151,7 @@ impl StepRef<'_> {
             },
             StepRef::Obey(caller) => Step::Obey(*caller),
             StepRef::Tick(tick) => Step::Tick(*tick),
+            StepRef::Retarget(name) => Step::Retarget(*name),
         }
     }
 }

@@ -16,7 +16,7 @@ use l4_split::law_of_core_runs;
 /// `lawful`: what the events tell is a history of the model, each step possible at the world that the earlier ones reach, with the laws
 /// of histories; no letter under way is refused where it goes; where the run is at rest, nothing but clocks can go on in the world
 /// that the history reaches; and where no letter is under way and no thread is deleted, that world has of each thread what its own processor
-/// has.
+/// has. On a machine of one processor it is what that processor has at every moment, deleted threads too.
 ///
 /// `merged`: the events in order of stamp and processor are those of a core run too, which ends in the same local states, with the same
 /// letters under way of each pair of processors, and is at rest exactly where the first one is. So all of `lawful` is true of it.

@@ -197,6 +197,10 @@ fn push_copied(letters: &mut VecDeque<Letter>, letter: &Letter)
             stamp,
             content: Content::OrderDone(*caller),
         }),
+        Content::Retarget(owed) => letters.push_back_reserved(Letter {
+            stamp,
+            content: Content::Retarget(*owed),
+        }),
     }
 }
 

@@ -30,7 +30,7 @@ use std::alloc::Global;
 use std::thread::Threads;
 
 // Between any two processors there is room for so many letters each way.
-const ROOM: usize = 64;
+const ROOM: usize = 16;
 
 /// All processors of a machine, in the order of their numbers.
 #[derive(Drop)]

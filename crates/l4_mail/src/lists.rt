@@ -52,6 +52,7 @@ pub fn copy(letter: &Letter) -> Letter
             what: *what,
         },
         Content::OrderDone(id) => Content::OrderDone(*id),
+        Content::Retarget(owed) => Content::Retarget(*owed),
     };
     Letter {
         stamp: letter.stamp,

@@ -7,9 +7,9 @@ use Rattle.l4_model.specs.Machine.{Machine}
 use Rattle.l4_model.specs.World.{is_deleted, receive_now}
 use Rattle.l4_model.specs.Conditions.{Found, ◌>>=◌, ◌>>◌, is_nobody}
 use Rattle.l4_core_model.specs.Plain as plain
-use Rattle.l4_core_model.specs.Local.{Local, declared, own_places, held, held_by, thread}
+use Rattle.l4_core_model.specs.Local.{Local, declared, own_places, held, held_by, thread, owed_beside}
 use Rattle.l4_core_model.specs.Acts.{first_acceptable, zero_refusable}
-use Rattle.l4_core_model.specs.Turns.{Duty, DropsOwn, TellsGone, CancelsOwn, CancelsReceive, DeliversFirst, ClosesReceive}
+use Rattle.l4_core_model.specs.Turns.{Duty, DropsOwn, TellsGone, CancelsOwn, CancelsReceive, DeliversFirst, ClosesReceive, Retargets, duty_retargets}
 use Rattle.l4_core_model.specs.Turns.{duty_drops_own, duty_refuses_waiting, next_untold, duty_tells_gone, duty_cancels_own, duty_cancels_receive}
 use Rattle.l4_core_model.specs.Turns.{duty_delivers_first, duty_closes_receive, duty_refuses_zero, first_some, duty_of, first_duty}
 use Rattle.l4_core_model.specs.Turns.{Choice, ByDuty, ByDue, ByReady, choice}
@@ -64,11 +64,12 @@ duty_aimed m cpu l t =
     let fails = if_guarded aimed (is_some receiving) _ (if_guarded aimed t.now.cancel_receive (Some CancelsReceive) tt) in
     let delivers = if_bound aimed (first_acceptable l t.at) (λ first. Some (DeliversFirst first)) (λ first is. tt) in
     let closes = if_bound aimed receiving _ (λ receive is. if_guarded aimed (is_nobody receive.from (held_by m l receive.from)) (Some ClosesReceive) tt) in
+    let turns = if_bound aimed (owed_beside l t.at) (λ o. Some (Retargets o)) (λ o is. tt) in
     let zero = if_bound aimed (find (λ w. zero_refusable m t (thread l w.block).send) (plain.list_of l.lists t.at)) _ (λ w is. tt) in
     if_first aimed
-    (duty_drops_own l t ∷ duty_refuses_waiting l t ∷ duty_tells_gone m cpu l t ∷ duty_cancels_own l t ∷ duty_cancels_receive t
+    (duty_retargets l t ∷ duty_drops_own l t ∷ duty_refuses_waiting l t ∷ duty_tells_gone m cpu l t ∷ duty_cancels_own l t ∷ duty_cancels_receive t
     ∷ duty_delivers_first l t ∷ duty_closes_receive m l t ∷ duty_refuses_zero m l t ∷ [])
-    (drops, (refuses, (tells, (cancels, (fails, (delivers, (closes, (zero, tt))))))))
+    (turns, (drops, (refuses, (tells, (cancels, (fails, (delivers, (closes, (zero, tt)))))))))
 
 first_duty_aimed : (m : Machine) (cpu : ℕ) (l : Local) (is : List ℕ) → IfSome (first_duty m cpu l is) (IsChoiceAimed m cpu)
 first_duty_aimed m cpu l [] = tt

@@ -1,16 +1,17 @@
 -- Each act of an event keeps the clock of its processor.
+use Rattle.l4_model.specs.Options.{if_some}
 use Rattle.std.proofs.Common.{◌≡◌, ℕ, Option, Some, None, refl, ◌∙◌}
 use Rattle.l4_model.specs.Words.{GlobalId}
 use Rattle.l4_model.specs.Machine.{Machine, What, CancelSend, CancelReceive, CancelBoth, Delete, place_of, is_place}
-use Rattle.l4_model.specs.World.{Message, Send, Asked, is_deleted}
+use Rattle.l4_model.specs.World.{Message, Send, Asked, is_deleted, Owed}
 use Rattle.l4_model.specs.Effects.{orders}
-use Rattle.l4_model.specs.Rules.{Act, RunsAlone, Sends, Receives, Orders}
+use Rattle.l4_model.specs.Rules.{Act, RunsAlone, Sends, Receives, Orders, owed_by}
 use Rattle.l4_model.specs.Steps.{Queue, Order}
 use Rattle.l4_model.proofs.Chains.{cond_keeps}
 use Rattle.l4_core_model.specs.Plain as plain
 use Rattle.l4_core_model.specs.Letters.{Result, Refusal, Refused, Nobody, TimedOut, Delivered, Cause, cause_of}
-use Rattle.l4_core_model.specs.Local.{Local, declared, is_own, thread, held, destination_place, comes_to, relists}
-use Rattle.l4_core_model.specs.Acts.{Work, ◌▷◌, tells, does, tells_send, entry, decides_send, refuses, delivers_message, delivers_send}
+use Rattle.l4_core_model.specs.Local.{Local, declared, is_own, thread, held, destination_place, comes_to, relists, last_name}
+use Rattle.l4_core_model.specs.Acts.{Work, ◌▷◌, tells, does, tells_send, entry, decides_send, refuses, delivers_message, delivers_send, owes, owes_for, retargets}
 use Rattle.l4_core_model.specs.Acts.{delivers, first_acceptable, delivers_if_first, queues_send, arrives, zero_refusable, send_goes_to}
 use Rattle.l4_core_model.specs.Acts.{begins_send, withdraws, asks, withdraws_for, obeys, order_goes_to, gives_order, acts}
 
@@ -30,8 +31,17 @@ ends_clock m cpu result i x = cond_keeps (HasClock x.local.clock) (is_own m cpu 
 pub refuses_clock : (m : Machine) (cpu : ℕ) (refusal : Refusal) (i : ℕ) → KeepsClock (refuses m cpu refusal i)
 refuses_clock m cpu refusal i x = ends_clock m cpu (Refused refusal) i _
 
+owes_clock : (m : Machine) (cpu r : ℕ) (o : Owed) (to : Option ℕ) → KeepsClock (owes m cpu r o to)
+owes_clock m cpu r o None x = refl
+owes_clock m cpu r o (Some j) x = cond_keeps (HasClock x.local.clock) (is_own m cpu j) _ _ (λ yes. refl) (λ no. refl)
+
+owes_for_clock : (m : Machine) (cpu r : ℕ) (o : Option Owed) → KeepsClock (owes_for m cpu r o)
+owes_for_clock m cpu r None x = refl
+owes_for_clock m cpu r (Some o) x = owes_clock m cpu r o (place_of m o.originator) x
+
 delivers_message_clock : (m : Machine) (cpu r i : ℕ) (message : Message) (tag : ℕ) → KeepsClock (delivers_message m cpu r i message tag)
-delivers_message_clock m cpu r i message tag x = ends_clock m cpu Delivered i _
+delivers_message_clock m cpu r i message tag x =
+    owes_for_clock m cpu r (owed_by m (last_name m x.local i) message (declared m r).id) _ ∙ ends_clock m cpu Delivered i _
 
 delivers_send_clock : (m : Machine) (cpu r i : ℕ) (send : Option Send) → KeepsClock (delivers_send m cpu r i send)
 delivers_send_clock m cpu r i None x = refl
@@ -66,6 +76,11 @@ begins_send_clock m cpu i send x = goes_to_clock m cpu i send (destination_place
 pub withdraws_clock : (m : Machine) (cause : Cause) (i : ℕ) (to : Option ℕ) → KeepsClock (withdraws m cause i to)
 withdraws_clock m cause i None x = refl
 withdraws_clock m cause i (Some r) x = refl
+
+-- An originator turns to its new partner, wherever it stands.
+pub retargets_clock : (o : Owed) (to : Option ℕ) → KeepsClock (if_some (retargets o) to)
+retargets_clock o None x = refl
+retargets_clock o (Some j) x = refl
 
 -- orders
 

@@ -3,22 +3,22 @@ use Rattle.std.proofs.Common.{◌≡◌, ℕ, true, Option, Some, None, List, []
 use Rattle.std.specs.Prelude.{is_some, ◌==◌, ◌||◌, is_none}
 use Rattle.std.specs.List.{AllByRecursion}
 use Rattle.std.specs.Option.{option_map}
-use Rattle.l4_model.specs.Machine.{Machine, is_declared}
+use Rattle.l4_model.specs.Machine.{Machine, is_declared, place_of}
 use Rattle.l4_model.specs.Words.{same_id}
 use Rattle.l4_model.specs.World.{receive_now, is_deleted}
 use Rattle.l4_model.specs.Conditions.{act_of}
 use Rattle.l4_model.proofs.Chains.{bind_then, guard_then, some_is, cond_keeps}
 use Rattle.l4_core_model.specs.Plain as plain
-use Rattle.l4_core_model.specs.Letters.{Content, SendLetter, DoneLetter, WithdrawLetter, GoneLetter, OrderLetter, OrderDoneLetter}
+use Rattle.l4_core_model.specs.Letters.{Content, SendLetter, DoneLetter, WithdrawLetter, GoneLetter, OrderLetter, OrderDoneLetter, RetargetLetter}
 use Rattle.l4_core_model.specs.Letters.{refusal_of, Cause, ByTimeout, Dropped, Nobody, Cancelled, TimedOut}
-use Rattle.l4_core_model.specs.Local.{Local, held, thread, relists}
+use Rattle.l4_core_model.specs.Local.{Local, held, thread, relists, keeps_beside}
 use Rattle.l4_core_model.specs.Acts.{Work, ◌▷◌, does, split_place}
-use Rattle.l4_core_model.specs.Turns.{Duty, DropsOwn, RefusesFirst, TellsGone, CancelsOwn, CancelsReceive, DeliversFirst, ClosesReceive, RefusesZero}
+use Rattle.l4_core_model.specs.Turns.{Duty, DropsOwn, RefusesFirst, TellsGone, CancelsOwn, CancelsReceive, DeliversFirst, ClosesReceive, RefusesZero, Retargets}
 use Rattle.l4_core_model.specs.Turns.{Choice, ByDuty, ByDue, ByReady, choice, does_duty, times_out, does_choice, opened, turn}
 use Rattle.l4_core_model.specs.Mail.{own_place, foreign_place, waits_here, is_ordering, withdraws_here, handled}
 use Rattle.l4_merge.specs.Deeds.{LocalEvent, Handled, Turned, Ticked, is_turn, work_of, Deed, Lead}
 use Rattle.l4_merge.specs.Pasts.{Past, HasTurned}
-use Rattle.l4_merge.proofs.ClocksOfActs.{HasClock, KeepsClock, refuses_clock, delivers_clock, arrives_clock, withdraws_clock, obeys_clock, acts_clock}
+use Rattle.l4_merge.proofs.ClocksOfActs.{HasClock, KeepsClock, refuses_clock, delivers_clock, arrives_clock, withdraws_clock, obeys_clock, acts_clock, retargets_clock}
 
 -- What has the value of a chain is what the chain ends in.
 is_of : (clock : ℕ) (y x : Work) → HasClock clock y → Some y ≡ Some x → HasClock clock x
@@ -27,6 +27,7 @@ is_of clock y x h is = ap (λ (x : Work). x.local.clock) (sym (some_is y x is)) 
 -- the core's turn
 
 does_duty_clock : (m : Machine) (cpu i : ℕ) (duty : Duty) → KeepsClock (does_duty m cpu i duty)
+does_duty_clock m cpu i (Retargets o) x = retargets_clock o (place_of m o.originator) (x ▷ does (keeps_beside i None))
 does_duty_clock m cpu i DropsOwn x = refuses_clock m cpu Dropped i x
 does_duty_clock m cpu i (RefusesFirst sender) x = refuses_clock m cpu Nobody sender x
 does_duty_clock m cpu i (TellsGone to) x = refl
@@ -87,6 +88,12 @@ handled_clock m cpu (OrderLetter caller target what) x y is =
 handled_clock m cpu (OrderDoneLetter caller) x y is =
     bind_then (own_place m cpu caller) _ y is λ i _ is.
     guard_then (is_deleted (thread x.local i).phase || is_ordering (thread x.local i).phase) _ y is λ _ is.
+    is_of x.local.clock _ y refl is
+handled_clock m cpu (RetargetLetter o) x y is =
+    guard_then m.retargeting _ y is λ _ is.
+    bind_then (own_place m cpu o.originator) _ y is λ j _ is.
+    guard_then (is_declared m o.old_partner) _ y is λ _ is.
+    guard_then (is_some (foreign_place m cpu o.new_partner)) _ y is λ _ is.
     is_of x.local.clock _ y refl is
 
 -- any turn

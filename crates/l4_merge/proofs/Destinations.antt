@@ -11,19 +11,19 @@ use Rattle.l4_model.specs.Steps.{ReceiveCancel, ReceiveNobody, ReceiveTimeout}
 use Rattle.l4_model.specs.Conditions.{act_of}
 use Rattle.l4_model.proofs.Chains.{bind_then, guard_then, some_is, cond_keeps}
 use Rattle.l4_core_model.specs.Plain as plain
-use Rattle.l4_core_model.specs.Letters.{Letter, Content, SendLetter, DoneLetter, WithdrawLetter, GoneLetter, OrderLetter, OrderDoneLetter}
+use Rattle.l4_core_model.specs.Letters.{Letter, Content, SendLetter, DoneLetter, WithdrawLetter, GoneLetter, OrderLetter, OrderDoneLetter, RetargetLetter}
 use Rattle.l4_core_model.specs.Letters.{refusal_of, Cause, ByTimeout, Dropped, Nobody, Cancelled, TimedOut}
-use Rattle.l4_core_model.specs.Local.{Local, is_own, held, thread, relists, changes, stands_in, stand_in}
+use Rattle.l4_core_model.specs.Local.{Local, is_own, held, thread, relists, changes, stands_in, stand_in, keeps_beside}
 use Rattle.l4_core_model.specs.Runs.{IsMachine}
 use Rattle.l4_core_model.specs.Acts.{Work, ◌▷◌, does, split_place}
-use Rattle.l4_core_model.specs.Turns.{Duty, DropsOwn, RefusesFirst, TellsGone, CancelsOwn, CancelsReceive, DeliversFirst, ClosesReceive, RefusesZero}
+use Rattle.l4_core_model.specs.Turns.{Duty, DropsOwn, RefusesFirst, TellsGone, CancelsOwn, CancelsReceive, DeliversFirst, ClosesReceive, RefusesZero, Retargets}
 use Rattle.l4_core_model.specs.Turns.{Choice, ByDuty, ByDue, ByReady, choice, does_duty, times_out, does_choice}
 use Rattle.l4_core_model.specs.Turns.{opened, turn, advance}
 use Rattle.l4_core_model.specs.Mail.{own_place, foreign_place, waits_here, is_ordering, withdraws_here, handled}
 use Rattle.l4_core_model.proofs.Lists.{all-map}
 use Rattle.l4_merge.specs.Deeds.{LocalEvent, Handled, Turned, Ticked, work_of}
 use Rattle.l4_merge.proofs.Aims.{IsElsewhere, IsAimed, IsChoiceAimed, choice_aimed}
-use Rattle.l4_merge.proofs.RoomOfActs.{all_homed, IsForeign, home_elsewhere, split_is_foreign, HasRoom, Fits, with_local, less, at_end}
+use Rattle.l4_merge.proofs.RoomOfActs.{all_homed, IsForeign, home_elsewhere, split_is_foreign, HasRoom, Fits, with_local, less, at_end, retargets_fits}
 use Rattle.l4_merge.proofs.RoomOfActs.{posts_fits, refuses_fits, delivers_fits, arrives_fits, withdraws_fits, fails_receive_fits, obeys_fits, acts_fits}
 
 -- An event has room for three steps and two letters.
@@ -36,15 +36,17 @@ is_of m cpu y x is h = subst (HasRoom m cpu 0 0) (some_is y x is) h
 
 -- a turn
 
-does_duty_fits : (m : Machine) (cpu i : ℕ) (duty : Duty) → IsAimed m cpu duty → Fits m cpu 1 1 (does_duty m cpu i duty)
-does_duty_fits m cpu i DropsOwn aimed x h = refuses_fits m cpu Dropped i x h
-does_duty_fits m cpu i (RefusesFirst sender) aimed x h = refuses_fits m cpu Nobody sender x h
+does_duty_fits : (m : Machine) (cpu i : ℕ) (duty : Duty) → IsAimed m cpu duty → Fits m cpu 1 2 (does_duty m cpu i duty)
+does_duty_fits m cpu i (Retargets o) aimed x h =
+    retargets_fits m cpu o (place_of m o.originator) (x ▷ does (keeps_beside i None)) (with_local (less (omega arith) (omega arith) h))
+does_duty_fits m cpu i DropsOwn aimed x h = refuses_fits m cpu Dropped i x (less (omega arith) (omega arith) h)
+does_duty_fits m cpu i (RefusesFirst sender) aimed x h = refuses_fits m cpu Nobody sender x (less (omega arith) (omega arith) h)
 does_duty_fits m cpu i (TellsGone to) aimed x h = posts_fits _ _ aimed (with_local (less (omega arith) (omega arith) h))
-does_duty_fits m cpu i CancelsOwn aimed x h = refuses_fits m cpu Cancelled i x h
+does_duty_fits m cpu i CancelsOwn aimed x h = refuses_fits m cpu Cancelled i x (less (omega arith) (omega arith) h)
 does_duty_fits m cpu i CancelsReceive aimed x h = fails_receive_fits m cpu ReceiveCancel 7 i x (less (omega arith) (omega arith) h)
 does_duty_fits m cpu i (DeliversFirst sender) aimed x h = delivers_fits m cpu i sender x h
 does_duty_fits m cpu i ClosesReceive aimed x h = fails_receive_fits m cpu ReceiveNobody 5 i x (less (omega arith) (omega arith) h)
-does_duty_fits m cpu i (RefusesZero sender) aimed x h = refuses_fits m cpu TimedOut sender x h
+does_duty_fits m cpu i (RefusesZero sender) aimed x h = refuses_fits m cpu TimedOut sender x (less (omega arith) (omega arith) h)
 
 times_out_fits : (m : Machine) (cpu i : ℕ) → Fits m cpu 1 1 (times_out m cpu i)
 times_out_fits m cpu i x h =
@@ -53,7 +55,7 @@ times_out_fits m cpu i x h =
     (λ no. cond_keeps (HasRoom m cpu 0 0) (plain.is_queued x.local.lists i) _ _ (λ yes. refuses_fits m cpu TimedOut i x h)
     (λ no. withdraws_fits m cpu ByTimeout i _ (split_is_foreign m cpu (thread x.local i).send) 0 0 x (less (omega arith) (omega arith) h)))
 
-does_choice_fits : (m : Machine) (cpu : ℕ) (c : Choice) → IsChoiceAimed m cpu c → Fits m cpu 3 1 (does_choice m cpu c)
+does_choice_fits : (m : Machine) (cpu : ℕ) (c : Choice) → IsChoiceAimed m cpu c → Fits m cpu 3 2 (does_choice m cpu c)
 does_choice_fits m cpu (ByDuty i duty) aimed x h = does_duty_fits m cpu i duty aimed x (less (omega arith) (omega arith) h)
 does_choice_fits m cpu (ByDue i) aimed x h = times_out_fits m cpu i (x ▷ does (relists plain.popped_due)) (with_local (less (omega arith) (omega arith) h))
 does_choice_fits m cpu (ByReady i) aimed x h = acts_fits m cpu i (act_of m (held m x.local i)) (x ▷ does (relists plain.popped)) (with_local h)
@@ -119,6 +121,12 @@ handled_fits m cpu (OrderDoneLetter caller) x y h is =
     bind_then (own_place m cpu caller) _ y is λ i _ is.
     guard_then (is_deleted (thread x.local i).phase || is_ordering (thread x.local i).phase) _ y is λ _ is.
     is_of m cpu _ y is (with_local (at_end h))
+handled_fits m cpu (RetargetLetter o) x y h is =
+    guard_then m.retargeting _ y is λ _ is.
+    bind_then (own_place m cpu o.originator) _ y is λ j _ is.
+    guard_then (is_declared m o.old_partner) _ y is λ _ is.
+    guard_then (is_some (foreign_place m cpu o.new_partner)) _ y is λ _ is.
+    is_of m cpu _ y is (retargets_fits m cpu o (Some j) x (less (omega arith) (omega arith) h))
 
 -- any event
 

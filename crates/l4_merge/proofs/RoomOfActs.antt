@@ -1,4 +1,5 @@
 -- Each act of an event tells and posts no more than it has room for, and its letters go to other processors of the machine.
+use Rattle.l4_model.specs.Options.{if_some}
 use Rattle.std.proofs.Common.{◌≡◌, false, refl, ℕ, suc, ◌+◌, ◌<◌, ◌≤◌, Option, Some, None, List, [], ◌∷◌, ◌++◌, length, ⊎_elim, ap, arith}
 use Rattle.std.specs.List.{AllByRecursion}
 use Rattle.std.specs.Option.{IfSome}
@@ -6,16 +7,16 @@ use Rattle.std.proofs.lemmas.Bool.{cases_lt}
 use Rattle.std.proofs.lemmas.List.{length-append, get_or_past}
 use Rattle.l4_model.specs.Words.{GlobalId}
 use Rattle.l4_model.specs.Machine.{Machine, What, place_of, is_place}
-use Rattle.l4_model.specs.World.{Message, Send, Asked, is_deleted}
+use Rattle.l4_model.specs.World.{Message, Send, Asked, is_deleted, Owed}
 use Rattle.l4_model.specs.Effects.{orders}
-use Rattle.l4_model.specs.Rules.{Act, RunsAlone, Sends, Receives, Orders}
+use Rattle.l4_model.specs.Rules.{Act, RunsAlone, Sends, Receives, Orders, owed_by}
 use Rattle.l4_model.specs.Steps.{Step, Queue, Order}
 use Rattle.l4_model.proofs.Chains.{cond_keeps}
 use Rattle.l4_core_model.specs.Plain as plain
 use Rattle.l4_core_model.specs.Letters.{Letter, Result, Refusal, Refused, Nobody, TimedOut, Delivered, Cause, Content, cause_of}
-use Rattle.l4_core_model.specs.Local.{Local, undeclared, declared, is_own, thread, held, destination_place, comes_to, relists}
+use Rattle.l4_core_model.specs.Local.{Local, undeclared, declared, is_own, thread, held, destination_place, comes_to, relists, last_name}
 use Rattle.l4_core_model.specs.Runs.{IsMachine}
-use Rattle.l4_core_model.specs.Acts.{Work, ◌▷◌, tells, does, tells_send, entry, posts, decides_send, refuses, delivers_message, delivers_send}
+use Rattle.l4_core_model.specs.Acts.{Work, ◌▷◌, tells, does, tells_send, entry, posts, decides_send, refuses, delivers_message, delivers_send, owes, owes_for, retargets}
 use Rattle.l4_core_model.specs.Acts.{delivers, first_acceptable, delivers_if_first, queues_send, arrives, zero_refusable, send_goes_to}
 use Rattle.l4_core_model.specs.Acts.{begins_send, split_receiver, withdraws, fails_receive, withdraws_for, obeys, order_goes_to, gives_order, acts}
 use Rattle.l4_core_model.proofs.Apart.{apart}
@@ -80,47 +81,59 @@ posts_fits {m = m} {cpu = cpu} {l = l} {x = x} to content elsewhere h = record {
 
 -- sends
 
-ends_fits : (m : Machine) (cpu : ℕ) (result : Result) (i : ℕ) → Fits m cpu 0 1 (decides_send m cpu result i)
-ends_fits m cpu result i x h =
-    cond_keeps (HasRoom m cpu 0 0) (is_own m cpu i) _ _ (λ yes. with_local (at_end h)) (λ no. posts_fits _ _ (home_elsewhere m cpu i no) (with_local h))
+ends_fits : (m : Machine) (cpu : ℕ) (result : Result) (i l : ℕ) (x : Work) → HasRoom m cpu 0 (suc l) x → HasRoom m cpu 0 l (decides_send m cpu result i x)
+ends_fits m cpu result i l x h =
+    cond_keeps (HasRoom m cpu 0 l) (is_own m cpu i) _ _ (λ yes. with_local (less (omega arith) (omega arith) h))
+    (λ no. posts_fits _ _ (home_elsewhere m cpu i no) (with_local h))
 
 pub refuses_fits : (m : Machine) (cpu : ℕ) (refusal : Refusal) (i : ℕ) → Fits m cpu 1 1 (refuses m cpu refusal i)
-refuses_fits m cpu refusal i x h = ends_fits m cpu (Refused refusal) i _ (tells_fits _ h)
+refuses_fits m cpu refusal i x h = ends_fits m cpu (Refused refusal) i 0 _ (tells_fits _ h)
 
-delivers_message_fits : (m : Machine) (cpu r i : ℕ) (message : Message) (tag : ℕ) → Fits m cpu 1 1 (delivers_message m cpu r i message tag)
-delivers_message_fits m cpu r i message tag x h = ends_fits m cpu Delivered i _ (with_local (tells_fits _ h))
+owes_fits : (m : Machine) (cpu r : ℕ) (o : Owed) (to : Option ℕ) → Fits m cpu 0 1 (owes m cpu r o to)
+owes_fits m cpu r o None x h = at_end h
+owes_fits m cpu r o (Some j) x h =
+    cond_keeps (HasRoom m cpu 0 0) (is_own m cpu j) _ _ (λ yes. with_local (at_end h)) (λ no. posts_fits _ _ (home_elsewhere m cpu j no) h)
 
-delivers_send_fits : (m : Machine) (cpu r i : ℕ) (send : Option Send) → Fits m cpu 1 1 (delivers_send m cpu r i send)
+owes_for_fits : (m : Machine) (cpu r : ℕ) (o : Option Owed) → Fits m cpu 0 1 (owes_for m cpu r o)
+owes_for_fits m cpu r None x h = at_end h
+owes_for_fits m cpu r (Some o) x h = owes_fits m cpu r o (place_of m o.originator) x h
+
+-- A delivery may post the decision and then the retarget that it owes.
+delivers_message_fits : (m : Machine) (cpu r i : ℕ) (message : Message) (tag : ℕ) → Fits m cpu 1 2 (delivers_message m cpu r i message tag)
+delivers_message_fits m cpu r i message tag x h =
+    owes_for_fits m cpu r (owed_by m (last_name m x.local i) message (declared m r).id) _ (ends_fits m cpu Delivered i 1 _ (with_local (tells_fits _ h)))
+
+delivers_send_fits : (m : Machine) (cpu r i : ℕ) (send : Option Send) → Fits m cpu 1 2 (delivers_send m cpu r i send)
 delivers_send_fits m cpu r i None x h = at_end h
 delivers_send_fits m cpu r i (Some send) x h = delivers_message_fits m cpu r i send.message _ x h
 
-pub delivers_fits : (m : Machine) (cpu r i : ℕ) → Fits m cpu 1 1 (delivers m cpu r i)
+pub delivers_fits : (m : Machine) (cpu r i : ℕ) → Fits m cpu 1 2 (delivers m cpu r i)
 delivers_fits m cpu r i x h = delivers_send_fits m cpu r i (thread x.local i).send x h
 
-delivers_if_first_fits : (m : Machine) (cpu r i : ℕ) → Fits m cpu 1 1 (delivers_if_first m cpu r i)
+delivers_if_first_fits : (m : Machine) (cpu r i : ℕ) → Fits m cpu 1 2 (delivers_if_first m cpu r i)
 delivers_if_first_fits m cpu r i x h =
     cond_keeps (HasRoom m cpu 0 0) (is_place (first_acceptable x.local r) i) _ _ (λ yes. delivers_fits m cpu r i x h)
     (λ no. at_end h)
 
-queues_send_fits : (m : Machine) (cpu r i : ℕ) (send : Option Send) → Fits m cpu 2 1 (queues_send m cpu r i send)
+queues_send_fits : (m : Machine) (cpu r i : ℕ) (send : Option Send) → Fits m cpu 2 2 (queues_send m cpu r i send)
 queues_send_fits m cpu r i None x h = at_end h
 queues_send_fits m cpu r i (Some send) x h =
     delivers_if_first_fits m cpu r i (x ▷ tells_send m Queue i ▷ does (relists (plain.queued r (entry m r i send)))) (with_local (tells_fits _ h))
 
-pub arrives_fits : (m : Machine) (cpu r i : ℕ) → Fits m cpu 2 1 (arrives m cpu r i)
+pub arrives_fits : (m : Machine) (cpu r i : ℕ) → Fits m cpu 2 2 (arrives m cpu r i)
 arrives_fits m cpu r i x h =
     let fewer = less (omega arith) (omega arith) h in
     cond_keeps (HasRoom m cpu 0 0) (is_deleted (thread x.local r).phase) _ _ (λ gone. refuses_fits m cpu Nobody i x fewer)
     (λ alive. cond_keeps (HasRoom m cpu 0 0) (zero_refusable m (held m x.local r) (thread x.local i).send) _ _
     (λ zero. refuses_fits m cpu TimedOut i x fewer) (λ waits. queues_send_fits m cpu r i (thread x.local i).send x h))
 
-goes_to_fits : (m : Machine) (cpu i : ℕ) (send : Send) (to : Option ℕ) → Fits m cpu 2 1 (send_goes_to m cpu i send to)
+goes_to_fits : (m : Machine) (cpu i : ℕ) (send : Send) (to : Option ℕ) → Fits m cpu 2 2 (send_goes_to m cpu i send to)
 goes_to_fits m cpu i send None x h = refuses_fits m cpu Nobody i x (less (omega arith) (omega arith) h)
 goes_to_fits m cpu i send (Some r) x h =
     cond_keeps (HasRoom m cpu 0 0) (is_own m cpu r) _ _ (λ yes. arrives_fits m cpu r i x h)
     (λ no. posts_fits _ _ (home_elsewhere m cpu r no) (less (omega arith) (omega arith) h))
 
-begins_send_fits : (m : Machine) (cpu i : ℕ) (send : Send) → Fits m cpu 3 1 (begins_send m cpu i send)
+begins_send_fits : (m : Machine) (cpu i : ℕ) (send : Send) → Fits m cpu 3 2 (begins_send m cpu i send)
 begins_send_fits m cpu i send x h = goes_to_fits m cpu i send (destination_place m send.to) _ (tells_fits _ (with_local h))
 
 -- A letter less, and as much of other room as there was.
@@ -131,6 +144,11 @@ withdraws_fits m cpu cause i (Some r) foreign s l x h = posts_fits _ _ (home_els
 
 pub fails_receive_fits : (m : Machine) (cpu : ℕ) (step : GlobalId → Step) (code i : ℕ) → Fits m cpu 1 0 (fails_receive m step code i)
 fails_receive_fits m cpu step code i x h = with_local (tells_fits _ h)
+
+-- An originator turns to its new partner, wherever it stands.
+pub retargets_fits : (m : Machine) (cpu : ℕ) (o : Owed) (to : Option ℕ) → Fits m cpu 1 0 (if_some (retargets o) to)
+retargets_fits m cpu o None x h = at_end h
+retargets_fits m cpu o (Some j) x h = with_local (tells_fits _ h)
 
 -- orders
 
@@ -158,7 +176,7 @@ gives_order_fits m cpu i order x h =
 
 -- instructions
 
-pub acts_fits : (m : Machine) (cpu i : ℕ) (a : Act) → Fits m cpu 3 1 (acts m cpu i a)
+pub acts_fits : (m : Machine) (cpu i : ℕ) (a : Act) → Fits m cpu 3 2 (acts m cpu i a)
 acts_fits m cpu i RunsAlone x h = with_local (tells_fits _ (less (omega arith) (omega arith) h))
 acts_fits m cpu i (Sends send) x h = begins_send_fits m cpu i send x h
 acts_fits m cpu i (Receives receive) x h = with_local (tells_fits _ (less (omega arith) (omega arith) h))

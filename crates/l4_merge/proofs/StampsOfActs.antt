@@ -1,17 +1,18 @@
 -- Each act of an event keeps the event's stamp, and posts letters of that stamp alone.
+use Rattle.l4_model.specs.Options.{if_some}
 use Rattle.std.proofs.Common.{◌≡◌, ℕ, Option, Some, None, refl, ◌∙◌}
 use Rattle.std.specs.List.{AllByRecursion}
 use Rattle.l4_model.specs.Words.{GlobalId}
 use Rattle.l4_model.specs.Machine.{Machine, What, CancelSend, CancelReceive, CancelBoth, Delete, place_of, is_place}
-use Rattle.l4_model.specs.World.{Message, Send, Asked, is_deleted}
+use Rattle.l4_model.specs.World.{Message, Send, Asked, is_deleted, Owed}
 use Rattle.l4_model.specs.Effects.{orders}
-use Rattle.l4_model.specs.Rules.{Act, RunsAlone, Sends, Receives, Orders}
+use Rattle.l4_model.specs.Rules.{Act, RunsAlone, Sends, Receives, Orders, owed_by}
 use Rattle.l4_model.specs.Steps.{Step, Queue, Order}
 use Rattle.l4_model.proofs.Chains.{cond_keeps}
 use Rattle.l4_core_model.specs.Plain as plain
 use Rattle.l4_core_model.specs.Letters.{Letter, Result, Refusal, Refused, Nobody, TimedOut, Delivered, Cause, Content, cause_of}
-use Rattle.l4_core_model.specs.Local.{Local, declared, is_own, thread, held, destination_place, comes_to, relists}
-use Rattle.l4_core_model.specs.Acts.{Work, ◌▷◌, tells, does, tells_send, entry, posts, decides_send, refuses, delivers_message, delivers_send}
+use Rattle.l4_core_model.specs.Local.{Local, declared, is_own, thread, held, destination_place, comes_to, relists, last_name}
+use Rattle.l4_core_model.specs.Acts.{Work, ◌▷◌, tells, does, tells_send, entry, posts, decides_send, refuses, delivers_message, delivers_send, owes, owes_for, retargets}
 use Rattle.l4_core_model.specs.Acts.{delivers, first_acceptable, delivers_if_first, queues_send, arrives, zero_refusable, send_goes_to}
 use Rattle.l4_core_model.specs.Acts.{begins_send, withdraws, fails_receive, asks, withdraws_for, obeys, order_goes_to, gives_order, acts}
 use Rattle.l4_merge.proofs.Lists.{all-append}
@@ -39,8 +40,19 @@ ends_stamped m cpu result i s x h =
 pub refuses_stamped : (m : Machine) (cpu : ℕ) (refusal : Refusal) (i : ℕ) → KeepsStamp (refuses m cpu refusal i)
 refuses_stamped m cpu refusal i s x h = ends_stamped m cpu (Refused refusal) i s _ (record { local = h.local; letters = h.letters })
 
+owes_stamped : (m : Machine) (cpu r : ℕ) (o : Owed) (to : Option ℕ) → KeepsStamp (owes m cpu r o to)
+owes_stamped m cpu r o None s x h = h
+owes_stamped m cpu r o (Some j) s x h =
+    cond_keeps (IsStamped s) (is_own m cpu j) _ _ (λ yes. record { local = h.local; letters = h.letters }) (λ no. posts_stamped _ _ s x h)
+
+owes_for_stamped : (m : Machine) (cpu r : ℕ) (o : Option Owed) → KeepsStamp (owes_for m cpu r o)
+owes_for_stamped m cpu r None s x h = h
+owes_for_stamped m cpu r (Some o) s x h = owes_stamped m cpu r o (place_of m o.originator) s x h
+
 delivers_message_stamped : (m : Machine) (cpu r i : ℕ) (message : Message) (tag : ℕ) → KeepsStamp (delivers_message m cpu r i message tag)
-delivers_message_stamped m cpu r i message tag s x h = ends_stamped m cpu Delivered i s _ (record { local = h.local; letters = h.letters })
+delivers_message_stamped m cpu r i message tag s x h =
+    owes_for_stamped m cpu r (owed_by m (last_name m x.local i) message (declared m r).id) s _
+    (ends_stamped m cpu Delivered i s _ (record { local = h.local; letters = h.letters }))
 
 delivers_send_stamped : (m : Machine) (cpu r i : ℕ) (send : Option Send) → KeepsStamp (delivers_send m cpu r i send)
 delivers_send_stamped m cpu r i None s x h = h
@@ -80,6 +92,11 @@ withdraws_stamped m cause i (Some r) s x h = posts_stamped _ _ s x h
 
 pub fails_receive_stamped : (m : Machine) (step : GlobalId → Step) (code i : ℕ) → KeepsStamp (fails_receive m step code i)
 fails_receive_stamped m step code i s x h = record { local = h.local; letters = h.letters }
+
+-- An originator turns to its new partner, wherever it stands.
+pub retargets_stamped : (o : Owed) (to : Option ℕ) → KeepsStamp (if_some (retargets o) to)
+retargets_stamped o None s x h = h
+retargets_stamped o (Some j) s x h = record { local = h.local; letters = h.letters }
 
 -- orders
 

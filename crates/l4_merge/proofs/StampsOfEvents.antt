@@ -3,7 +3,7 @@ use Rattle.std.proofs.Common.{◌≡◌, ℕ, ◌<◌, Option, Some, None, refl,
 use Rattle.std.specs.Prelude.{◌^◌, nat_lt, is_some, ◌==◌, ◌||◌, is_none}
 use Rattle.std.specs.List.{AllByRecursion}
 use Rattle.std.specs.Option.{option_map}
-use Rattle.l4_model.specs.Machine.{Machine, is_declared}
+use Rattle.l4_model.specs.Machine.{Machine, is_declared, place_of}
 use Rattle.l4_model.specs.Words.{same_id}
 use Rattle.l4_model.specs.Effects.{obeyed}
 use Rattle.l4_model.specs.World.{receive_now, is_deleted}
@@ -11,16 +11,16 @@ use Rattle.l4_model.specs.Steps.{ReceiveCancel, ReceiveNobody, ReceiveTimeout, T
 use Rattle.l4_model.specs.Conditions.{act_of}
 use Rattle.l4_model.proofs.Chains.{bind_then, guard_then, some_is, cond_keeps}
 use Rattle.l4_core_model.specs.Plain as plain
-use Rattle.l4_core_model.specs.Letters.{Content, SendLetter, DoneLetter, WithdrawLetter, GoneLetter, OrderLetter, OrderDoneLetter}
+use Rattle.l4_core_model.specs.Letters.{Content, SendLetter, DoneLetter, WithdrawLetter, GoneLetter, OrderLetter, OrderDoneLetter, RetargetLetter}
 use Rattle.l4_core_model.specs.Letters.{refusal_of, Cause, ByTimeout, Dropped, Nobody, Cancelled, TimedOut}
-use Rattle.l4_core_model.specs.Local.{Local, declared, held, thread, relists, changes, comes_to, stands_in, stand_in, after_decision, is_gone_now}
-use Rattle.l4_core_model.specs.Acts.{Work, ◌▷◌, tells, does, split_place}
-use Rattle.l4_core_model.specs.Turns.{Duty, DropsOwn, RefusesFirst, TellsGone, CancelsOwn, CancelsReceive, DeliversFirst, ClosesReceive, RefusesZero}
+use Rattle.l4_core_model.specs.Local.{Local, declared, held, thread, relists, changes, comes_to, stands_in, stand_in, after_decision, is_gone_now, keeps_beside}
+use Rattle.l4_core_model.specs.Acts.{Work, ◌▷◌, tells, does, split_place, retargets}
+use Rattle.l4_core_model.specs.Turns.{Duty, DropsOwn, RefusesFirst, TellsGone, CancelsOwn, CancelsReceive, DeliversFirst, ClosesReceive, RefusesZero, Retargets}
 use Rattle.l4_core_model.specs.Turns.{Choice, ByDuty, ByDue, ByReady, choice, does_duty, times_out, does_choice}
 use Rattle.l4_core_model.specs.Turns.{next_stamp, opened, turn, advance, clock_is}
 use Rattle.l4_core_model.specs.Mail.{own_place, foreign_place, waits_here, is_ordering, withdraws_here, handled}
 use Rattle.l4_merge.specs.Deeds.{LocalEvent, Handled, Turned, Ticked, work_of, letter_of}
-use Rattle.l4_merge.proofs.StampsOfActs.{IsStamped, KeepsStamp, posts_stamped, refuses_stamped, delivers_stamped, arrives_stamped}
+use Rattle.l4_merge.proofs.StampsOfActs.{IsStamped, KeepsStamp, posts_stamped, refuses_stamped, delivers_stamped, arrives_stamped, retargets_stamped}
 use Rattle.l4_merge.proofs.StampsOfActs.{withdraws_stamped, fails_receive_stamped, obeys_stamped, acts_stamped}
 
 -- The first act of an event gives it its stamp.
@@ -34,6 +34,8 @@ is_of s y x h is = subst (IsStamped s) (some_is y x is) h
 -- a turn
 
 does_duty_stamped : (m : Machine) (cpu i : ℕ) (duty : Duty) → KeepsStamp (does_duty m cpu i duty)
+does_duty_stamped m cpu i (Retargets o) s x h =
+    retargets_stamped o (place_of m o.originator) s (x ▷ does (keeps_beside i None)) (record { local = h.local; letters = h.letters })
 does_duty_stamped m cpu i DropsOwn s x h = refuses_stamped m cpu Dropped i s x h
 does_duty_stamped m cpu i (RefusesFirst sender) s x h = refuses_stamped m cpu Nobody sender s x h
 does_duty_stamped m cpu i (TellsGone to) s x h = posts_stamped _ _ s _ (record { local = h.local; letters = h.letters })
@@ -107,6 +109,12 @@ handled_stamped m cpu (OrderDoneLetter caller) s x y h is =
     bind_then (own_place m cpu caller) _ y is λ i _ is.
     guard_then (is_deleted (thread x.local i).phase || is_ordering (thread x.local i).phase) _ y is λ _ is.
     is_of s (x ▷ does (comes_to i obeyed)) y (record { local = h.local; letters = h.letters }) is
+handled_stamped m cpu (RetargetLetter o) s x y h is =
+    guard_then m.retargeting _ y is λ _ is.
+    bind_then (own_place m cpu o.originator) _ y is λ j _ is.
+    guard_then (is_declared m o.old_partner) _ y is λ _ is.
+    guard_then (is_some (foreign_place m cpu o.new_partner)) _ y is λ _ is.
+    is_of s (x ▷ retargets o j) y (record { local = h.local; letters = h.letters }) is
 
 -- any event
 

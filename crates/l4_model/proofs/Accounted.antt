@@ -16,7 +16,7 @@ use Rattle.l4_model.specs.Conditions.{Pending, undecided, found_at, ◌>>=◌, �
 use Rattle.l4_model.specs.History.{run, reached, waiting, begun_name}
 use Rattle.l4_model.specs.Laws.{same_name, names, delivered_name, refused_name, dropped_name, begins_of, deliveries_of, refusals_of, drops_of}
 use Rattle.l4_model.proofs.Chains.{bind_then, some_is, get-changed_same, get-changed_other}
-use Rattle.l4_model.proofs.Sends.{Status, status, statuses, with_begun, with_decided, Begins, Decides, Keeps, Effect, effect}
+use Rattle.l4_model.proofs.Sends.{lasting, Status, status, statuses, with_begun, with_decided, Begins, Decides, Keeps, Effect, effect}
 use Rattle.l4_model.proofs.Sound.{AreSound, ready_has_none, opening_sound, step_sound}
 use Rattle.l4_model.proofs.Places.{same_name_is, same_name_refl, place_id, one_place}
 
@@ -46,7 +46,7 @@ pub idle : (m : Machine) (w v : World) (s : Name) (b : Begins m w v s) → AreSo
 idle m w v s b sound =
     let now = b.sender.now in
     ap (λ (x : Status). x.send) b.old_is
-    ∙ (ready_has_none now.phase now.send now.order b.ready (sound b.sender.at b.sender.declared now b.known.declared b.known.now).suits).0
+    ∙ ap (option_map lasting) (ready_has_none now.phase now.send now.order b.ready (sound b.sender.at b.sender.declared now b.known.declared b.known.now).suits).0
 
 -- what another name sees of a change at one place
 other_pending : (m : Machine) (w v : World) (s t : Name) (f : Status → Status) (i : ℕ) (old : Status) → same_name s t ≡ false →
@@ -178,7 +178,7 @@ opening_pending m s = by (place_of m s.thread)
 pub pending_is : (m : Machine) (w : World) (s : Name) → cond (is_some (undecided m w s)) 1 0 ≡ pending_of m w s
 pending_is m w s = by (place_of m s.thread) refl
   where
-    chained : (b : Bool) (o : Option Send) (f : Send → Pending) → ◌≡◌ {A = ℕ} (cond (is_some (b >> (o >>= λ send. Some (f send)))) 1 0) (cond b (cond (is_some o) 1 0) 0)
+    chained : (b : Bool) (o : Option Send) (f : Send → Pending) → ◌≡◌ {A = ℕ} (cond (is_some (b >> (o >>= λ send. Some (f send)))) 1 0) (cond b (cond (is_some (option_map lasting o)) 1 0) 0)
     chained true None f = refl
     chained true (Some send) f = refl
     chained false o f = refl

@@ -8,9 +8,9 @@ use Rattle.l4_model.specs.Machine.{Machine, Declaration, What, Instr, Set, Copy,
 use Rattle.l4_model.specs.World.{World, Thread, Context, Send, Receive, Phase, Ready, Sending, Receiving, Ordering, Ended, Deleted, Name}
 use Rattle.l4_model.specs.Rules.{Act, RunsAlone, Sends, Receives, Orders, act, ipc_act, ask_act, is_admitted, destination, receive_phase}
 use Rattle.l4_model.specs.Conditions.{Found, found, found_at, found_by, Pending, undecided, receiver_of, instruction, act_of, is_nobody, is_no_destination, has_passed, is_refusable, is_timed_out, ◌>>=◌, ◌>>◌}
-use Rattle.l4_model.specs.Steps.{Step, Local, Begin, Queue, Deliver, Wait, SendTimeout, ReceiveTimeout, SendNobody, ReceiveNobody, SendCancel, ReceiveCancel, Drop, Order, Obey, Tick, runs_alone, send_of, receive_of, order_of, receive_passed, next}
+use Rattle.l4_model.specs.Steps.{Step, Local, Begin, Queue, Deliver, Wait, SendTimeout, ReceiveTimeout, SendNobody, ReceiveNobody, SendCancel, ReceiveCancel, Drop, Order, Obey, Tick, Retarget, runs_alone, send_of, receive_of, order_of, receive_passed, next}
 use Rattle.l4_model.specs.Still.{is_tick}
-use Rattle.l4_model.proofs.Inversions.{local_taken, begin_taken, queue_taken, deliver_taken, wait_taken, send_timeout_taken, send_nobody_taken, send_cancel_taken, drop_taken, receive_timeout_taken, receive_nobody_taken, receive_cancel_taken, order_taken, obey_taken}
+use Rattle.l4_model.proofs.Inversions.{local_taken, begin_taken, queue_taken, deliver_taken, wait_taken, send_timeout_taken, send_nobody_taken, send_cancel_taken, drop_taken, receive_timeout_taken, receive_nobody_taken, receive_cancel_taken, order_taken, obey_taken, retarget_taken}
 use Rattle.l4_model.proofs.Places.{and_true, known, known_send}
 
 -- A world with other clocks.
@@ -206,7 +206,7 @@ possible_later m w v later (Begin s) not_tick le h =
     rw (found_is m w later s.thread k.t k.found, k.ready, k.next_k) (goes_on_from (send_of (act_of m (at_clocks later k.t))) _ sends)
 possible_later m w v later (Queue s) not_tick le h =
     let k = queue_taken m w v s h in
-    rw (undecided_is m w later s k.p k.is_undecided, receiver_is m w later k.p k.r k.to, k.alive, k.in_no_list)
+    rw (undecided_is m w later s k.p k.is_undecided, receiver_is m w later k.p k.r k.to, k.alive, k.in_no_list, k.free)
 possible_later m w v later (Deliver s receiver shown actual tag words) not_tick le h =
     let k = deliver_taken m w v s receiver shown actual tag words h in
     rw (undecided_is m w later s k.p k.is_undecided, receiver_is m w later k.p k.r k.to, k.receiving, k.first_is, k.is_first, k.same_receiver, k.same_shown, k.same_actual, k.same_tag, k.same_words)
@@ -216,10 +216,10 @@ possible_later m w v later (Wait id) not_tick le h =
     rw (found_is m w later id k.t k.found, k.ready, receiving)
 possible_later m w v later (SendTimeout s) not_tick le h =
     let k = send_timeout_taken m w v s h in
-    rw (undecided_is m w later s k.p k.is_undecided, timed_out_later m w s later k.p k.is_undecided le k.due)
+    rw (undecided_is m w later s k.p k.is_undecided, timed_out_later m w s later k.p k.is_undecided le k.due, k.free)
 possible_later m w v later (SendNobody s) not_tick le h =
     let k = send_nobody_taken m w v s h in
-    rw (undecided_is m w later s k.p k.is_undecided, found_by_later m w later k.p.send.to, no_destination_later k.p.send.to later (receiver_of m w k.p), k.nobody)
+    rw (undecided_is m w later s k.p k.is_undecided, found_by_later m w later k.p.send.to, no_destination_later k.p.send.to later (receiver_of m w k.p), k.nobody, k.free)
 possible_later m w v later (SendCancel s) not_tick le h =
     let k = send_cancel_taken m w v s h in
     rw (undecided_is m w later s k.p k.is_undecided, k.in_list, k.wish)
@@ -244,3 +244,6 @@ possible_later m w v later (Obey caller) not_tick le h =
     let k = obey_taken m w v caller h in
     rw (found_is m w later caller k.t k.found, k.ordered, k.target_is)
 possible_later m w v later (Tick cpu clock) not_tick le h = cc
+possible_later m w v later (Retarget s) not_tick le h =
+    let k = retarget_taken m w v s h in
+    rw (k.is_owed, found_is m w later k.o.originator k.t k.found)

@@ -7,14 +7,14 @@ use Rattle.std.specs.List.{AllByRecursion}
 use Rattle.std.specs.Option.{option_map}
 use Rattle.l4_model.specs.Words.{GlobalId, Id, NilThread, AnyThread, AnyLocalThread, LocalThread, GlobalThread, same_id}
 use Rattle.l4_model.specs.Machine.{Machine, What, CancelSend, CancelReceive, CancelBoth, Delete, place_of}
-use Rattle.l4_model.specs.World.{World, Thread, Asked, Receive, Phase, Ready, Sending, Receiving, Ordering, Ended, Deleted, changed, change, is_ready, is_deleted, receive_now, unqueued}
+use Rattle.l4_model.specs.World.{World, Thread, Asked, Owed, others_owed, Receive, Phase, Ready, Sending, Receiving, Ordering, Ended, Deleted, changed, change, is_ready, is_deleted, receive_now, unqueued}
 use Rattle.l4_model.specs.Conditions.{Found, Pending, found, found_by}
-use Rattle.l4_model.specs.Steps.{Step, Local, Begin, Queue, Deliver, Wait, SendTimeout, ReceiveTimeout, SendNobody, ReceiveNobody, SendCancel, ReceiveCancel, Drop, Order, Obey, Tick, next}
-use Rattle.l4_model.specs.Effects.{fails, decided, refused, receives as gets, delivered, asked, obeyed}
+use Rattle.l4_model.specs.Steps.{Step, Local, Begin, Queue, Deliver, Wait, SendTimeout, ReceiveTimeout, SendNobody, ReceiveNobody, SendCancel, ReceiveCancel, Drop, Order, Obey, Tick, Retarget, next}
+use Rattle.l4_model.specs.Effects.{fails, decided, refused, receives as gets, delivered, asked, obeyed, turns_in, turns}
 use Rattle.l4_model.specs.History.{run}
 use Rattle.l4_model.specs.Laws.{undone, is_delivered_to}
 use Rattle.l4_model.proofs.Chains.{bind_then, some_is, get-changed_same, get-changed_other}
-use Rattle.l4_model.proofs.Inversions.{local_taken, begin_taken, queue_taken, DeliverTaken, deliver_taken, wait_taken, send_timeout_taken, send_nobody_taken, send_cancel_taken, drop_taken, receive_timeout_taken, receive_nobody_taken, receive_cancel_taken, order_taken, obey_taken, tick_taken}
+use Rattle.l4_model.proofs.Inversions.{local_taken, begin_taken, queue_taken, DeliverTaken, deliver_taken, wait_taken, send_timeout_taken, send_nobody_taken, send_cancel_taken, drop_taken, receive_timeout_taken, receive_nobody_taken, receive_cancel_taken, order_taken, obey_taken, tick_taken, retarget_taken}
 use Rattle.l4_model.proofs.Places.{same_id_is, known, receiver_place, receiver_there}
 
 -- no thread stands at this place, or a deleted one
@@ -70,6 +70,17 @@ delivered_stays p now x d = rw d d
 obeyed_stays : (x : Thread) → is_deleted x.phase ≡ true → is_deleted (obeyed x).phase ≡ true
 obeyed_stays x d = rw d d
 
+turns_stays : (o : Owed) (x : Thread) → is_deleted x.phase ≡ true → is_deleted (turns o x).phase ≡ true
+turns_stays o x d = by x.phase d
+  where
+    by : (p : Phase) → is_deleted p ≡ true → is_deleted (turns_in p o x).phase ≡ true
+    by Ready h = d
+    by Sending h = d
+    by (Receiving receive since) h = cc
+    by Ordering h = d
+    by Ended h = d
+    by Deleted h = d
+
 asked_stays : (what : What) (x : Thread) → is_deleted x.phase ≡ true → is_deleted (asked what x).phase ≡ true
 asked_stays CancelSend x d = d
 asked_stays CancelReceive x d = d
@@ -123,6 +134,10 @@ step_stays m w v (Obey caller) j h gone =
     subst (λ u. gone_at u j ≡ true) k.leads_to
     (stays (change w k.target (asked k.order.what)) k.t.at obeyed j (λ x at. obeyed_stays x) (stays w k.target (asked k.order.what) j (λ x at. asked_stays k.order.what x) gone))
 step_stays m w v (Tick cpu clock) j h gone = let k = tick_taken m w v cpu clock h in subst (λ u. gone_at u j ≡ true) k.leads_to gone
+step_stays m w v (Retarget s) j h gone =
+    let k = retarget_taken m w v s h in
+    let u : World = record w { owed = others_owed w.owed s } in
+    subst (λ u. gone_at u j ≡ true) k.leads_to (stays u k.t.at (turns k.o) j (λ x at. turns_stays k.o x) gone)
 
 no_delivery : (m : Machine) (w v : World) (step : Step) (target : GlobalId) (j : ℕ) → next m w step ≡ Some v → place_of m target ≡ Some j → gone_at w j ≡ true → is_delivered_to target step ≡ false
 no_delivery m w v (Deliver s receiver shown actual tag words) target j h place gone = by (same_id target receiver) refl

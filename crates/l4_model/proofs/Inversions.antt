@@ -4,11 +4,11 @@ use Rattle.std.specs.Prelude.{slice_get, slice_set, nat_lt, ◌==◌, not, ◌&&
 use Rattle.std.specs.Str.{bytes_eq}
 use Rattle.l4_model.specs.Words.{GlobalId, same_id}
 use Rattle.l4_model.specs.Machine.{Machine, What, place_of}
-use Rattle.l4_model.specs.World.{Receive, Send, Asked, World, change, is_alive, is_ready, is_deleted, receive_now, queued, unqueued, Name}
+use Rattle.l4_model.specs.World.{Receive, Send, Asked, World, change, is_alive, is_ready, is_deleted, receive_now, queued, unqueued, Name, Owed, owed_of, others_owed, must_wait}
 use Rattle.l4_model.specs.Conditions.{Found, found, Pending, undecided, receiver_of, instruction, act_of, is_waiting, first_accepted, is_nobody, found_by, is_no_destination, is_timed_out}
-use Rattle.l4_model.specs.Rules.{received_tag, is_cross}
-use Rattle.l4_model.specs.Steps.{what_code, runs_alone, send_of, receive_of, order_of, after_local, after_begin, after_queue, after_deliver, after_wait, without_send, after_send_timeout, after_send_nobody, after_send_cancel, after_drop, receive_passed, after_receive_timeout, after_receive_nobody, after_receive_cancel, after_order, after_obey, after_tick}
-use Rattle.l4_model.specs.Effects.{runs, begins, waits, fails, decided, refused, receives, delivered, asked, orders, obeyed}
+use Rattle.l4_model.specs.Rules.{received_tag, is_cross, owed_by}
+use Rattle.l4_model.specs.Steps.{what_code, runs_alone, send_of, receive_of, order_of, after_local, after_begin, after_queue, after_deliver, after_wait, owing, without_send, after_send_timeout, after_send_nobody, after_send_cancel, after_drop, receive_passed, after_receive_timeout, after_receive_nobody, after_receive_cancel, after_order, after_obey, after_tick, after_retarget}
+use Rattle.l4_model.specs.Effects.{runs, begins, waits, fails, decided, refused, receives, delivered, asked, orders, obeyed, turns}
 use Rattle.l4_model.proofs.Chains.{bind_then, guard_then, some_is}
 
 pub record LocalTaken (m : Machine) (w v : World) (id : GlobalId) : Type 0 where
@@ -49,6 +49,7 @@ pub record QueueTaken (m : Machine) (w v : World) (s : Name) : Type 0 where
   pub to : receiver_of m w p ≡ Some r
   pub alive : (is_alive r.now.phase) ≡ true
   pub in_no_list : (not (is_waiting w p)) ≡ true
+  pub free : (not (must_wait w.owed s.thread p.send.to)) ≡ true
   pub leads_to : queued w r.at p.sender.at ≡ v
 
 pub queue_taken : (m : Machine) (w v : World) (s : Name) → after_queue m w s ≡ Some v → QueueTaken m w v s
@@ -57,7 +58,8 @@ queue_taken m w v s h =
     bind_then (receiver_of m w p) _ v rest λ r to rest.
     guard_then (is_alive r.now.phase) _ v rest λ alive rest.
     guard_then (not (is_waiting w p)) _ v rest λ in_no_list rest.
-    record { p = p; is_undecided = is_undecided; r = r; to = to; alive = alive; in_no_list = in_no_list; leads_to = some_is _ v rest }
+    guard_then (not (must_wait w.owed s.thread p.send.to)) _ v rest λ free rest.
+    record { p = p; is_undecided = is_undecided; r = r; to = to; alive = alive; in_no_list = in_no_list; free = free; leads_to = some_is _ v rest }
 
 pub record DeliverTaken (m : Machine) (w v : World) (s : Name) (receiver shown actual : GlobalId) (tag : ℕ) (words : List ℕ) : Type 0 where
   pub p : Pending
@@ -74,7 +76,9 @@ pub record DeliverTaken (m : Machine) (w v : World) (s : Name) (receiver shown a
   pub same_actual : (same_id actual p.send.message.actual) ≡ true
   pub same_tag : (tag == received_tag (is_cross m receiver p.send.message) p.send.message) ≡ true
   pub same_words : (bytes_eq words p.send.message.words) ≡ true
-  pub leads_to : change (change (unqueued w p.sender.at) r.at (receives p.send.message tag)) p.sender.at (delivered p.send p.sender.clock) ≡ v
+  pub leads_to :
+      owing (owed_by m s p.send.message receiver)
+      (change (change (unqueued w p.sender.at) r.at (receives p.send.message tag)) p.sender.at (delivered p.send p.sender.clock)) ≡ v
 
 pub deliver_taken : (m : Machine) (w v : World) (s : Name) (receiver shown actual : GlobalId) (tag : ℕ) (words : List ℕ) → after_deliver m w s receiver shown actual tag words ≡ Some v → DeliverTaken m w v s receiver shown actual tag words
 deliver_taken m w v s receiver shown actual tag words h =
@@ -109,25 +113,29 @@ pub record SendTimeoutTaken (m : Machine) (w v : World) (s : Name) : Type 0 wher
   pub p : Pending
   pub is_undecided : undecided m w s ≡ Some p
   pub due : (is_timed_out m w p) ≡ true
+  pub free : (not (must_wait w.owed s.thread p.send.to)) ≡ true
   pub leads_to : without_send w p (refused 2) ≡ v
 
 pub send_timeout_taken : (m : Machine) (w v : World) (s : Name) → after_send_timeout m w s ≡ Some v → SendTimeoutTaken m w v s
 send_timeout_taken m w v s h =
     bind_then (undecided m w s) _ v h λ p is_undecided rest.
     guard_then (is_timed_out m w p) _ v rest λ due rest.
-    record { p = p; is_undecided = is_undecided; due = due; leads_to = some_is _ v rest }
+    guard_then (not (must_wait w.owed s.thread p.send.to)) _ v rest λ free rest.
+    record { p = p; is_undecided = is_undecided; due = due; free = free; leads_to = some_is _ v rest }
 
 pub record SendNobodyTaken (m : Machine) (w v : World) (s : Name) : Type 0 where
   pub p : Pending
   pub is_undecided : undecided m w s ≡ Some p
   pub nobody : (is_no_destination p.send.to (receiver_of m w p)) ≡ true
+  pub free : (not (must_wait w.owed s.thread p.send.to)) ≡ true
   pub leads_to : without_send w p (refused 4) ≡ v
 
 pub send_nobody_taken : (m : Machine) (w v : World) (s : Name) → after_send_nobody m w s ≡ Some v → SendNobodyTaken m w v s
 send_nobody_taken m w v s h =
     bind_then (undecided m w s) _ v h λ p is_undecided rest.
     guard_then (is_no_destination p.send.to (receiver_of m w p)) _ v rest λ nobody rest.
-    record { p = p; is_undecided = is_undecided; nobody = nobody; leads_to = some_is _ v rest }
+    guard_then (not (must_wait w.owed s.thread p.send.to)) _ v rest λ free rest.
+    record { p = p; is_undecided = is_undecided; nobody = nobody; free = free; leads_to = some_is _ v rest }
 
 pub record SendCancelTaken (m : Machine) (w v : World) (s : Name) : Type 0 where
   pub p : Pending
@@ -250,3 +258,16 @@ tick_taken m w v cpu clock h =
     bind_then (slice_get w.clocks cpu) _ v h λ now clock_is rest.
     guard_then (nat_lt now clock && nat_lt clock (2 ^ 62)) _ v rest λ later rest.
     record { now = now; clock_is = clock_is; later = later; leads_to = some_is _ v rest }
+
+pub record RetargetTaken (m : Machine) (w v : World) (s : Name) : Type 0 where
+  pub o : Owed
+  pub is_owed : owed_of w.owed s ≡ Some o
+  pub t : Found
+  pub found : found m w o.originator ≡ Some t
+  pub leads_to : change (record w { owed = others_owed w.owed s }) t.at (turns o) ≡ v
+
+pub retarget_taken : (m : Machine) (w v : World) (s : Name) → after_retarget m w s ≡ Some v → RetargetTaken m w v s
+retarget_taken m w v s h =
+    bind_then (owed_of w.owed s) _ v h λ o is_owed rest.
+    bind_then (found m w o.originator) _ v rest λ t found rest.
+    record { o = o; is_owed = is_owed; t = t; found = found; leads_to = some_is _ v rest }

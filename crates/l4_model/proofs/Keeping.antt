@@ -5,14 +5,14 @@ use Rattle.std.proofs.lemmas.Bool.{ltb-true}
 use Rattle.std.specs.Prelude.{slice_get, slice_set, slice_index, nat_lt, ◌⊎◌, is_some, ◌^◌}
 use Rattle.l4_model.specs.Words.{GlobalId, Id, NilThread, AnyThread, AnyLocalThread, LocalThread, GlobalThread}
 use Rattle.l4_model.specs.Machine.{Machine, Declaration, What, CancelSend, CancelReceive, CancelBoth, Delete, place_of, is_declared, instruction_at}
-use Rattle.l4_model.specs.World.{World, Thread, Send, Receive, Asked, changed, change, opening, opening_thread, is_ready, is_deleted, receive_now, unqueued, Name}
+use Rattle.l4_model.specs.World.{World, Thread, Send, Receive, Asked, changed, change, opening, opening_thread, is_ready, is_deleted, receive_now, unqueued, others_owed, Owed, Name}
 use Rattle.l4_model.specs.Rules.{act}
 use Rattle.l4_model.specs.Conditions.{Found, found, found_by, Pending, undecided, instruction}
-use Rattle.l4_model.specs.Steps.{Step, Local, Begin, Queue, Deliver, Wait, SendTimeout, ReceiveTimeout, SendNobody, ReceiveNobody, SendCancel, ReceiveCancel, Drop, Order, Obey, Tick, send_of, without_send, next}
-use Rattle.l4_model.specs.Effects.{runs, begins, waits, fails, decided, refused, receives, delivered, asked, orders, obeyed}
+use Rattle.l4_model.specs.Steps.{Step, Local, Begin, Queue, Deliver, Wait, SendTimeout, ReceiveTimeout, SendNobody, ReceiveNobody, SendCancel, ReceiveCancel, Drop, Order, Obey, Tick, Retarget, send_of, without_send, next}
+use Rattle.l4_model.specs.Effects.{runs, begins, waits, fails, decided, refused, receives, delivered, asked, orders, obeyed, turns}
 use Rattle.l4_model.proofs.Chains.{some_is, part-changed}
 use Rattle.l4_model.proofs.Places.{and_true, known, known_send, sender_found, id_of}
-use Rattle.l4_model.proofs.Inversions.{local_taken, begin_taken, queue_taken, DeliverTaken, deliver_taken, wait_taken, send_timeout_taken, send_nobody_taken, send_cancel_taken, drop_taken, receive_timeout_taken, receive_nobody_taken, receive_cancel_taken, order_taken, ObeyTaken, obey_taken, TickTaken, tick_taken}
+use Rattle.l4_model.proofs.Inversions.{local_taken, begin_taken, queue_taken, DeliverTaken, deliver_taken, wait_taken, send_timeout_taken, send_nobody_taken, send_cancel_taken, drop_taken, receive_timeout_taken, receive_nobody_taken, receive_cancel_taken, order_taken, ObeyTaken, obey_taken, TickTaken, tick_taken, retarget_taken}
 
 -- A fact of a thread, with what is declared of it and the clock of its processor.
 abbrev pub Fact : Type 1
@@ -36,6 +36,7 @@ pub record Maintained (m : Machine) (P : Fact) : Type 0 where
   pub at_delivery : (d : Declaration) (now : ℕ) (t : Thread) (send : Send) → t.send ≡ Some send → P d now t → P d now (delivered send now t)
   pub at_asked : (d : Declaration) (now : ℕ) (t : Thread) (what : What) → P d now t → P d now (asked what t)
   pub at_obedience : (d : Declaration) (now : ℕ) (t : Thread) (order : Asked) → t.order ≡ Some order → P d now t → P d now (obeyed t)
+  pub at_turn : (d : Declaration) (now : ℕ) (t : Thread) (o : Owed) → P d now t → P d now (turns o t)
   pub at_tick : (d : Declaration) (now later : ℕ) (t : Thread) → now ≤ later → P d now t → P d later t
 
 pub order-asked : (what : What) (t : Thread) → (asked what t).order ≡ t.order
@@ -181,6 +182,10 @@ step_each m P w v (Order caller target what) keeps h each =
     subst (Each m P) k.leads_to (found_each m P w caller k.t (orders k.order) k.found each (keeps.at_order k.t.declared k.t.clock k.t.now k.order k.ready))
 step_each m P w v (Obey caller) keeps h each = obey_each m P w v caller keeps (obey_taken m w v caller h) each
 step_each m P w v (Tick cpu clock) keeps h each = tick_each m P w v cpu clock keeps (tick_taken m w v cpu clock h) each
+step_each m P w v (Retarget s) keeps h each =
+    let k = retarget_taken m w v s h in
+    let u : World = record w { owed = others_owed w.owed s } in
+    subst (Each m P) k.leads_to (found_each m P u k.o.originator k.t (turns k.o) k.found each (keeps.at_turn k.t.declared k.t.clock k.t.now k.o))
 
 -- What is so of a fresh thread is so of each at the opening.
 pub opening_each : (m : Machine) (P : Fact) → ((d : Declaration) (now : ℕ) → P d now opening_thread) → Each m P (opening m)

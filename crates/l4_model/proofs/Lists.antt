@@ -7,13 +7,13 @@ use Rattle.std.specs.Prelude.{slice_get, ◌==◌, not, ◌||◌, ◌⊎◌, IsS
 use Rattle.std.specs.List.{filter}
 use Rattle.l4_model.specs.Machine.{Machine, Declaration, place_of}
 use Rattle.l4_model.specs.World.{World, Send, changed, opening, unqueued, is_queued, Name, is_in, list_at}
-use Rattle.l4_model.specs.Steps.{Step, Local, Begin, Queue, Deliver, Wait, SendTimeout, ReceiveTimeout, SendNobody, ReceiveNobody, SendCancel, ReceiveCancel, Drop, Order, Obey, Tick, next}
+use Rattle.l4_model.specs.Steps.{Step, Local, Begin, Queue, Deliver, Wait, SendTimeout, ReceiveTimeout, SendNobody, ReceiveNobody, SendCancel, ReceiveCancel, Drop, Order, Obey, Tick, Retarget, next}
 use Rattle.l4_model.specs.Conditions.{Pending, undecided}
 use Rattle.l4_model.proofs.Chains.{some_is, get-map, get-changed_other}
 use Rattle.l4_model.proofs.Sends.{Status, status, statuses, with_begun, with_decided, Begins, Decides, Effect, effect}
 use Rattle.l4_model.proofs.Sound.{AreSound}
 use Rattle.l4_model.proofs.Accounted.{idle}
-use Rattle.l4_model.proofs.Inversions.{local_taken, begin_taken, QueueTaken, queue_taken, deliver_taken, wait_taken, send_timeout_taken, send_nobody_taken, send_cancel_taken, drop_taken, receive_timeout_taken, receive_nobody_taken, receive_cancel_taken, order_taken, obey_taken, tick_taken}
+use Rattle.l4_model.proofs.Inversions.{local_taken, begin_taken, QueueTaken, queue_taken, deliver_taken, wait_taken, send_timeout_taken, send_nobody_taken, send_cancel_taken, drop_taken, receive_timeout_taken, receive_nobody_taken, receive_cancel_taken, order_taken, obey_taken, tick_taken, retarget_taken}
 use Rattle.l4_model.proofs.Places.{known_send, found_place}
 use Rattle.l4_model.specs.Reached.{place_to, IsOnce}
 
@@ -69,6 +69,7 @@ list_effect m w v (ReceiveCancel id) h = let k = receive_cancel_taken m w v id h
 list_effect m w v (Order caller target what) h = let k = order_taken m w v caller target what h in ap lists_of (sym k.leads_to)
 list_effect m w v (Obey caller) h = let k = obey_taken m w v caller h in ap lists_of (sym k.leads_to)
 list_effect m w v (Tick cpu clock) h = let k = tick_taken m w v cpu clock h in ap lists_of (sym k.leads_to)
+list_effect m w v (Retarget s) h = let k = retarget_taken m w v s h in ap lists_of (sym k.leads_to)
 
 -- A sender has an undecided send to the thread at a place.
 abbrev pub GoesTo : Machine → ℕ → Option Status → Type 0
@@ -80,7 +81,7 @@ pub record AreListed (m : Machine) (lists : List (List ℕ)) (all : List Status)
   pub once : (j : ℕ) → IsOnce (list_at lists j)
 
 -- what a change of one list leaves at a place
-changed_cases : (f : List ℕ → List ℕ) (xs : List (List ℕ)) (i j : ℕ) → (get_or (changed f xs i) j [] ≡ get_or xs j []) ⊎ ((i ≡ j) × (get_or (changed f xs i) j [] ≡ f (get_or xs j [])))
+pub changed_cases : (f : List ℕ → List ℕ) (xs : List (List ℕ)) (i j : ℕ) → (get_or (changed f xs i) j [] ≡ get_or xs j []) ⊎ ((i ≡ j) × (get_or (changed f xs i) j [] ≡ f (get_or xs j [])))
 changed_cases f [] i j = inl refl
 changed_cases f (x ∷ xs) zero zero = inr (refl, refl)
 changed_cases f (x ∷ xs) zero (suc j) = inl refl
@@ -88,7 +89,7 @@ changed_cases f (x ∷ xs) (suc i) zero = inl refl
 changed_cases f (x ∷ xs) (suc i) (suc j) = ⊎_elim (λ same. inl same) (λ both. inr (ap suc both.0, both.1)) (changed_cases f xs i j)
 
 -- appending a sender that stands in no list
-in_append : (i k : ℕ) (xs : List ℕ) → is_in i (xs ++ k ∷ []) ≡ true → (is_in i xs ≡ true) ⊎ (i ≡ k)
+pub in_append : (i k : ℕ) (xs : List ℕ) → is_in i (xs ++ k ∷ []) ≡ true → (is_in i xs ≡ true) ⊎ (i ≡ k)
 in_append i k [] h = ⊎_elim (λ same. inr (eqb-true i k same)) (λ out. cc) (or_cases (i == k) false h)
 in_append i k (x ∷ xs) h = by (i == x) h (in_append i k xs)
   where
@@ -128,7 +129,7 @@ in_filter i k (x ∷ xs) h = by (k == x) refl h (in_filter i k xs)
         (λ below. (or_right (i == x) (is_in i xs) (rest below).0, (rest below).1))
         (or_cases (i == x) (is_in i (without k xs)) h)
 
-not_in_filter : (i k : ℕ) (xs : List ℕ) → is_in i xs ≡ false → is_in i (without k xs) ≡ false
+pub not_in_filter : (i k : ℕ) (xs : List ℕ) → is_in i xs ≡ false → is_in i (without k xs) ≡ false
 not_in_filter i k [] h = refl
 not_in_filter i k (x ∷ xs) h =
     let parts = or_false (i == x) (is_in i xs) h in

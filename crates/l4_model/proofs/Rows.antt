@@ -1,6 +1,7 @@
 -- Worked rows, computed.
 pub mod Writing
 pub mod Messages
+pub mod Retargets
 pub mod Queues
 pub mod Timeouts
 pub mod Orders

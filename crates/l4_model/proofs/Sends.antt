@@ -1,25 +1,30 @@
 -- What each step does to the numbers of begun sends and to the undecided sends.
-use Rattle.std.proofs.Common.{subst, ◌≡◌, ℕ, ◌+◌, true, Option, Some, None, List, map, refl, ap, ◌∙◌}
+use Rattle.std.proofs.Common.{subst, ◌≡◌, ℕ, ◌+◌, true, Option, Some, None, List, map, refl, ap, sym, ◌∙◌}
 use Rattle.std.proofs.lemmas.Bool.{eqb-true}
 use Rattle.std.specs.Prelude.{slice_get, ◌==◌}
+use Rattle.std.specs.Option.{option_map}
 use Rattle.l4_model.specs.Words.{GlobalId}
 use Rattle.l4_model.specs.Machine.{Machine, Instr, Set, Copy, Add, Tag, Vs, Ipc, Ask, Jump, OnErr, End, What, CancelSend, CancelReceive, CancelBoth, Delete, place_of}
-use Rattle.l4_model.specs.World.{Context, Thread, World, Send, Receive, changed, change, is_alive, is_ready, unqueued, Name}
+use Rattle.l4_model.specs.World.{Context, Thread, World, Send, Receive, Owed, Phase, Ready, Sending, Receiving, Ordering, Ended, Deleted, changed, change, is_alive, is_ready, unqueued, others_owed, Name}
 use Rattle.l4_model.specs.Rules.{ran}
-use Rattle.l4_model.specs.Steps.{Step, Local, Begin, Queue, Deliver, Wait, SendTimeout, ReceiveTimeout, SendNobody, ReceiveNobody, SendCancel, ReceiveCancel, Drop, Order, Obey, Tick, without_send, next}
+use Rattle.l4_model.specs.Steps.{Step, Local, Begin, Queue, Deliver, Wait, SendTimeout, ReceiveTimeout, SendNobody, ReceiveNobody, SendCancel, ReceiveCancel, Drop, Order, Obey, Tick, Retarget, without_send, next}
 use Rattle.l4_model.specs.Conditions.{Found, Pending, undecided, instruction}
-use Rattle.l4_model.specs.Effects.{runs, begins, waits, fails, decided, refused, receives, goes_on, delivered, asked, orders, obeyed}
+use Rattle.l4_model.specs.Effects.{runs, begins, waits, fails, decided, refused, receives, goes_on, delivered, asked, orders, obeyed, turned_send, turns_in, turns}
 use Rattle.l4_model.proofs.Chains.{map-changed_same, map-changed, get-map, cond_both}
-use Rattle.l4_model.proofs.Inversions.{local_taken, BeginTaken, begin_taken, queue_taken, DeliverTaken, deliver_taken, wait_taken, send_timeout_taken, send_nobody_taken, send_cancel_taken, drop_taken, receive_timeout_taken, receive_nobody_taken, receive_cancel_taken, order_taken, ObeyTaken, obey_taken, tick_taken}
+use Rattle.l4_model.proofs.Inversions.{local_taken, BeginTaken, begin_taken, queue_taken, DeliverTaken, deliver_taken, wait_taken, send_timeout_taken, send_nobody_taken, send_cancel_taken, drop_taken, receive_timeout_taken, receive_nobody_taken, receive_cancel_taken, order_taken, ObeyTaken, obey_taken, tick_taken, RetargetTaken, retarget_taken}
 use Rattle.l4_model.proofs.Places.{Known, known, known_send}
 
--- How many sends a thread began, and the undecided one.
+-- What stays of a send while it is undecided: all but its receive phase, which a retarget may change.
+abbrev pub lasting : Send → Send
+lasting send = record send { receive = None }
+
+-- How many sends a thread began, and what stays of the undecided one.
 pub record Status : Type 0 where
   pub begun : ℕ
   pub send : Option Send
 
 abbrev pub status : Thread → Status
-status t = record { begun = t.context.begun; send = t.send }
+status t = record { begun = t.context.begun; send = option_map lasting t.send }
 
 abbrev pub statuses : World → List Status
 statuses w = map status w.threads
@@ -46,6 +51,21 @@ status-refused code t = status-fails code (decided t)
 
 pub status-obeyed : (t : Thread) → status (obeyed t) ≡ status t
 status-obeyed t = cond_both status (status t) (is_alive t.phase) _ _ refl refl
+
+turned_lasting : (o : Owed) (send : Option Send) → option_map lasting (option_map (turned_send o) send) ≡ option_map lasting send
+turned_lasting o None = refl
+turned_lasting o (Some send) = refl
+
+pub status-turns : (o : Owed) (t : Thread) → status (turns o t) ≡ status t
+status-turns o t = by t.phase
+  where
+    by : (p : Phase) → status (turns_in p o t) ≡ status t
+    by Ready = refl
+    by Sending = ap (λ (x : Option Send). record { begun = t.context.begun; send = x }) (turned_lasting o t.send)
+    by (Receiving receive since) = refl
+    by Ordering = refl
+    by Ended = refl
+    by Deleted = refl
 
 pub status-asked : (what : What) (t : Thread) → status (asked what t) ≡ status t
 status-asked CancelSend t = refl
@@ -114,13 +134,17 @@ decides m w u s p f h keeps e =
     record {
       place = p.sender.at;
       old = status p.sender.now;
-      send = p.send;
+      send = lasting p.send;
       named = k.sender.place;
       was = get-map status w.threads p.sender.at p.sender.now k.sender.now;
       last = k.last;
-      undecided = k.send;
+      undecided = ap (option_map lasting) k.send;
       now = map-changed status f with_decided e u.threads p.sender.at ∙ ap (λ xs. changed with_decided xs p.sender.at) keeps;
     }
+
+-- Nothing else of the world counts.
+decided_so : (m : Machine) (w u v : World) (s : Name) → statuses v ≡ statuses u → Decides m w u s → Decides m w v s
+decided_so m w u v s e d = record { place = d.place; old = d.old; send = d.send; named = d.named; was = d.was; last = d.last; undecided = d.undecided; now = e ∙ d.now }
 
 -- A send that is decided without a delivery: it leaves its list, and its sender goes on.
 refuses : (m : Machine) (w : World) (s : Name) (p : Pending) (f : Thread → Thread) →
@@ -133,7 +157,7 @@ begin_effect m w v s k =
     subst (λ u. Begins m w u s) k.leads_to (record {
       place = k.t.at;
       old = status k.t.now;
-      send = k.send;
+      send = lasting k.send;
       sender = k.t;
       known = is;
       ready = k.ready;
@@ -141,23 +165,26 @@ begin_effect m w v s k =
       named = is.place;
       was = get-map status w.threads k.t.at k.t.now is.now;
       next_k = eqb-true _ _ k.next_k;
-      now = map-changed status (begins k.send) (with_begun k.send) (λ x. refl) w.threads k.t.at;
+      now = map-changed status (begins k.send) (with_begun (lasting k.send)) (λ x. refl) w.threads k.t.at;
     })
 
 deliver_effect : (m : Machine) (w v : World) (s : Name) (receiver shown actual : GlobalId) (tag : ℕ) (words : List ℕ) → DeliverTaken m w v s receiver shown actual tag words → Decides m w v s
 deliver_effect m w v s receiver shown actual tag words k =
     let u : World = change (unqueued w k.p.sender.at) k.r.at (receives k.p.send.message tag) in
-    subst (λ u. Decides m w u s) k.leads_to
+    decided_so m w _ v s (ap statuses (sym k.leads_to))
     (decides m w u s k.p (delivered k.p.send k.p.sender.clock) k.is_undecided (kept (unqueued w k.p.sender.at) k.r.at _ (λ t. refl)) (status-delivered k.p.send k.p.sender.clock))
 
 obey_effect : (m : Machine) (w v : World) (caller : GlobalId) → ObeyTaken m w v caller → Keeps w v
 obey_effect m w v caller k =
     subst (Keeps w) k.leads_to (kept (change w k.target (asked k.order.what)) k.t.at obeyed status-obeyed ∙ kept w k.target (asked k.order.what) (status-asked k.order.what))
 
+retarget_effect : (m : Machine) (w v : World) (s : Name) → RetargetTaken m w v s → Keeps w v
+retarget_effect m w v s k = subst (Keeps w) k.leads_to (kept (record w { owed = others_owed w.owed s }) k.t.at (turns k.o) (status-turns k.o))
+
 pub effect : (m : Machine) (w v : World) (step : Step) → next m w step ≡ Some v → Effect m w v step
 effect m w v (Local t) h =
     let k = local_taken m w v t h in
-    subst (Keeps w) k.leads_to (kept w k.t.at (runs (instruction k.t)) (λ x. ap (λ n. record { begun = n; send = x.send }) (begun-ran (instruction k.t) x.context)))
+    subst (Keeps w) k.leads_to (kept w k.t.at (runs (instruction k.t)) (λ x. ap (λ n. record { begun = n; send = option_map lasting x.send }) (begun-ran (instruction k.t) x.context)))
 effect m w v (Begin s) h = begin_effect m w v s (begin_taken m w v s h)
 effect m w v (Queue s) h = let k = queue_taken m w v s h in subst (Keeps w) k.leads_to refl
 effect m w v (Deliver s receiver shown actual tag words) h = deliver_effect m w v s receiver shown actual tag words (deliver_taken m w v s receiver shown actual tag words h)
@@ -172,3 +199,4 @@ effect m w v (Drop s) h = let k = drop_taken m w v s h in subst (λ u. Decides m
 effect m w v (Order caller target what) h = let k = order_taken m w v caller target what h in subst (Keeps w) k.leads_to (kept w k.t.at (orders k.order) (λ x. refl))
 effect m w v (Obey caller) h = obey_effect m w v caller (obey_taken m w v caller h)
 effect m w v (Tick cpu clock) h = let k = tick_taken m w v cpu clock h in subst (Keeps w) k.leads_to refl
+effect m w v (Retarget s) h = retarget_effect m w v s (retarget_taken m w v s h)

@@ -6,11 +6,11 @@ use Rattle.std.specs.Prelude.{slice_set, nat_lt}
 use Rattle.std.specs.List.{AllByRecursion}
 use Rattle.l4_model.specs.Machine.{Machine}
 use Rattle.l4_model.specs.World.{World, changed, opening, Name}
-use Rattle.l4_model.specs.Steps.{Step, Local, Begin, Queue, Deliver, Wait, SendTimeout, ReceiveTimeout, SendNobody, ReceiveNobody, SendCancel, ReceiveCancel, Drop, Order, Obey, Tick, next}
+use Rattle.l4_model.specs.Steps.{Step, Local, Begin, Queue, Deliver, Wait, SendTimeout, ReceiveTimeout, SendNobody, ReceiveNobody, SendCancel, ReceiveCancel, Drop, Order, Obey, Tick, Retarget, next}
 use Rattle.l4_model.proofs.Chains.{length-changed}
 use Rattle.l4_model.proofs.Sends.{Status, status, statuses, with_begun, with_decided, Effect, effect}
 use Rattle.l4_model.proofs.Lists.{ListEffect, Unlists, list_effect}
-use Rattle.l4_model.proofs.Inversions.{local_taken, begin_taken, queue_taken, deliver_taken, wait_taken, send_timeout_taken, send_nobody_taken, send_cancel_taken, drop_taken, receive_timeout_taken, receive_nobody_taken, receive_cancel_taken, order_taken, obey_taken, TickTaken, tick_taken}
+use Rattle.l4_model.proofs.Inversions.{local_taken, begin_taken, queue_taken, deliver_taken, wait_taken, send_timeout_taken, send_nobody_taken, send_cancel_taken, drop_taken, receive_timeout_taken, receive_nobody_taken, receive_cancel_taken, order_taken, obey_taken, TickTaken, tick_taken, retarget_taken}
 use Rattle.l4_model.proofs.Places.{and_true}
 
 -- how many threads a step leaves
@@ -66,6 +66,7 @@ clock_effect m w v (ReceiveCancel id) h = let k = receive_cancel_taken m w v id 
 clock_effect m w v (Order caller target what) h = let k = order_taken m w v caller target what h in ap clocks_of (sym k.leads_to)
 clock_effect m w v (Obey caller) h = let k = obey_taken m w v caller h in ap clocks_of (sym k.leads_to)
 clock_effect m w v (Tick cpu clock) h = tick_taken m w v cpu clock h
+clock_effect m w v (Retarget s) h = let k = retarget_taken m w v s h in ap clocks_of (sym k.leads_to)
 
 -- The sizes of a world, and how high its clocks are.
 pub record Sized (m : Machine) (w : World) : Type 0 where

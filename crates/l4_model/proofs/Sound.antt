@@ -3,11 +3,13 @@ use Rattle.std.proofs.Common.{subst, ◌≡◌, ℕ, ◌+◌, ◌<◌, ◌≤◌
 use Rattle.std.proofs.lemmas.Bool.{or_cases}
 use Rattle.std.proofs.lemmas.List.{length-set, length-append, length-drop}
 use Rattle.std.specs.Prelude.{◌==◌, is_some, IfSome}
+use Rattle.std.specs.Option.{option_map}
+use Rattle.l4_model.specs.Words.{GlobalId}
 use Rattle.l4_model.specs.Machine.{Machine, Declaration, Instr, Set, Copy, Add, Tag, Vs, Ipc, Ask, Jump, OnErr, End, What, CancelSend, CancelReceive, CancelBoth, Delete, is_declared, instruction_at}
-use Rattle.l4_model.specs.World.{Context, Thread, World, Message, Send, Receive, Asked, Phase, Ready, Sending, Receiving, Ordering, Ended, Deleted, opening, is_alive, is_ready, is_sending, is_deleted, receive_now}
+use Rattle.l4_model.specs.World.{Context, Thread, World, Message, Send, Receive, Asked, Owed, Phase, Ready, Sending, Receiving, Ordering, Ended, Deleted, opening, is_alive, is_ready, is_sending, is_deleted, receive_now}
 use Rattle.l4_model.specs.Rules.{act, ran}
 use Rattle.l4_model.specs.Steps.{Step, send_of, next}
-use Rattle.l4_model.specs.Effects.{phase_after, runs, begins, waits, fails, decided, refused, receives, goes_on, delivered, has_receive_phase, asked, asked_send, asked_receive, orders, obeyed}
+use Rattle.l4_model.specs.Effects.{phase_after, runs, begins, waits, fails, decided, refused, receives, goes_on, delivered, has_receive_phase, asked, asked_send, asked_receive, orders, obeyed, calls_to_receive, turned_receive, turned_send, turns_in, turns}
 use Rattle.l4_model.specs.Reached.{Suits, BeganBy, IsSendOf, ThreadFacts}
 use Rattle.l4_model.proofs.Chains.{cond_keeps, cond_both}
 use Rattle.l4_model.proofs.Requests.{act_request, message_short, shown_declared}
@@ -22,7 +24,7 @@ ready_has_none Ordering send order h s = cc
 ready_has_none Ended send order h s = cc
 ready_has_none Deleted send order h s = cc
 
-receiving_has_none : (p : Phase) (send : Option Send) (order : Option Asked) (receive : Receive) → receive_now p ≡ Some receive → Suits p send order → (send ≡ None) × (order ≡ None)
+pub receiving_has_none : (p : Phase) (send : Option Send) (order : Option Asked) (receive : Receive) → receive_now p ≡ Some receive → Suits p send order → (send ≡ None) × (order ≡ None)
 receiving_has_none Ready send order receive h s = cc
 receiving_has_none Sending send order receive h s = cc
 receiving_has_none (Receiving r since) send order receive h s = s
@@ -247,6 +249,65 @@ obedience_keeps m d now t order has h =
     record { suits = (none.0, refl); send = h.send; began = tt; send_wish = h.send_wish; receive_wish = λ wish. no_wish (sym none.1 ∙ h.receive_wish wish); registers = h.registers })
     (λ gone. record { suits = suits_deleted t.phase t.send None gone; send = h.send; began = h.began; send_wish = h.send_wish; receive_wish = h.receive_wish; registers = h.registers })
 
+-- a send that turns to another partner has the same message, and a receive phase where it had one
+suits_turned : (o : Owed) (p : Phase) (send : Option Send) (order : Option Asked) → Suits p send order → Suits p (option_map (turned_send o) send) order
+suits_turned o Ready send order s = (ap (option_map (turned_send o)) s.0, s.1)
+suits_turned o Sending None order s = s
+suits_turned o Sending (Some send) order s = (refl, s.1)
+suits_turned o (Receiving receive since) send order s = (ap (option_map (turned_send o)) s.0, s.1)
+suits_turned o Ordering send order s = (ap (option_map (turned_send o)) s.0, s.1)
+suits_turned o Ended send order s = (ap (option_map (turned_send o)) s.0, s.1)
+suits_turned o Deleted send order s = tt
+
+send_turned : (m : Machine) (id : GlobalId) (now : ℕ) (o : Owed) (send : Option Send) → IfSome send (IsSendOf m id now) → IfSome (option_map (turned_send o) send) (IsSendOf m id now)
+send_turned m id now o None s = tt
+send_turned m id now o (Some send) s = record { since = s.since; actual = s.actual; shown = s.shown; short = s.short }
+
+some_turned : (o : Owed) (send : Option Send) → is_some send ≡ true → is_some (option_map (turned_send o) send) ≡ true
+some_turned o None s = cc
+some_turned o (Some send) s = refl
+
+calls_turned : (o : Owed) (send : Option Send) → calls_to_receive send ≡ true → calls_to_receive (option_map (turned_send o) send) ≡ true
+calls_turned o None s = cc
+calls_turned o (Some send) s = by send.receive s
+  where
+    by : (r : Option Receive) → is_some r ≡ true → is_some (option_map (turned_receive o) r) ≡ true
+    by None s = cc
+    by (Some receive) s = refl
+
+phase_turned : (o : Owed) (p : Phase) (send : Option Send) → has_receive_phase p send ≡ true → has_receive_phase p (option_map (turned_send o) send) ≡ true
+phase_turned o Ready send h = cc
+phase_turned o Sending send h = calls_turned o send h
+phase_turned o (Receiving receive since) send h = refl
+phase_turned o Ordering send h = cc
+phase_turned o Ended send h = cc
+phase_turned o Deleted send h = cc
+
+turn_keeps : (m : Machine) (d : Declaration) (now : ℕ) (t : Thread) (o : Owed) → ThreadFacts m d now t → ThreadFacts m d now (turns o t)
+turn_keeps m d now t o h = by t.phase refl
+  where
+    by : (p : Phase) → t.phase ≡ p → ThreadFacts m d now (turns_in p o t)
+    by Ready is = h
+    by Sending is = record {
+      suits = suits_turned o t.phase t.send t.order h.suits;
+      send = send_turned m d.id now o t.send h.send;
+      began = h.began;
+      send_wish = λ wish. some_turned o t.send (h.send_wish wish);
+      receive_wish = λ wish. phase_turned o t.phase t.send (h.receive_wish wish);
+      registers = h.registers;
+    }
+    by (Receiving receive since) is = record {
+      suits = subst (λ p. Suits p t.send t.order) is h.suits;
+      send = h.send;
+      began = subst (BeganBy now) is h.began;
+      send_wish = h.send_wish;
+      receive_wish = λ wish. refl;
+      registers = h.registers;
+    }
+    by Ordering is = h
+    by Ended is = h
+    by Deleted is = h
+
 tick_keeps : (m : Machine) (d : Declaration) (now later : ℕ) (t : Thread) → now ≤ later → ThreadFacts m d now t → ThreadFacts m d later t
 tick_keeps m d now later t le h =
     record { suits = h.suits; send = sent t.send h.send; began = began t.phase h.began; send_wish = h.send_wish; receive_wish = h.receive_wish; registers = h.registers }
@@ -273,6 +334,7 @@ facts_kept m =
       at_delivery = delivery_keeps m;
       at_asked = asked_keeps m;
       at_obedience = obedience_keeps m;
+      at_turn = turn_keeps m;
       at_tick = tick_keeps m;
     }
 

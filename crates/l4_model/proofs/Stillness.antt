@@ -4,22 +4,22 @@ use Rattle.std.proofs.Common.{subst, ◌≡◌, ℕ, zero, suc, ◌+◌, ◌-◌
 use Rattle.std.proofs.lemmas.Bool.{eqb-true, not-true, and_from}
 use Rattle.std.proofs.lemmas.Bool.Decides.{nat_tests}
 use Rattle.std.proofs.lemmas.Slice.Eq.{bytes_eq-Decides}
-use Rattle.std.specs.Prelude.{slice_get, slice_set, ◌==◌, ◌&&◌, nat_lt, is_some, is_none, not, ◌↔◌}
+use Rattle.std.specs.Prelude.{slice_get, slice_set, ◌==◌, ◌&&◌, nat_lt, is_some, is_none, not, find, ◌↔◌}
 use Rattle.std.specs.List.{AllByRecursion, list_all}
 use Rattle.l4_model.specs.Words.{GlobalId, same_id}
 use Rattle.l4_model.specs.Machine.{Machine, Declaration, What, CancelSend, CancelReceive, CancelBoth, Delete}
-use Rattle.l4_model.specs.World.{World, Asked, Name}
+use Rattle.l4_model.specs.World.{World, Asked, Owed, same_name, Name}
 use Rattle.l4_model.specs.Rules.{received_tag, is_cross}
 use Rattle.l4_model.specs.Conditions.{Found, found, Pending, undecided, receiver_of, act_of}
-use Rattle.l4_model.specs.Steps.{Step, Local, Begin, Queue, Deliver, Wait, SendTimeout, ReceiveTimeout, SendNobody, ReceiveNobody, SendCancel, ReceiveCancel, Drop, Order, Obey, Tick, what_code, order_of, next}
+use Rattle.l4_model.specs.Steps.{Step, Local, Begin, Queue, Deliver, Wait, SendTimeout, ReceiveTimeout, SendNobody, ReceiveNobody, SendCancel, ReceiveCancel, Drop, Order, Obey, Tick, Retarget, what_code, order_of, next}
 use Rattle.l4_model.specs.History.{run, reached}
 use Rattle.l4_model.specs.Still.{is_tick, IsStill, deliveries, orders, candidates, late, is_still_thread, is_still}
 use Rattle.l4_model.proofs.Chains.{bind_then, some_is}
 use Rattle.l4_model.proofs.Sizes.{Sized, step_sized}
 use Rattle.l4_model.proofs.Worlds.{standing}
 use Rattle.l4_model.proofs.Clocks.{with_clocks, AreLater, possible_later}
-use Rattle.l4_model.proofs.Inversions.{local_taken, begin_taken, queue_taken, DeliverTaken, deliver_taken, wait_taken, send_timeout_taken, send_nobody_taken, send_cancel_taken, drop_taken, receive_timeout_taken, receive_nobody_taken, receive_cancel_taken, OrderTaken, order_taken, obey_taken, tick_taken}
-use Rattle.l4_model.proofs.Places.{and_true, same_id_is, known, known_send, sender_found, id_of}
+use Rattle.l4_model.proofs.Inversions.{local_taken, begin_taken, queue_taken, DeliverTaken, deliver_taken, wait_taken, send_timeout_taken, send_nobody_taken, send_cancel_taken, drop_taken, receive_timeout_taken, receive_nobody_taken, receive_cancel_taken, OrderTaken, order_taken, obey_taken, tick_taken, retarget_taken}
+use Rattle.l4_model.proofs.Places.{and_true, same_id_is, same_name_is, known, known_send, sender_found, id_of}
 
 -- Ticks
 
@@ -200,53 +200,73 @@ order_tried m w v caller target what k none h =
     let nothing : is_none (next m w tried) ≡ true = all_at p (orders k.t.declared.id (order_of (act_of m k.t))) 0 tried rest (rw k.ordered refl) in
     none_some (next m w tried) v nothing (ap (next m w) (sym same) ∙ h)
 
-tried_all : (m : Machine) (w v : World) (step : Step) → ((id : GlobalId) (t : Found) → found m w id ≡ Some t → NoneTried m w t) → is_tick step ≡ false → next m w step ≡ Some v → ⊥
-tried_all m w v (Local id) none tick h =
+-- No owed retarget is possible.
+abbrev NoneOwed : Machine → World → Type 0
+NoneOwed m w = list_all (λ o. is_none (next m w (Retarget o.send))) w.owed ≡ true
+
+-- What is found passes, and has what all have.
+find_all : (p q : Owed → Bool) (xs : List Owed) (x : Owed) → find q xs ≡ Some x → list_all p xs ≡ true → (q x ≡ true) × (p x ≡ true)
+find_all p q [] x h all = cc
+find_all p q (y ∷ xs) x h all = let both = and_true (p y) (list_all p xs) all in by (q y) refl both.0 h (λ rest. find_all p q xs x rest both.1)
+  where
+    by : (b : Bool) → q y ≡ b → p y ≡ true → cond b (Some y) (find q xs) ≡ Some x → (find q xs ≡ Some x → (q x ≡ true) × (p x ≡ true)) → (q x ≡ true) × (p x ≡ true)
+    by true is here h rest = subst (λ z. (q z ≡ true) × (p z ≡ true)) (some_is y x h) (is, here)
+    by false is here h rest = rest h
+
+retarget_tried : (m : Machine) (w v : World) (s : Name) → NoneOwed m w → next m w (Retarget s) ≡ Some v → ⊥
+retarget_tried m w v s none h =
+    let k = retarget_taken m w v s h in
+    let both = find_all (λ o. is_none (next m w (Retarget o.send))) (λ o. same_name s o.send) w.owed k.o k.is_owed none in
+    none_some (next m w (Retarget k.o.send)) v both.1 (ap (λ x. next m w (Retarget x)) (sym (same_name_is s k.o.send both.0)) ∙ h)
+
+tried_all : (m : Machine) (w v : World) (step : Step) → ((id : GlobalId) (t : Found) → found m w id ≡ Some t → NoneTried m w t) → NoneOwed m w → is_tick step ≡ false → next m w step ≡ Some v → ⊥
+tried_all m w v (Local id) none owed tick h =
     let k = local_taken m w v id h in
     not_tried m w v k.t (Local id) (Local k.t.declared.id) 0 (none id k.t k.found) refl (ap Local (thread_is m w id k.t k.found)) h
-tried_all m w v (Begin s) none tick h =
+tried_all m w v (Begin s) none owed tick h =
     let k = begin_taken m w v s h in
     let next_k : s.k ≡ k.t.now.context.begun + 1 = eqb-true s.k (k.t.now.context.begun + 1) k.next_k in
     let same : s ≡ record { thread = k.t.declared.id; k = k.t.now.context.begun + 1 } =
     ap (λ x. record { thread = x; k = s.k }) (thread_is m w s.thread k.t k.found) ∙ ap (λ n. record { thread = k.t.declared.id; k = n }) next_k in
     not_tried m w v k.t (Begin s) (Begin (record { thread = k.t.declared.id; k = k.t.now.context.begun + 1 })) 1 (none s.thread k.t k.found) refl (ap Begin same) h
-tried_all m w v (Wait id) none tick h =
+tried_all m w v (Wait id) none owed tick h =
     let k = wait_taken m w v id h in
     not_tried m w v k.t (Wait id) (Wait k.t.declared.id) 2 (none id k.t k.found) refl (ap Wait (thread_is m w id k.t k.found)) h
-tried_all m w v (Obey id) none tick h =
+tried_all m w v (Obey id) none owed tick h =
     let k = obey_taken m w v id h in
     not_tried m w v k.t (Obey id) (Obey k.t.declared.id) 3 (none id k.t k.found) refl (ap Obey (thread_is m w id k.t k.found)) h
-tried_all m w v (ReceiveTimeout id) none tick h =
+tried_all m w v (ReceiveTimeout id) none owed tick h =
     let k = receive_timeout_taken m w v id h in
     not_tried m w v k.t (ReceiveTimeout id) (ReceiveTimeout k.t.declared.id) 4 (none id k.t k.found) refl (ap ReceiveTimeout (thread_is m w id k.t k.found)) h
-tried_all m w v (ReceiveNobody id) none tick h =
+tried_all m w v (ReceiveNobody id) none owed tick h =
     let k = receive_nobody_taken m w v id h in
     not_tried m w v k.t (ReceiveNobody id) (ReceiveNobody k.t.declared.id) 5 (none id k.t k.found) refl (ap ReceiveNobody (thread_is m w id k.t k.found)) h
-tried_all m w v (ReceiveCancel id) none tick h =
+tried_all m w v (ReceiveCancel id) none owed tick h =
     let k = receive_cancel_taken m w v id h in
     not_tried m w v k.t (ReceiveCancel id) (ReceiveCancel k.t.declared.id) 6 (none id k.t k.found) refl (ap ReceiveCancel (thread_is m w id k.t k.found)) h
-tried_all m w v (Queue s) none tick h =
+tried_all m w v (Queue s) none owed tick h =
     let k = queue_taken m w v s h in
     not_tried m w v k.p.sender (Queue s) (Queue (last_of k.p.sender)) 7 (none s.thread k.p.sender (sender_found m w s k.p k.is_undecided)) refl (ap Queue (last_is m w s k.p k.is_undecided)) h
-tried_all m w v (SendTimeout s) none tick h =
+tried_all m w v (SendTimeout s) none owed tick h =
     let k = send_timeout_taken m w v s h in
     not_tried m w v k.p.sender (SendTimeout s) (SendTimeout (last_of k.p.sender)) 8 (none s.thread k.p.sender (sender_found m w s k.p k.is_undecided)) refl (ap SendTimeout (last_is m w s k.p k.is_undecided)) h
-tried_all m w v (SendNobody s) none tick h =
+tried_all m w v (SendNobody s) none owed tick h =
     let k = send_nobody_taken m w v s h in
     not_tried m w v k.p.sender (SendNobody s) (SendNobody (last_of k.p.sender)) 9 (none s.thread k.p.sender (sender_found m w s k.p k.is_undecided)) refl (ap SendNobody (last_is m w s k.p k.is_undecided)) h
-tried_all m w v (SendCancel s) none tick h =
+tried_all m w v (SendCancel s) none owed tick h =
     let k = send_cancel_taken m w v s h in
     not_tried m w v k.p.sender (SendCancel s) (SendCancel (last_of k.p.sender)) 10 (none s.thread k.p.sender (sender_found m w s k.p k.is_undecided)) refl (ap SendCancel (last_is m w s k.p k.is_undecided)) h
-tried_all m w v (Drop s) none tick h =
+tried_all m w v (Drop s) none owed tick h =
     let k = drop_taken m w v s h in
     not_tried m w v k.p.sender (Drop s) (Drop (last_of k.p.sender)) 11 (none s.thread k.p.sender (sender_found m w s k.p k.is_undecided)) refl (ap Drop (last_is m w s k.p k.is_undecided)) h
-tried_all m w v (Deliver s receiver shown actual tag words) none tick h =
+tried_all m w v (Deliver s receiver shown actual tag words) none owed tick h =
     let k = deliver_taken m w v s receiver shown actual tag words h in
     delivery_tried m w v s receiver shown actual tag words k (none s.thread k.p.sender (sender_found m w s k.p k.is_undecided)) h
-tried_all m w v (Order caller target what) none tick h =
+tried_all m w v (Order caller target what) none owed tick h =
     let k = order_taken m w v caller target what h in
     order_tried m w v caller target what k (none caller k.t k.found) h
-tried_all m w v (Tick cpu clock) none tick h = cc
+tried_all m w v (Tick cpu clock) none owed tick h = cc
+tried_all m w v (Retarget s) none owed tick h = retarget_tried m w v s owed h
 
 -- The test finds it
 
@@ -258,9 +278,12 @@ threads_at p (x ∷ ds) (suc i) d h at = threads_at p ds i d (and_true (p x) (li
 none_tried : (m : Machine) (w : World) → is_still m w ≡ true → (id : GlobalId) (t : Found) → found m (late w) id ≡ Some t → NoneTried m (late w) t
 none_tried m w still id t is =
     let k = known m (late w) id t is in
-    let here : is_still_thread m (late w) t.declared.id ≡ true = threads_at (λ d. is_still_thread m (late w) d.id) m.threads t.at t.declared still k.declared in
+    let here : is_still_thread m (late w) t.declared.id ≡ true = threads_at (λ d. is_still_thread m (late w) d.id) m.threads t.at t.declared (and_true _ _ still).0 k.declared in
     let found_is : found m (late w) t.declared.id ≡ Some t = ap (found m (late w)) (sym (thread_is m (late w) id t is)) ∙ is in
     rw found_is at here
+
+none_owed : (m : Machine) (w : World) → is_still m w ≡ true → NoneOwed m (late w)
+none_owed m w still = (and_true (list_all (λ d. is_still_thread m (late w) d.id) m.threads) _ still).1
 
 still_from : (m : Machine) (w : World) → Sized m w → is_still m w ≡ true → IsStill m w
 still_from m w sized still ticks later step all r not_tick = by (next m later step) refl
@@ -278,7 +301,7 @@ still_from m w sized still ticks later step all r not_tick = by (next m later st
 
     impossible : (o : Option World) → next m (late w) step ≡ o → is_some o ≡ true → ⊥
     impossible None e h = cc
-    impossible (Some v) e h = tried_all m (late w) v step (none_tried m w still) not_tick e
+    impossible (Some v) e h = tried_all m (late w) v step (none_tried m w still) (none_owed m w still) not_tick e
 
     by : (o : Option World) → next m later step ≡ o → o ≡ None
     by None e = refl
@@ -316,7 +339,8 @@ candidates_no_tick m w (Some t) =
     (deliveries_no_tick m w (undecided m w (last_of t)) (last_of t)) (orders_no_tick t.declared.id (order_of (act_of m t)))
 
 still_to : (m : Machine) (w : World) → Sized m w → IsStill m w → is_still m w ≡ true
-still_to m w sized still = over m.threads
+still_to m w sized still =
+    and_from (list_all (λ d. is_still_thread m (late w) d.id) m.threads) (list_all (λ o. is_none (next m (late w) (Retarget o.send))) w.owed) (over m.threads) (over_owed w.owed)
   where
     none : (step : Step) → is_no_tick step ≡ true → is_none (next m (late w) step) ≡ true
     none step h = ap is_none (still (ticks_from 0 w.clocks) (late w) step (are_ticks 0 w.clocks) (run_ticks m w [] w.clocks 0 refl sized.low) (not-true (is_tick step) h))
@@ -326,6 +350,11 @@ still_to m w sized still = over m.threads
     over (d ∷ ds) =
         let here : is_still_thread m (late w) d.id ≡ true = all_from is_no_tick (λ step. is_none (next m (late w) step)) (candidates m (late w) (found m (late w) d.id)) none (candidates_no_tick m (late w) (found m (late w) d.id)) in
         and_from (is_still_thread m (late w) d.id) (list_all (λ x. is_still_thread m (late w) x.id) ds) here (over ds)
+
+    over_owed : (os : List Owed) → list_all (λ o. is_none (next m (late w) (Retarget o.send))) os ≡ true
+    over_owed [] = refl
+    over_owed (o ∷ os) =
+        and_from (is_none (next m (late w) (Retarget o.send))) (list_all (λ x. is_none (next m (late w) (Retarget x.send))) os) (none (Retarget o.send) refl) (over_owed os)
 
 pub still_exactly : (m : Machine) (h : List Step) (w : World) → reached m h ≡ Some w → (is_still m w ≡ true) ↔ IsStill m w
 still_exactly m h w r =

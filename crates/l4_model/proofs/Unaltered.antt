@@ -18,7 +18,7 @@ use Rattle.l4_model.specs.Laws.{names, message_at, message_begun, Carries, IsUna
 use Rattle.l4_model.proofs.Chains.{bind_then, some_is, get-map, get-changed_same}
 use Rattle.l4_model.proofs.Requests.{act_request, message_short}
 use Rattle.l4_model.proofs.Inversions.{BeginTaken, begin_taken, deliver_taken}
-use Rattle.l4_model.proofs.Sends.{Status, status, statuses, with_begun, with_decided, Begins, Decides, Effect, effect}
+use Rattle.l4_model.proofs.Sends.{lasting, Status, status, statuses, with_begun, with_decided, Begins, Decides, Effect, effect}
 use Rattle.l4_model.proofs.Deleted.{parted}
 use Rattle.l4_model.proofs.Sound.{AreSound, opening_sound, step_sound}
 use Rattle.l4_model.proofs.Accounted.{pending_of, pending_is, opening_pending, beginnings, step_balance}
@@ -94,13 +94,13 @@ begins_so m w u v s p h k r waits =
     let id : k.t.declared.id ≡ s.thread = (id_of m w s.thread k.t k.found).0 in
     let e : message_of m s.thread k.t.now.context ≡ k.send.message =
     ap (λ x. message_of m x k.t.now.context) (sym id) ∙ (act_request m k.t.declared.id k.t.clock k.t.now.context (instruction k.t) k.send k.sends).message in
-    let begun : HoldsAt k.t.at s.k k.send u = subst (HoldsAt k.t.at s.k k.send) k.leads_to (λ x at.
-    subst (Holds s.k k.send) (some_is _ x (sym (get-map status (changed (begins k.send) w.threads k.t.at) k.t.at _ (get-changed_same (begins k.send) w.threads k.t.at ∙ ap (option_map (begins k.send)) sender.now)) ∙ at))
-    (record { begun = omega (arith, eqb-true _ _ k.next_k); same = λ y last has. some_is k.send y has })) in
+    let begun : HoldsAt k.t.at s.k (lasting k.send) u = subst (HoldsAt k.t.at s.k (lasting k.send)) k.leads_to (λ x at.
+    subst (Holds s.k (lasting k.send)) (some_is _ x (sym (get-map status (changed (begins k.send) w.threads k.t.at) k.t.at _ (get-changed_same (begins k.send) w.threads k.t.at ∙ ap (option_map (begins k.send)) sender.now)) ∙ at))
+    (record { begun = omega (arith, eqb-true _ _ k.next_k); same = λ y last has. some_is (lasting k.send) y has })) in
     let later = known_send m v s p waits in
     let at : p.sender.at ≡ k.t.at = some_is _ _ (sym later.sender.place ∙ sender.place) in
     let now : slice_get (statuses v) k.t.at ≡ Some (status p.sender.now) = ap (slice_get (statuses v)) (sym at) ∙ get-map status v.threads p.sender.at p.sender.now later.sender.now in
-    let same : k.send ≡ p.send = (run_holds m h u v k.t.at s.k k.send r begun (status p.sender.now) now).same p.send later.last later.send in
+    let same : lasting k.send ≡ lasting p.send = (run_holds m h u v k.t.at s.k (lasting k.send) r begun (status p.sender.now) now).same (lasting p.send) later.last (ap (option_map lasting) later.send) in
     let is : message_of m s.thread k.t.now.context ≡ p.send.message = e ∙ ap (λ (x : Send). x.message) same in
     record { same = rw k.found (ap Some is); short = subst (λ (x : Message). length x.words < 64) is (message_short m s.thread k.t.now.context) }
 

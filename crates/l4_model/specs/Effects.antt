@@ -1,7 +1,8 @@
 -- What each step does to one thread.
-use Rattle.std.specs.Prelude.{ℕ, ◌+◌, Bool, if◌then◌else◌, false, Option, Some, None, is_some, true, ◌||◌}
+use Rattle.std.specs.Prelude.{ℕ, ◌+◌, Bool, if◌then◌else◌, false, option_map, Option, Some, None, is_some, true, ◌||◌}
 use Rattle.l4_model.specs.Machine.{What, CancelSend, CancelReceive, CancelBoth, Delete, Instr, End}
-use Rattle.l4_model.specs.World.{Receive, Message, Send, Asked, Phase, Ready, Sending, Receiving, Ordering, Ended, Deleted, Thread, is_sending, is_alive}
+use Rattle.l4_model.specs.Words.{GlobalThread, is_id_of}
+use Rattle.l4_model.specs.World.{Receive, Message, Send, Asked, Owed, Phase, Ready, Sending, Receiving, Ordering, Ended, Deleted, Thread, is_sending, is_alive}
 use Rattle.l4_model.specs.Rules.{advanced, failed, sent, received, ordered, ran}
 
 -- At an `end` a thread has ended.
@@ -68,6 +69,22 @@ asked CancelSend t = asked_send t
 asked CancelReceive t = asked_receive t
 asked CancelBoth t = asked_receive (asked_send t)
 asked Delete t = record t { phase = Deleted; cancel_receive = false }
+
+-- It is the originator of a propagated message that was delivered (own, profile 2). A receive phase for the old partner alone, which it is in
+-- or which follows the send that it is in, is then one for the new partner. Nothing else changes, and nothing where it is deleted.
+abbrev pub turned_receive : Owed → Receive → Receive
+turned_receive o receive = if is_id_of receive.from o.old_partner then record receive { from = GlobalThread o.new_partner } else receive
+
+abbrev pub turned_send : Owed → Send → Send
+turned_send o send = record send { receive = option_map (turned_receive o) send.receive }
+
+abbrev pub turns_in : Phase → Owed → Thread → Thread
+turns_in (Receiving receive since) o t = record t { phase = Receiving (turned_receive o receive) since }
+turns_in Sending o t = record t { send = option_map (turned_send o) t.send }
+turns_in _ o t = t
+
+abbrev pub turns : Owed → Thread → Thread
+turns o t = turns_in t.phase o t
 
 -- It has asked for something, and waits until it is done.
 abbrev pub orders : Asked → Thread → Thread

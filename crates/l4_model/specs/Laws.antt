@@ -1,16 +1,14 @@
 -- What is true of every history.
-use Rattle.std.specs.Prelude.{ℕ, ◌+◌, ◌<◌, ◌≤◌, ◌≡◌, Bool, true, false, if◌then◌else◌, ◌&&◌, ◌==◌, Option, Some, None, is_some, IsSomeAnd, List, [], ◌∷◌, ◌++◌, filter_map, count_by}
+use Rattle.std.specs.Prelude.{ℕ, ◌+◌, ◌<◌, ◌≤◌, ◌≡◌, Bool, true, false, if◌then◌else◌, ◌&&◌, Option, Some, None, is_some, IsSomeAnd, List, [], ◌∷◌, ◌++◌, filter_map, count_by}
 use Rattle.std.specs.List.{AllByRecursion, before_first}
 use Rattle.l4_model.specs.Words.{GlobalId, same_id, tag_of_word}
 use Rattle.l4_model.specs.Machine.{Machine, Delete, is_declared}
+pub use Rattle.l4_model.specs.World.{same_name}
 use Rattle.l4_model.specs.World.{World, opening, Asked, Message, receive_now, Name}
 use Rattle.l4_model.specs.Rules.{accepts, message_of}
 use Rattle.l4_model.specs.Steps.{Step, Queue, Deliver, SendTimeout, SendNobody, SendCancel, Drop, Obey, next}
 use Rattle.l4_model.specs.Conditions.{found, undecided, receiver_of, ◌>>=◌, ◌>>◌}
 use Rattle.l4_model.specs.History.{reached, waiting, begun_name}
-
-abbrev pub same_name : Name → Name → Bool
-same_name a b = same_id a.thread b.thread && (a.k == b.k)
 
 abbrev pub names : Name → Option Name → Bool
 names s None = false

@@ -1,5 +1,5 @@
 -- The instructions of a script, and the machine that a text declares.
-use Rattle.std.specs.Prelude.{ℕ, Bool, ◌==◌, false, Option, Some, None, is_some, List, find, position, slice_get, unwrap_or}
+use Rattle.std.specs.Prelude.{ℕ, Bool, ◌==◌, true, false, Option, Some, None, is_some, List, find, position, slice_get, unwrap_or}
 use Rattle.l4_model.specs.Words.{GlobalId, Id, same_id, Period}
 
 -- Where an ipc sends to (manual: Ipc, `to`): an id, or what the register `from` has at that moment.
@@ -35,13 +35,19 @@ pub record Declaration : Type 0 where
   pub space : ℕ
   pub script : List Instr
 
--- A machine: the number of its processors, and its threads in order of declaration.
+-- A machine: whether its profile is 2, where an originator's waiting follows its message (own); the number of its processors; and its threads
+-- in order of declaration.
 pub record Machine : Type 0 where
+  pub retargeting : Bool
   pub cpus : ℕ
   pub threads : List Declaration
 
+-- A machine of profile 1, and one of profile 2.
 abbrev pub machine_of : (cpus : ℕ) → List Declaration → Machine
-machine_of cpus threads = record { cpus = cpus; threads = threads }
+machine_of cpus threads = record { retargeting = false; cpus = cpus; threads = threads }
+
+abbrev pub retargeting_machine_of : (cpus : ℕ) → List Declaration → Machine
+retargeting_machine_of cpus threads = record { retargeting = true; cpus = cpus; threads = threads }
 
 -- How many processors and threads a machine has at most, and how many instructions a script (own).
 abbrev pub most_processors : ℕ

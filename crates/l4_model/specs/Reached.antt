@@ -3,7 +3,7 @@ use Rattle.std.specs.Prelude.{ℕ, ◌<◌, ◌≤◌, ◌≡◌, true, false, O
 use Rattle.std.specs.List.{AllByRecursion}
 use Rattle.l4_model.specs.Words.{GlobalId, Id, GlobalThread, register_count, clock_limit}
 use Rattle.l4_model.specs.Machine.{Machine, Declaration, place_of, is_declared}
-use Rattle.l4_model.specs.World.{Send, Asked, Phase, Ready, Sending, Receiving, Ordering, Ended, Deleted, Thread, World, is_in, list_at}
+use Rattle.l4_model.specs.World.{Send, Asked, Phase, Ready, Sending, Receiving, Ordering, Ended, Deleted, Thread, World, Owed, same_name, is_in, list_at}
 use Rattle.l4_model.specs.Effects.{has_receive_phase}
 
 -- The undecided send and the undone order that go with a phase: a thread that is alive has a send exactly while it is
@@ -51,6 +51,24 @@ IsOnce (x ∷ xs) = (is_in x xs ≡ false) × IsOnce xs
 abbrev pub SendsTo : Machine → ℕ → Option Send → Type 0
 SendsTo m receiver send = IsSomeAnd send (λ x. place_to m x.to ≡ Some receiver)
 
+-- A retarget is owed in profile 2 alone, and who is named in it is declared.
+pub record IsOwedAmong (m : Machine) (o : Owed) : Type 0 where
+  pub profile : m.retargeting ≡ true
+  pub originator : is_declared m o.originator ≡ true
+  pub old_partner : is_declared m o.old_partner ≡ true
+  pub new_partner : is_declared m o.new_partner ≡ true
+
+-- No two owed retargets have one name.
+abbrev pub AreNamedOnce : List Owed → Type 0
+AreNamedOnce [] = Unit {0}
+AreNamedOnce (o ∷ owed) = AllByRecursion (λ x. same_name o.send x.send ≡ false) owed × AreNamedOnce owed
+
+-- While one is owed, no send of its new partner stands in the list of its originator.
+abbrev pub IsOwedApart : Machine → List (List ℕ) → Owed → Type 0
+IsOwedApart m lists o =
+    (originator new_partner : ℕ) → place_of m o.originator ≡ Some originator → place_of m o.new_partner ≡ Some new_partner →
+    is_in new_partner (list_at lists originator) ≡ false
+
 -- Of the whole world. The sender in a list has an undecided send to the list's thread, and stands in no other list and
 -- there once.
 pub record WorldFacts (m : Machine) (w : World) : Type 0 where
@@ -62,3 +80,6 @@ pub record WorldFacts (m : Machine) (w : World) : Type 0 where
   pub listed_sends : (receiver sender : ℕ) → is_in sender (list_at w.waiting receiver) ≡ true → IsSomeAnd (slice_get w.threads sender) (λ t. SendsTo m receiver t.send)
   pub one_list : (i j sender : ℕ) → is_in sender (list_at w.waiting i) ≡ true → is_in sender (list_at w.waiting j) ≡ true → i ≡ j
   pub listed_once : (receiver : ℕ) → IsOnce (list_at w.waiting receiver)
+  pub owed_among : AllByRecursion (IsOwedAmong m) w.owed
+  pub owed_once : AreNamedOnce w.owed
+  pub owed_apart : AllByRecursion (IsOwedApart m w.waiting) w.owed

@@ -1,8 +1,8 @@
 -- What an instruction, a message and a failure do to the registers of a thread, and what an instruction asks for.
-use Rattle.std.specs.Prelude.{ℕ, ◌+◌, ◌*◌, ◌/◌, ◌%◌, ◌^◌, Bool, if◌then◌else◌, ◌==◌, not, false, Option, Some, None, is_some, unwrap_or, true, ◌∷◌, ◌++◌, take, drop, length, slice_index, slice_set}
+use Rattle.std.specs.Prelude.{ℕ, ◌+◌, ◌*◌, ◌/◌, ◌%◌, ◌^◌, Bool, if◌then◌else◌, ◌==◌, not, ◌&&◌, false, Option, Some, None, is_some, unwrap_or, true, ◌∷◌, ◌++◌, take, drop, length, slice_index, slice_set}
 use Rattle.l4_model.specs.Words.{GlobalId, Id, NilThread, AnyThread, AnyLocalThread, LocalThread, GlobalThread, same_id, Period}
 use Rattle.l4_model.specs.Machine.{Tag, To, ToId, ToLast, What, Delete, Instr, Set, Copy, Add, Vs, Ipc, Ask, Jump, OnErr, End, Machine, is_declared, same_space, same_cpu}
-use Rattle.l4_model.specs.World.{Context, Receive, Message, Send, Asked}
+use Rattle.l4_model.specs.World.{Name, Context, Receive, Message, Send, Asked, Owed}
 
 -- Who is accepted (manual: Ipc, `FromSpecifier`): anythread takes every sender, anylocalthread those of the receiver's address
 -- space, a global id that sender alone. What is compared is the sender that the message shows.
@@ -31,8 +31,31 @@ with_register a word c = record c { words = slice_set c.words a word }
 abbrev pub advanced : Context → Context
 advanced c = record c { place = c.place + 1 }
 
--- An ipc failed with this ErrorCode: MR0 has the bit `E` alone, and nobody is `from` (own). Bit 0 of an ErrorCode is the phase
--- that failed, 0 for send and 1 for receive; bits 1 to 3 are the cause: 1 timeout, 2 non-existing partner, 3 cancelled.
+-- The ErrorCodes (manual: Ipc, ErrorCode). Bit 0 is the phase that failed, 0 for send and 1 for receive; bits 1 to 3 are the cause:
+-- 1 timeout, 2 non-existing partner, 3 cancelled.
+abbrev pub send_timeout_code : ℕ
+send_timeout_code = 2
+
+abbrev pub receive_timeout_code : ℕ
+receive_timeout_code = 3
+
+abbrev pub send_nobody_code : ℕ
+send_nobody_code = 4
+
+abbrev pub receive_nobody_code : ℕ
+receive_nobody_code = 5
+
+abbrev pub send_cancelled_code : ℕ
+send_cancelled_code = 6
+
+abbrev pub receive_cancelled_code : ℕ
+receive_cancelled_code = 7
+
+-- Of an order that is not done (own).
+abbrev pub order_refused_code : ℕ
+order_refused_code = 2
+
+-- An ipc failed with this ErrorCode: MR0 has the bit `E` alone, and nobody is `from` (own).
 abbrev pub failed : ℕ → Context → Context
 failed code c = record c { words = slice_set c.words 0 0x8000; error = code; from = NilThread }
 
@@ -46,7 +69,7 @@ abbrev pub received : Message → (mr0 : ℕ) → Context → Context
 received message mr0 c =
     record c { words = mr0 ∷ message.words ++ drop (1 + length message.words) c.words; error = 0; from = GlobalThread message.shown; actual = GlobalThread message.actual }
 
--- An order (manual: ExchangeRegisters, ThreadControl) was done, ErrorCode 0, or refused, ErrorCode 2 (the codes are own).
+-- An order (manual: ExchangeRegisters, ThreadControl) was done, ErrorCode 0, or refused (the codes are own).
 abbrev pub ordered : ℕ → Context → Context
 ordered code c = advanced (record c { error = code })
 
@@ -58,7 +81,7 @@ ran (Add a word) c = advanced (with_register a ((register c a + word) % 2 ^ 64) 
 ran (Tag word) c = advanced (with_register 0 word c)
 ran (Vs id) c = advanced (record c { actual = id })
 ran (Ipc to from send_period receive_period) c = advanced (sent c)
-ran (Ask target what) c = ordered 2 c
+ran (Ask target what) c = ordered order_refused_code c
 ran (Jump place) c = record c { place = place }
 ran (OnErr place) c = if c.error == 0 then advanced c else record c { place = place }
 ran End c = c
@@ -141,6 +164,13 @@ bit b = if b then 1 else 0
 abbrev pub received_tag : (cross : Bool) → Message → ℕ
 received_tag cross message =
     message.label * 2 ^ 16 + bit cross * 2 ^ 14 + bit message.propagated * 2 ^ 12 + length message.words
+
+-- The retarget that the delivery of a send leaves owed: at a machine of profile 2, of a propagated message (own).
+abbrev pub owed_by : Machine → Name → Message → (receiver : GlobalId) → Option Owed
+owed_by m s message receiver =
+    if m.retargeting && message.propagated
+    then Some (record { send = s; originator = message.shown; old_partner = message.actual; new_partner = receiver })
+    else None
 
 -- A message comes from another processor: the one that sent it, and not the originator, is on another (own).
 abbrev pub is_cross : Machine → GlobalId → Message → Bool

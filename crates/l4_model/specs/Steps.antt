@@ -3,9 +3,9 @@ use Rattle.std.specs.Prelude.{ℕ, ◌+◌, Bool, ◌==◌, not, ◌&&◌, nat_l
 use Rattle.std.specs.Str.{bytes_eq}
 use Rattle.l4_model.specs.Words.{GlobalId, same_id, clock_limit}
 use Rattle.l4_model.specs.Machine.{What, CancelSend, CancelReceive, CancelBoth, Delete, Machine, place_of}
-use Rattle.l4_model.specs.World.{Name, Receive, Send, Asked, Phase, Receiving, Thread, World, change, queued, unqueued, is_ready, is_deleted, is_alive, receive_now}
-use Rattle.l4_model.specs.Rules.{Act, RunsAlone, Sends, Receives, Orders, received_tag, is_cross}
-use Rattle.l4_model.specs.Effects.{runs, begins, waits, fails, decided, refused, receives, delivered, asked, orders, obeyed}
+use Rattle.l4_model.specs.World.{Name, Receive, Send, Asked, Owed, Phase, Receiving, Thread, World, change, queued, unqueued, owed_of, others_owed, one_more, must_wait, is_ready, is_deleted, is_alive, receive_now}
+use Rattle.l4_model.specs.Rules.{Act, RunsAlone, Sends, Receives, Orders, received_tag, is_cross, owed_by, send_timeout_code, receive_timeout_code, send_nobody_code, receive_nobody_code, send_cancelled_code, receive_cancelled_code}
+use Rattle.l4_model.specs.Effects.{runs, begins, waits, fails, decided, refused, receives, delivered, asked, orders, obeyed, turns}
 use Rattle.l4_model.specs.Conditions.{◌>>=◌, ◌>>◌, Found, found, found_by, Pending, undecided, receiver_of, instruction, act_of, is_waiting, first_accepted, is_nobody, is_no_destination, has_passed, is_timed_out}
 
 -- What a history tells: a step for each change of a phase, a send, an order or a clock, and `Local` where a thread runs an
@@ -26,6 +26,7 @@ pub data Step : Type 0 where
   Order : (caller target : GlobalId) → What → Step
   Obey : GlobalId → Step
   Tick : (cpu clock : ℕ) → Step
+  Retarget : Name → Step
 
 -- A number for each demand, to compare them by.
 abbrev pub what_code : What → ℕ
@@ -67,17 +68,22 @@ after_begin m w s = do
   send ← send_of (act_of m t)
   Some (change w t.at (begins send))
 
--- An undecided send is appended to the list of its destination.
+-- An undecided send is appended to the list of its destination. Not while the destination owes it to turn to the sender (own, profile 2).
 abbrev pub after_queue : Machine → World → Name → Option World
 after_queue m w s = do
   p ← undecided m w s
   r ← receiver_of m w p
   is_alive r.now.phase
   not (is_waiting w p)
+  not (must_wait w.owed s.thread p.send.to)
   Some (queued w r.at p.sender.at)
 
+-- One more retarget is owed, or none.
+abbrev pub owing : Option Owed → World → World
+owing o w = record w { owed = one_more o w.owed }
+
 -- The receiver waits, the send is the first in its list that it accepts, and the message is as it was sent (manual: Ipc). In the same
--- step the sender goes on.
+-- step the sender goes on, and a retarget may be owed (own, profile 2).
 abbrev pub after_deliver : Machine → World → Name → (receiver shown actual : GlobalId) → (tag : ℕ) → (words : List ℕ) → Option World
 after_deliver m w s receiver shown actual tag words = do
   p ← undecided m w s
@@ -90,7 +96,7 @@ after_deliver m w s receiver shown actual tag words = do
   same_id actual p.send.message.actual
   tag == received_tag (is_cross m receiver p.send.message) p.send.message
   bytes_eq words p.send.message.words
-  Some (change (change (unqueued w p.sender.at) r.at (receives p.send.message tag)) p.sender.at (delivered p.send p.sender.clock))
+  Some (owing (owed_by m s p.send.message receiver) (change (change (unqueued w p.sender.at) r.at (receives p.send.message tag)) p.sender.at (delivered p.send p.sender.clock)))
 
 -- A thread begins a receive phase without a send phase (manual: Ipc, receive phase).
 abbrev pub after_wait : Machine → World → GlobalId → Option World
@@ -104,27 +110,29 @@ after_wait m w id = do
 abbrev pub without_send : World → Pending → (Thread → Thread) → World
 without_send w p f = change (unqueued w p.sender.at) p.sender.at f
 
--- A send is refused since its time is over (manual: Ipc, Time): ErrorCode 2.
+-- A send is refused since its time is over (manual: Ipc, Time). Like `queue`, not while it must wait (own, profile 2).
 abbrev pub after_send_timeout : Machine → World → Name → Option World
 after_send_timeout m w s = do
   p ← undecided m w s
   is_timed_out m w p
-  Some (without_send w p (refused 2))
+  not (must_wait w.owed s.thread p.send.to)
+  Some (without_send w p (refused send_timeout_code))
 
--- A send is refused since nobody is there: ErrorCode 4.
+-- A send is refused since nobody is there. Not while it must wait (own, profile 2).
 abbrev pub after_send_nobody : Machine → World → Name → Option World
 after_send_nobody m w s = do
   p ← undecided m w s
   is_no_destination p.send.to (receiver_of m w p)
-  Some (without_send w p (refused 4))
+  not (must_wait w.owed s.thread p.send.to)
+  Some (without_send w p (refused send_nobody_code))
 
--- A waiting send is cancelled (manual: ExchangeRegisters, `S`): ErrorCode 6.
+-- A waiting send is cancelled (manual: ExchangeRegisters, `S`).
 abbrev pub after_send_cancel : Machine → World → Name → Option World
 after_send_cancel m w s = do
   p ← undecided m w s
   is_waiting w p
   p.sender.now.cancel_send
-  Some (without_send w p (refused 6))
+  Some (without_send w p (refused send_cancelled_code))
 
 -- The waiting send of a deleted thread is dropped (own).
 abbrev pub after_drop : Machine → World → Name → Option World
@@ -139,31 +147,31 @@ abbrev pub receive_passed : Found → Phase → Bool
 receive_passed t (Receiving receive since) = has_passed receive.period since t.clock
 receive_passed t _ = false
 
--- A receive phase is over since its time is (manual: Ipc, Time), and no message that it accepts waits (own): ErrorCode 3.
+-- A receive phase is over since its time is (manual: Ipc, Time), and no message that it accepts waits (own).
 abbrev pub after_receive_timeout : Machine → World → GlobalId → Option World
 after_receive_timeout m w id = do
   t ← found m w id
   receive ← receive_now t.now.phase
   receive_passed t t.now.phase
   is_none (first_accepted m w t receive.from)
-  Some (change w t.at (fails 3))
+  Some (change w t.at (fails receive_timeout_code))
 
--- A receive phase is closed for an id that nobody has: ErrorCode 5.
+-- A receive phase is closed for an id that nobody has.
 abbrev pub after_receive_nobody : Machine → World → GlobalId → Option World
 after_receive_nobody m w id = do
   t ← found m w id
   receive ← receive_now t.now.phase
   is_nobody receive.from (found_by m w receive.from)
   is_none (first_accepted m w t receive.from)
-  Some (change w t.at (fails 5))
+  Some (change w t.at (fails receive_nobody_code))
 
--- A receive phase is cancelled (manual: ExchangeRegisters, `R`): ErrorCode 7.
+-- A receive phase is cancelled (manual: ExchangeRegisters, `R`).
 abbrev pub after_receive_cancel : Machine → World → GlobalId → Option World
 after_receive_cancel m w id = do
   t ← found m w id
   receive ← receive_now t.now.phase
   t.now.cancel_receive
-  Some (change w t.at (fails 7))
+  Some (change w t.at (fails receive_cancelled_code))
 
 -- A thread asks for a cancellation or a deletion (manual: ExchangeRegisters, ThreadControl), and waits until it is done.
 abbrev pub after_order : Machine → World → (caller target : GlobalId) → What → Option World
@@ -181,6 +189,13 @@ after_obey m w caller = do
   order ← t.now.order
   target ← place_of m order.target
   Some (change (change w target (asked order.what)) t.at obeyed)
+
+-- The originator of a delivered send turns to the thread that received it, and no longer owes it (own, profile 2). It is always declared.
+abbrev pub after_retarget : Machine → World → Name → Option World
+after_retarget m w s = do
+  o ← owed_of w.owed s
+  t ← found m w o.originator
+  Some (change (record w { owed = others_owed w.owed s }) t.at (turns o))
 
 -- The clock of a processor goes on.
 abbrev pub after_tick : Machine → World → (cpu clock : ℕ) → Option World
@@ -206,3 +221,4 @@ next m w (Drop s) = after_drop m w s
 next m w (Order caller target what) = after_order m w caller target what
 next m w (Obey caller) = after_obey m w caller
 next m w (Tick cpu clock) = after_tick m w cpu clock
+next m w (Retarget s) = after_retarget m w s

@@ -1,10 +1,10 @@
 -- A world where nothing but clocks can go on, now or later.
-use Rattle.std.specs.Prelude.{◌+◌, ◌-◌, ◌≡◌, Bool, true, false, Option, Some, None, is_none, List, [], ◌∷◌, ◌++◌, map}
+use Rattle.std.specs.Prelude.{◌+◌, ◌-◌, ◌≡◌, ◌&&◌, Bool, true, false, Option, Some, None, is_none, List, [], ◌∷◌, ◌++◌, map}
 use Rattle.std.specs.List.{list_all, AllByRecursion}
 use Rattle.l4_model.specs.Words.{GlobalId, clock_limit}
 use Rattle.l4_model.specs.Machine.{Machine}
 use Rattle.l4_model.specs.World.{World, Asked, Name}
-use Rattle.l4_model.specs.Steps.{Step, Local, Begin, Queue, Deliver, Wait, SendTimeout, ReceiveTimeout, SendNobody, ReceiveNobody, SendCancel, ReceiveCancel, Drop, Order, Obey, Tick, order_of, next}
+use Rattle.l4_model.specs.Steps.{Step, Local, Begin, Queue, Deliver, Wait, SendTimeout, ReceiveTimeout, SendNobody, ReceiveNobody, SendCancel, ReceiveCancel, Drop, Order, Obey, Tick, Retarget, order_of, next}
 use Rattle.l4_model.specs.Conditions.{Pending, Found, found, undecided, receiver_of, act_of}
 use Rattle.l4_model.specs.Rules.{received_tag, is_cross}
 use Rattle.l4_model.specs.History.{run}
@@ -20,7 +20,7 @@ IsStill m w =
     AllByRecursion (λ tick. is_tick tick ≡ true) ticks → run m w ticks ≡ Some later → is_tick step ≡ false →
     next m later step ≡ None
 
--- A test of it: with every clock at its last value, none of the steps that a thread could be in for is possible.
+-- A test of it: with every clock at its last value, none of the steps that a thread could be in for is possible, and no owed retarget.
 
 abbrev pub deliveries : Machine → World → Option Pending → Name → List Step
 deliveries m w None s = []
@@ -52,4 +52,4 @@ abbrev pub is_still_thread : Machine → World → GlobalId → Bool
 is_still_thread m w id = list_all (λ step. is_none (next m w step)) (candidates m w (found m w id))
 
 abbrev pub is_still : Machine → World → Bool
-is_still m w = list_all (λ d. is_still_thread m (late w) d.id) m.threads
+is_still m w = list_all (λ d. is_still_thread m (late w) d.id) m.threads && list_all (λ o. is_none (next m (late w) (Retarget o.send))) w.owed

@@ -1,6 +1,6 @@
 -- The ids, tags and times of the manual (X.2), and the words that stand for them in the 64-bit format. A section of the
 -- manual is named by its title; a rule that names none is this project's own, and so is what is marked own beside one.
-use Rattle.std.specs.Prelude.{ℕ, ◌+◌, ◌*◌, ◌/◌, ◌%◌, ◌^◌, ◌-◌, Bool, if◌then◌else◌, ◌==◌, not, ◌&&◌, nat_lt, Option, Some, None}
+use Rattle.std.specs.Prelude.{ℕ, ◌+◌, ◌*◌, ◌/◌, ◌%◌, ◌^◌, ◌-◌, Bool, false, if◌then◌else◌, ◌==◌, not, ◌&&◌, nat_lt, Option, Some, None}
 
 -- A global thread id (manual: ThreadId): a thread number and a version.
 pub record GlobalId : Type 0 where
@@ -18,6 +18,11 @@ pub data Id : Type 0 where
 
 abbrev pub same_id : GlobalId → GlobalId → Bool
 same_id a b = (a.number == b.number) && (a.version == b.version)
+
+-- The id is that of this thread alone.
+abbrev pub is_id_of : Id → GlobalId → Bool
+is_id_of (GlobalThread t) thread = same_id t thread
+is_id_of _ thread = false
 
 abbrev pub global_id : (number version : ℕ) → GlobalId
 global_id number version = record { number = number; version = version }

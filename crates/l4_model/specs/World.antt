@@ -1,13 +1,16 @@
 -- What a machine is at one moment.
-use Rattle.std.specs.Prelude.{ℕ, Bool, ◌==◌, not, false, Option, Some, None, List, zero, suc, true, [], ◌∷◌, ◌++◌, map, filter, replicate, slice_index_or}
+use Rattle.std.specs.Prelude.{ℕ, Bool, ◌==◌, ◌&&◌, not, false, Option, Some, None, List, zero, suc, true, [], ◌∷◌, ◌++◌, map, filter, replicate, slice_index_or, find}
 use Rattle.std.specs.List.{list_any}
-use Rattle.l4_model.specs.Words.{GlobalId, Id, NilThread, Period, register_count}
+use Rattle.l4_model.specs.Words.{GlobalId, Id, NilThread, Period, register_count, same_id, is_id_of}
 use Rattle.l4_model.specs.Machine.{What, Machine}
 
 -- A send's name: the k-th send that a thread began, from k = 1.
 pub record Name : Type 0 where
   pub thread : GlobalId
   pub k : ℕ
+
+abbrev pub same_name : Name → Name → Bool
+same_name a b = same_id a.thread b.thread && (a.k == b.k)
 
 -- The part of a thread that its own instructions read and write: MR0 to MR63 (manual: Messages and Message Registers), ErrorCode
 -- (manual: Thread Control Registers), the register `from` (manual: Ipc), VirtualSender and ActualSender (manual: Thread Control
@@ -68,12 +71,21 @@ pub record Thread : Type 0 where
   pub cancel_send : Bool
   pub cancel_receive : Bool
 
--- All threads in order of declaration; for each the threads whose sends wait at it, by their places; and the
--- clocks of the processors.
+-- An owed retarget (own, profile 2), named by a propagated send that was delivered: where its originator waits for the thread that sent
+-- it, the old partner, it is to wait for the one that received it, the new partner.
+pub record Owed : Type 0 where
+  pub send : Name
+  pub originator : GlobalId
+  pub old_partner : GlobalId
+  pub new_partner : GlobalId
+
+-- All threads in order of declaration; for each the threads whose sends wait at it, by their places; the clocks of the
+-- processors; and the owed retargets in order of delivery. In profile 1 none is ever owed.
 pub record World : Type 0 where
   pub threads : List Thread
   pub waiting : List (List ℕ)
   pub clocks : List ℕ
+  pub owed : List Owed
 
 abbrev pub opening_context : Context
 opening_context = record { words = replicate register_count 0; error = 0; from = NilThread; actual = NilThread; place = 0; begun = 0 }
@@ -83,7 +95,7 @@ opening_thread =
     record { context = opening_context; phase = Ready; send = None; order = None; cancel_send = false; cancel_receive = false }
 
 abbrev pub opening : Machine → World
-opening m = record { threads = map (λ d. opening_thread) m.threads; waiting = map (λ d. []) m.threads; clocks = replicate m.cpus 0 }
+opening m = record { threads = map (λ d. opening_thread) m.threads; waiting = map (λ d. []) m.threads; clocks = replicate m.cpus 0; owed = [] }
 
 -- A list with one element changed.
 abbrev pub changed : {A : Type 0} → (A → A) → List A → ℕ → List A
@@ -113,6 +125,21 @@ queued w r i = record w { waiting = changed (λ xs. xs ++ i ∷ []) w.waiting r 
 
 abbrev pub unqueued : World → ℕ → World
 unqueued w i = record w { waiting = map (filter (λ x. not (i == x))) w.waiting }
+
+-- Owed retargets: the one of a name, the others, one more where a delivery leaves one, and whether a send of this thread to this
+-- destination must wait, since that one is an originator which may not have turned to the thread yet.
+abbrev pub owed_of : List Owed → Name → Option Owed
+owed_of owed s = find (λ o. same_name s o.send) owed
+
+abbrev pub others_owed : List Owed → Name → List Owed
+others_owed owed s = filter (λ o. not (same_name s o.send)) owed
+
+abbrev pub one_more : Option Owed → List Owed → List Owed
+one_more None owed = owed
+one_more (Some o) owed = owed ++ o ∷ []
+
+abbrev pub must_wait : List Owed → (sender : GlobalId) → (to : Id) → Bool
+must_wait owed sender to = list_any (λ o. same_id sender o.new_partner && is_id_of to o.originator) owed
 
 abbrev pub is_ready : Phase → Bool
 is_ready Ready = true

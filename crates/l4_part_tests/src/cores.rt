@@ -20,9 +20,8 @@ pub(crate) type Told = (Event, ArrayVec<(u8, Letter), 2>);
 const END: u64 = 4611686018427387904;
 
 // Two processors. On the first one a thread that calls, one that sends, one that orders and one that goes on for ever; on the second one two
-// threads without a script.
-const TEXT: &str = "l4 1 64
-cpus 2
+// threads without a script. The first line is left out.
+const BUSY: &str = "cpus 2
 thread 1.1 cpu 0 space 1
 ipc 5.1 any never never
 thread 2.1 cpu 0 space 1
@@ -73,6 +72,16 @@ pub(crate) fn begun(thread: u32, receiver: u32, zero_timeout: bool) -> Content {
     }
 }
 
+/// What tells of a send of a message that has begun, for ever.
+pub(crate) fn begun_with(thread: u32, receiver: u32, message: Message) -> Content {
+    Content::Send {
+        name: send(thread, 1),
+        receiver: id(receiver),
+        message,
+        zero_timeout: false,
+    }
+}
+
 /// What tells of the first send of a thread how it was decided.
 pub(crate) fn done(thread: u32, decision: Decision) -> Content {
     let name = send(thread, 1);
@@ -118,9 +127,15 @@ pub(crate) fn turn<R: Abort>(rt: &R, core: &mut Core<'_>) -> Option<Told> {
     }
 }
 
+/// The machine of the busy processor, in a profile.
+pub(crate) fn busy_machine_in<R: AllocGlobal + Abort>(rt: &R, profile: u8) -> Machine {
+    let text = format!(in rt.alloc(); "l4 {profile} 64\n{BUSY}").expect(rt, "memory");
+    machine_of(rt, text.as_str())
+}
+
 /// The machine of the busy processor.
 pub(crate) fn busy_machine<R: AllocGlobal + Abort>(rt: &R) -> Machine {
-    machine_of(rt, TEXT)
+    busy_machine_in(rt, 1)
 }
 
 /// A processor that knows of a send under way to another one, of a send that waits here, of an order under way, and of a send from elsewhere that
@@ -182,8 +197,8 @@ pub(crate) fn takes_turn<R: AllocGlobal + Abort>(
     tells(rt, &told, stamp, lines, letters);
 }
 
-// Tests what is done with a letter, which was posted with this stamp.
-fn handles<R: AllocGlobal + Abort>(
+/// Tests what is done with a letter, which was posted with this stamp.
+pub(crate) fn handles<R: AllocGlobal + Abort>(
     rt: &R,
     core: &mut Core<'_>,
     letter: (u64, Content),
@@ -243,7 +258,7 @@ fn goes_to_the_last_clock<R: AllocGlobal + Abort>(rt: &R, fresh: &mut Core<'_>) 
 
 #[test]
 fn clocks_and_stamps_end_below_two_to_the_62nd(rt: HostRuntime) {
-    let machine = machine_of(&rt, TEXT);
+    let machine = busy_machine(&rt);
     goes_to_the_last_clock(&rt, &mut core(&rt, &machine, 0));
 }
 

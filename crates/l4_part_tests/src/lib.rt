@@ -14,6 +14,8 @@ mod ports;
 #[cfg(test)]
 mod refused;
 #[cfg(test)]
+mod retargets;
+#[cfg(test)]
 mod texts;
 #[cfg(test)]
 mod traces;

@@ -1,7 +1,9 @@
 // Letters that are not lawful where they come, each by itself: a processor refuses them, and goes on as one that was not asked.
 use crate::cores::{
-    begun, busy_core, busy_machine, done, id, message, order, send, turn, withdrawn,
+    begun, busy_core, busy_machine, busy_machine_in, done, id, message, order, send, turn,
+    withdrawn,
 };
+use crate::retargets::retarget;
 use l4_core::processor::{Core, Fault};
 use l4_script::machine::Machine;
 use l4_types::ids::GlobalId;
@@ -194,6 +196,21 @@ fn the_end_of_an_order_must_be_for_a_thread_here_that_gave_one<R: AllocGlobal + 
     }
 }
 
+fn a_retarget_must_be_of_an_originator_here_since_a_message_came_elsewhere<R: AllocGlobal + Abort>(
+    rt: &R,
+    machine: &Machine,
+) {
+    // Of threads of another processor, and of nobody.
+    for originator in [5, 6, 7] {
+        is_refused(rt, machine, retarget(originator, 5, 6));
+    }
+    // From nobody. To threads of this processor, and to nobody.
+    is_refused(rt, machine, retarget(1, 7, 6));
+    for new_partner in [1, 2, 3, 4, 7] {
+        is_refused(rt, machine, retarget(1, 5, new_partner));
+    }
+}
+
 #[test]
 fn letters_that_are_not_lawful_are_refused(rt: HostRuntime) {
     let machine = busy_machine(&rt);
@@ -204,4 +221,12 @@ fn letters_that_are_not_lawful_are_refused(rt: HostRuntime) {
     a_deletion_must_be_of_a_thread_elsewhere(&rt, &machine);
     an_order_must_be_of_a_thread_elsewhere_about_one_here(&rt, &machine);
     the_end_of_an_order_must_be_for_a_thread_here_that_gave_one(&rt, &machine);
+    // Of profile 1.
+    is_refused(&rt, &machine, retarget(1, 5, 6));
+}
+
+#[test]
+fn retargets_that_are_not_lawful_are_refused(rt: HostRuntime) {
+    let machine = busy_machine_in(&rt, 2);
+    a_retarget_must_be_of_an_originator_here_since_a_message_came_elsewhere(&rt, &machine);
 }

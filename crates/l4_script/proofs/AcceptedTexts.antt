@@ -198,8 +198,8 @@ thread_line_read line r after (name ∷ operands) known e =
     let instr = bind_ok (instruction_of name operands) _ after some.1 in
     extended_at_read line r after instr.0 known (ltb-true 0 (length r.machine.threads) (must_ok _ BadLine some.0)) (instruction_said name operands instr.0 instr.1) instr.2)
 
-nothing_is_read : (cpus : ℕ) → 1 ≤ cpus → cpus ≤ 16 → IsRead (nothing_read cpus)
-nothing_is_read cpus some limit =
+nothing_is_read : (retargeting : Bool) (cpus : ℕ) → 1 ≤ cpus → cpus ≤ 16 → IsRead (nothing_read retargeting cpus)
+nothing_is_read retargeting cpus some limit =
     record {
       lawful = record { machine = record { placed = λ i l. absurd (omega (arith, l)); homed = λ i l. absurd (omega (arith, l)) }; some = some; limit = limit; threads = omega arith };
       apart = refl;
@@ -209,10 +209,10 @@ nothing_is_read cpus some limit =
 words_sound : (line : ℕ) (stage after : Stage) (words : List (List ℕ)) → IsSound stage → after_words line stage words ≡ Ok after → IsSound after
 unfolding after_words
 words_sound line Format after words known e = let format = bind_ok (format_line words) _ after e in subst IsSound (same_ok _ after format.2) tt
-words_sound line Processors after words known e =
+words_sound line (Processors retargeting) after words known e =
     let cpus = bind_ok (processors_line words) _ after e in
     let range = processors_said words cpus.0 cpus.1 in
-    subst IsSound (same_ok _ after cpus.2) (nothing_is_read cpus.0 range.0 range.1)
+    subst IsSound (same_ok _ after cpus.2) (nothing_is_read retargeting cpus.0 range.0 range.1)
 words_sound line (Threads r) after words known e =
     let next = bind_ok (thread_line line r words) _ after e in
     subst IsSound (same_ok _ after next.2) (thread_line_read line r next.0 words known next.1)
@@ -308,7 +308,7 @@ read_written r known none = (
 
 end_written : (stage : Stage) (line : ℕ) (m : Machine) → IsSound stage → ended stage line ≡ Ok m → IsWritten m
 end_written Format line m known e = absurd cc
-end_written Processors line m known e = absurd cc
+end_written (Processors retargeting) line m known e = absurd cc
 end_written (Threads r) line m known e =
     let end = unmissed r.machine m (find (is_missed r.machine) r.targets) e in
     subst IsWritten end.1 (read_written r known end.0)

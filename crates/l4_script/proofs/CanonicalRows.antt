@@ -4,7 +4,7 @@ use Rattle.std.specs.Fmt.{digits}
 use Rattle.std.specs.List.{flat_map}
 use Rattle.std.proofs.Common.{arith}
 use Rattle.l4_model.specs.Words.{global_id, GlobalThread, LocalThread, NilThread, AnyThread, AnyLocalThread}
-use Rattle.l4_model.specs.Machine.{Instr, Set, Copy, Add, Tag, Vs, Ipc, ToId, ToLast, Ask, CancelSend, CancelReceive, CancelBoth, Delete, Jump, OnErr, End, Machine, machine_of}
+use Rattle.l4_model.specs.Machine.{Instr, Set, Copy, Add, Tag, Vs, Ipc, ToId, ToLast, Ask, CancelSend, CancelReceive, CancelBoth, Delete, Jump, OnErr, End, Machine, machine_of, retargeting_machine_of}
 use Rattle.l4_script.specs.Canonical.{low_digits, exponent_of, canonical_text, HasText}
 
 abbrev text : List (List ℕ) → List ℕ
@@ -15,6 +15,10 @@ text lines = flat_map (λ line. line ++ 10 ∷ []) lines
 no_thread : canonical_text (machine_of 1 []) ≡ text (codes "l4 1 64" ∷ codes "cpus 1" ∷ [])
 unfolding digits
 no_thread = refl
+
+no_thread_of_profile_2 : canonical_text (retargeting_machine_of 1 []) ≡ text (codes "l4 2 64" ∷ codes "cpus 1" ∷ [])
+unfolding digits
+no_thread_of_profile_2 = refl
 
 -- One send and one receive from any thread.
 

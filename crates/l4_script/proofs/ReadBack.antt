@@ -15,8 +15,8 @@ use Rattle.l4_words.specs.Lines.{parts_of, line_of_words}
 use Rattle.l4_script.specs.Machines.{has_number, last_thread, extended}
 use Rattle.l4_script.specs.Statements.{declare, extend}
 use Rattle.l4_script.specs.Texts.{Stage, Format, Processors, Threads, Reading, Target, targets_of, declared_in, extended_at, thread_line, after_words, after_line, is_missed, unless_missed, judged_at, read, machine_of_text}
-use Rattle.l4_script.specs.Canonical.{words_of_instruction, words_of_thread, lines_of_thread, lines_of, canonical_text, can_be_written, can_be_declared, are_apart, HasText}
-use Rattle.l4_script.proofs.Written.{are_line, line_lacks_end, after_line_read, instruction_is_line, instruction_read, declarable, thread_is_line, thread_line_read, format_read, processors_read, processors_is_line}
+use Rattle.l4_script.specs.Canonical.{words_of_instruction, words_of_thread, lines_of_thread, words_of_format, lines_of, canonical_text, can_be_written, can_be_declared, are_apart, HasText}
+use Rattle.l4_script.proofs.Written.{are_line, line_lacks_end, after_line_read, instruction_is_line, instruction_read, declarable, thread_is_line, thread_line_read, format_read, format_is_line, processors_read, processors_is_line}
 
 -- The parts of a text, of which the last is nothing.
 abbrev parts : List (List (List ℕ)) → List (List ℕ)
@@ -191,8 +191,8 @@ read_back m h short =
     let limit = h.limit in
     let threads = flat_map lines_of_thread m.threads in
     let cpus = codes "cpus" ∷ decimal m.cpus ∷ [] in
-    let split = text_is_split (lines_of m) (and_from _ _ refl (and_from _ _ (processors_is_line m.cpus limit) (threads_are_lines m.cpus m.threads limit h.each))) in
-    let format = read_on (codes "l4" ∷ codes "1" ∷ codes "64" ∷ []) (cpus ∷ threads) Format Processors 1 refl format_read in
-    let processors = read_on cpus threads Processors (so_far m [] []) 2 (processors_is_line m.cpus limit) (processors_read m.cpus h.some limit) in
+    let split = text_is_split (lines_of m) (and_from _ _ (format_is_line m.retargeting) (and_from _ _ (processors_is_line m.cpus limit) (threads_are_lines m.cpus m.threads limit h.each))) in
+    let format = read_on (words_of_format m.retargeting) (cpus ∷ threads) Format (Processors m.retargeting) 1 (format_is_line m.retargeting) (format_read m.retargeting) in
+    let processors = read_on cpus threads (Processors m.retargeting) (so_far m [] []) 2 (processors_is_line m.cpus limit) (processors_read m.retargeting m.cpus h.some limit) in
     let left = read_threads m [] m.threads [] 3 limit refl h.few h.each h.apart (fresh_at_first m.threads) refl in
     rw (le-ltb 0x100000 (length (canonical_text m)) short) (ap (λ (ps : List (List ℕ)). read ps Format 1) split ∙ format ∙ processors ∙ left)

@@ -2,7 +2,7 @@
 use Rattle.std.specs.Prelude.{◌≡◌, ℕ, Bool, List, [], ◌∷◌, ◌++◌, map, length, filter, take, is_ok, Option, Some, None, Result, Ok, Err, codes, refl}
 use Rattle.std.specs.List.{flat_map, range_with_len}
 use Rattle.l4_model.specs.Words.{global_id, Id, GlobalThread, LocalThread, NilThread, AnyThread, AnyLocalThread, Period}
-use Rattle.l4_model.specs.Machine.{Instr, Set, Copy, Add, Tag, Vs, Ipc, ToId, ToLast, Ask, CancelSend, CancelReceive, CancelBoth, Delete, Jump, OnErr, End, Declaration, Machine, machine_of}
+use Rattle.l4_model.specs.Machine.{Instr, Set, Copy, Add, Tag, Vs, Ipc, ToId, ToLast, Ask, CancelSend, CancelReceive, CancelBoth, Delete, Jump, OnErr, End, Declaration, Machine, machine_of, retargeting_machine_of}
 use Rattle.l4_script.specs.declared.text.fault.TextFault.{TextFault}
 use Rattle.l4_script.specs.declared.text.fault.TextFaultKind.{TextFaultKind}
 use Rattle.l4_script.specs.declared.text.fault.TextFaultKind.TheVariants.{BadLine, BadNumber, BadId, BadCpu, TypedItems, DoubleId, BadTarget}
@@ -360,8 +360,15 @@ texts =
     -- Headers
     ∷ (text (codes "l4 0x1 0x40" ∷ codes "cpus 0x01" ∷ []), no_thread)
     ∷ (text (codes "l4 x 64" ∷ []), Err (fault_at 1 BadNumber))
-    ∷ (text (codes "l4 2 64" ∷ []), Err (fault_at 1 BadNumber))
+    ∷ (text (codes "l4 2 64" ∷ codes "cpus 1" ∷ []), Ok (retargeting_machine_of 1 []))
+    ∷ (text (codes "l4 0x02 0x40" ∷ codes "cpus 16" ∷ []), Ok (retargeting_machine_of 16 []))
+    ∷ (text (codes "l4 2 64" ∷ []), Err (fault_at 2 BadLine))
+    ∷ (text (codes "l4 0 64" ∷ []), Err (fault_at 1 BadNumber))
+    ∷ (text (codes "l4 3 64" ∷ []), Err (fault_at 1 BadNumber))
     ∷ (text (codes "l4 1 32" ∷ []), Err (fault_at 1 BadNumber))
+    ∷ (text (codes "l4 2 32" ∷ []), Err (fault_at 1 BadNumber))
+    ∷ (text (codes "l4 2 x" ∷ []), Err (fault_at 1 BadNumber))
+    ∷ (text (codes "l4 64 2" ∷ []), Err (fault_at 1 BadNumber))
     ∷ (text (codes "l4 1" ∷ []), Err (fault_at 1 BadLine))
     ∷ (text (codes "l4 1 64 1" ∷ []), Err (fault_at 1 BadLine))
     ∷ (text (codes "cpus 1" ∷ []), Err (fault_at 1 BadLine))

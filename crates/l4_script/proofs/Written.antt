@@ -17,11 +17,11 @@ use Rattle.l4_words.specs.Numbers.{is_word}
 use Rattle.l4_words.specs.Threads.{thread_word}
 use Rattle.l4_words.specs.Words.{words_in}
 use Rattle.l4_words.proofs.Spelled.{fits, thread_is_read}
-use Rattle.l4_script.specs.Numbers.{number_of, number_from}
+use Rattle.l4_script.specs.Numbers.{number_of}
 use Rattle.l4_script.specs.Lines.{is_printable, has_empty_word, is_skipped, line_of}
 use Rattle.l4_script.specs.Statements.{format_line, processors_line, processor_of, declaration_of, set_of, copy_of, add_of, tag_of, vs_of, ipc_of, bits_of, exregs_of, delete_of, target_of, instruction_of}
 use Rattle.l4_script.specs.Texts.{Stage, Format, Processors, Threads, Reading, nothing_read, declared_in, extended_at, thread_line, after_words, after_line}
-use Rattle.l4_script.specs.Canonical.{low_digits, id_word, to_word, exponent_of, ticks_word, time_word, words_of_instruction, words_of_thread, is_register, has_word, has_destination, has_time, can_be_written, can_be_declared}
+use Rattle.l4_script.specs.Canonical.{low_digits, id_word, to_word, exponent_of, ticks_word, time_word, words_of_instruction, words_of_thread, words_of_format, is_register, has_word, has_destination, has_time, can_be_written, can_be_declared}
 use Rattle.l4_script.proofs.Spelled.{number_read, ranged_read, id_read, destination_read}
 use Rattle.l4_script.proofs.Times.{IsTimeOf, spelled_time, time_read}
 
@@ -299,13 +299,18 @@ thread_line_read n r d limit h =
 
 -- The two first lines
 
-pub format_read : after_words 1 Format (codes "l4" ∷ codes "1" ∷ codes "64" ∷ []) ≡ Ok Processors
-unfolding after_words format_line number_from number_of
-format_read = refl
+pub format_read : (retargeting : Bool) → after_words 1 Format (words_of_format retargeting) ≡ Ok (Processors retargeting)
+unfolding after_words format_line number_of
+format_read false = refl
+format_read true = refl
 
-pub processors_read : (cpus : ℕ) → 1 ≤ cpus → cpus ≤ 16 → after_words 2 Processors (codes "cpus" ∷ decimal cpus ∷ []) ≡ Ok (Threads (nothing_read cpus))
+pub format_is_line : (retargeting : Bool) → are_line (words_of_format retargeting) ≡ true
+format_is_line false = refl
+format_is_line true = refl
+
+pub processors_read : (retargeting : Bool) (cpus : ℕ) → 1 ≤ cpus → cpus ≤ 16 → after_words 2 (Processors retargeting) (codes "cpus" ∷ decimal cpus ∷ []) ≡ Ok (Threads (nothing_read retargeting cpus))
 unfolding after_words processors_line
-processors_read cpus some limit = rw (ranged_read 1 16 cpus some limit (omega arith)) refl
+processors_read retargeting cpus some limit = rw (ranged_read 1 16 cpus some limit (omega arith)) refl
 
 pub processors_is_line : (cpus : ℕ) → cpus ≤ 16 → are_line (codes "cpus" ∷ decimal cpus ∷ []) ≡ true
 processors_is_line cpus limit = one_number (codes "cpus") cpus refl refl (omega (arith, limit))

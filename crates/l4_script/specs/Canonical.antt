@@ -71,8 +71,15 @@ words_of_thread d = codes "thread" ∷ thread_word d.id ∷ codes "cpu" ∷ deci
 abbrev pub lines_of_thread : Declaration → List (List (List ℕ))
 lines_of_thread d = words_of_thread d ∷ map words_of_instruction d.script
 
+abbrev pub profile_word : (retargeting : Bool) → List ℕ
+profile_word false = codes "1"
+profile_word true = codes "2"
+
+abbrev pub words_of_format : (retargeting : Bool) → List (List ℕ)
+words_of_format retargeting = codes "l4" ∷ profile_word retargeting ∷ codes "64" ∷ []
+
 abbrev pub lines_of : Machine → List (List (List ℕ))
-lines_of m = (codes "l4" ∷ codes "1" ∷ codes "64" ∷ []) ∷ (codes "cpus" ∷ decimal m.cpus ∷ []) ∷ flat_map lines_of_thread m.threads
+lines_of m = words_of_format m.retargeting ∷ (codes "cpus" ∷ decimal m.cpus ∷ []) ∷ flat_map lines_of_thread m.threads
 
 abbrev pub canonical_text : Machine → List ℕ
 canonical_text m = flat_map line_of_words (lines_of m)

@@ -1,9 +1,13 @@
 -- How a machine grows as its text is read.
-use Rattle.std.specs.Prelude.{ℕ, ◌-◌, ◌≤◌, Bool, ◌==◌, [], ◌∷◌, ◌++◌, length, slice_set}
+use Rattle.std.specs.Prelude.{ℕ, ◌-◌, ◌≤◌, Bool, ◌==◌, List, [], ◌∷◌, ◌++◌, length, slice_set}
 use Rattle.std.specs.List.{list_any}
 use Rattle.l4_model.specs.Machine.{Instr, Declaration, Machine, most_processors, most_threads}
 use Rattle.l4_core_model.specs.Local.{declared}
 use Rattle.l4_core_model.specs.Runs.{IsMachine}
+
+-- A machine by its parts: of profile 2 where it retargets, else of profile 1.
+abbrev pub machine_with : (retargeting : Bool) → (cpus : ℕ) → List Declaration → Machine
+machine_with retargeting cpus threads = record { retargeting = retargeting; cpus = cpus; threads = threads }
 
 -- A machine as a text declares it.
 pub record IsLawful (m : Machine) : Type 0 where

@@ -5,5 +5,5 @@ use Rattle.l4_script.specs.Texts as texts
 
 abbrev pub stage_of : Stage → texts.Stage
 stage_of stages.Format = texts.Format
-stage_of stages.Processors = texts.Processors
+stage_of (stages.Processors retargeting) = texts.Processors retargeting
 stage_of (stages.Threads reading) = texts.Threads reading

@@ -1,5 +1,6 @@
 -- What the lines of a machine text say: their operands are judged from left to right, behind the keywords and the number of words.
-use Rattle.std.specs.Prelude.{ℕ, ◌/◌, ◌%◌, ◌^◌, ◌-◌, ◌&&◌, ◌==◌, not, nat_lt, if◌then◌else◌, Option, Some, None, Ok, Err, List, [], length, codes}
+use Rattle.std.specs.Prelude.{ℕ, ◌/◌, ◌%◌, ◌^◌, ◌-◌, Bool, true, false, ◌&&◌, ◌==◌, not, nat_lt, if◌then◌else◌, Option, Some, None, Ok, Err, List, [], ◌∷◌, find, length, codes}
+use Rattle.std.specs.Option.{option_map}
 use Rattle.std.specs.Str.{bytes_eq}
 use Rattle.l4_model.specs.Words.{last_register}
 use Rattle.l4_model.specs.Machine.{Instr, Set, Copy, Add, Tag, Vs, Ipc, To, ToId, ToLast, Ask, What, CancelSend, CancelReceive, CancelBoth, Delete, Jump, OnErr, End, Declaration, Machine, most_processors, most_threads, most_instructions}
@@ -12,14 +13,32 @@ use Rattle.l4_script.specs.Ids.{id_of}
 use Rattle.l4_script.specs.Lines.{after}
 use Rattle.l4_script.specs.Machines.{is_taken, with_thread, last_thread, extended}
 
--- `l4 1 64`: profile 1, words of 64 bits.
-unfoldable pub format_line : List (List ℕ) → Judged (Unit {0})
+-- A first line: its profile, how many bits a word has, and whether its machine retargets.
+pub record FirstLine : Type 0 where
+  pub profile : ℕ
+  pub width : ℕ
+  pub retargeting : Bool
+
+abbrev pub first_lines : List FirstLine
+first_lines =
+    record { profile = 1; width = 64; retargeting = false }
+    ∷ record { profile = 2; width = 64; retargeting = true } ∷ []
+
+abbrev pub names : (profile width : ℕ) → FirstLine → Bool
+names profile width line = profile == line.profile && width == line.width
+
+-- Whether the machine of these numbers retargets, where there is such a first line.
+abbrev pub retargeting_of : (profile width : ℕ) → Option Bool
+retargeting_of profile width = option_map (λ line. line.retargeting) (find (names profile width) first_lines)
+
+-- `l4 1 64` and `l4 2 64`.
+unfoldable pub format_line : List (List ℕ) → Judged Bool
 format_line words = do
   operands ← after (codes "l4") words
   numbers ← needs (two operands) BadLine
-  profile ← number_from 1 1 numbers.0
-  width ← number_from 64 64 numbers.1
-  Ok tt
+  profile ← needs (number_of numbers.0) BadNumber
+  width ← needs (number_of numbers.1) BadNumber
+  needs (retargeting_of profile width) BadNumber
 
 -- `cpus N`.
 unfoldable pub processors_line : List (List ℕ) → Judged ℕ

@@ -1,7 +1,7 @@
 -- The machine that a text declares, or its first fault.
 use Rattle.std.specs.Prelude.{ℕ, ◌≡◌, ◌⊎◌, ◌+◌, Bool, ◌==◌, nat_lt, if◌then◌else◌, Option, Some, None, Result, Ok, Err, List, [], ◌∷◌, ◌++◌, length, find, codes}
 use Rattle.std.specs.Str.{bytes_eq}
-use Rattle.l4_model.specs.Machine.{Instr, Jump, OnErr, Declaration, Machine, machine_of}
+use Rattle.l4_model.specs.Machine.{Instr, Jump, OnErr, Declaration, Machine}
 use Rattle.l4_core_model.specs.Local.{declared}
 use Rattle.l4_script.specs.declared.text.fault.TextFault.{TextFault}
 use Rattle.l4_script.specs.declared.text.fault.TextFaultKind.TheVariants.{BadLine, BadTarget, TooLong}
@@ -9,7 +9,7 @@ use Rattle.l4_script.specs.Faults.{fault_at, no_memory}
 use Rattle.l4_script.specs.Judged.{Judged, ◌>>=◌, ◌>>◌, must}
 use Rattle.l4_words.specs.Lines.{parts_of}
 use Rattle.l4_script.specs.Lines.{line_of}
-use Rattle.l4_script.specs.Machines.{last_place}
+use Rattle.l4_script.specs.Machines.{last_place, machine_with}
 use Rattle.l4_script.specs.Statements.{format_line, processors_line, declaration_of, instruction_of, declare, extend}
 
 -- A line that names a place of its script: the number of the line, the place of its thread, and the place that it names.
@@ -26,7 +26,7 @@ pub record Reading : Type 0 where
 -- What comes next in a text: the `l4` line, the `cpus` line, or the lines of threads.
 pub data Stage : Type 0 where
   Format : Stage
-  Processors : Stage
+  Processors : (retargeting : Bool) → Stage
   Threads : Reading → Stage
 
 abbrev pub target : (line thread place : ℕ) → List Target
@@ -38,8 +38,8 @@ targets_of line thread (OnErr place) = target line thread place
 targets_of line thread instr = []
 
 -- No thread was read.
-abbrev pub nothing_read : (cpus : ℕ) → Reading
-nothing_read cpus = record { machine = machine_of cpus []; targets = [] }
+abbrev pub nothing_read : (retargeting : Bool) → (cpus : ℕ) → Reading
+nothing_read retargeting cpus = record { machine = machine_with retargeting cpus []; targets = [] }
 
 -- One more thread, or one more instruction of the last thread.
 abbrev pub declared_in : Reading → Declaration → Judged Reading
@@ -65,8 +65,8 @@ thread_line line r (name ∷ operands) =
 
 -- What comes next after a line of words.
 unfoldable pub after_words : (line : ℕ) → Stage → List (List ℕ) → Judged Stage
-after_words line Format words = format_line words >>= λ format. Ok Processors
-after_words line Processors words = processors_line words >>= λ cpus. Ok (Threads (nothing_read cpus))
+after_words line Format words = format_line words >>= λ retargeting. Ok (Processors retargeting)
+after_words line (Processors retargeting) words = processors_line words >>= λ cpus. Ok (Threads (nothing_read retargeting cpus))
 after_words line (Threads r) words = thread_line line r words >>= λ after. Ok (Threads after)
 
 abbrev pub after_said : (line : ℕ) → Stage → Option (List (List ℕ)) → Judged Stage

@@ -1,9 +1,9 @@
 //! The machine that a text declares: its threads, and their scripts.
 ghost use Rattle.std.specs.Prelude.{◌≡◌, ◌<◌, ◌≤◌, ◌+◌, ◌-◌, ◌∷◌, [], ◌++◌, length, map, false, true, OnErr, OnOk, IfOk, IfSome, IsSome, ◌↔◌, slice_set};
-ghost use Rattle.l4_model.specs.Machine.{machine_of, place_of, most_processors, most_threads, most_instructions};
+ghost use Rattle.l4_model.specs.Machine.{place_of, most_processors, most_threads, most_instructions};
 ghost use Rattle.l4_core_model.specs.Runs.{IsMachine};
 ghost use Rattle.l4_script.specs.Scripts.{instr_of};
-ghost use Rattle.l4_script.specs.Machines.{is_taken, last_thread, with_instruction, with_thread, extended};
+ghost use Rattle.l4_script.specs.Machines.{is_taken, last_thread, machine_with, with_instruction, with_thread, extended};
 
 use crate::instructions::Instr;
 use indexmap::IndexSet;
@@ -107,9 +107,11 @@ impl Declaration {
     }
 }
 
-/// A machine of 1 to 16 processors: their number, and its threads in order of declaration, at most 1,024. No thread number stands twice.
+/// A machine of 1 to 16 processors: its profile, their number, and its threads in order of declaration, at most 1,024. No thread number
+/// stands twice.
 #[derive(Debug, Drop)]
 pub struct Machine {
+    retargeting: bool,
     cpus: u8,
     threads: Vec<Declaration>,
     // The ids of the threads in the same order, by which a place is found.
@@ -117,31 +119,39 @@ pub struct Machine {
 }
 
 impl Model for Machine {
-    ghost use Rattle.l4_model.specs.Machine.{Machine as ModelMachine, machine_of};
+    ghost use Rattle.l4_model.specs.Machine.{Machine as ModelMachine};
 
     ghost Value = { ModelMachine };
 
-    ghost use Rattle.l4_script.specs.Machines.{IsLawful};
+    ghost use Rattle.l4_script.specs.Machines.{IsLawful, machine_with};
 
-    ghost view = { λ m. machine_of m.cpus m.threads.items };
+    ghost view = { λ m. machine_with m.retargeting m.cpus m.threads.items };
 
     ghost use Rattle.std.specs.Prelude.{◌≡◌, map};
 
-    ghost invariant = { λ m. IsLawful (machine_of m.cpus m.threads.items) × (m.places.keys ≡ map (λ d. d.id) m.threads.items) };
+    ghost invariant = { λ m. IsLawful (machine_with m.retargeting m.cpus m.threads.items) × (m.places.keys ≡ map (λ d. d.id) m.threads.items) };
 }
 
 impl Machine {
     /// A machine of so many processors, without threads.
-    pub(crate) fn new(alloc: Global, cpus: u8) -> Machine
+    pub(crate) fn new(alloc: Global, retargeting: bool, cpus: u8) -> Machine
         requires some { 1 ≤ cpus }
         requires limit { cpus ≤ most_processors }
-        ensures { result ≡ machine_of cpus [] }
+        ensures { result ≡ machine_with retargeting cpus [] }
     {
         Machine {
+            retargeting,
             cpus,
             threads: Vec::new(alloc),
             places: IndexSet::new(alloc),
         }
+    }
+
+    /// Whether its profile is 2, where an originator waits for whom its message was handed to.
+    pub fn retargets(&self) -> bool
+        ensures { result ≡ self.now.retargeting }
+    {
+        self.retargeting
     }
 
     /// The number of processors, 1 to 16.
@@ -223,6 +233,7 @@ impl Machine {
             threads.push(thread.try_clone(alloc)?)?;
         }
         Ok(Machine {
+            retargeting: self.retargeting,
             cpus: self.cpus,
             threads,
             places: self.places.clone()?,

@@ -28,8 +28,8 @@ same_alike : (a b : Thread) → a ≡ b → IsAlike a b
 same_alike a b e = record { report = λ id. ap (report_of id) e; begun = ap (λ (t : Thread). t.context.begun) e; send = ap (λ (t : Thread). t.send) e }
 
 -- A receive phase may have begun earlier than its processor knows: no report tells it.
-agreeing_alike : (world t : Thread) → is_deleted_state (state_of t.phase) ≡ false → Agrees world t → IsAlike world t
-agreeing_alike world t undeleted a = by t.phase refl undeleted a
+agreeing_alike : {m : Machine} (world t : Thread) → is_deleted_state (state_of t.phase) ≡ false → Agrees m world t → IsAlike world t
+agreeing_alike world t undeleted a = by t.phase refl undeleted a.by_phase
   where
     by : (p : Phase) → t.phase ≡ p → is_deleted_state (state_of p) ≡ false → AgreesIn p world t → IsAlike world t
     by Ready is alive a = same_alike world t a
@@ -136,9 +136,9 @@ told_at_home m g w machine counted relates handled undeleted = record {
         let within : (declared m i).cpu < length g.locals = let cpu = machine.homed i lt in omega arith in
         let here = thread_at_home m g i within in
         let v = view m (scene g) w i in
-        let agrees : Agrees v.world (learned (locators v.mail) (v.kept (home m i)).clock (v.kept (home m i)).thread) = (relates.places i lt tt).known.agrees in
-        let plain : Agrees v.world (v.kept (home m i)).thread =
-        subst (λ mail. Agrees v.world (learned (locators (filter (is_about m i) mail)) (v.kept (home m i)).clock (v.kept (home m i)).thread))
+        let agrees : Agrees m v.world (learned (locators v.mail) (v.kept (home m i)).clock (v.kept (home m i)).thread) = (relates.places i lt tt).known.agrees in
+        let plain : Agrees m v.world (v.kept (home m i)).thread =
+        subst (λ mail. Agrees m v.world (learned (locators (filter (is_about m i) mail)) (v.kept (home m i)).clock (v.kept (home m i)).thread))
         (no_letters g handled) agrees in
         subst (IsAlike v.world) (sym here) (agreeing_alike v.world (v.kept (home m i)).thread
         (subst (λ (t : Thread). is_deleted_state (state_of t.phase) ≡ false) here (alive i lt)) plain)

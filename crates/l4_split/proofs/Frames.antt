@@ -2,6 +2,8 @@
 pub mod Locals
 pub mod Places
 pub mod Lists
+pub mod Owed
+pub mod Owes
 pub mod Mail
 pub mod Moves
 pub mod Going

@@ -1,12 +1,13 @@
 -- What is known of a core run stays known event by event, and the laws follow.
+use Rattle.l4_split.proofs.Retargets.Doing.{handles_retarget}
 use Rattle.std.proofs.Common.{◌≡◌, ℕ, Some, [], List, ap, arith, length, map, refl, subst, sym, true, ◌<◌, ◌∙◌, ◌∷◌}
 use Rattle.l4_model.specs.Machine.{Machine}
 use Rattle.l4_model.specs.World.{World, opening}
-use Rattle.l4_core_model.specs.Letters.{Content, SendLetter, DoneLetter, WithdrawLetter, GoneLetter, OrderLetter, OrderDoneLetter, Letter}
+use Rattle.l4_core_model.specs.Letters.{Content, SendLetter, DoneLetter, WithdrawLetter, GoneLetter, OrderLetter, OrderDoneLetter, RetargetLetter, Letter}
 use Rattle.l4_core_model.specs.Acts.{Work, tells}
 use Rattle.l4_core_model.specs.Mail.{handled, handle}
-use Rattle.l4_split.proofs.Relation.Views.{Scene, scene}
-use Rattle.l4_split.proofs.Frames.Going.{Goes, opened_goes}
+use Rattle.l4_split.proofs.Relation.Views.{Scene, nowhere, scene}
+use Rattle.l4_split.proofs.Frames.Going.{Goes, opened_goes, IsReached}
 use Rattle.l4_split.proofs.Letters.Receiving.{without, IsLetter, at_work, handles_send, handles_done}
 use Rattle.l4_split.proofs.Letters.Late.{handles_withdraw}
 use Rattle.l4_split.proofs.Letters.Gone.{handles_gone}
@@ -21,14 +22,16 @@ use Rattle.l4_split.proofs.Turns.Choosing.{turn_goes}
 use Rattle.l4_split.proofs.Turns.Ticking.{tick_goes}
 use Rattle.l4_core_model.specs.Local.{Local, opening_local}
 use Rattle.l4_core_model.specs.Laws.{IsCoreRun}
-use Rattle.std.specs.Prelude.{slice_get}
+use Rattle.std.specs.Prelude.{IsSomeAnd, slice_get}
 use Rattle.l4_split.proofs.Letters.AddressedEvents.{turn_addressed, handled_addressed}
 use Rattle.l4_split.proofs.Promises.Choosing.{turn_keeps}
 use Rattle.l4_split.proofs.Letters.Lawful.{all_lawful, first_lawful, AreAddressed}
 use Rattle.l4_core_model.proofs.Changed.{length-changed}
 use Rattle.l4_split.proofs.Relation.Rows.{Matches}
-use Rattle.l4_split.specs.Laws.{IsLawfulRun, LettersAreLawful, IsToldAtHome}
+use Rattle.l4_split.specs.Laws.{IsLawfulRun, IsState, LettersAreLawful, IsToldAtHome}
 use Rattle.l4_split.proofs.AtHome.{told_at_home}
+use Rattle.l4_split.proofs.Alone.{state_of_one}
+use Rattle.std.proofs.lemmas.Option.{slice_get-get_or}
 use Rattle.l4_split.proofs.Relation.Opening.{opening_promised, opening_relates}
 use Rattle.l4_model.specs.Steps.{Tick}
 use Rattle.l4_model.specs.Conditions.{◌>>=◌}
@@ -61,6 +64,7 @@ letter_goes m from cpu letter s w x (WithdrawLetter name receiver cause) h conte
 letter_goes m from cpu letter s w x (GoneLetter id) h content is = handles_gone m from cpu letter s w x id h content is
 letter_goes m from cpu letter s w x (OrderLetter caller target what) h content is = handles_order m from cpu letter s w x caller target what h content is
 letter_goes m from cpu letter s w x (OrderDoneLetter caller) h content is = handles_order_done m from cpu letter s w x caller h content is
+letter_goes m from cpu letter s w x (RetargetLetter o) h content is = handles_retarget m from cpu letter s w x o h content is
 
 -- Letters
 
@@ -102,11 +106,14 @@ step_facts m r e h machine f is = event_then m r.system e h (λ h. RunFacts m (t
     s : Scene
     s = scene r.system
 
+    start : IsReached m f.world
+    start = record { history = told r.events; is = f.reaches }
+
     handles : (cpu from : ℕ) (letter : Letter) (x : Work) → cpu < m.cpus → slice_get (letters r.system.mail from cpu) 0 ≡ Some letter →
         handle m cpu (s.locals cpu) letter ≡ Some x → RunFacts m (then_event r (done cpu (taken from cpu r.system) x))
     handles cpu from letter x lt first is =
         let at = first_letter from cpu letter r.system.mail first in
-        let l : IsLetter m from cpu letter s f.world = record { machine = machine; processor = lt; relates = f.relates; first = at } in
+        let l : IsLetter m from cpu letter s f.world = record { machine = machine; processor = lt; starts = start; relates = f.relates; first = at } in
         let left = all_without (λ (p : Posted). IsAddressedTo m p.to p.letter.content) at.before at.after _ (subst (AreAddressed m) at.is f.addressed) in
         event_facts m r cpu (taken from cpu r.system) x f refl lt (subst (AreAddressed m) (sym at.left) left)
         (letter_goes m from cpu letter s f.world x letter.content l refl is)
@@ -114,14 +121,14 @@ step_facts m r e h machine f is = event_then m r.system e h (λ h. RunFacts m (t
         (handled_addressed m cpu letter.content (opened letter.stamp (s.locals cpu)) x machine tt is)
 
     turns : (cpu : ℕ) (x : Work) → cpu < m.cpus → turn m cpu (s.locals cpu) ≡ Some x → RunFacts m (then_event r (done cpu r.system x))
-    turns cpu x lt is = event_facts m r cpu r.system x f refl lt f.addressed (turn_goes m cpu s f.world x machine lt f.relates is)
-        (turn_keeps m cpu s f.world x machine lt f.relates f.promised is)
+    turns cpu x lt is = event_facts m r cpu r.system x f refl lt f.addressed (turn_goes m cpu s f.world x machine lt start f.relates is)
+        (turn_keeps m cpu s f.world x machine lt start f.relates f.promised is)
         (turn_addressed m cpu (s.locals cpu) x machine (f.relates.sized cpu lt) is)
 
     ticks : (cpu clock : ℕ) (x : Work) → cpu < m.cpus → advance m cpu clock (s.locals cpu) ≡ Some x → RunFacts m (then_event r (done cpu r.system x))
     ticks cpu clock x lt is = advance_then m cpu clock (s.locals cpu) x (λ x. RunFacts m (then_event r (done cpu r.system x))) is λ above below.
         event_facts m r cpu r.system _ f refl lt f.addressed
-        (tick_goes m cpu clock s f.world (opened 0 (s.locals cpu)) lt (opened_goes m cpu 0 [] s f.world f.relates) above below)
+        (tick_goes m cpu clock s f.world (opened 0 (s.locals cpu)) lt (opened_goes m cpu 0 [] s f.world start f.relates) above below)
         (ticks_keeps m cpu clock s (tells (Tick cpu clock) (opened 0 (s.locals cpu))) lt (opened_keeps m cpu 0 [] s lt f.promised)) tt
 
 opening_facts : (m : Machine) → IsMachine m → RunFacts m (opening_run m)
@@ -155,7 +162,7 @@ letters_lawful m r machine f =
     }
 
 pub rest_still : (m : Machine) (r : Run) → IsMachine m → (f : RunFacts m r) → at_rest m r.system ≡ true → IsStill m f.world
-rest_still m r machine f rest = resting_still m r.system f.world machine f.counted f.relates f.promised rest
+rest_still m r machine f rest = resting_still m r.system f.world machine f.counted f.relates f.promised (reached_facts m (told r.events) f.world f.reaches) rest
 
 -- So every core run is lawful.
 pub run_lawful : (m : Machine) (r : Run) → IsMachine m → RunFacts m r → IsLawfulRun m r
@@ -166,4 +173,7 @@ run_lawful m r machine f = record {
   still = λ rest w at. subst (IsStill m) (some_is f.world w (sym f.reaches ∙ at)) (rest_still m r machine f rest);
   at_home = λ handled undeleted w at. subst (IsToldAtHome m r.system.locals) (some_is f.world w (sym f.reaches ∙ at))
       (told_at_home m r.system f.world machine f.counted f.relates handled undeleted);
+  of_one = λ alone. subst (λ o. IsSomeAnd o (λ l. (w : World) → reached m (told r.events) ≡ Some w → IsState m l w))
+      (sym (slice_get-get_or r.system.locals 0 nowhere (omega (arith, f.counted, alone))))
+      (λ w at. subst (IsState m ((scene r.system).locals 0)) (some_is f.world w (sym f.reaches ∙ at)) (state_of_one m r.system f.world machine alone f.relates));
 }

@@ -3,10 +3,12 @@ pub mod Relation
 pub mod Frames
 pub mod Sends
 pub mod Orders
+pub mod Retargets
 pub mod Turns
 pub mod Letters
 pub mod Promises
 pub mod Rest
 pub mod AtHome
+pub mod Alone
 pub mod Events
 pub mod Law

@@ -5,6 +5,7 @@ pub mod Frames
 pub mod Locals
 pub mod Phases
 pub mod Acts
+pub mod Retargets
 pub mod Orders
 pub mod Giving
 pub mod Telling

@@ -1,4 +1,5 @@
 -- Sends: begun, come to their receivers, queued, refused, delivered, and answered.
+pub mod Free
 pub mod Deciding
 pub mod Answering
 pub mod Waiting

@@ -1,16 +1,17 @@
 -- What is true of the core runs of a machine of any number of processors, whatever is done in which order.
-use Rattle.std.specs.Prelude.{◌≡◌, ℕ, Bool, ◌==◌, false, true, Option, None, Some, is_some, IsSomeAnd, List, [], length, map, filter_map, slice_get}
-use Rattle.std.specs.List.{AllByRecursion, range_with_len}
+use Rattle.std.specs.Prelude.{◌≡◌, ◌<◌, ℕ, Bool, ◌==◌, false, true, Option, None, Some, is_some, IsSomeAnd, List, [], ◌∷◌, length, map, filter, filter_map, slice_get}
+use Rattle.std.specs.List.{AllByRecursion, cons_option, range_with_len}
 use Rattle.l4_model.specs.Words.{Id}
-use Rattle.l4_model.specs.Machine.{Machine, place_of}
+use Rattle.l4_model.specs.Machine.{Machine, is_place, place_of}
 use Rattle.l4_model.specs.Steps.{Step}
-use Rattle.l4_model.specs.World.{Name, Thread, World, opening_thread}
+use Rattle.l4_model.specs.World.{Name, Owed, Thread, World, opening_thread}
 use Rattle.l4_model.specs.Conditions.{◌>>=◌, ◌>>◌}
 use Rattle.l4_model.specs.History.{IsHistory, Report, State, IsDeleted, begun_name, reached, report_of, view, waiting}
 use Rattle.l4_model.specs.Laws.{IsLawful}
 use Rattle.l4_model.specs.Still.{IsStill}
 use Rattle.l4_core_model.specs.Letters.{Letter}
-use Rattle.l4_core_model.specs.Local.{Local, declared, thread}
+use Rattle.l4_core_model.specs.Plain as plain
+use Rattle.l4_core_model.specs.Local.{Local, declared, owed_beside, thread}
 use Rattle.l4_core_model.specs.Mail.{handle}
 use Rattle.l4_core_model.specs.Runs.{System, Posted, letters, Happening, Run, core_run, opening_run, told, at_rest}
 
@@ -86,6 +87,25 @@ IsKnownAtHome m r =
     AreAllHandled r.system → AllByRecursion IsUndeleted (home_reports m r.system.locals) →
     (w : World) → reached m (told r.events) ≡ Some w → IsToldAtHome m r.system.locals w
 
+-- A retarget is owed since the thread at this place received.
+abbrev pub is_owed_since : Machine → (place : ℕ) → Owed → Bool
+is_owed_since m r o = is_place (place_of m o.new_partner) r
+
+abbrev pub blocks_in : List plain.Waiting → List ℕ
+blocks_in es = map (λ e. e.block) es
+
+-- A world is what a processor has: its threads, deleted ones too, who waits at each, its clock, and what is owed since each received.
+pub record IsState (m : Machine) (l : Local) (w : World) : Type 0 where
+  pub threads : w.threads ≡ l.threads
+  pub waiting : w.waiting ≡ map blocks_in l.lists.waiting
+  pub clocks : w.clocks ≡ l.clock ∷ []
+  pub owed : (r : ℕ) → r < length m.threads → filter (is_owed_since m r) w.owed ≡ cons_option (owed_beside l r) []
+
+-- On a machine of one processor the world that the history reaches is what that processor has.
+abbrev pub IsStateOfOne : Machine → Run → Type 0
+IsStateOfOne m r =
+    m.cpus ≡ 1 → IsSomeAnd (slice_get r.system.locals 0) (λ l. (w : World) → reached m (told r.events) ≡ Some w → IsState m l w)
+
 -- All that is proved of a core run.
 pub record IsLawfulRun (m : Machine) (r : Run) : Type 0 where
   -- what its events tell is a history: each step is possible at the world that the earlier ones reach
@@ -98,3 +118,5 @@ pub record IsLawfulRun (m : Machine) (r : Run) : Type 0 where
   pub still : at_rest m r.system ≡ true → (w : World) → reached m (told r.events) ≡ Some w → IsStill m w
   -- where no letter is under way and no thread is deleted, that world looks as the processors have their own threads
   pub at_home : IsKnownAtHome m r
+  -- and on one processor it is what that processor has, at every moment
+  pub of_one : IsStateOfOne m r

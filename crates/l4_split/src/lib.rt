@@ -22,7 +22,8 @@ pub fn law_rest_is_still()
 {}
 
 /// All of this of every core run: what its events tell is a history with the laws of histories, no letter under way is refused
-/// where it goes, and where the run is at rest, nothing but clocks can go on in the world that its history reaches.
+/// where it goes, and where the run is at rest, nothing but clocks can go on in the world that its history reaches. On a machine of
+/// one processor that world is what the processor has.
 pub fn law_of_core_runs()
     ensures { (m : Machine) (r : Run) → IsMachine m → IsCoreRun m r → IsLawfulRun m r }
 {}

@@ -1,8 +1,10 @@
 //! Sends and receive phases as they were fixed when they began.
 ghost use Rattle.std.specs.Prelude.{◌≡◌, ◌<◌, length};
-ghost use Rattle.l4_model.specs.Words.{label_limit, register_count};
+ghost use Rattle.std.specs.Option.{option_map};
+ghost use Rattle.l4_model.specs.Words.{label_limit, register_count, is_id_of};
 ghost use Rattle.l4_types.specs.PeriodView.{period_of, IsTimely};
 ghost use Rattle.l4_thread.specs.Held.{with_words, sent_with, AreFew};
+ghost use Rattle.l4_thread.specs.Partners.{turned_from};
 ghost use Rattle.l4_thread.specs.declared.sends.Words.TheVariants.{InRegisters, Apart};
 
 use l4_history::message_ref::MessageRef;
@@ -56,6 +58,30 @@ impl Receive {
         ensures timely { IsTimely result }
     {
         self.period
+    }
+
+    /// The same, but for the new partner where it is for the old one alone.
+    pub(crate) fn turned(&self, old_partner: GlobalId, new_partner: GlobalId) -> Receive
+        ensures { result ≡ turned_from old_partner new_partner self.now }
+    {
+        if is_id_of(self.from, old_partner) {
+            Receive {
+                from: new_partner.id(),
+                period: self.period,
+            }
+        } else {
+            *self
+        }
+    }
+}
+
+/// Whether an id is that of this thread alone.
+pub fn is_id_of(id: ThreadId, thread: GlobalId) -> bool
+    ensures { result ≡ is_id_of id thread }
+{
+    match id.as_global() {
+        Some(global) => global == thread,
+        None => false,
     }
 }
 
@@ -235,6 +261,15 @@ impl Send {
         ensures { result ≡ self.now.receive }
     {
         self.receive
+    }
+
+    /// The receive phase of the same Ipc is for the new partner where it was for the old one alone.
+    pub(crate) fn turn_to(&mut self, old_partner: GlobalId, new_partner: GlobalId)
+        ensures { self.new ≡ record self.old { receive = option_map (turned_from old_partner new_partner) self.old.receive } }
+    {
+        if let Some(receive) = self.receive {
+            self.receive = Some(receive.turned(old_partner, new_partner));
+        }
     }
 }
 

@@ -5,6 +5,7 @@ use Rattle.l4_model.specs.Words.{global_id}
 use Rattle.l4_model.specs.Machine.{CancelBoth}
 use Rattle.l4_model.specs.Steps.{Deliver, Order, Tick}
 use Rattle.l4_model.proofs.Rows.{first_path_trace, two_processors_trace, nobody_there_trace, withdrawn_trace, finite_receive_trace, cancelled_receive_trace, cancels_trace, call_deleted_a_trace}
+use Rattle.l4_model.proofs.Rows.Retargets.{one_processor_trace}
 use Rattle.l4_trace.specs.Lines.{line_of}
 
 first_path_lines : map line_of first_path_trace ≡
@@ -59,6 +60,16 @@ call_deleted_a_lines : map line_of call_deleted_a_trace ≡
     ∷ codes "wait 4.1\n" ∷ codes "local 3.1\n" ∷ codes "local 2.1\n" ∷ []
 unfolding digits
 call_deleted_a_lines = refl
+
+-- A message that is handed on, with its retarget.
+one_processor_lines : map line_of one_processor_trace ≡
+    codes "begin 1.1#1\n" ∷ codes "queue 1.1#1\n" ∷ codes "wait 2.1\n" ∷ codes "deliver 1.1#1 2.1 1.1 1.1 0\n"
+    ∷ codes "wait 3.1\n" ∷ codes "local 2.1\n" ∷ codes "local 2.1\n" ∷ codes "begin 2.1#1\n"
+    ∷ codes "queue 2.1#1\n" ∷ codes "deliver 2.1#1 3.1 1.1 2.1 1000\n" ∷ codes "retarget 2.1#1\n"
+    ∷ codes "begin 3.1#1\n" ∷ codes "queue 3.1#1\n" ∷ codes "deliver 3.1#1 1.1 3.1 3.1 0\n"
+    ∷ codes "local 2.1\n" ∷ codes "local 1.1\n" ∷ codes "local 3.1\n" ∷ []
+unfolding digits
+one_processor_lines = refl
 
 -- Both bits of a cancellation, and the greatest numbers.
 both_bits_line : line_of (Order (global_id 2 1) (global_id 1 65) CancelBoth) ≡ codes "order 2.1 1.65 SR\n"

@@ -7,7 +7,7 @@ use Rattle.std.proofs.lemmas.List.Splits.{slice_split_none, slice_split_at}
 use Rattle.l4_model.specs.Words.{GlobalId, is_global}
 use Rattle.l4_model.specs.Machine.{What, CancelSend, CancelReceive, CancelBoth, Delete}
 use Rattle.l4_model.specs.World.{Name}
-use Rattle.l4_model.specs.Steps.{Step, Local, Begin, Queue, Deliver, Wait, SendTimeout, ReceiveTimeout, SendNobody, ReceiveNobody, SendCancel, ReceiveCancel, Drop, Order, Obey, Tick}
+use Rattle.l4_model.specs.Steps.{Step, Local, Begin, Queue, Deliver, Wait, SendTimeout, ReceiveTimeout, SendNobody, ReceiveNobody, SendCancel, ReceiveCancel, Drop, Order, Obey, Tick, Retarget}
 use Rattle.l4_words.proofs.Above.{is_above, above_parts, above_lower, lacks, decimal_is_above, hexadecimal_is_above}
 use Rattle.l4_words.proofs.Spelled.{thread_is_above}
 use Rattle.l4_trace.specs.Lines.{hexadecimal, thread_word, name_word, what_word, words_of, is_word, is_name, has_line}
@@ -116,3 +116,4 @@ step_is_plain (Tick cpu clock) h =
     let small_cpu = ltb-true cpu 16 (and_parts _ _ both.0).0 in
     let small_clock = ltb-true clock (2 ^ 62) both.1 in
     and_from _ _ (decimal_is_plain cpu (omega arith)) (alone (decimal clock) (decimal_is_plain clock (omega arith)))
+step_is_plain (Retarget s) h = alone (name_word s) (name_is_plain s h)

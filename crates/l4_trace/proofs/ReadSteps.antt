@@ -11,7 +11,7 @@ use Rattle.std.proofs.lemmas.Slice.Eq.{bytes_eq-Decides}
 use Rattle.l4_model.specs.Words.{GlobalId, is_global}
 use Rattle.l4_model.specs.Machine.{What, CancelSend, CancelReceive, CancelBoth, Delete}
 use Rattle.l4_model.specs.World.{Name}
-use Rattle.l4_model.specs.Steps.{Step, Local, Begin, Queue, Deliver, Wait, SendTimeout, ReceiveTimeout, SendNobody, ReceiveNobody, SendCancel, ReceiveCancel, Drop, Order, Obey, Tick}
+use Rattle.l4_model.specs.Steps.{Step, Local, Begin, Queue, Deliver, Wait, SendTimeout, ReceiveTimeout, SendNobody, ReceiveNobody, SendCancel, ReceiveCancel, Drop, Order, Obey, Tick, Retarget}
 use Rattle.l4_model.specs.Conditions.{◌>>=◌}
 use Rattle.l4_trace.specs.Lines.{hexadecimal, thread_word, name_word, what_word, words_of, is_word, is_name, is_tag_of, has_line}
 use Rattle.l4_words.specs.Numbers.{number_of}
@@ -101,6 +101,7 @@ words_are_read (Drop s) h = ap (option_map Drop) (name_alone s h)
 words_are_read (Order caller target what) h = let ids = and_parts (is_global caller) (is_global target) h in order_is_read caller target what ids.0 ids.1
 words_are_read (Obey t) h = ap (option_map Obey) (thread_alone t h)
 words_are_read (Tick cpu clock) h = tick_is_read cpu clock h
+words_are_read (Retarget s) h = ap (option_map Retarget) (name_alone s h)
 
 -- A line without its end.
 abbrev pub body_of : Step → List ℕ
@@ -126,6 +127,7 @@ has_words (Drop s) = omega arith
 has_words (Order caller target what) = omega arith
 has_words (Obey t) = omega arith
 has_words (Tick cpu clock) = omega arith
+has_words (Retarget s) = omega arith
 
 pub line_is_read : (step : Step) → has_line step ≡ true → step_of_line (body_of step) ≡ Some step
 unfolding step_of_line
@@ -298,7 +300,8 @@ words_are_written (first ∷ operands) step e =
     (λ e. chosen (AreWordsOf (first ∷ operands) step) (bytes_eq first (codes "order")) _ _ (Some step) e (λ is h. order_is_written first operands step is h)
     (λ e. chosen (AreWordsOf (first ∷ operands) step) (bytes_eq first (codes "obey")) _ _ (Some step) e (λ is h. thread_kind Obey (codes "obey") first operands step (λ t h. h) (λ t. refl) is h)
     (λ e. chosen (AreWordsOf (first ∷ operands) step) (bytes_eq first (codes "tick")) _ _ (Some step) e (λ is h. tick_is_written first operands step is h)
-    (λ e. absurd cc)))))))))))))))
+    (λ e. chosen (AreWordsOf (first ∷ operands) step) (bytes_eq first (codes "retarget")) _ _ (Some step) e (λ is h. name_kind Retarget (codes "retarget") first operands step (λ s h. h) (λ s. refl) is h)
+    (λ e. absurd cc))))))))))))))))
 
 pub record IsLineOf (line : List ℕ) (step : Step) : Type 0 where
   pub spelled : has_line step ≡ true

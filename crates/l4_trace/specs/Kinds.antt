@@ -27,6 +27,7 @@ step_of_name of_name_kind.SendTimeout name = steps.SendTimeout name
 step_of_name of_name_kind.SendNobody name = steps.SendNobody name
 step_of_name of_name_kind.SendCancel name = steps.SendCancel name
 step_of_name of_name_kind.Drop name = steps.Drop name
+step_of_name of_name_kind.Retarget name = steps.Retarget name
 
 -- The step of a line of this kind, or of none, with these words behind the first.
 abbrev pub step_of_kind : Option Kind → List (List ℕ) → Option steps.Step

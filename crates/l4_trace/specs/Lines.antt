@@ -3,7 +3,7 @@ use Rattle.std.specs.Prelude.{ℕ, ◌/◌, ◌%◌, ◌^◌, Bool, ◌==◌, �
 use Rattle.std.specs.List.{list_all}
 use Rattle.l4_model.specs.Words.{is_global, clock_limit}
 use Rattle.l4_model.specs.Machine.{What, CancelSend, CancelReceive, CancelBoth, Delete, most_processors}
-use Rattle.l4_model.specs.Steps.{Step, Local, Begin, Queue, Deliver, Wait, SendTimeout, ReceiveTimeout, SendNobody, ReceiveNobody, SendCancel, ReceiveCancel, Drop, Order, Obey, Tick}
+use Rattle.l4_model.specs.Steps.{Step, Local, Begin, Queue, Deliver, Wait, SendTimeout, ReceiveTimeout, SendNobody, ReceiveNobody, SendCancel, ReceiveCancel, Drop, Order, Obey, Tick, Retarget}
 pub use Rattle.l4_words.specs.Lines.{line_of_words}
 pub use Rattle.l4_words.specs.Names.{is_name, name_word}
 pub use Rattle.l4_words.specs.Numbers.{hexadecimal, is_word}
@@ -35,6 +35,7 @@ words_of (Order caller target what) =
     codes "order" ∷ thread_word caller ∷ thread_word target ∷ what_word what ∷ []
 words_of (Obey caller) = codes "obey" ∷ thread_word caller ∷ []
 words_of (Tick cpu clock) = codes "tick" ∷ decimal cpu ∷ decimal clock ∷ []
+words_of (Retarget s) = codes "retarget" ∷ name_word s ∷ []
 
 abbrev pub line_of : Step → List ℕ
 line_of step = line_of_words (words_of step)
@@ -67,3 +68,4 @@ has_line (Drop s) = is_name s
 has_line (Order caller target what) = is_global caller && is_global target
 has_line (Obey caller) = is_global caller
 has_line (Tick cpu clock) = nat_lt cpu most_processors && nat_lt 0 clock && nat_lt clock clock_limit
+has_line (Retarget s) = is_name s

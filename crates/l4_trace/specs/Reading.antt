@@ -6,7 +6,7 @@ use Rattle.std.specs.Str.{bytes_eq}
 use Rattle.l4_model.specs.Words.{GlobalId, clock_limit, last_register}
 use Rattle.l4_model.specs.World.{Name}
 use Rattle.l4_model.specs.Machine.{What, CancelSend, CancelReceive, CancelBoth, Delete, most_processors}
-use Rattle.l4_model.specs.Steps.{Step, Local, Begin, Queue, Deliver, Wait, SendTimeout, ReceiveTimeout, SendNobody, ReceiveNobody, SendCancel, ReceiveCancel, Drop, Order, Obey, Tick}
+use Rattle.l4_model.specs.Steps.{Step, Local, Begin, Queue, Deliver, Wait, SendTimeout, ReceiveTimeout, SendNobody, ReceiveNobody, SendCancel, ReceiveCancel, Drop, Order, Obey, Tick, Retarget}
 use Rattle.l4_model.specs.Conditions.{◌>>=◌, ◌>>◌}
 use Rattle.l4_trace.specs.declared.fault.TraceFault.{TraceFault}
 use Rattle.l4_trace.specs.declared.fault.TraceFault.TheVariants.{NoMemory, Line}
@@ -96,7 +96,8 @@ step_behind first operands =
     else (if bytes_eq first (codes "order") then order_of operands
     else (if bytes_eq first (codes "obey") then option_map Obey (of_thread operands)
     else (if bytes_eq first (codes "tick") then tick_of operands
-    else None))))))))))))))
+    else (if bytes_eq first (codes "retarget") then option_map Retarget (of_name operands)
+    else None)))))))))))))))
 
 abbrev pub step_of_words : List (List ℕ) → Option Step
 step_of_words [] = None

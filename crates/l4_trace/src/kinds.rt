@@ -38,6 +38,8 @@ const OBEY: &[u8] = b"obey";
 
 const TICK: &[u8] = b"tick";
 
+const RETARGET: &[u8] = b"retarget";
+
 /// The steps that tell a thread and nothing else.
 #[derive(Clone, Copy)]
 pub(crate) enum OfThread {
@@ -74,6 +76,7 @@ pub(crate) enum OfName {
     SendNobody,
     SendCancel,
     Drop,
+    Retarget,
 }
 
 impl OfName {
@@ -88,6 +91,7 @@ impl OfName {
             OfName::SendNobody => StepRef::SendNobody(name),
             OfName::SendCancel => StepRef::SendCancel(name),
             OfName::Drop => StepRef::Drop(name),
+            OfName::Retarget => StepRef::Retarget(name),
         }
     }
 }
@@ -137,6 +141,8 @@ pub(crate) fn kind_of(word: &[u8]) -> Option<Kind>
         Kind::OfThread(OfThread::Obey)
     } else if word == TICK {
         Kind::Tick
+    } else if word == RETARGET {
+        Kind::OfName(OfName::Retarget)
     } else {
         return None;
     };

@@ -99,6 +99,7 @@ fn write_line(step: &StepRef<'_>, line: &mut [u8]) -> usize
         } => write_order(*caller, *target, *what, line),
         StepRef::Obey(caller) => write_thread_line(b"obey", *caller, line),
         StepRef::Tick(tick) => write_tick(*tick, line),
+        StepRef::Retarget(name) => write_name_line(b"retarget", *name, line),
     }
 }
 

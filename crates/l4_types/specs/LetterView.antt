@@ -6,8 +6,9 @@ use Rattle.l4_types.specs.declared.letters.Decision.TheVariants.{Delivered, Refu
 use Rattle.l4_types.specs.declared.letters.Cause.{Cause}
 use Rattle.l4_types.specs.declared.letters.Cause.TheVariants.{ByTimeout, ByCancel, ByDeletion}
 use Rattle.l4_types.specs.declared.letters.Content.{Content}
-use Rattle.l4_types.specs.declared.letters.Content.TheVariants.{Send, Done, Withdraw, Gone, Order, OrderDone}
+use Rattle.l4_types.specs.declared.letters.Content.TheVariants.{Send, Done, Withdraw, Gone, Order, OrderDone, Retarget}
 use Rattle.l4_types.specs.declared.letters.Letter.{Letter}
+use Rattle.l4_types.specs.OwedView.{owed_of}
 use Rattle.l4_types.specs.StepView.{what_of}
 use Rattle.l4_core_model.specs.Letters as letters
 
@@ -33,6 +34,7 @@ content_of (Withdraw name receiver cause) = letters.WithdrawLetter name receiver
 content_of (Gone id) = letters.GoneLetter id
 content_of (Order caller target what) = letters.OrderLetter caller target (what_of what)
 content_of (OrderDone caller) = letters.OrderDoneLetter caller
+content_of (Retarget o) = letters.RetargetLetter (owed_of o)
 
 abbrev pub letter_of : Letter → letters.Letter
 letter_of letter = record { stamp = letter.stamp; content = content_of letter.content }

@@ -3,6 +3,7 @@ pub mod Codes
 pub mod Flags
 pub mod Ids
 pub mod LetterView
+pub mod OwedView
 pub mod PeriodView
 pub mod ReportView
 pub mod StepView

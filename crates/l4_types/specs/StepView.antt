@@ -2,7 +2,7 @@
 use Rattle.l4_types.specs.declared.steps.What.{What}
 use Rattle.l4_types.specs.declared.steps.What.TheVariants.{CancelSend, CancelReceive, CancelBoth, Delete}
 use Rattle.l4_types.specs.declared.steps.Step.{Step}
-use Rattle.l4_types.specs.declared.steps.Step.TheVariants.{Local, Begin, Queue, Deliver, Wait, SendTimeout, ReceiveTimeout, SendNobody, ReceiveNobody, SendCancel, ReceiveCancel, Drop, Order, Obey, Tick}
+use Rattle.l4_types.specs.declared.steps.Step.TheVariants.{Local, Begin, Queue, Deliver, Wait, SendTimeout, ReceiveTimeout, SendNobody, ReceiveNobody, SendCancel, ReceiveCancel, Drop, Order, Obey, Tick, Retarget}
 use Rattle.l4_model.specs.Machine as machine
 use Rattle.l4_model.specs.Steps as steps
 use Rattle.l4_model.specs.Rules.{received_tag}
@@ -30,3 +30,4 @@ step_of (Drop s) = steps.Drop s
 step_of (Order caller target what) = steps.Order caller target (what_of what)
 step_of (Obey t) = steps.Obey t
 step_of (Tick t) = steps.Tick t.cpu t.clock
+step_of (Retarget s) = steps.Retarget s

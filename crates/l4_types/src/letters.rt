@@ -1,6 +1,7 @@
 //! What processors tell each other.
 use crate::ids::GlobalId;
 use crate::messages::Message;
+use crate::owed::Owed;
 use crate::steps::{Name, What};
 
 /// How a send is decided without a delivery.
@@ -79,6 +80,8 @@ pub enum Content {
     },
     /// What this caller asked for was done.
     OrderDone(GlobalId),
+    /// An originator is to turn (profile 2).
+    Retarget(Owed),
 }
 
 /// A letter from one processor to another.

@@ -7,6 +7,7 @@ pub mod errors;
 pub mod ids;
 pub mod letters;
 pub mod messages;
+pub mod owed;
 pub mod registers;
 pub mod reports;
 pub mod steps;

@@ -195,6 +195,8 @@ pub enum Step {
     Obey(GlobalId),
     /// The clock of a processor went on.
     Tick(Tick),
+    /// The originator of a delivered send turned to the thread that received it (profile 2).
+    Retarget(Name),
 }
 
 impl Default for Step {

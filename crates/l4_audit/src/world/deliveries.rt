@@ -1,7 +1,10 @@
 //! The step that delivers a send.
-ghost use Rattle.std.specs.Prelude.{◌≡◌, ◌<◌, length, not};
+ghost use Rattle.std.specs.Prelude.{◌≡◌, ◌<◌, IfOk, length, not};
+ghost use Rattle.std.specs.Option.{option_map};
 ghost use Rattle.l4_model.specs.Machine.{same_cpu};
+ghost use Rattle.l4_model.specs.Rules.{owed_by};
 ghost use Rattle.l4_model.specs.Steps.{next};
+ghost use Rattle.l4_types.specs.OwedView.{owed_of};
 ghost use Rattle.l4_history.specs.Seen.{delivered};
 ghost use Rattle.l4_audit.specs.Audited.{IsOf, Makes, with_world};
 ghost use Rattle.l4_audit.specs.Delivering.{is_delivery, taken_over, IsFound};
@@ -10,8 +13,12 @@ use crate::found::{Found, Pending};
 use crate::world::World;
 use l4_history::step_ref::DeliveryRef;
 use l4_script::machine::Machine;
+use l4_thread::sends::SendRef;
+use l4_types::errors::NoMemory;
 use l4_types::ids::GlobalId;
 use l4_types::letters::Decision;
+use l4_types::owed::Owed;
+use l4_types::steps::Name;
 
 // Whether two threads are of different processors, or not declared. They may be those of a send and its receiver, which were found already.
 fn is_cross(
@@ -48,32 +55,56 @@ fn tells(delivery: &DeliveryRef<'_>, machine: &Machine, pending: &Pending, recei
         && delivery.message.words() == sent.words()
 }
 
+// The retarget that the delivery of a send leaves owed.
+fn owed_by(machine: &Machine, name: Name, send: &SendRef<'_>, receiver: GlobalId) -> Option<Owed>
+    ensures { option_map owed_of result ≡ owed_by machine.now name send.now.message receiver }
+{
+    let message = send.message();
+    if machine.retargets() && message.propagated() {
+        Some(Owed {
+            send: name,
+            originator: message.shown(),
+            old_partner: message.actual(),
+            new_partner: receiver,
+        })
+    } else {
+        None
+    }
+}
+
 impl World {
-    /// A receiver takes the message of the first waiting sender that it accepts, and the sender goes on.
-    pub fn deliver(&mut self, machine: &Machine, delivery: &DeliveryRef<'_>) -> bool
+    /// A receiver takes the message of the first waiting sender that it accepts, and the sender goes on. A retarget may be owed. Where memory
+    /// for it is refused, nothing may be said of the world any more.
+    pub fn deliver(
+        &mut self,
+        machine: &Machine,
+        delivery: &DeliveryRef<'_>,
+    ) -> Result<bool, NoMemory>
         requires { IsOf machine.now self.old }
-        ensures step { Makes result (next machine.now self.old.world (delivered delivery.now)) self.new.world }
+        ensures step { IfOk result (λ possible. Makes possible (next machine.now self.old.world (delivered delivery.now)) self.new.world) }
         ensures ids { self.new.ids ≡ self.old.ids }
     {
         let Some(pending) = self.undecided(machine, delivery.name) else {
-            return false;
+            return Ok(false);
         };
         let Some(receiver) = self.receiver_of(machine, &pending) else {
-            return false;
+            return Ok(false);
         };
         let Some(receive) = receiver.receiving() else {
-            return false;
+            return Ok(false);
         };
         let Some(first) = self.first_accepted(machine, &receiver, receive.from()) else {
-            return false;
+            return Ok(false);
         };
         let (sender, clock) = pending.sender_now();
         if first != sender || !tells(delivery, machine, &pending, &receiver) {
-            return false;
+            return Ok(false);
         }
         let place = receiver.place();
+        let owed = owed_by(machine, delivery.name, pending.send(), delivery.receiver);
         self.take_over(machine, sender, place, delivery, clock);
-        true
+        self.owe(owed)?;
+        Ok(true)
     }
 
     // A message goes over from its sender to its receiver.

@@ -18,6 +18,7 @@ impl World {
             threads: blocks(alloc, machine)?,
             lists: Arena::new(alloc, machine.threads().len())?,
             clocks: clocks(alloc, machine)?,
+            owed: Vec::new(alloc),
         })
     }
 }

@@ -13,7 +13,7 @@ use l4_types::letters::{Decision, Refusal};
 use l4_types::steps::Name;
 
 impl World {
-    /// An undecided send is appended to the list of its destination.
+    /// An undecided send is appended to the list of its destination. Not while that one owes it to turn to the sender.
     pub fn queue_send(&mut self, machine: &Machine, name: Name) -> bool
         requires { IsOf machine.now self.old }
         ensures step { Makes result (next machine.now self.old.world (Queue name)) self.new.world }
@@ -25,7 +25,10 @@ impl World {
         let Some(receiver) = self.receiver_of(machine, &pending) else {
             return false;
         };
-        if receiver.is_deleted() || self.is_waiting(machine, &pending) {
+        if receiver.is_deleted()
+            || self.is_waiting(machine, &pending)
+            || self.must_wait(name.thread(), pending.send().to())
+        {
             return false;
         }
         let (place, sender) = (receiver.place(), pending.sender().place());
@@ -44,7 +47,7 @@ impl World {
         self.end_send(sender, Decision::Refused(refusal), now);
     }
 
-    /// A send is refused since its time is over.
+    /// A send is refused since its time is over. Not while it must wait.
     pub fn send_timeout(&mut self, machine: &Machine, name: Name) -> bool
         requires { IsOf machine.now self.old }
         ensures step { Makes result (next machine.now self.old.world (SendTimeout name)) self.new.world }
@@ -56,12 +59,15 @@ impl World {
         if !self.is_timed_out(machine, &pending) {
             return false;
         }
+        if self.must_wait(name.thread(), pending.send().to()) {
+            return false;
+        }
         let (sender, clock) = pending.sender_now();
         self.refuse(machine, sender, Refusal::TimedOut, clock);
         true
     }
 
-    /// A send is refused since nobody is there.
+    /// A send is refused since nobody is there. Not while it must wait.
     pub fn send_nobody(&mut self, machine: &Machine, name: Name) -> bool
         requires { IsOf machine.now self.old }
         ensures step { Makes result (next machine.now self.old.world (SendNobody name)) self.new.world }
@@ -70,7 +76,8 @@ impl World {
         let Some(pending) = self.undecided(machine, name) else {
             return false;
         };
-        if !self.is_no_destination(machine, pending.send().to()) {
+        let to = pending.send().to();
+        if !self.is_no_destination(machine, to) || self.must_wait(name.thread(), to) {
             return false;
         }
         let (sender, clock) = pending.sender_now();

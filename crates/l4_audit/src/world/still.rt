@@ -1,11 +1,11 @@
 //! Where nothing but clocks can go on.
-ghost use Rattle.std.specs.Prelude.{◌≡◌, Some, OnOk, slice_get};
+ghost use Rattle.std.specs.Prelude.{◌≡◌, Some, OnOk, [], slice_get};
 ghost use Rattle.std.specs.List.{list_all};
 ghost use Rattle.l4_model.specs.World.{receive_now};
 ghost use Rattle.l4_model.specs.Conditions.{receiver_of};
 ghost use Rattle.l4_model.specs.Still.{late, is_still_thread};
 ghost use Rattle.l4_audit.specs.Audited.{IsOf, with_world};
-ghost use Rattle.l4_audit.specs.Stillness.{is_still_found, may_obey, may_stop, is_taken, may_arrive, may_decide, may_send};
+ghost use Rattle.l4_audit.specs.Stillness.{is_still_now, is_still_found, may_obey, may_stop, is_taken, may_arrive, may_decide, may_send};
 
 use crate::found::{Found, Pending};
 use crate::world::World;
@@ -25,9 +25,18 @@ impl World {
         Ok(())
     }
 
-    /// Whether no thread can be in for a step but by a tick, with the clocks as they are.
+    /// Whether no retarget is owed, and no thread can be in for a step but by a tick, with the clocks as they are.
     pub fn is_still(&self, machine: &Machine) -> bool
         requires { IsOf machine.now self.now }
+        ensures { result ≡ is_still_now machine.now self.now.world }
+    {
+        self.owes_nothing() && self.are_still(machine)
+    }
+
+    // Whether no thread can be in for a step but by a tick, where no retarget is owed.
+    fn are_still(&self, machine: &Machine) -> bool
+        requires of { IsOf machine.now self.now }
+        requires owed { self.now.world.owed ≡ [] }
         ensures { result ≡ list_all (λ d. is_still_thread machine.now self.now.world d.id) machine.now.threads }
     {
         for declared in machine.threads() {
@@ -38,9 +47,10 @@ impl World {
         true
     }
 
-    // Whether a thread can be in for no step but by a tick.
+    // Whether a thread can be in for no step but by a tick, where no retarget is owed.
     fn is_still_thread(&self, machine: &Machine, id: GlobalId) -> bool
-        requires { IsOf machine.now self.now }
+        requires of { IsOf machine.now self.now }
+        requires owed { self.now.world.owed ≡ [] }
         ensures { result ≡ is_still_thread machine.now self.now.world id }
     {
         let Some(thread) = self.found(machine, id) else {

@@ -18,6 +18,8 @@ use l4_types::times::Period;
 /// What is to be done for a thread of this processor.
 #[derive(Clone, Copy, PartialEq, Eq, Debug)]
 pub(crate) enum Duty {
+    /// The retarget that is kept beside it is done.
+    Retarget,
     /// It was deleted: its waiting send is dropped.
     DropOwn,
     /// It was deleted: the first send that waits at it, that of this thread, is refused.
@@ -141,7 +143,7 @@ impl Known<'_> {
     // The duty of a deleted thread.
     fn deleted_duty(&self, place: usize) -> Option<Duty>
         requires { place < length self.now.machine.threads }
-        ensures { option_map duty_of result ≡
+        ensures { option_map (duty_of self.now.local.owed place) result ≡
             deleted_duty (is_queued self.now.local.lists place) (list_of self.now.local.lists place) (untold_of self.now.machine self.now.cpu self.now.local place) }
     {
         if self.is_queued(place) {
@@ -157,7 +159,7 @@ impl Known<'_> {
     // The duty of a thread in a receive phase.
     fn receive_duty(&self, place: usize) -> Option<Duty>
         requires { place < length self.now.machine.threads }
-        ensures { option_map duty_of result ≡ receive_duty (names_nobody self.now.machine self.now.local) (thread self.now.local place).cancel_receive
+        ensures { option_map (duty_of self.now.local.owed place) result ≡ receive_duty (names_nobody self.now.machine self.now.local) (thread self.now.local place).cancel_receive
             (list_of self.now.local.lists place) (receive_now (thread self.now.local place).phase) }
     {
         let receive = self.receiving(place)?;
@@ -177,7 +179,7 @@ impl Known<'_> {
     fn living_duty(&self, place: usize, may_have_zero: bool) -> Option<Duty>
         requires within { place < length self.now.machine.threads }
         requires zeros { may_have_zero ≡ false → first_refusable self.now.machine self.now.local place ≡ None }
-        ensures { option_map duty_of result ≡ living_duty (names_nobody self.now.machine self.now.local) (thread self.now.local place)
+        ensures { option_map (duty_of self.now.local.owed place) result ≡ living_duty (names_nobody self.now.machine self.now.local) (thread self.now.local place)
             (is_queued self.now.local.lists place) (list_of self.now.local.lists place) (first_refusable self.now.machine self.now.local place) }
     {
         if self.tcb(place).is_send_cancelled() && self.is_queued(place) {
@@ -197,9 +199,11 @@ impl Known<'_> {
     pub(crate) fn duty_at(&self, place: usize, may_have_zero: bool) -> Option<Duty>
         requires own { IsOwnOf self.now place }
         requires zeros { may_have_zero ≡ false → first_zero self.now.local (list_of self.now.local.lists place) ≡ None }
-        ensures { option_map duty_of result ≡ duty_at self.now.machine self.now.cpu self.now.local place }
+        ensures { option_map (duty_of self.now.local.owed place) result ≡ duty_at self.now.machine self.now.cpu self.now.local place }
     {
-        if self.is_deleted(place) {
+        if self.keeps_owed(place) {
+            Some(Duty::Retarget)
+        } else if self.is_deleted(place) {
             self.deleted_duty(place)
         } else {
             self.living_duty(place, may_have_zero)

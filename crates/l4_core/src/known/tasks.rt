@@ -1,7 +1,7 @@
 //! What a letter from another processor asks for, found before anything changes.
 ghost use Rattle.std.specs.Prelude.{◌≡◌, ◌<◌, ◌||◌, IfSome, length, true};
 ghost use Rattle.l4_model.specs.World.{is_deleted};
-ghost use Rattle.l4_types.specs.declared.letters.Content.TheVariants.{Send as SendContent, Done as DoneContent, Withdraw as WithdrawContent, Order as OrderContent, OrderDone as OrderDoneContent, Gone as GoneContent};
+ghost use Rattle.l4_types.specs.declared.letters.Content.TheVariants.{Send as SendContent, Done as DoneContent, Withdraw as WithdrawContent, Order as OrderContent, OrderDone as OrderDoneContent, Gone as GoneContent, Retarget as RetargetContent};
 ghost use Rattle.l4_core_model.specs.Local.{declared, thread};
 ghost use Rattle.l4_core_model.specs.Mail.{foreign_place, is_ordering, own_place, waits_here};
 ghost use Rattle.l4_core.specs.Tasks.{refusal_for, task_of, IsForeign, IsTask};
@@ -12,6 +12,7 @@ use l4_history::message_ref::MessageRef;
 use l4_types::ids::GlobalId;
 use l4_types::letters::{Cause, Content, Decision, Refusal};
 use l4_types::messages::Message;
+use l4_types::owed::Owed;
 use l4_types::steps::{Name, What};
 
 /// What a lawful letter asks for. Places are those of the threads. A message stays in its letter, since it is large.
@@ -43,6 +44,8 @@ pub(crate) enum Task<'a> {
     },
     /// What this thread asked for was done.
     FinishOrder(usize),
+    /// This originator, of this processor, is to turn.
+    Retarget(usize, Owed),
 }
 
 // How a withdrawn send is refused.
@@ -195,6 +198,20 @@ impl Known<'_> {
         Some(Task::NoteGone(place))
     }
 
+    // What an owed retarget asks for, of an originator of this processor since another one's thread received a message.
+    fn retargeting(&self, owed: &Owed) -> Option<Task<'static>>
+        ensures value { result ≡ task_of self.now.machine self.now.cpu self.now.local (RetargetContent owed.now) }
+        ensures possible { IfSome result (λ task. IsTask task self.now) }
+    {
+        if !self.machine.retargets() {
+            return None;
+        }
+        let originator = self.own_place(owed.originator)?;
+        let _old = self.place_of(owed.old_partner)?;
+        let _new = self.foreign_place(owed.new_partner)?;
+        Some(Task::Retarget(originator, *owed))
+    }
+
     /// What a letter of this content asks for, or None where it is not lawful here.
     pub(crate) fn task<'a>(&self, content: &'a Content) -> Option<Task<'a>>
         ensures value { result ≡ task_of self.now.machine self.now.cpu self.now.local content.now }
@@ -220,6 +237,7 @@ impl Known<'_> {
                 what,
             } => self.obedience(*caller, *target, *what),
             Content::OrderDone(caller) => self.end_of_order(*caller),
+            Content::Retarget(owed) => self.retargeting(owed),
         }
     }
 }

@@ -1,8 +1,10 @@
 //! What an event does to one thread and to the lists, with the places noted that may have a duty now.
-ghost use Rattle.std.specs.Prelude.{◌≡◌, ◌<◌, ◌+◌, ◌^◌, Some, IsSome, false, true, length, slice_get, is_none, ℕ};
+ghost use Rattle.std.specs.Prelude.{◌≡◌, ◌<◌, ◌+◌, ◌^◌, None, Some, IsSome, false, true, length, slice_get, is_none, ℕ};
+ghost use Rattle.std.specs.Option.{option_map};
 ghost use Rattle.l4_model.specs.Words.{word_of_tag};
 ghost use Rattle.l4_model.specs.Conditions.{act_of, instruction};
-ghost use Rattle.l4_model.specs.Effects.{decided};
+ghost use Rattle.l4_model.specs.Effects.{decided, turns};
+ghost use Rattle.l4_types.specs.OwedView.{owed_of};
 ghost use Rattle.l4_types.specs.StepView.{what_of};
 ghost use Rattle.l4_script.specs.Scripts.{instr_of};
 ghost use Rattle.l4_thread.specs.Changes.{change_of};
@@ -10,7 +12,7 @@ ghost use Rattle.l4_thread.specs.Requests.{is_end};
 ghost use Rattle.l4_thread.specs.Ipcs.{began_of};
 ghost use Rattle.l4_core_model.specs.Plain.{is_queued, queued, unqueued, popped, popped_due, due_block};
 ghost use Rattle.l4_core.specs.Settling.{settles};
-ghost use Rattle.l4_core_model.specs.Local.{declared, thread, held, changes, comes_to, relists, is_gone_now, is_own, stand_in, stands_in};
+ghost use Rattle.l4_core_model.specs.Local.{declared, thread, held, changes, comes_to, keeps_beside, owed_beside, relists, is_gone_now, is_own, stand_in, stands_in};
 ghost use Rattle.l4_core_model.specs.Acts.{asks};
 ghost use Rattle.l4_core_model.specs.Turns.{has_told};
 ghost use Rattle.tcb_arena.specs.Blocks.{is_ready as is_ready_in};
@@ -26,6 +28,7 @@ use l4_script::instructions::Instr;
 use l4_thread::changes::Change;
 use l4_thread::phases::Began;
 use l4_types::ids::GlobalId;
+use l4_types::owed::Owed;
 use l4_types::steps::{Name, What};
 use l4_types::tags::MsgTag;
 use tcb_arena::Waiting;
@@ -170,6 +173,36 @@ impl Core<'_> {
             _ => note(&self.known, &mut self.duties, place),
         }
         self.known.ask(place, what);
+    }
+
+    /// An owed retarget is kept beside a thread. It is a duty of that thread.
+    pub(super) fn keep_owed(&mut self, place: usize, owed: Owed)
+        requires own { IsOwnOf self.old place }
+        requires profile { self.old.machine.retargeting ≡ true }
+        ensures { self.new ≡ with_local self.old (keeps_beside place (Some (owed_of owed)) self.old.local) }
+    {
+        note(&self.known, &mut self.duties, place);
+        self.known.keep_owed(place, owed);
+    }
+
+    /// The retarget that is kept beside a thread is taken out. The thread may have another duty.
+    pub(super) fn take_owed(&mut self, place: usize) -> Option<Owed>
+        requires { IsOwnOf self.old place }
+        ensures owed { option_map owed_of result ≡ owed_beside self.old.local place }
+        ensures state { self.new ≡ with_local self.old (keeps_beside place None self.old.local) }
+    {
+        note(&self.known, &mut self.duties, place);
+        self.known.take_owed(place)
+    }
+
+    /// An originator turns to the new partner, where it waits for the old one. It may have a duty then.
+    pub(super) fn turn_to(&mut self, place: usize, owed: &Owed)
+        requires { place < length self.old.machine.threads }
+        ensures { self.new ≡ with_local self.old (changes place (turns (owed_of owed.now)) self.old.local) }
+    {
+        let _few = self.known.len();
+        note_own(&self.known, &mut self.duties, place);
+        self.known.turn_to(place, owed);
     }
 
     /// The processors up to this one know of a thread's deletion. It is a thread with a duty.

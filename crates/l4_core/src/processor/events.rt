@@ -25,7 +25,7 @@ impl Core<'_> {
         requires count { (place : ℕ) → is_own self.old.machine self.old.cpu place ≡ true → (thread self.old.local place).context.begun < self.old.local.stamp }
         requires room { 3 ≤ told.old.room }
         requires slots { 2 ≤ told.old.slots }
-        ensures { Does (does_choice self.old.machine self.old.cpu (choice_of choice.now)) self.old self.new told.old told.new }
+        ensures { Does (does_choice self.old.machine self.old.cpu (choice_of self.old.local.owed choice.now)) self.old self.new told.old told.new }
     {
         match choice {
             Choice::ByDuty(place, duty) => self.do_duty(*place, *duty, told),
@@ -96,13 +96,14 @@ impl Core<'_> {
 
     // The duty of a thread is done.
     fn do_duty<S: Sink>(&mut self, place: usize, duty: Duty, told: &mut Told<S>)
-        requires first { IsFirstDuty place (duty_of duty) self.old.machine self.old.cpu self.old.local }
+        requires first { IsFirstDuty place (duty_of self.old.local.owed place duty) self.old.machine self.old.cpu self.old.local }
         requires room { 3 ≤ told.old.room }
         requires slots { 2 ≤ told.old.slots }
-        ensures { Does (does_duty self.old.machine self.old.cpu place (duty_of duty)) self.old self.new told.old told.new }
+        ensures { Does (does_duty self.old.machine self.old.cpu place (duty_of self.old.local.owed place duty)) self.old self.new told.old told.new }
     {
         let _few = self.known.len();
         match duty {
+            Duty::Retarget => self.retarget_owed(place, told),
             Duty::DropOwn => self.refuse(place, Refusal::Dropped, told),
             Duty::RefuseFirst(sender) => self.refuse(sender, Refusal::Nobody, told),
             Duty::TellGone(cpu) => self.tell_gone(place, cpu, told),

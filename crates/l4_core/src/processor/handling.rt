@@ -78,6 +78,7 @@ impl Core<'_> {
                 what,
             } => self.obey_for(target, from, caller, what, told),
             Task::FinishOrder(place) => self.finish_order(place),
+            Task::Retarget(originator, owed) => self.retarget(originator, &owed, told),
         }
     }
 
@@ -94,7 +95,7 @@ impl Core<'_> {
     )
         requires possible { IsArrival self.old receiver sender message }
         requires room { 2 ≤ told.old.room }
-        requires slots { 0 < told.old.slots }
+        requires slots { 2 ≤ told.old.slots }
         ensures { Does (does_task self.old.machine self.old.cpu (Arrive receiver sender name to message.entry zero_timeout)) self.old self.new told.old told.new }
     {
         let _few = self.known.len();

@@ -7,7 +7,7 @@ ghost use Rattle.l4_core_model.specs.Acts.{arrives, delivers, decides_send, send
 ghost use Rattle.l4_core_model.specs.Local.{destination_place};
 ghost use Rattle.l4_types.specs.LetterView.{refusal_of_send, decision_of, cause_of_withdrawal};
 ghost use Rattle.l4_history.specs.Seen.{seen};
-ghost use Rattle.l4_core.specs.Turning.{Does, IsNewSender, IsNotSplit, IsOwnOf, IsReceiver, IsSender};
+ghost use Rattle.l4_core.specs.Turning.{hands_over, Does, IsNewSender, IsNotSplit, IsOwnOf, IsReceiver, IsSender};
 
 use crate::processor::Core;
 use crate::told::Told;
@@ -56,8 +56,24 @@ impl Core<'_> {
         requires receiver { IsReceiver self.old receiver }
         requires sender { IsSender self.old sender }
         requires room { 0 < told.old.room }
-        requires slots { 0 < told.old.slots }
+        requires slots { 2 ≤ told.old.slots }
         ensures { Does (delivers self.old.machine self.old.cpu receiver sender) self.old self.new told.old told.new }
+    {
+        let owed = self.known.owed_by(receiver, sender);
+        self.hand_over(receiver, sender, told);
+        if let Some(owed) = owed {
+            self.owe(receiver, owed, told);
+        }
+    }
+
+    // The message of a sender comes to a receiver, and the send is decided.
+    fn hand_over<S: Sink>(&mut self, receiver: usize, sender: usize, told: &mut Told<S>)
+        requires receiver { IsReceiver self.old receiver }
+        requires sender { IsSender self.old sender }
+        requires room { 0 < told.old.room }
+        requires slots { 0 < told.old.slots }
+        ensures does { Does (hands_over self.old.machine self.old.cpu receiver sender) self.old self.new told.old told.new }
+        ensures slots { told.old.slots ≤ told.new.slots + 1 }
     {
         let delivery = DeliveryRef {
             name: self.known.last_name(sender),
@@ -75,7 +91,8 @@ impl Core<'_> {
     fn end_send<S: Sink>(&mut self, place: usize, decision: Decision, told: &mut Told<S>)
         requires sender { IsSender self.old place }
         requires slots { 0 < told.old.slots }
-        ensures { Does (decides_send self.old.machine self.old.cpu (decision_of decision) place) self.old self.new told.old told.new }
+        ensures does { Does (decides_send self.old.machine self.old.cpu (decision_of decision) place) self.old self.new told.old told.new }
+        ensures slots { told.old.slots ≤ told.new.slots + 1 }
     {
         if self.known.is_own(place) {
             self.unqueue_send(place);
@@ -93,7 +110,7 @@ impl Core<'_> {
     pub(super) fn send<S: Sink>(&mut self, sender: usize, told: &mut Told<S>)
         requires sender { IsNewSender self.old sender }
         requires room { 2 ≤ told.old.room }
-        requires slots { 0 < told.old.slots }
+        requires slots { 2 ≤ told.old.slots }
         ensures { (send : Send) → (thread self.old.local sender).send ≡ Some send →
             Does (send_goes_to self.old.machine self.old.cpu sender send (destination_place self.old.machine send.to)) self.old self.new told.old told.new }
     {
@@ -129,7 +146,7 @@ impl Core<'_> {
         requires sender { IsNewSender self.old sender }
         requires here { IsNotSplit self.old sender }
         requires room { 2 ≤ told.old.room }
-        requires slots { 0 < told.old.slots }
+        requires slots { 2 ≤ told.old.slots }
         ensures { Does (arrives self.old.machine self.old.cpu receiver sender) self.old self.new told.old told.new }
     {
         if self.known.is_deleted(receiver) {
@@ -147,7 +164,7 @@ impl Core<'_> {
         requires sender { IsNewSender self.old sender }
         requires here { IsNotSplit self.old sender }
         requires room { 2 ≤ told.old.room }
-        requires slots { 0 < told.old.slots }
+        requires slots { 2 ≤ told.old.slots }
         ensures { (send : Send) → (thread self.old.local sender).send ≡ Some send →
             Does (queues_send self.old.machine self.old.cpu receiver sender (Some send)) self.old self.new told.old told.new }
     {

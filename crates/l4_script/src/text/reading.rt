@@ -59,7 +59,10 @@ pub(super) enum Stage {
     /// The `l4` line.
     Format,
     /// The `cpus` line.
-    Processors,
+    Processors {
+        /// Whether the machine retargets.
+        retargeting: bool,
+    },
     /// The lines of threads, behind those that were read.
     Threads(Reading),
 }
@@ -121,13 +124,13 @@ fn first_missed<'a>(machine: &Machine, targets: &'a [Target]) -> Option<&'a Targ
 
 impl Reading {
     /// No thread was read, of a machine of so many processors.
-    fn new(alloc: Global, cpus: u8) -> Reading
+    fn new(alloc: Global, retargeting: bool, cpus: u8) -> Reading
         requires some { 1 ≤ cpus }
         requires limit { cpus ≤ most_processors }
-        ensures { result ≡ nothing_read cpus }
+        ensures { result ≡ nothing_read retargeting cpus }
     {
         Reading {
-            machine: Machine::new(alloc, cpus),
+            machine: Machine::new(alloc, retargeting, cpus),
             targets: Vec::new(alloc),
         }
     }
@@ -227,12 +230,12 @@ impl Stage {
     {
         match self {
             Stage::Format => {
-                format_line(words)?;
-                Ok(Stage::Processors)
+                let retargeting = format_line(words)?;
+                Ok(Stage::Processors { retargeting })
             }
-            Stage::Processors => {
+            Stage::Processors { retargeting } => {
                 let cpus = processors_line(words)?;
-                Ok(Stage::Threads(Reading::new(alloc, cpus)))
+                Ok(Stage::Threads(Reading::new(alloc, retargeting, cpus)))
             }
             Stage::Threads(reading) => {
                 Ok(Stage::Threads(reading.thread_line(line, alloc, words)?))
@@ -272,7 +275,9 @@ impl Stage {
     {
         match self {
             Stage::Threads(reading) => reading.unless_missed(),
-            Stage::Format | Stage::Processors => Err(TextFault::at(line, TextFaultKind::BadLine)),
+            Stage::Format | Stage::Processors { .. } => {
+                Err(TextFault::at(line, TextFaultKind::BadLine))
+            }
         }
     }
 }

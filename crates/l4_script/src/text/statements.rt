@@ -10,7 +10,7 @@ ghost use Rattle.l4_script.specs.Ids.{id_of};
 ghost use Rattle.l4_script.specs.Judged.{Returns, needs};
 ghost use Rattle.l4_script.specs.Scripts.{instr_of, to_of};
 ghost use Rattle.l4_script.specs.Numbers.{number_from};
-ghost use Rattle.l4_script.specs.Statements.{format_line, processors_line, processor_of, declaration_of, set_of, copy_of, add_of, tag_of, vs_of, destination_of, ipc_of, bits_of, exregs_of, delete_of, target_of, end_of, instruction_of};
+ghost use Rattle.l4_script.specs.Statements.{retargeting_of, format_line, processors_line, processor_of, declaration_of, set_of, copy_of, add_of, tag_of, vs_of, destination_of, ipc_of, bits_of, exregs_of, delete_of, target_of, end_of, instruction_of};
 
 use super::fault::TextFaultKind;
 use super::ids::id;
@@ -61,15 +61,26 @@ fn only<'a>(words: Words<'a>) -> Result<&'a [u8], TextFaultKind>
     words.one().ok_or(TextFaultKind::BadLine)
 }
 
-/// The line `l4 1 64`.
+/// Whether the machine of a profile retargets. None where there is no such profile with words of so many bits.
+fn retargeting(profile: u64, width: u64) -> Option<bool>
+    ensures { result ≡ retargeting_of profile width }
+{
+    match (profile, width) {
+        (1, 64) => Some(false),
+        (2, 64) => Some(true),
+        _ => None,
+    }
+}
+
+/// The line `l4 1 64` or `l4 2 64`: whether the machine retargets.
 #[tactic(auto, unfolding(crate::specs::Statements::format_line))]
-pub(super) fn format_line(words: Words<'_>) -> Result<(), TextFaultKind>
+pub(super) fn format_line(words: Words<'_>) -> Result<bool, TextFaultKind>
     ensures { result ≡ format_line words.entry }
 {
     let (profile, width) = after(b"l4", words)?.two().ok_or(TextFaultKind::BadLine)?;
-    number_from(1, 1, profile)?;
-    number_from(64, 64, width)?;
-    Ok(())
+    let profile = number(profile).ok_or(TextFaultKind::BadNumber)?;
+    let width = number(width).ok_or(TextFaultKind::BadNumber)?;
+    retargeting(profile, width).ok_or(TextFaultKind::BadNumber)
 }
 
 /// The line `cpus N`.

@@ -2,10 +2,13 @@
 use Rattle.std.proofs.Common.{◌≡◌, ℕ, ◌<◌, Some, None, List, [], ◌∷◌, ◌++◌, length, refl, ap, sym, ◌∙◌, subst, arith, Bool, true, false, cond}
 use Rattle.std.proofs.lemmas.Option.{slice_get-get_or}
 use Rattle.l4_model.specs.Machine.{Machine}
-use Rattle.l4_model.specs.World.{Thread, World, change, opening_thread}
+use Rattle.l4_model.specs.World.{Thread, World, change, opening, opening_thread}
 use Rattle.l4_model.specs.Steps.{Step, next}
-use Rattle.l4_model.specs.Conditions.{found}
-use Rattle.l4_model.specs.History.{run}
+use Rattle.l4_model.specs.Conditions.{found, ◌>>=◌}
+use Rattle.l4_model.specs.History.{run, reached}
+use Rattle.l4_model.specs.Reached.{WorldFacts}
+use Rattle.l4_model.proofs.Worlds.{reached_facts}
+use Rattle.l4_core_model.proofs.Telling.{run-append}
 use Rattle.l4_core_model.specs.Local.{Local, declared, undeclared, comes_to, readied}
 use Rattle.l4_core_model.specs.Acts.{Work, ◌▷◌, tells, does}
 use Rattle.l4_core_model.specs.Runs.{IsMachine}
@@ -15,7 +18,7 @@ use Rattle.l4_core_model.proofs.Apart.{same_or_apart}
 use Rattle.l4_split.proofs.Lists.{other_is}
 use Rattle.l4_split.proofs.Frames.Locals.{come, comes_here}
 use Rattle.l4_split.proofs.Relation.Views.{Scene, Kept, View, kept, view, world_thread, home, put, amid, locators}
-use Rattle.l4_split.proofs.Relation.Rows.{seats, Agrees, IsUnplaced, IsKeptAtHome, IsKept, Matches}
+use Rattle.l4_split.proofs.Relation.Rows.{seats, Agrees, IsUnplaced, IsKeptAtHome, IsKept, Matches, OwesIn}
 use Rattle.l4_split.proofs.Relation.Relates.{IsSized, RelatesExcept}
 use Rattle.l4_split.proofs.Frames.Places.{takes_in, world_changes, local_changes, comes_spares, first_about}
 use Rattle.l4_split.proofs.Frames.Moves.{at_home, StaysTrue, Moves, same_alike, moves_kept, plain_known, IsFresh, come_kept}
@@ -24,12 +27,24 @@ use Rattle.std.proofs.lemmas.Bool.{eqb-true}
 use Rattle.std.proofs.lemmas.List.{append-nil}
 use Rattle.l4_core_model.specs.Turns.{opened}
 
+-- A history leads to it.
+pub record IsReached (m : Machine) (w : World) : Type 0 where
+  pub history : List Step
+  pub is : reached m history ≡ Some w
+
 -- The event goes on from a world, for all threads but those left out: the steps that it has told so far lead from that world to one
 -- that is related to the scene it has made.
 pub record Goes (m : Machine) (cpu : ℕ) (s : Scene) (w : World) (except : List ℕ) (x : Work) : Type 0 where
+  pub starts : IsReached m w
   pub now : World
   pub reaches : run m w x.steps ≡ Some now
   pub relates : RelatesExcept m (Matches m) except (amid cpu s x) now
+
+-- So what is true of all worlds that histories reach is true where it has come to.
+pub now_facts : (m : Machine) (cpu : ℕ) (s : Scene) (w : World) (except : List ℕ) (x : Work) → (e : Goes m cpu s w except x) → WorldFacts m e.now
+now_facts m cpu s w except x e =
+    reached_facts m (e.starts.history ++ x.steps) e.now
+    (run-append m e.starts.history x.steps (opening m) ∙ ap (λ o. o >>= λ v. run m v x.steps) e.starts.is ∙ e.reaches)
 
 -- One more step is told.
 pub one_more_told : (m : Machine) (w : World) (now v : World) (steps : List Step) (step : Step) → run m w steps ≡ Some now → next m now step ≡ Some v →
@@ -99,9 +114,10 @@ pub record IsQuiet (m : Machine) (i : ℕ) (v : View) (k : Kept) (f : Thread →
   pub out : k.ready ≡ []
   pub send : (f k.thread).send ≡ None
   pub order : (f k.thread).order ≡ None
-  pub agrees : Agrees (g v.world) (f k.thread)
+  pub agrees : Agrees m (g v.world) (f k.thread)
   pub good : IsGood k.clock (f k.thread)
   pub fresh : IsFresh k.clock (f k.thread).phase (f k.thread).send
+  pub owes : OwesIn (f k.thread).phase k.owed
   pub stays_true : StaysTrue k (come i f k)
 
 -- A thread that comes to a phase with neither send nor order matches the world as before.
@@ -122,7 +138,7 @@ quiet_matches m cpu i except s w x f g here c q =
     } in
     record {
       known = plain_known m i after
-          (moves_kept m i v after q.kept moves (subst (IsKeptAtHome i) (sym c.here) (come_kept i f k q.good q.fresh)))
+          (moves_kept m i v after q.kept moves (subst (IsKeptAtHome i) (sym c.here) (come_kept i f k q.good q.fresh q.owes)))
           (record {
             listed = λ p r. same_or_apart ((after.kept p).listed r ≡ []) p (home m i)
                 (λ h. ap (λ p. (after.kept p).listed r) h ∙ ap (λ (k : Kept). k.listed r) c.here ∙ sym (ap (λ (k : Kept). k.listed r) was)
@@ -131,7 +147,7 @@ quiet_matches m cpu i except s w x f g here c q =
             stand_in = λ p ne. ap (λ (k : Kept). k.thread.send) (c.elsewhere p ne) ∙ q.unplaced.stand_in p ne;
           })
           q.quiet (ap (λ (k : Kept). k.thread.send) c.here ∙ q.send) (ap (λ (k : Kept). k.thread.order) c.here ∙ q.order)
-          (subst (λ (a : Kept). Agrees after.world a.thread) (sym c.here) (subst (λ u. Agrees u (f k.thread)) (sym c.world) q.agrees));
+          (subst (λ (a : Kept). Agrees m after.world a.thread) (sym c.here) (subst (λ u. Agrees m u (f k.thread)) (sym c.world) q.agrees));
       ready = subst (λ (a : Kept). a.ready ≡ readied a.thread.phase i []) (sym c.here) (ap (readied (f k.thread).phase i) q.out);
     }
 
@@ -142,6 +158,7 @@ pub comes_quiet : (m : Machine) (cpu i : ℕ) (s : Scene) (w : World) (x : Work)
 comes_quiet m cpu i s w x step f g here e q possible =
     let c = comes m cpu i [] s e.now x f g here e.relates in
     record {
+      starts = e.starts;
       now = change e.now i g;
       reaches = one_more_told m w e.now (change e.now i g) x.steps step e.reaches possible;
       relates = takes_in m i [] (amid cpu s (x ▷ does (comes_to i f))) (change e.now i g) c.relates (quiet_matches m cpu i [] s e.now x f g here c q);
@@ -166,10 +183,11 @@ opened_relates m cpu stamp except s w rel =
     (record {
       sized = λ z. z;
       clock = refl;
+      owed = refl;
       kept = λ j out. refl;
     }) refl
     (subst (λ s. RelatesExcept m (Matches m) except s w) (opened_scene cpu s) rel)
 
-pub opened_goes : (m : Machine) (cpu stamp : ℕ) (except : List ℕ) (s : Scene) (w : World) → RelatesExcept m (Matches m) except s w →
+pub opened_goes : (m : Machine) (cpu stamp : ℕ) (except : List ℕ) (s : Scene) (w : World) → IsReached m w → RelatesExcept m (Matches m) except s w →
     Goes m cpu s w except (opened stamp (s.locals cpu))
-opened_goes m cpu stamp except s w rel = record { now = w; reaches = refl; relates = opened_relates m cpu stamp except s w rel }
+opened_goes m cpu stamp except s w starts rel = record { starts = starts; now = w; reaches = refl; relates = opened_relates m cpu stamp except s w rel }

@@ -44,6 +44,7 @@ unqueued_spares m i except l about = record {
         (all-filter (λ (e : plain.Waiting). e.block < length m.threads) (λ (e : plain.Waiting). not (i == e.block)) (plain.list_of l.lists q) (z.listed q));
   };
   clock = refl;
+  owed = refl;
   kept = λ j out. unqueued_other l i j (about j out);
 }
 
@@ -107,6 +108,7 @@ queued_spares m r e except l within lt about = record {
         (λ is. all-append (λ (e : plain.Waiting). e.block < length m.threads) (plain.list_of l.lists q) e (z.listed q) lt) (λ ne. z.listed q);
   };
   clock = refl;
+  owed = refl;
   kept = λ j out. queued_other l r j e within (about j out);
 }
 

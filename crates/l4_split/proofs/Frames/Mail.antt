@@ -1,11 +1,12 @@
 -- A letter is posted, or taken out to be handled.
-use Rattle.std.proofs.Common.{◌≡◌, ℕ, Bool, true, false, cond, Option, Some, List, [], ◌∷◌, ◌++◌, map, filter, refl, ap, sym, ◌∙◌, subst, append_assoc}
+use Rattle.std.proofs.Common.{◌≡◌, ℕ, Bool, true, false, cond, Option, Some, None, List, [], ◌∷◌, ◌++◌, map, filter, refl, ap, sym, ◌∙◌, subst, append_assoc}
 use Rattle.std.specs.Prelude.{◌==◌, not, slice_get}
 use Rattle.std.proofs.lemmas.Bool.{eqb-true}
+use Rattle.std.specs.List.{AllByRecursion}
 use Rattle.std.proofs.lemmas.List.{map_push}
 use Rattle.std.proofs.lemmas.List.Elements.{filter-append}
 use Rattle.l4_model.specs.Machine.{Machine, place_of, is_place}
-use Rattle.l4_model.specs.World.{World, Send}
+use Rattle.l4_model.specs.World.{World, Send, Owed}
 use Rattle.l4_model.proofs.Chains.{some_is}
 use Rattle.l4_core_model.specs.Letters.{Content, Letter}
 use Rattle.l4_core_model.specs.Acts.{Work, ◌▷◌, posts}
@@ -16,18 +17,23 @@ use Rattle.l4_core_model.proofs.Choosing.{both}
 use Rattle.l4_split.proofs.Lists.{other_is, filter_last, filter_last_other}
 use Rattle.l4_split.proofs.Relation.Views.{Scene, View, view, amid, subject, is_locator, notices, is_about, locators}
 use Rattle.l4_split.proofs.Relation.Rows.{seats, Row}
-use Rattle.l4_split.proofs.Relation.Relates.{RelatesExcept}
+use Rattle.l4_split.proofs.Relation.Relates.{RelatesExcept, beside}
+use Rattle.l4_split.proofs.Relation.Owing.{Owing, retarget_in}
+use Rattle.l4_split.proofs.Frames.Owed.{owing_posted, owing_taken}
 use Rattle.l4_split.proofs.Frames.Places.{IsAbout}
 
 -- The mail changes, but not that about other places.
-mail_changes : {P : ℕ → View → Type 0} (m : Machine) (except : List ℕ) (s : Scene) (w : World) (mail : List Posted) →
+-- What is owed may change with it.
+mail_changes : {P : ℕ → View → Type 0} (m : Machine) (except : List ℕ) (s : Scene) (w : World) (mail : List Posted) (owed : List Owed) →
+    Owing m (beside s) mail owed →
     ((j : ℕ) → NotIn j except → filter (is_about m j) mail ≡ filter (is_about m j) s.mail) →
-    RelatesExcept m P except s w → RelatesExcept m P except (record s { mail = mail }) w
-mail_changes {P = P} m except s w mail same r = record {
+    RelatesExcept m P except s w → RelatesExcept m P except (record s { mail = mail }) (record w { owed = owed })
+mail_changes {P = P} m except s w mail owed owing same r = record {
   sized = r.sized;
-  sized_world = r.sized_world;
+  sized_world = record { threads = r.sized_world.threads; lists = r.sized_world.lists; clocks = r.sized_world.clocks };
   clocks = r.clocks;
   lists = r.lists;
+  owing = owing;
   places = λ j lt out. subst (P j) (λ d. record (view m s w j) { mail = sym (same j out) d }) (r.places j lt out);
 }
 
@@ -42,14 +48,29 @@ mail_posted cpu to content s x =
     ap (λ ps. s.mail ++ ps) (map_push (posted cpu) x.letters (to, record { stamp = x.local.stamp; content = content }))
     ∙ sym (append_assoc s.mail (map (posted cpu) x.letters) _)
 
-pub letter_posted : {P : ℕ → View → Type 0} (m : Machine) (cpu to i : ℕ) (content : Content) (except : List ℕ) (s : Scene) (w : World) (x : Work) →
-    place_of m (subject content) ≡ Some i → IsAbout i except →
-    RelatesExcept m P except (amid cpu s x) w → RelatesExcept m P except (amid cpu s (x ▷ posts to content)) w
-letter_posted m cpu to i content except s w x is about r =
-    mail_changes m except (amid cpu s x) w (amid cpu s (x ▷ posts to content)).mail
+-- A letter that is of no retarget leaves what is owed.
+pub still_owed : {P : ℕ → View → Type 0} (m : Machine) (cpu to : ℕ) (content : Content) (except : List ℕ) (s : Scene) (w : World) (x : Work) →
+    retarget_in content ≡ None → RelatesExcept m P except (amid cpu s x) w → Owing m (beside (amid cpu s x)) (amid cpu s (x ▷ posts to content)).mail w.owed
+still_owed m cpu to content except s w x other r =
+    subst (λ mail. Owing m (beside (amid cpu s x)) mail w.owed) (sym (mail_posted cpu to content s x))
+    (owing_posted m (beside (amid cpu s x)) (amid cpu s x).mail w.owed (posted cpu (to, record { stamp = x.local.stamp; content = content })) other r.owing)
+
+-- Any letter is posted, with what is owed then.
+pub any_posted : {P : ℕ → View → Type 0} (m : Machine) (cpu to i : ℕ) (content : Content) (except : List ℕ) (s : Scene) (w : World) (x : Work) (owed : List Owed) →
+    Owing m (beside (amid cpu s x)) (amid cpu s (x ▷ posts to content)).mail owed → place_of m (subject content) ≡ Some i → IsAbout i except →
+    RelatesExcept m P except (amid cpu s x) w → RelatesExcept m P except (amid cpu s (x ▷ posts to content)) (record w { owed = owed })
+any_posted m cpu to i content except s w x owed owing is about r =
+    mail_changes m except (amid cpu s x) w (amid cpu s (x ▷ posts to content)).mail owed owing
     (λ j out. ap (filter (is_about m j)) (mail_posted cpu to content s x)
     ∙ filter_last_other (is_about m j) (amid cpu s x).mail _
     (about_place m i j (posted cpu (to, record { stamp = x.local.stamp; content = content })) is ∙ other_is i j (about j out))) r
+
+-- One that is of no retarget.
+pub letter_posted : {P : ℕ → View → Type 0} (m : Machine) (cpu to i : ℕ) (content : Content) (except : List ℕ) (s : Scene) (w : World) (x : Work) →
+    place_of m (subject content) ≡ Some i → retarget_in content ≡ None → IsAbout i except →
+    RelatesExcept m P except (amid cpu s x) w → RelatesExcept m P except (amid cpu s (x ▷ posts to content)) w
+letter_posted m cpu to i content except s w x is other about r =
+    any_posted m cpu to i content except s w x w.owed (still_owed m cpu to content except s w x other r) is about r
 
 pub mail_here : (m : Machine) (cpu to i : ℕ) (content : Content) (s : Scene) (w : World) (x : Work) → place_of m (subject content) ≡ Some i →
     (view m (amid cpu s (x ▷ posts to content)) w i).mail ≡ (view m (amid cpu s x) w i).mail ++ posted cpu
@@ -67,6 +88,7 @@ pub record IsFirstLetter (from to : ℕ) (letter : Letter) (mail : List Posted) 
   pub after : List Posted
   pub is : mail ≡ before ++ record { from = from; to = to; letter = letter } ∷ after
   pub left : without_first from to mail ≡ before ++ after
+  pub first : AllByRecursion (λ q. is_between from to q ≡ false) before
 
 between_is : (from to : ℕ) (p : Posted) → is_between from to p ≡ true → p ≡ record { from = from; to = to; letter = p.letter }
 between_is from to p h =
@@ -87,12 +109,14 @@ first_letter from to letter (p ∷ ps) h = by (is_between from to p) refl h (fir
       after = ps;
       is = ap (λ q. q ∷ ps) (between_is from to p is ∙ ap (λ l. record { from = from; to = to; letter = l }) (some_is p.letter letter h));
       left = rw is refl;
+      first = tt;
     }
     by false is h rest = let f = rest h in record {
       before = p ∷ f.before;
       after = f.after;
       is = ap (λ qs. p ∷ qs) f.is;
       left = rw is (ap (λ qs. p ∷ qs) f.left);
+      first = (is, f.first);
     }
 
 pub filter_skips : {A : Type 0} (p : A → Bool) (xs ys : List A) (x : A) → p x ≡ false → filter p (xs ++ x ∷ ys) ≡ filter p (xs ++ ys)
@@ -101,14 +125,23 @@ filter_skips p xs ys x h = filter-append p xs (x ∷ ys) ∙ ap (λ zs. filter p
     skip : p x ≡ false → filter p (x ∷ ys) ≡ filter p ys
     skip h = rw h refl
 
-pub letter_taken : {P : ℕ → View → Type 0} (m : Machine) (from to i : ℕ) (letter : Letter) (except : List ℕ) (s : Scene) (w : World) →
+-- It takes an owed retarget along, or none.
+pub letter_taken : {P : ℕ → View → Type 0} (m : Machine) (from to i : ℕ) (letter : Letter) (except : List ℕ) (s : Scene) (w : World) (owed : List Owed) →
     place_of m (subject letter.content) ≡ Some i → IsAbout i except → IsFirstLetter from to letter s.mail →
-    RelatesExcept m P except s w → RelatesExcept m P except (record s { mail = without_first from to s.mail }) w
-letter_taken m from to i letter except s w is about f r =
-    mail_changes m except s w (without_first from to s.mail)
+    Owing m (beside s) (without_first from to s.mail) owed →
+    RelatesExcept m P except s w → RelatesExcept m P except (record s { mail = without_first from to s.mail }) (record w { owed = owed })
+letter_taken m from to i letter except s w owed is about f owing r =
+    mail_changes m except s w (without_first from to s.mail) owed owing
     (λ j out. ap (filter (is_about m j)) f.left
     ∙ sym (filter_skips (is_about m j) f.before f.after _
     (about_place m i j (record { from = from; to = to; letter = letter }) is ∙ other_is i j (about j out))) ∙ sym (ap (filter (is_about m j)) f.is)) r
+
+-- A letter that is of no retarget leaves what is owed.
+pub other_taken : (m : Machine) (kept_beside : ℕ → List (Option Owed)) (from to : ℕ) (letter : Letter) (mail : List Posted) (owed : List Owed) →
+    IsFirstLetter from to letter mail → retarget_in letter.content ≡ None → Owing m kept_beside mail owed → Owing m kept_beside (without_first from to mail) owed
+other_taken m kept_beside from to letter mail owed f none h =
+    subst (λ ps. Owing m kept_beside ps owed) (sym f.left)
+    (owing_taken m kept_beside f.before f.after owed (record { from = from; to = to; letter = letter }) none (subst (λ ps. Owing m kept_beside ps owed) f.is h))
 
 -- Of its own thread, it was the letter that says where its send or order is, and no such letter is left.
 

@@ -4,14 +4,14 @@ use Rattle.std.specs.Prelude.{IfSome}
 use Rattle.std.specs.List.{AllByRecursion}
 use Rattle.l4_model.specs.Machine.{Machine}
 use Rattle.l4_model.specs.World.{Thread, Send, Phase, Ready, Sending, Receiving, Ordering, Ended, Deleted, is_deleted, is_ready}
-use Rattle.l4_core_model.specs.Letters.{Content, SendLetter, DoneLetter, WithdrawLetter, GoneLetter, OrderLetter, OrderDoneLetter, Cause}
+use Rattle.l4_core_model.specs.Letters.{Content, SendLetter, DoneLetter, WithdrawLetter, GoneLetter, OrderLetter, OrderDoneLetter, RetargetLetter, Cause}
 use Rattle.l4_core_model.specs.Local.{armed_for, armed_period}
 use Rattle.l4_core_model.specs.Runs.{Posted}
 use Rattle.l4_core_model.proofs.Fit.{IsGood}
 use Rattle.l4_core_model.proofs.Lists.{all-map}
 use Rattle.l4_split.proofs.Frames.Locals.{come}
 use Rattle.l4_split.proofs.Relation.Views.{Kept, View, kept, home, notices, locators}
-use Rattle.l4_split.proofs.Relation.Rows.{seats, Agrees, learned, Row, RowOf, IsKept, IsUnplaced, IsKeptAtHome, IsKeptElsewhere, deadlines, IsCause, IsNotice, IsNoticeOf, Known}
+use Rattle.l4_split.proofs.Relation.Rows.{seats, Agrees, learned, Row, RowOf, IsKept, IsUnplaced, IsKeptAtHome, IsKeptElsewhere, deadlines, IsCause, IsNotice, IsNoticeOf, Known, OwesIn}
 
 abbrev pub at_home : Machine → ℕ → View → Kept
 at_home m i v = v.kept (home m i)
@@ -81,6 +81,7 @@ moved_notice m i k after p (WithdrawLetter s receiver cause) stays_true h = reco
 moved_notice m i k after p (GoneLetter id) stays_true h = (stays_true.deleted h.0, h.1)
 moved_notice m i k after p (OrderLetter caller target what) stays_true h = h
 moved_notice m i k after p (OrderDoneLetter caller) stays_true h = h
+moved_notice m i k after p (RetargetLetter o) stays_true h = tt
 
 moved_notices : (m : Machine) (i : ℕ) (v after : View) → IsKept m i v → Moves m i v after →
     AllByRecursion (IsNotice m i (at_home m i after)) (notices after.mail)
@@ -98,9 +99,9 @@ moves_kept m i v after known moves here = record {
 
 -- It has neither send nor order now, and no letter says where they are.
 pub plain_known : (m : Machine) (i : ℕ) (v : View) → IsKept m i v → IsUnplaced m i (seats m i v) → locators v.mail ≡ [] →
-    (at_home m i v).thread.send ≡ None → (at_home m i v).thread.order ≡ None → Agrees v.world (at_home m i v).thread → Known m i v
+    (at_home m i v).thread.send ≡ None → (at_home m i v).thread.order ≡ None → Agrees m v.world (at_home m i v).thread → Known m i v
 plain_known m i v kept none quiet no_send no_order agrees = record {
-  agrees = subst (λ ps. Agrees v.world (learned ps (at_home m i v).clock (at_home m i v).thread)) (sym quiet) agrees;
+  agrees = subst (λ ps. Agrees m v.world (learned ps (at_home m i v).clock (at_home m i v).thread)) (sym quiet) agrees;
   row = subst (λ ps. Row m i (seats m i v) ps (at_home m i v).thread.send) (sym quiet)
       (subst (Row m i (seats m i v) []) (sym no_send) (record { order = no_order; unplaced = none }));
   kept = kept;
@@ -108,9 +109,9 @@ plain_known m i v kept none quiet no_send no_order agrees = record {
 
 -- Its send is decided, or an order, or a letter says where it is.
 pub located_known : (m : Machine) (i : ℕ) (v : View) (p : Posted) → IsKept m i v → locators v.mail ≡ p ∷ [] → RowOf m i (seats m i v) p p.letter.content →
-    Agrees v.world (learned (p ∷ []) (at_home m i v).clock (at_home m i v).thread) → Known m i v
+    Agrees m v.world (learned (p ∷ []) (at_home m i v).clock (at_home m i v).thread) → Known m i v
 located_known m i v p kept locator row agrees = record {
-  agrees = subst (λ ps. Agrees v.world (learned ps (at_home m i v).clock (at_home m i v).thread)) (sym locator) agrees;
+  agrees = subst (λ ps. Agrees m v.world (learned ps (at_home m i v).clock (at_home m i v).thread)) (sym locator) agrees;
   row = subst (λ ps. Row m i (seats m i v) ps (at_home m i v).thread.send) (sym locator) row;
   kept = kept;
 }
@@ -133,5 +134,5 @@ fresh_armed i clock Ended send h = refl
 fresh_armed i clock Deleted send h = refl
 
 pub come_kept : (i : ℕ) (f : Thread → Thread) (k : Kept) → IsGood k.clock (f k.thread) → IsFresh k.clock (f k.thread).phase (f k.thread).send →
-    IsKeptAtHome i (come i f k)
-come_kept i f k good fresh = record { good = good; armed = inl (fresh_armed i k.clock (f k.thread).phase (f k.thread).send fresh) }
+    OwesIn (f k.thread).phase k.owed → IsKeptAtHome i (come i f k)
+come_kept i f k good fresh owes = record { good = good; owes = owes; armed = inl (fresh_armed i k.clock (f k.thread).phase (f k.thread).send fresh) }

@@ -15,6 +15,7 @@ use Rattle.l4_core_model.proofs.Apart.{same_or_apart}
 use Rattle.l4_split.proofs.Frames.Locals.{changes_other, comes_other}
 use Rattle.l4_split.proofs.Relation.Views.{Scene, View, kept, view, home, put, amid}
 use Rattle.l4_split.proofs.Relation.Relates.{AreWithin, IsSized, RelatesExcept, senders}
+use Rattle.l4_split.proofs.Relation.Owing.{Owing}
 
 -- Of one processor's local state, and of the others'
 
@@ -50,6 +51,7 @@ leaves_out m i except s w r = record {
   sized_world = r.sized_world;
   clocks = r.clocks;
   lists = r.lists;
+  owing = r.owing;
   places = λ j lt out. r.places j lt out.1;
 }
 
@@ -60,6 +62,7 @@ takes_in {P = P} m i except s w r here = record {
   sized_world = r.sized_world;
   clocks = r.clocks;
   lists = r.lists;
+  owing = r.owing;
   places = λ j lt out. same_or_apart (P j (view m s w j)) i j (λ e. subst (λ k. P k (view m s w k)) e here) (λ ne. r.places j lt ((λ e. ne (sym e)), out));
 }
 
@@ -73,6 +76,7 @@ world_changes {P = P} m i except s w f about r = record {
   sized_world = record { threads = length-changed f w.threads i ∙ r.sized_world.threads; lists = r.sized_world.lists; clocks = r.sized_world.clocks };
   clocks = r.clocks;
   lists = r.lists;
+  owing = r.owing;
   places = λ j lt out. let same = get_other f w.threads i j (about j out) in
       subst (P j) (λ d. record (view m s w j) { world = sym same d }) (r.places j lt out);
 }
@@ -83,6 +87,7 @@ world_changes {P = P} m i except s w f about r = record {
 pub record Spares (m : Machine) (except : List ℕ) (l after : Local) : Type 0 where
   pub sized : IsSized m l → IsSized m after
   pub clock : after.clock ≡ l.clock
+  pub owed : after.owed ≡ l.owed
   pub kept : (j : ℕ) → NotIn j except → kept after j ≡ kept l j
 
 -- The lists change in the world and on a processor.
@@ -95,6 +100,8 @@ both_change {P = P} m cpu except s w x f lists spares size are r = record {
   sized_world = record { threads = r.sized_world.threads; lists = size; clocks = r.sized_world.clocks };
   clocks = λ c lt. r.clocks c lt ∙ sym (put_same (λ l. l.clock) cpu c x.local (f x.local) s.locals spares.clock);
   lists = are;
+  owing = subst (λ owed. Owing m owed (amid cpu s x).mail w.owed)
+      (λ d c. sym (put_same (λ l. l.owed) cpu c x.local (f x.local) s.locals spares.owed) d) r.owing;
   places = λ j lt out. let same = λ (c : ℕ). put_same (λ l. kept l j) cpu c x.local (f x.local) s.locals (spares.kept j out) in
       subst (P j) (λ d. record (view m (amid cpu s x) w j) { kept = λ c. sym (same c) d }) (r.places j lt out);
 }
@@ -121,6 +128,7 @@ changes_spares m i except l f about = record {
     listed = z.listed;
   };
   clock = refl;
+  owed = refl;
   kept = λ j out. changes_other l i j f (about j out);
 }
 
@@ -160,4 +168,4 @@ comes_sized m i l f lt z = record {
 
 pub comes_spares : (m : Machine) (i : ℕ) (except : List ℕ) (l : Local) (f : Thread → Thread) → i < length m.threads → IsAbout i except →
     Spares m except l (comes_to i f l)
-comes_spares m i except l f lt about = record { sized = comes_sized m i l f lt; clock = refl; kept = λ j out. comes_other l i j f (about j out) }
+comes_spares m i except l f lt about = record { sized = comes_sized m i l f lt; clock = refl; owed = refl; kept = λ j out. comes_other l i j f (about j out) }

@@ -4,15 +4,15 @@ use Rattle.std.specs.Prelude.{is_some}
 use Rattle.std.specs.List.{AllByRecursion}
 use Rattle.l4_model.specs.Words.{GlobalId}
 use Rattle.l4_model.specs.Machine.{Machine, What, place_of, is_declared, is_place}
-use Rattle.l4_model.specs.World.{Send, Asked, Message, is_deleted}
-use Rattle.l4_model.specs.Rules.{Act, RunsAlone, Sends, Receives, Orders, received_tag, is_cross}
+use Rattle.l4_model.specs.World.{Send, Asked, Message, is_deleted, Owed}
+use Rattle.l4_model.specs.Rules.{Act, RunsAlone, Sends, Receives, Orders, received_tag, is_cross, owed_by}
 use Rattle.l4_model.specs.Steps.{Begin, Queue, Obey, Order}
 use Rattle.l4_model.specs.Effects.{begins, orders, decided}
 use Rattle.l4_model.proofs.Chains.{cond_keeps, some_is}
 use Rattle.l4_core_model.specs.Plain as plain
-use Rattle.l4_core_model.specs.Letters.{DoneLetter, Refusal, TimedOut, Nobody, Result, Delivered, Refused, Cause, Content, Letter, refusal_step, cause_of}
-use Rattle.l4_core_model.specs.Local.{last_name, changes, declared, is_own, thread, held, destination_place, relists, comes_to}
-use Rattle.l4_core_model.specs.Acts.{Work, ◌▷◌, tells, does, posts, tells_send, decides_send, refuses, delivers, delivers_send, delivers_message, first_acceptable, zero_refusable, entry, queues_send, arrives, send_goes_to, begins_send, split_place, split_receiver, withdraws, asks, withdraws_for, obeys, order_goes_to, gives_order, acts}
+use Rattle.l4_core_model.specs.Letters.{DoneLetter, Refusal, TimedOut, Nobody, Result, Delivered, Refused, Cause, Content, Letter, refusal_step, cause_of, RetargetLetter}
+use Rattle.l4_core_model.specs.Local.{last_name, changes, declared, is_own, thread, held, destination_place, relists, comes_to, keeps_beside}
+use Rattle.l4_core_model.specs.Acts.{Work, ◌▷◌, tells, does, posts, tells_send, decides_send, refuses, delivers, delivers_send, delivers_message, first_acceptable, zero_refusable, entry, queues_send, arrives, send_goes_to, begins_send, split_place, split_receiver, withdraws, asks, withdraws_for, obeys, order_goes_to, gives_order, acts, owes, owes_for}
 use Rattle.l4_core_model.specs.Runs.{IsMachine}
 use Rattle.l4_core_model.proofs.Lists.{all-append}
 use Rattle.l4_core_model.proofs.Standing.{place_within, destination_within}
@@ -60,9 +60,19 @@ ends_addressed m cpu i result x t a = cond_keeps (IsAddressed m) (is_own m cpu i
 pub refuses_addressed : (m : Machine) (cpu i : ℕ) (refusal : Refusal) (x : Work) → IsThread m i → IsAddressed m x → IsAddressed m (refuses m cpu refusal i x)
 refuses_addressed m cpu i refusal x t a = ends_addressed m cpu i (Refused refusal) (x ▷ tells_send m (refusal_step refusal) i) t a
 
+owes_addressed : (m : Machine) (cpu r : ℕ) (o : Option Owed) (x : Work) → IsMachine m → IsAddressed m x → IsAddressed m (owes_for m cpu r o x)
+owes_addressed m cpu r None x machine a = a
+owes_addressed m cpu r (Some o) x machine a = by (place_of m o.originator) refl
+  where
+    by : (q : Option ℕ) → place_of m o.originator ≡ q → IsAddressed m (owes m cpu r o q x)
+    by None at = a
+    by (Some j) at = cond_keeps (IsAddressed m) (is_own m cpu j) (x ▷ does (keeps_beside r (Some o))) (posts (declared m j).cpu (RetargetLetter o) x) (λ own. a)
+        (λ other. posts_addressed m (declared m j).cpu (RetargetLetter o) x (ap (λ q. is_some q) at) (machine.homed j (place_within m o.originator j at)) a)
+
 message_addressed : (m : Machine) (cpu r i : ℕ) (message : Message) (tag : ℕ) (x : Work) → IsThread m i → IsAddressed m x →
     IsAddressed m (delivers_message m cpu r i message tag x)
-message_addressed m cpu r i message tag x t a = ends_addressed m cpu i Delivered _ t a
+message_addressed m cpu r i message tag x t a =
+    owes_addressed m cpu r (owed_by m (last_name m x.local i) message (declared m r).id) _ t.machine (ends_addressed m cpu i Delivered _ t a)
 
 pub delivers_addressed : (m : Machine) (cpu r i : ℕ) (x : Work) → IsThread m i → IsAddressed m x → IsAddressed m (delivers m cpu r i x)
 delivers_addressed m cpu r i x t a = by (thread x.local i).send

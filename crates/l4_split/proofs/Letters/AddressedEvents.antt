@@ -1,19 +1,20 @@
 -- All that turns and letters bring about is addressed: it is done to places of the machine.
+use Rattle.l4_model.specs.Options.{if_some}
 use Rattle.l4_core_model.specs.Plain.{Waiting, armed, popped_due}
 use Rattle.std.proofs.Common.{◌≡◌, ℕ, ◌<◌, Bool, Option, Some, None, List, length, refl, subst, ap}
 use Rattle.std.specs.Prelude.{is_some, find, slice_index_or, ◌==◌, ◌||◌, is_none}
 use Rattle.std.specs.Option.{option_map}
 use Rattle.std.specs.List.{AllByRecursion}
-use Rattle.l4_model.specs.Machine.{Machine, is_declared}
+use Rattle.l4_model.specs.Machine.{Machine, is_declared, place_of}
 use Rattle.l4_model.specs.World.{Phase, Ready, Sending, Receiving, Ordering, Ended, Deleted, receive_now, is_deleted}
 use Rattle.l4_model.specs.Rules.{takes}
 use Rattle.l4_model.specs.Conditions.{act_of}
 use Rattle.l4_model.proofs.Chains.{some_is, cond_keeps, bind_then, guard_then}
 use Rattle.l4_core_model.specs.Plain as plain
-use Rattle.l4_core_model.specs.Letters.{Nobody, TimedOut, Cancelled, Dropped, ByTimeout, GoneLetter, Content, SendLetter, DoneLetter, WithdrawLetter, OrderLetter, OrderDoneLetter, refusal_of}
-use Rattle.l4_core_model.specs.Local.{Local, declared, thread, held, relists, changes, stand_in, stands_in}
-use Rattle.l4_core_model.specs.Acts.{Work, ◌▷◌, does, first_of_list, first_acceptable, split_place, obeys}
-use Rattle.l4_core_model.specs.Turns.{Duty, DropsOwn, RefusesFirst, TellsGone, CancelsOwn, CancelsReceive, DeliversFirst, ClosesReceive, RefusesZero, does_duty, has_told, times_out, Choice, ByDuty, ByDue, ByReady, does_choice, opened, turn}
+use Rattle.l4_core_model.specs.Letters.{Nobody, TimedOut, Cancelled, Dropped, ByTimeout, GoneLetter, Content, SendLetter, DoneLetter, WithdrawLetter, OrderLetter, OrderDoneLetter, refusal_of, RetargetLetter}
+use Rattle.l4_core_model.specs.Local.{Local, declared, thread, held, relists, changes, stand_in, stands_in, keeps_beside}
+use Rattle.l4_core_model.specs.Acts.{Work, ◌▷◌, does, first_of_list, first_acceptable, split_place, obeys, retargets}
+use Rattle.l4_core_model.specs.Turns.{Duty, DropsOwn, RefusesFirst, TellsGone, CancelsOwn, CancelsReceive, DeliversFirst, ClosesReceive, RefusesZero, does_duty, has_told, times_out, Choice, ByDuty, ByDue, ByReady, does_choice, opened, turn, Retargets}
 use Rattle.l4_core_model.specs.Runs.{IsMachine}
 use Rattle.l4_core_model.proofs.Lists.{all_find}
 use Rattle.l4_core_model.proofs.Choosing.{next_elsewhere}
@@ -57,6 +58,11 @@ first_sender m l r i z h = by (thread l r).phase h
 
 duty_addressed : (m : Machine) (cpu i : ℕ) (x : Work) (duty : Duty) → IsMachine m → IsSized m x.local → i < length m.threads → IsAddressed m x →
     IsDuty m cpu x.local i duty → IsAddressed m (does_duty m cpu i duty x)
+duty_addressed m cpu i x (Retargets o) machine z lt a d = by (place_of m o.originator)
+  where
+    by : (q : Option ℕ) → IsAddressed m (x ▷ does (keeps_beside i None) ▷ if_some (retargets o) q)
+    by None = a
+    by (Some j) = a
 duty_addressed m cpu i x DropsOwn machine z lt a d = refuses_addressed m cpu i Dropped x (record { machine = machine; within = lt }) a
 duty_addressed m cpu i x (RefusesFirst sender) machine z lt a d =
     refuses_addressed m cpu sender Nobody x (entry_thread m x.local i sender d.1.0 machine z d.1.1.0 d.1.1.1) a
@@ -88,7 +94,7 @@ choice_addressed m cpu l (ByDue i) machine z c =
     (record { machine = machine; within = (subst (AllByRecursion (λ (e : ℕ × ℕ). e.1 < length m.threads)) c.1.1.0 z.armed).0 }) tt
 choice_addressed m cpu l (ByReady i) machine z c =
     acts_addressed m cpu i (act_of m (held m l i)) (opened 0 l ▷ does (relists plain.popped))
-    (record { machine = machine; within = (subst (AllByRecursion (λ i. i < length m.threads)) c.1 z.ready).0 }) tt
+    (record { machine = machine; within = (subst (AllByRecursion (λ i. i < length m.threads)) c.1.0 z.ready).0 }) tt
 
 -- All that a turn posts is so addressed.
 pub turn_addressed : (m : Machine) (cpu : ℕ) (l : Local) (x : Work) → IsMachine m → IsSized m l → turn m cpu l ≡ Some x → IsAddressed m x
@@ -131,4 +137,10 @@ handled_addressed m cpu (OrderLetter caller target what) x y machine a h =
 handled_addressed m cpu (OrderDoneLetter caller) x y machine a h =
     bind_then (own_place m cpu caller) _ y h λ i own rest.
     guard_then (is_deleted (thread x.local i).phase || is_ordering (thread x.local i).phase) _ y rest λ calls rest.
+    subst (IsAddressed m) (some_is _ y rest) a
+handled_addressed m cpu (RetargetLetter o) x y machine a h =
+    guard_then m.retargeting _ y h λ profile rest.
+    bind_then (own_place m cpu o.originator) _ y rest λ j own rest.
+    guard_then (is_declared m o.old_partner) _ y rest λ old rest.
+    guard_then (is_some (foreign_place m cpu o.new_partner)) _ y rest λ foreign rest.
     subst (IsAddressed m) (some_is _ y rest) a

@@ -18,7 +18,9 @@ use Rattle.l4_core_model.proofs.Apart.{same_or_apart}
 use Rattle.l4_split.proofs.Lists.{get_other_place}
 use Rattle.l4_split.proofs.Relation.Views.{Scene, Kept, View, kept, view, home, put, amid, subject, is_locator, notices, locators}
 use Rattle.l4_split.proofs.Relation.Rows.{seats, Agrees, learned, Row, IsKeptAtHome, IsNotice, IsNoticeOf, Matches, Seats}
-use Rattle.l4_split.proofs.Relation.Relates.{IsSized, RelatesExcept}
+use Rattle.l4_split.proofs.Relation.Relates.{IsSized, RelatesExcept, beside}
+use Rattle.l4_split.proofs.Relation.Owing.{retarget_in}
+use Rattle.l4_split.proofs.Frames.Mail.{other_taken}
 use Rattle.l4_split.proofs.Frames.Places.{first_about, leaves_out, takes_in, Spares, local_changes, changes_spares}
 use Rattle.l4_split.proofs.Frames.Lists.{put_here}
 use Rattle.l4_split.proofs.Frames.Moves.{at_home, deleted_phase}
@@ -51,7 +53,7 @@ marked_matches m i v after marked same world mail gone h =
     let with_home : (P : Kept → Type 0) → P k → P (at_home m i after) = λ P p. subst P (sym same) p in
     let matches : Matches m i now = record {
       known = record {
-        agrees = with_home (λ k. Agrees v.world (learned (locators v.mail) k.clock k.thread)) h.known.agrees;
+        agrees = with_home (λ k. Agrees m v.world (learned (locators v.mail) k.clock k.thread)) h.known.agrees;
         row = subst (λ (s : Seats). Row m i s (locators v.mail) (s.sent (home m i))) seats_same h.known.row;
         kept = record {
           at_home = with_home (IsKeptAtHome i) h.known.kept.at_home;
@@ -76,9 +78,10 @@ handles_gone m from cpu letter s w x id h content is =
     let at_i = foreign_place_is m cpu id i foreign in
     let lt = place_within m id i at_i.0 in
     let about : place_of m (subject letter.content) ≡ Some i = ap (λ c. place_of m (subject c)) content ∙ at_i.0 in
-    let n = noticed m from cpu i letter s w h lt about (ap is_locator content) in
+    let n = noticed m from cpu i letter s w h lt about (ap is_locator content) w.owed
+    (other_taken m (beside s) from cpu letter s.mail w.owed h.first (ap retarget_in content) h.relates.owing) in
     let says = subst (IsNoticeOf m i (at_home m i (view m s w i)) (record { from = from; to = cpu; letter = letter })) content n.says in
-    subst (Goes m cpu (without from cpu s) w []) (some_is _ x rest) (record { now = w; reaches = refl; relates = marked i lt at_i.1 n.relates says.0 })
+    subst (Goes m cpu (without from cpu s) w []) (some_is _ x rest) (record { starts = h.starts; now = w; reaches = refl; relates = marked i lt at_i.1 n.relates says.0 })
   where
     y : Work
     y = at_work cpu letter s
@@ -122,6 +125,7 @@ told_spares m to i l = record {
     listed = z.listed;
   };
   clock = refl;
+  owed = refl;
   kept = λ j out. ap (λ n. record (kept l j) { told = n }) (get_other_place (λ n. to + 1) l.told i j 0 (λ e. out.0 (sym e)));
 }
 
@@ -157,8 +161,8 @@ tells_gone_goes m cpu to i s w x here processor e gone untold =
     (matches_with_told m i (λ c. (kept (put cpu (has_told to i x.local) s.locals c) i).told) (view m (amid cpu s x) e.now i)
     (e.relates.places i here.within tt))) in
     let was : at_home m i v ≡ kept y.local i = home_is m cpu i s y e.now here.home in
-    notice_goes m cpu to i (GoneLetter (declared m i).id) s w y (record { now = e.now; reaches = e.reaches; relates = rel }) here.within
-    (here.machine.placed i here.within) refl (
+    notice_goes m cpu to i (GoneLetter (declared m i).id) s w y (record { starts = e.starts; now = e.now; reaches = e.reaches; relates = rel }) here.within
+    (here.machine.placed i here.within) refl refl (
       ap (λ (k : Kept). k.thread.phase) was
           ∙ deleted_phase (thread x.local i).phase gone,
       λ h. (next_elsewhere m cpu (slice_index_or x.local.told i 0) to untold).1 (h ∙ here.home),

@@ -1,7 +1,7 @@
 -- Letters that come late: a withdrawal, and that a thread is gone.
 use Rattle.l4_model.specs.Still.{late}
 use Rattle.l4_split.proofs.Lists.{all_without, one_of}
-use Rattle.std.proofs.Common.{◌≡◌, ℕ, ◌<◌, Bool, true, false, Some, [], ◌∷◌, ◌++◌, filter, length, refl, ap, sym, ◌∙◌, subst}
+use Rattle.std.proofs.Common.{◌≡◌, ℕ, ◌<◌, Bool, true, false, Some, List, [], ◌∷◌, ◌++◌, filter, length, refl, ap, sym, ◌∙◌, subst}
 use Rattle.std.specs.Prelude.{not, IfSome}
 use Rattle.std.specs.List.{AllByRecursion}
 use Rattle.std.proofs.lemmas.Bool.{eqb-true}
@@ -9,7 +9,7 @@ use Rattle.std.proofs.lemmas.List.{append-nil}
 use Rattle.std.proofs.lemmas.List.Elements.{filter-append}
 use Rattle.l4_model.specs.Words.{GlobalId}
 use Rattle.l4_model.specs.Machine.{Machine, place_of}
-use Rattle.l4_model.specs.World.{World, Name}
+use Rattle.l4_model.specs.World.{World, Name, Owed}
 use Rattle.l4_model.specs.Conditions.{has_passed}
 use Rattle.l4_model.proofs.Chains.{bind_then, some_is, cond_keeps}
 use Rattle.l4_core_model.specs.Plain as plain
@@ -23,9 +23,10 @@ use Rattle.l4_core_model.proofs.Choosing.{both}
 use Rattle.l4_core_model.proofs.Changed.{same_nat}
 use Rattle.l4_split.proofs.Relation.Views.{Scene, Kept, View, view, home, amid, subject, is_locator, notices, is_about, locators}
 use Rattle.l4_split.proofs.Relation.Rows.{seats, Agrees, learned, Row, IsCause, IsWithdrawal, IsNotice, IsNoticeOf, Matches}
-use Rattle.l4_split.proofs.Relation.Relates.{RelatesExcept}
+use Rattle.l4_split.proofs.Relation.Relates.{RelatesExcept, beside}
+use Rattle.l4_split.proofs.Relation.Owing.{Owing, retarget_in}
 use Rattle.l4_split.proofs.Frames.Places.{first_about, leaves_out, takes_in}
-use Rattle.l4_split.proofs.Frames.Mail.{letter_taken, about_place, keeps_one, filter_skips}
+use Rattle.l4_split.proofs.Frames.Mail.{letter_taken, other_taken, about_place, keeps_one, filter_skips}
 use Rattle.l4_split.proofs.Frames.Moves.{at_home}
 use Rattle.l4_split.proofs.Frames.Going.{Goes, opened_relates}
 use Rattle.l4_split.proofs.Sends.Finding.{held_is}
@@ -35,13 +36,14 @@ use Rattle.l4_split.proofs.Letters.Receiving.{without, IsLetter, at_work, foreig
 -- A late letter is taken out: what it says is true, and all else is as it was.
 
 -- After a notice was taken out all is still related, and what it says is true.
-pub record IsNoticed (m : Machine) (from cpu i : ℕ) (letter : Letter) (s : Scene) (w : World) : Type 0 where
-  pub relates : RelatesExcept m (Matches m) [] (amid cpu (without from cpu s) (at_work cpu letter s)) w
+pub record IsNoticed (m : Machine) (from cpu i : ℕ) (letter : Letter) (s : Scene) (w : World) (owed : List Owed) : Type 0 where
+  pub relates : RelatesExcept m (Matches m) [] (amid cpu (without from cpu s) (at_work cpu letter s)) (record w { owed = owed })
   pub says : IsNotice m i (at_home m i (view m s w i)) (record { from = from; to = cpu; letter = letter })
 
 pub noticed : (m : Machine) (from cpu i : ℕ) (letter : Letter) (s : Scene) (w : World) → IsLetter m from cpu letter s w → i < length m.threads →
-    place_of m (subject letter.content) ≡ Some i → is_locator letter.content ≡ false → IsNoticed m from cpu i letter s w
-noticed m from cpu i letter s w h lt about late =
+    place_of m (subject letter.content) ≡ Some i → is_locator letter.content ≡ false → (owed : List Owed) →
+    Owing m (beside s) (without_first from cpu s.mail) owed → IsNoticed m from cpu i letter s w owed
+noticed m from cpu i letter s w h lt about late owed owing =
     let p : Posted = record { from = from; to = cpu; letter = letter } in
     let f = h.first in
     let mine : Posted → Bool = is_about m i in
@@ -63,7 +65,7 @@ noticed m from cpu i letter s w h lt about late =
     let was = subst (AllByRecursion (IsNotice m i k)) old_notices matches.known.kept.notices in
     let left : Matches m i (record before { mail = after.mail }) = record {
       known = record {
-        agrees = subst (λ ps. Agrees before.world (learned ps k.clock k.thread)) (sym same_words) matches.known.agrees;
+        agrees = subst (λ ps. Agrees m before.world (learned ps k.clock k.thread)) (sym same_words) matches.known.agrees;
         row = subst (λ ps. Row m i (seats m i before) ps k.thread.send) (sym same_words) matches.known.row;
         kept = record {
           at_home = matches.known.kept.at_home;
@@ -76,9 +78,9 @@ noticed m from cpu i letter s w h lt about late =
     } in
     let kept_same = λ (c : ℕ). kept_opened cpu letter.stamp i s c in
     record {
-      relates = takes_in m i [] (amid cpu (without from cpu s) (at_work cpu letter s)) w
-          (opened_relates m cpu letter.stamp (i ∷ []) (without from cpu s) w
-          (letter_taken m from cpu i letter (i ∷ []) s w about (first_about i []) f (leaves_out m i [] s w h.relates)))
+      relates = takes_in m i [] (amid cpu (without from cpu s) (at_work cpu letter s)) (record w { owed = owed })
+          (opened_relates m cpu letter.stamp (i ∷ []) (without from cpu s) (record w { owed = owed })
+          (letter_taken m from cpu i letter (i ∷ []) s w owed about (first_about i []) f owing (leaves_out m i [] s w h.relates)))
           (subst (Matches m i) (λ d. record { world = before.world; kept = λ c. sym (kept_same c) d; mail = after.mail }) left);
       says = one_of (IsNotice m i k) (notices (filter mine f.before)) (notices (filter mine f.after)) p was;
     }
@@ -95,16 +97,17 @@ handles_withdraw m from cpu letter s w x name receiver cause h content is =
     let at_i = foreign_place_is m cpu name.thread i foreign in
     let lt = place_within m name.thread i at_i.0 in
     let about : place_of m (subject letter.content) ≡ Some i = ap (λ c. place_of m (subject c)) content ∙ at_i.0 in
-    let n = noticed m from cpu i letter s w h lt about (ap is_locator content) in
+    let n = noticed m from cpu i letter s w h lt about (ap is_locator content) w.owed
+    (other_taken m (beside s) from cpu letter s.mail w.owed h.first (ap retarget_in content) h.relates.owing) in
     let says : IsWithdrawal m i (at_home m i (view m s w i)).clock (at_home m i (view m s w i)).thread
     (record { from = from; to = cpu; letter = letter }) name receiver cause =
     subst (IsNoticeOf m i (at_home m i (view m s w i)) (record { from = from; to = cpu; letter = letter })) content n.says in
-    let e : Goes m cpu (without from cpu s) w [] y = record { now = w; reaches = refl; relates = n.relates } in
+    let e : Goes m cpu (without from cpu s) w [] y = record { starts = h.starts; now = w; reaches = refl; relates = n.relates } in
     subst (Goes m cpu (without from cpu s) w []) (some_is _ x rest)
     (cond_keeps (Goes m cpu (without from cpu s) w []) (waits_here y.local i name.k) (refuses m cpu (refusal_of cause) i y) y
     (λ waits. let t = both (plain.is_queued y.local.lists i) _ waits in
     let k_same : at_home m i (view m (amid cpu (without from cpu s) y) w i) ≡ at_home m i (view m s w i) = kept_opened cpu letter.stamp i s (home m i) in
-    withdrawn i lt (record { now = w; reaches = refl; relates = n.relates }) cause says (eqb-true (thread y.local i).context.begun name.k t.1) t.0)
+    withdrawn i lt (record { starts = h.starts; now = w; reaches = refl; relates = n.relates }) cause says (eqb-true (thread y.local i).context.begun name.k t.1) t.0)
     (λ other. e))
   where
     y : Work

@@ -1,12 +1,17 @@
 -- Every letter under way can be handled where it goes.
+use Rattle.std.proofs.lemmas.Bool.{not-true}
+use Rattle.l4_split.proofs.Sends.Free.{home_at}
+use Rattle.l4_split.proofs.Retargets.Owes.{letters_stand}
+use Rattle.l4_split.proofs.Retargets.Others.{among_all}
+use Rattle.l4_split.proofs.Relation.Owing.{retarget_in, retarget_of, retargets_in, home_of, is_at_one, goes_away, IsRouted, Owing}
 use Rattle.std.proofs.Common.{◌≡◌, ℕ, ◌<◌, true, Some, None, length, refl, ap, sym, ◌∙◌, subst, arith, Bool, false, Option, List, [], ◌∷◌, ◌++◌, filter, append_assoc}
-use Rattle.std.specs.Prelude.{◌||◌, is_some, IfSome, slice_index, slice_index_or, not, slice_get, IsSomeAnd}
+use Rattle.std.specs.Prelude.{◌||◌, is_some, IfSome, slice_index, slice_index_or, not, slice_get, IsSomeAnd, ◌==◌}
 use Rattle.std.proofs.lemmas.Option.{slice_get-get_or}
 use Rattle.l4_model.specs.Words.{GlobalId, same_id}
 use Rattle.l4_model.specs.Machine.{Machine, place_of, is_declared}
-use Rattle.l4_model.specs.World.{Thread, World, Send, Asked, Phase, Ready, Sending, Receiving, Ordering, Ended, Deleted, opening_thread, is_deleted}
-use Rattle.l4_model.specs.Reached.{Suits, IsSendOf, WorldFacts}
-use Rattle.l4_core_model.specs.Letters.{DoneLetter, OrderDoneLetter, Content, SendLetter, WithdrawLetter, GoneLetter, OrderLetter, Letter}
+use Rattle.l4_model.specs.World.{Thread, World, Send, Asked, Phase, Ready, Sending, Receiving, Ordering, Ended, Deleted, opening_thread, is_deleted, Owed}
+use Rattle.l4_model.specs.Reached.{Suits, IsSendOf, WorldFacts, IsOwedAmong}
+use Rattle.l4_core_model.specs.Letters.{DoneLetter, OrderDoneLetter, Content, SendLetter, WithdrawLetter, GoneLetter, OrderLetter, Letter, RetargetLetter}
 use Rattle.l4_core_model.specs.Local.{declared, undeclared, thread, Local}
 use Rattle.l4_core_model.specs.Acts.{Work, split_place}
 use Rattle.l4_core_model.specs.Mail.{own_place, foreign_place, is_ordering, handled, handle}
@@ -24,7 +29,7 @@ use Rattle.l4_model.proofs.Rows.Writing.{id, send}
 use Rattle.l4_split.proofs.Letters.Addressed.{IsAddressedTo}
 use Rattle.std.specs.List.{AllByRecursion}
 use Rattle.l4_core_model.specs.Turns.{opened}
-use Rattle.l4_split.proofs.Relation.Relates.{RelatesExcept, Relates}
+use Rattle.l4_split.proofs.Relation.Relates.{RelatesExcept, Relates, beside}
 use Rattle.l4_split.proofs.Frames.Mail.{about_place, keeps_one, first_letter}
 use Rattle.l4_split.proofs.Sends.Waiting.{agrees_send}
 
@@ -129,8 +134,8 @@ pub record IsUnderWay (m : Machine) (i : ℕ) (p : Posted) (mail : List Posted) 
 -- Of its thread's letters it is the one that says where, or one of the others.
 
 only_row : (m : Machine) (i : ℕ) (k : Kept) (v : View) (send : Option Send) (xs ys : List Posted) (p : Posted) → Row m i (seats m i v) (xs ++ p ∷ ys) send →
-    Agrees v.world (learned (xs ++ p ∷ ys) k.clock k.thread) →
-    RowOf m i (seats m i v) p p.letter.content × Agrees v.world (learns p.letter.content k.clock k.thread)
+    Agrees m v.world (learned (xs ++ p ∷ ys) k.clock k.thread) →
+    RowOf m i (seats m i v) p p.letter.content × Agrees m v.world (learns p.letter.content k.clock k.thread)
 only_row m i k v send [] [] p h a = (h, a)
 only_row m i k v send [] (y ∷ ys) p h a = absurd h
 only_row m i k v send (x ∷ []) ys p h a = absurd h
@@ -139,7 +144,7 @@ only_row m i k v send (x ∷ z ∷ xs) ys p h a = absurd h
 locator_row : (m : Machine) (i : ℕ) (s : Scene) (w : World) (p : Posted) → IsUnderWay m i p s.mail → is_locator p.letter.content ≡ true →
     Matches m i (view m s w i) →
     RowOf m i (seats m i (view m s w i)) p p.letter.content
-    × Agrees (world_thread w i) (learns p.letter.content (at_home m i (view m s w i)).clock (at_home m i (view m s w i)).thread)
+    × Agrees m (world_thread w i) (learns p.letter.content (at_home m i (view m s w i)).clock (at_home m i (view m s w i)).thread)
 locator_row m i s w p u says matches =
     let v : View = view m s w i in
     let k : Kept = at_home m i v in
@@ -149,7 +154,7 @@ locator_row m i s w p u says matches =
     ∙ keeps_one locator (filter (is_about m i) u.before) (filter (is_about m i) u.after) p says in
     only_row m i k v k.thread.send (locators (filter (is_about m i) u.before)) (locators (filter (is_about m i) u.after)) p
     (subst (λ ps. Row m i (seats m i v) ps k.thread.send) at matches.known.row)
-    (subst (λ ps. Agrees v.world (learned ps k.clock k.thread)) at matches.known.agrees)
+    (subst (λ ps. Agrees m v.world (learned ps k.clock k.thread)) at matches.known.agrees)
 
 late_notice : (m : Machine) (i : ℕ) (s : Scene) (w : World) (p : Posted) → IsUnderWay m i p s.mail → is_locator p.letter.content ≡ false →
     Matches m i (view m s w i) → IsNotice m i (at_home m i (view m s w i)) p
@@ -165,8 +170,9 @@ late_notice m i s w p u late matches =
 -- Any letter under way
 
 letter_lawful : (m : Machine) (i : ℕ) (s : Scene) (w : World) (p : Posted) (x : Work) (c : Content) → p.letter.content ≡ c → IsMachine m → WorldFacts m w →
-    IsUnderWay m i p s.mail → Matches m i (view m s w i) → x.local.threads ≡ (s.locals p.to).threads → is_some (handled m p.to p.letter.content x) ≡ true
-letter_lawful m i s w p x c content machine facts u matches at = by c content
+    IsUnderWay m i p s.mail → Matches m i (view m s w i) → x.local.threads ≡ (s.locals p.to).threads →
+    ((o : Owed) → p.letter.content ≡ RetargetLetter o → is_some (handled m p.to p.letter.content x) ≡ true) → is_some (handled m p.to p.letter.content x) ≡ true
+letter_lawful m i s w p x c content machine facts u matches at retarget = by c content
   where
     lt : i < length m.threads
     lt = place_within m (subject p.letter.content) i u.about
@@ -180,8 +186,8 @@ letter_lawful m i s w p x c content machine facts u matches at = by c content
     about : (c : Content) → p.letter.content ≡ c → place_of m (subject c) ≡ Some i
     about c content = sym (ap (λ c. place_of m (subject c)) content) ∙ u.about
 
-    row : (c : Content) → p.letter.content ≡ c → is_locator c ≡ true → RowOf m i (seats m i v) p c × Agrees v.world (learns c k.clock k.thread)
-    row c content says = subst (λ c. RowOf m i (seats m i v) p c × Agrees v.world (learns c k.clock k.thread)) content
+    row : (c : Content) → p.letter.content ≡ c → is_locator c ≡ true → RowOf m i (seats m i v) p c × Agrees m v.world (learns c k.clock k.thread)
+    row c content says = subst (λ c. RowOf m i (seats m i v) p c × Agrees m v.world (learns c k.clock k.thread)) content
         (locator_row m i s w p u (ap is_locator content ∙ says) matches)
 
     notice : (c : Content) → p.letter.content ≡ c → is_locator c ≡ false → IsNoticeOf m i k p c
@@ -204,13 +210,40 @@ letter_lawful m i s w p x c content machine facts u matches at = by c content
     by (OrderLetter caller target what) content = ordered_lawful m i s w p x machine lt (row (OrderLetter caller target what) content refl).0
     by (OrderDoneLetter caller) content =
         obeyed_lawful m i s w p x caller content (about (OrderDoneLetter caller) content) at matches (row (OrderDoneLetter caller) content refl).0
+    by (RetargetLetter o) content = retarget o content
 
-placed : (m : Machine) (id : GlobalId) → is_declared m id ≡ true → (i : ℕ) × (place_of m id ≡ Some i)
+pub placed : (m : Machine) (id : GlobalId) → is_declared m id ≡ true → (i : ℕ) × (place_of m id ≡ Some i)
 placed m id h = by (place_of m id) h
   where
     by : (o : Option ℕ) → is_some o ≡ true → (i : ℕ) × (o ≡ Some i)
     by None h = cc
     by (Some i) h = (i, refl)
+
+-- A letter of a retarget is of an owed one, so it comes to the originator's home.
+retarget_lawful : (m : Machine) (s : Scene) (w : World) (p : Posted) (before after : List Posted) (x : Work) (o : Owed) → RelatesExcept m (Matches m) [] s w →
+    WorldFacts m w → s.mail ≡ before ++ p ∷ after → p.letter.content ≡ RetargetLetter o → is_some (handled m p.to p.letter.content x) ≡ true
+retarget_lawful m s w p before after x o rel facts at content =
+    let is : retarget_of p ≡ Some o = ap retarget_in content in
+    let owing = subst (λ ps. Owing m (beside s) ps w.owed) at rel.owing in
+    let among = among_all (goes_away m) o w.owed (record {
+      before = retargets_in before;
+      after = retargets_in after;
+      is = letters_stand m (beside s) before after w.owed p o is owing;
+    }) in
+    let who = one_of (IsOwedAmong m) among.0.before among.0.after o (subst (AllByRecursion (IsOwedAmong m)) among.0.is facts.owed_among) in
+    let route = subst (λ q. IfSome q (λ o. (p.from ≡ home_of m o.new_partner) × (p.to ≡ home_of m o.originator))) is
+    (one_of (IsRouted m) before after p owing.routed) in
+    let j = placed m o.originator who.originator in
+    let r = placed m o.new_partner who.new_partner in
+    let to : p.to ≡ home m j.0 = route.1 ∙ home_at m o.originator j.0 j.1 in
+    let apart : is_at_one m o ≡ false = not-true (is_at_one m o) among.1 in
+    let own = own_is m p.to o.originator j.0 j.1 to in
+    let foreign = foreign_is m p.to o.new_partner r.0 r.1 (λ e. let same : home_of m o.originator ≡ home_of m o.new_partner =
+    home_at m o.originator j.0 j.1 ∙ sym to ∙ sym e ∙ sym (home_at m o.new_partner r.0 r.1) in
+    let yes : is_at_one m o ≡ true = ap (λ h. h == home_of m o.new_partner) same ∙ same_nat (home_of m o.new_partner) in cc) in
+    let profile = who.profile in
+    let old = who.old_partner in
+    rw (content, profile, own, old, foreign) refl
 
 under_way_lawful : (m : Machine) (s : Scene) (w : World) (p : Posted) (before after : List Posted) (stamp : ℕ) → IsMachine m →
     RelatesExcept m (Matches m) [] s w → WorldFacts m w → is_declared m (subject p.letter.content) ≡ true →
@@ -224,6 +257,7 @@ under_way_lawful m s w p before after stamp machine rel facts declared at =
       about = here.1;
     })
     (rel.places here.0 (place_within m (subject p.letter.content) here.0 here.1) tt) refl
+    (λ o content. retarget_lawful m s w p before after (opened stamp (s.locals p.to)) o rel facts at content)
 
 -- Each letter under way is about a declared thread, and goes to a processor of the machine. The relation says nothing of a letter
 -- about a thread that is not declared, so this is a fact of its own.

@@ -1,5 +1,6 @@
 -- A processor handles the first letter that another one posted to it.
-use Rattle.std.proofs.Common.{◌≡◌, ℕ, ◌<◌, Bool, true, false, cond, Some, [], ◌∷◌, filter, length, refl, ap, sym, ◌∙◌, subst}
+use Rattle.l4_split.proofs.Sends.Free.{first_free}
+use Rattle.std.proofs.Common.{◌≡◌, ℕ, ◌<◌, Bool, true, false, cond, Some, None, [], ◌∷◌, filter, length, refl, ap, sym, ◌∙◌, subst}
 use Rattle.std.specs.Prelude.{◌==◌, is_some, is_none, not}
 use Rattle.std.proofs.lemmas.Bool.{eqb-true}
 use Rattle.std.proofs.lemmas.List.{append-nil}
@@ -7,7 +8,7 @@ use Rattle.l4_model.specs.Words.{GlobalId, same_id}
 use Rattle.l4_model.specs.Machine.{Machine, place_of, is_declared}
 use Rattle.l4_model.specs.World.{World, Message, Name}
 use Rattle.l4_model.proofs.Chains.{bind_then, guard_then, some_is}
-use Rattle.l4_core_model.specs.Letters.{Result, SendLetter, DoneLetter, Letter}
+use Rattle.l4_core_model.specs.Letters.{Result, Content, SendLetter, DoneLetter, WithdrawLetter, GoneLetter, OrderLetter, OrderDoneLetter, RetargetLetter, Letter}
 use Rattle.l4_core_model.specs.Local.{is_own, thread}
 use Rattle.l4_core_model.specs.Acts.{Work, split_place}
 use Rattle.l4_core_model.specs.Turns.{opened}
@@ -17,10 +18,11 @@ use Rattle.l4_core_model.proofs.Standing.{place_within}
 use Rattle.l4_core_model.proofs.Apart.{apart}
 use Rattle.l4_split.proofs.Relation.Views.{Scene, kept, view, home, put, amid, subject, is_locator, notices, is_about, locators}
 use Rattle.l4_split.proofs.Relation.Rows.{Matches}
-use Rattle.l4_split.proofs.Relation.Relates.{RelatesExcept}
+use Rattle.l4_split.proofs.Relation.Relates.{RelatesExcept, beside}
+use Rattle.l4_split.proofs.Relation.Owing.{retarget_in}
 use Rattle.l4_split.proofs.Frames.Places.{first_about, leaves_out}
-use Rattle.l4_split.proofs.Frames.Mail.{IsFirstLetter, letter_taken, taken_here}
-use Rattle.l4_split.proofs.Frames.Going.{Goes, opened_relates}
+use Rattle.l4_split.proofs.Frames.Mail.{IsFirstLetter, letter_taken, other_taken, taken_here}
+use Rattle.l4_split.proofs.Frames.Going.{Goes, IsReached, opened_relates}
 use Rattle.l4_split.proofs.Sends.Coming.{IsTakenOut, done_relates, send_goes}
 
 -- The scene after a letter was taken out
@@ -31,6 +33,7 @@ without from cpu s = record s { mail = without_first from cpu s.mail }
 pub record IsLetter (m : Machine) (from cpu : ℕ) (letter : Letter) (s : Scene) (w : World) : Type 0 where
   pub machine : IsMachine m
   pub processor : cpu < m.cpus
+  pub starts : IsReached m w
   pub relates : RelatesExcept m (Matches m) [] s w
   pub first : IsFirstLetter from cpu letter s.mail
 
@@ -80,12 +83,24 @@ taken_out m from cpu i letter s w h lt about says =
       world = refl;
     }
 
+-- A locator is of no retarget.
+no_retarget : (c : Content) → is_locator c ≡ true → retarget_in c ≡ None
+no_retarget (SendLetter s receiver message zero_timeout) h = refl
+no_retarget (DoneLetter s result) h = refl
+no_retarget (WithdrawLetter s receiver cause) h = refl
+no_retarget (GoneLetter id) h = refl
+no_retarget (OrderLetter caller target what) h = refl
+no_retarget (OrderDoneLetter caller) h = refl
+no_retarget (RetargetLetter o) h = cc
+
 -- Its thread is left out once the letter was taken out; all others are related as before.
 pub taken_relates : (m : Machine) (from cpu i : ℕ) (letter : Letter) (s : Scene) (w : World) → IsLetter m from cpu letter s w →
-    place_of m (subject letter.content) ≡ Some i → RelatesExcept m (Matches m) (i ∷ []) (amid cpu (without from cpu s) (at_work cpu letter s)) w
-taken_relates m from cpu i letter s w h about =
+    place_of m (subject letter.content) ≡ Some i → is_locator letter.content ≡ true →
+    RelatesExcept m (Matches m) (i ∷ []) (amid cpu (without from cpu s) (at_work cpu letter s)) w
+taken_relates m from cpu i letter s w h about says =
     opened_relates m cpu letter.stamp (i ∷ []) (without from cpu s) w
-    (letter_taken m from cpu i letter (i ∷ []) s w about (first_about i []) h.first (leaves_out m i [] s w h.relates))
+    (letter_taken m from cpu i letter (i ∷ []) s w w.owed about (first_about i []) h.first
+    (other_taken m (beside s) from cpu letter s.mail w.owed h.first (no_retarget letter.content says) h.relates.owing) (leaves_out m i [] s w h.relates))
 
 -- A send
 
@@ -103,12 +118,14 @@ handles_send m from cpu letter s w x name receiver message zero_timeout h conten
     let at_i = foreign_place_is m cpu name.thread i foreign in
     let lt = place_within m name.thread i at_i.0 in
     let about : place_of m (subject letter.content) ≡ Some i = ap (λ c. place_of m (subject c)) content ∙ at_i.0 in
-    let rel = taken_relates m from cpu i letter s w h about in
+    let rel = taken_relates m from cpu i letter s w h about (ap is_locator content) in
     let t = taken_out m from cpu i letter s w h lt about (ap is_locator content) in
     subst (Goes m cpu (without from cpu s) w []) (some_is _ x rest)
     (send_goes m cpu i r (without from cpu s) w y (view m s w i) (record { from = from; to = cpu; letter = letter }) name receiver message zero_timeout
     (record { machine = h.machine; processor = h.processor; within = lt; away = at_i.1 }) refl content
-    (record { now = w; reaches = refl; relates = rel }) t at_r.0 (place_within m receiver r at_r.0))
+    (record { starts = h.starts; now = w; reaches = refl; relates = rel }) t at_r.0 (place_within m receiver r at_r.0)
+    (λ to at home_i home_r. first_free m (beside s) from cpu i r letter name receiver message zero_timeout to s.mail w.owed content at_i.0
+    (h.machine.placed i lt) at home_i home_r (λ same. at_i.1 (sym same ∙ home_r)) h.first h.relates.owing))
 
 -- A decision
 
@@ -123,10 +140,11 @@ handles_done m from cpu letter s w x name result h content is =
     let at = own_place_is m cpu name.thread i own in
     let lt = place_within m name.thread i at.0 in
     let about : place_of m (subject letter.content) ≡ Some i = ap (λ c. place_of m (subject c)) content ∙ at.0 in
-    let rel = taken_relates m from cpu i letter s w h about in
+    let rel = taken_relates m from cpu i letter s w h about (ap is_locator content) in
     let t = taken_out m from cpu i letter s w h lt about (ap is_locator content) in
     subst (Goes m cpu (without from cpu s) w []) (some_is _ x rest)
     (record {
+      starts = h.starts;
       now = w;
       reaches = refl;
       relates = done_relates m cpu i (without from cpu s) w y (view m s w i) (record { from = from; to = cpu; letter = letter }) name result

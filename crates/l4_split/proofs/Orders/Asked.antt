@@ -1,21 +1,20 @@
 -- What is asked of a thread is done in the world and at home, and they agree as before.
-use Rattle.l4_model.proofs.Sends.{Status, status-asked}
 use Rattle.std.proofs.Common.{◌≡◌, ℕ, false, Option, Some, None, refl, ap, sym, ◌∙◌, subst}
-use Rattle.l4_model.specs.Machine.{What, CancelSend, CancelReceive, CancelBoth, Delete}
+use Rattle.l4_model.specs.Machine.{Machine, What, CancelSend, CancelReceive, CancelBoth, Delete}
 use Rattle.l4_model.specs.World.{Thread, Send, Receive, Asked, Phase, Ready, Sending, Receiving, Ordering, Ended, Deleted, is_alive}
 use Rattle.l4_model.specs.Effects.{asked, decided, goes_on, obeyed}
 use Rattle.l4_model.proofs.Chains.{cond_both}
 use Rattle.l4_model.specs.Reached.{Suits}
 use Rattle.l4_core_model.specs.Letters.{Result, Delivered, Refused, TimedOut, Nobody, Cancelled, Dropped}
 use Rattle.l4_core_model.specs.Local.{after_decision, was_delivered}
-use Rattle.l4_split.proofs.Relation.Rows.{IsLeft, AgreesIn, Agrees}
-use Rattle.l4_split.proofs.Relation.Agreement.{same_agrees, ended_deleted}
+use Rattle.l4_split.proofs.Relation.Rows.{AreTogether, IsLeft, AgreesIn, AgreesByPhase, Agrees}
+use Rattle.l4_split.proofs.Relation.Agreement.{same_by_phase, split_agrees, ended_deleted}
 use Rattle.l4_split.proofs.Sends.Deciding.{ended_none, ended_begun}
 use Rattle.l4_split.proofs.Sends.Waiting.{agrees_send, agrees_begun}
 use Rattle.l4_split.proofs.Turns.Ending.{agrees_wish}
 
-pub agrees_order : (world t : Thread) → Agrees world t → world.order ≡ t.order
-agrees_order world t a = by t.phase a
+pub agrees_order : {m : Machine} (world t : Thread) → Agrees m world t → world.order ≡ t.order
+agrees_order world t a = by t.phase a.by_phase
   where
     by : (p : Phase) → AgreesIn p world t → world.order ≡ t.order
     by Ready a = ap (λ (t : Thread). t.order) a
@@ -58,26 +57,26 @@ asked_left CancelBoth world t ne is a = let gone = a.deleted in let wish = a.can
 }
 asked_left Delete world t ne is a = absurd (ne refl)
 
-cancelled_agrees : (what : What) (world t : Thread) → (what ≡ Delete → ⊥) → Agrees world t → Agrees (asked what world) (asked what t)
-cancelled_agrees what world t ne a = by t.phase refl a
+cancelled_by_phase : (what : What) (world t : Thread) → (what ≡ Delete → ⊥) → AgreesByPhase world t → AgreesByPhase (asked what world) (asked what t)
+cancelled_by_phase what world t ne a = by t.phase refl a
   where
-    at : (p : Phase) → t.phase ≡ p → AgreesIn p (asked what world) (asked what t) → Agrees (asked what world) (asked what t)
+    at : (p : Phase) → t.phase ≡ p → AgreesIn p (asked what world) (asked what t) → AgreesByPhase (asked what world) (asked what t)
     at p is h = subst (λ q. AgreesIn q (asked what world) (asked what t)) (sym (asked_phase what t ne ∙ is)) h
 
-    by : (p : Phase) → t.phase ≡ p → AgreesIn p world t → Agrees (asked what world) (asked what t)
-    by Ready is a = same_agrees (asked what world) (asked what t) (ap (asked what) a)
-    by Sending is a = same_agrees (asked what world) (asked what t) (ap (asked what) a)
+    by : (p : Phase) → t.phase ≡ p → AgreesIn p world t → AgreesByPhase (asked what world) (asked what t)
+    by Ready is a = same_by_phase (asked what world) (asked what t) (ap (asked what) a)
+    by Sending is a = same_by_phase (asked what world) (asked what t) (ap (asked what) a)
     by (Receiving receive since) is a = at (Receiving receive since) is (record {
       began = a.began;
       no_later = a.no_later;
       same = ap (asked what) a.same ∙ asked_receiving what receive since a.began t ne is;
     })
-    by Ordering is a = same_agrees (asked what world) (asked what t) (ap (asked what) a)
-    by Ended is a = same_agrees (asked what world) (asked what t) (ap (asked what) a)
+    by Ordering is a = same_by_phase (asked what world) (asked what t) (ap (asked what) a)
+    by Ended is a = same_by_phase (asked what world) (asked what t) (ap (asked what) a)
     by Deleted is a = at Deleted is (asked_left what world t ne is a)
 
-deleted_agrees : (world t : Thread) → Agrees world t → Agrees (asked Delete world) (asked Delete t)
-deleted_agrees world t a = record {
+deleted_by_phase : {m : Machine} (world t : Thread) → Agrees m world t → AgreesByPhase (asked Delete world) (asked Delete t)
+deleted_by_phase world t a = record {
   deleted = refl;
   begun = agrees_begun world t a;
   send = agrees_send world t a;
@@ -85,11 +84,14 @@ deleted_agrees world t a = record {
   cancel_send = agrees_wish world t a;
 }
 
-pub asked_agrees : (what : What) (world t : Thread) → Agrees world t → Agrees (asked what world) (asked what t)
-asked_agrees Delete world t a = deleted_agrees world t a
-asked_agrees CancelSend world t a = cancelled_agrees CancelSend world t (λ e. cc) a
-asked_agrees CancelReceive world t a = cancelled_agrees CancelReceive world t (λ e. cc) a
-asked_agrees CancelBoth world t a = cancelled_agrees CancelBoth world t (λ e. cc) a
+asked_by_phase : {m : Machine} (what : What) (world t : Thread) → Agrees m world t → AgreesByPhase (asked what world) (asked what t)
+asked_by_phase Delete world t a = deleted_by_phase world t a
+asked_by_phase CancelSend world t a = cancelled_by_phase CancelSend world t (λ e. cc) a.by_phase
+asked_by_phase CancelReceive world t a = cancelled_by_phase CancelReceive world t (λ e. cc) a.by_phase
+asked_by_phase CancelBoth world t a = cancelled_by_phase CancelBoth world t (λ e. cc) a.by_phase
+
+pub asked_agrees : {m : Machine} (what : What) (world t : Thread) → Agrees m world t → Agrees m (asked what world) (asked what t)
+asked_agrees what world t a = record { by_phase = asked_by_phase what world t a; together = λ one. ap (asked what) (a.together one) }
 
 -- While the decision of its send is under way: to be asked and to hear of it can be done in any order.
 
@@ -149,18 +151,22 @@ ended_wish (Refused Cancelled) clock t send has = cond_both (λ (u : Thread). u.
 ended_wish (Refused Dropped) clock t send has = cond_both (λ (u : Thread). u.cancel_send) false (is_alive t.phase) _ (decided t) refl refl
 
 pub send_asked : (what : What) (t : Thread) → (asked what t).send ≡ t.send
-send_asked what t = ap (λ (s : Status). s.send) (status-asked what t)
+send_asked CancelSend t = refl
+send_asked CancelReceive t = refl
+send_asked CancelBoth t = refl
+send_asked Delete t = refl
 
 -- A thread is asked while the answer to its send is under way: they agree again once it hears.
-pub asked_while_decided : (what : What) (result : Result) (clock : ℕ) (world t : Thread) (send : Send) → t.send ≡ Some send → t.order ≡ None →
-    Suits t.phase (Some send) t.order → Agrees world (after_decision result clock t) → Agrees (asked what world) (after_decision result clock (asked what t))
-asked_while_decided what result clock world t send has order suits a = by what t.phase refl suits
+pub asked_while_decided : {m : Machine} (what : What) (result : Result) (clock : ℕ) (world t : Thread) (send : Send) → t.send ≡ Some send →
+    t.order ≡ None → Suits t.phase (Some send) t.order → (AreTogether m → ⊥) → Agrees m world (after_decision result clock t) →
+    Agrees m (asked what world) (after_decision result clock (asked what t))
+asked_while_decided {m = m} what result clock world t send has order suits split a = by what t.phase refl suits
   where
     cancelled : (what : What) → (what ≡ Delete → ⊥) → (p : Phase) → t.phase ≡ p → Suits p (Some send) t.order →
-        Agrees (asked what world) (after_decision result clock (asked what t))
+        Agrees m (asked what world) (after_decision result clock (asked what t))
     cancelled what ne Ready is s = cc
     cancelled what ne Sending is s =
-        subst (Agrees (asked what world)) (asked_ended what result clock t send ne is has) (asked_agrees what world (after_decision result clock t) a)
+        subst (Agrees m (asked what world)) (asked_ended what result clock t send ne is has) (asked_agrees what world (after_decision result clock t) a)
     cancelled what ne (Receiving receive since) is s = cc
     cancelled what ne Ordering is s = cc
     cancelled what ne Ended is s = cc
@@ -168,20 +174,20 @@ asked_while_decided what result clock world t send has order suits a = by what t
         let before : after_decision result clock t ≡ decided t = ended_deleted result clock t send is has in
         let after : after_decision result clock (asked what t) ≡ decided (asked what t) =
         ended_deleted result clock (asked what t) send (asked_phase what t ne ∙ is) (send_asked what t ∙ has) in
-        subst (Agrees (asked what world)) (ap (asked what) before ∙ asked_decided what t ne is ∙ sym after) (asked_agrees what world (after_decision result clock t) a)
+        subst (Agrees m (asked what world)) (ap (asked what) before ∙ asked_decided what t ne is ∙ sym after) (asked_agrees what world (after_decision result clock t) a)
 
-    by : (what : What) (p : Phase) → t.phase ≡ p → Suits p (Some send) t.order → Agrees (asked what world) (after_decision result clock (asked what t))
+    by : (what : What) (p : Phase) → t.phase ≡ p → Suits p (Some send) t.order → Agrees m (asked what world) (after_decision result clock (asked what t))
     by Delete p is s =
         let after : after_decision result clock (asked Delete t) ≡ decided (asked Delete t) = ended_deleted result clock (asked Delete t) send refl has in
         let none = ended_none result clock t send has order in
-        let left : Agrees (asked Delete world) (decided (asked Delete t)) = record {
+        let left : AgreesByPhase (asked Delete world) (decided (asked Delete t)) = record {
           deleted = refl;
           begun = agrees_begun world (after_decision result clock t) a ∙ ended_begun result clock t;
           send = agrees_send world (after_decision result clock t) a ∙ none.0;
           order = agrees_order world (after_decision result clock t) a ∙ none.1 ∙ sym order;
           cancel_send = agrees_wish world (after_decision result clock t) a ∙ ended_wish result clock t send has;
         } in
-        subst (Agrees (asked Delete world)) (sym after) left
+        subst (Agrees m (asked Delete world)) (sym after) (split_agrees (asked Delete world) (decided (asked Delete t)) split left)
     by CancelSend p is s = cancelled CancelSend (λ e. cc) p is s
     by CancelReceive p is s = cancelled CancelReceive (λ e. cc) p is s
     by CancelBoth p is s = cancelled CancelBoth (λ e. cc) p is s

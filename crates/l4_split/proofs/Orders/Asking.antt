@@ -16,10 +16,12 @@ use Rattle.l4_core_model.proofs.Lists.{all-filter}
 use Rattle.l4_core_model.proofs.Apart.{same_or_apart, of_other}
 use Rattle.l4_core_model.proofs.Good.{deletes_good}
 use Rattle.l4_split.proofs.Relation.Views.{Kept, View, Scene, kept, view, home, amid, notices, is_of, locators}
-use Rattle.l4_split.proofs.Relation.Rows.{seats, Agrees, learns, learned, IsOrdering, IsCause, IsKeptAtHome, Known, Row, Matches, Seats}
+use Rattle.l4_split.proofs.Relation.Rows.{seats, AgreesByPhase, Agrees, learns, learned, IsOrdering, IsCause, IsKeptAtHome, Known, Row, Matches, Seats}
+use Rattle.l4_split.proofs.Relation.Agreement.{split_agrees}
 use Rattle.l4_split.proofs.Frames.Moves.{at_home, StaysTrue, same_alike, Moves, moves_kept}
 use Rattle.l4_split.proofs.Sends.Waiting.{agrees_send, agrees_begun}
 use Rattle.l4_split.proofs.Turns.Ending.{agrees_wish}
+use Rattle.l4_split.proofs.Frames.Owes.{deleted_owes}
 use Rattle.l4_split.proofs.Orders.Asked.{agrees_order, asked_agrees, asked_while_decided, asked_obeyed, send_asked}
 use Rattle.l4_model.proofs.Keeping.{order-asked}
 use Rattle.l4_core_model.specs.Plain as plain
@@ -38,7 +40,7 @@ begun_asked what t = ap (λ (s : Status). s.begun) (status-asked what t)
 
 -- The world and home agree again, whatever letter is under way.
 
-obeyed_deleted : (world t : Thread) → Agrees world (obeyed t) → Agrees (asked Delete world) (obeyed (asked Delete t))
+obeyed_deleted : {m : Machine} (world t : Thread) → Agrees m world (obeyed t) → AgreesByPhase (asked Delete world) (obeyed (asked Delete t))
 obeyed_deleted world t a = record {
   deleted = refl;
   begun = agrees_begun world (obeyed t) a ∙ cond_both (λ (u : Thread). u.context.begun) t.context.begun (is_alive t.phase) _ _ refl refl;
@@ -48,14 +50,14 @@ obeyed_deleted world t a = record {
 }
 
 asked_learned : (m : Machine) (i : ℕ) (what : What) (v : View) → Known m i v →
-    Agrees (asked what v.world) (learned (locators v.mail) (at_home m i v).clock (asked what (at_home m i v).thread))
+    Agrees m (asked what v.world) (learned (locators v.mail) (at_home m i v).clock (asked what (at_home m i v).thread))
 asked_learned m i what v known = where_then m i v known
     (λ quiet none row a. seen (learned_is [] quiet) (asked_agrees what v.world t a))
     (λ send quiet has row a. seen (learned_is [] quiet) (asked_agrees what v.world t a))
     (λ p is row a. seen (learned_is (p ∷ []) is ∙ ap (λ c. learns c clock (asked what t)) row.letter) (asked_agrees what v.world t a))
     (λ p name result is content row a. seen (learned_is (p ∷ []) is ∙ ap (λ c. learns c clock (asked what t)) content)
     (asked_while_decided what result clock v.world t row.goes.send row.goes.has row.goes.order
-    (subst (λ o. Suits t.phase o t.order) row.goes.has known.kept.at_home.good.suits) a))
+    (subst (λ o. Suits t.phase o t.order) row.goes.has known.kept.at_home.good.suits) (λ one. row.goes.split (one row.goes.r i)) a))
     (λ p is row a. seen (learned_is (p ∷ []) is ∙ ap (λ c. learns c clock (asked what t)) row.letter) (asked_agrees what v.world t a))
     (λ p caller is content row a. seen (learned_is (p ∷ []) is ∙ ap (λ c. learns c clock (asked what t)) content) (asked_while_obeyed what row.orders a))
   where
@@ -68,19 +70,20 @@ asked_learned m i what v known = where_then m i v known
     learned_is : (ps : List Posted) → locators v.mail ≡ ps → learned (locators v.mail) clock (asked what t) ≡ learned ps clock (asked what t)
     learned_is ps is = ap (λ ps. learned ps clock (asked what t)) is
 
-    seen : {u : Thread} → learned (locators v.mail) clock (asked what t) ≡ u → Agrees (asked what v.world) u →
-        Agrees (asked what v.world) (learned (locators v.mail) clock (asked what t))
-    seen is a = subst (Agrees (asked what v.world)) (sym is) a
+    seen : {u : Thread} → learned (locators v.mail) clock (asked what t) ≡ u → Agrees m (asked what v.world) u →
+        Agrees m (asked what v.world) (learned (locators v.mail) clock (asked what t))
+    seen is a = subst (Agrees m (asked what v.world)) (sym is) a
 
-    cancelled : (what : What) → (what ≡ Delete → ⊥) → IsOrdering m i (seats m i v) → Agrees v.world (obeyed t) →
-        Agrees (asked what v.world) (obeyed (asked what t))
+    cancelled : (what : What) → (what ≡ Delete → ⊥) → IsOrdering m i (seats m i v) → Agrees m v.world (obeyed t) →
+        Agrees m (asked what v.world) (obeyed (asked what t))
     cancelled what ne row a =
-        subst (Agrees (asked what v.world))
+        subst (Agrees m (asked what v.world))
         (asked_obeyed what t ne t.phase refl (subst (λ o. Suits t.phase o t.order) row.no_send known.kept.at_home.good.suits) row.order row.has)
         (asked_agrees what v.world (obeyed t) a)
 
-    asked_while_obeyed : (what : What) → IsOrdering m i (seats m i v) → Agrees v.world (obeyed t) → Agrees (asked what v.world) (obeyed (asked what t))
-    asked_while_obeyed Delete row a = obeyed_deleted v.world t a
+    asked_while_obeyed : (what : What) → IsOrdering m i (seats m i v) → Agrees m v.world (obeyed t) → Agrees m (asked what v.world) (obeyed (asked what t))
+    asked_while_obeyed Delete row a =
+        split_agrees (asked Delete v.world) (obeyed (asked Delete t)) (λ one. row.split (one row.target i)) (obeyed_deleted v.world t a)
     asked_while_obeyed CancelSend row a = cancelled CancelSend (λ e. cc) row a
     asked_while_obeyed CancelReceive row a = cancelled CancelReceive (λ e. cc) row a
     asked_while_obeyed CancelBoth row a = cancelled CancelBoth (λ e. cc) row a
@@ -115,10 +118,10 @@ asked_kept Delete j k = record k { thread = asked Delete k.thread; ready = []; a
 asked_kept what j k = record k { thread = asked what k.thread }
 
 pub asked_at_home : (what : What) (j : ℕ) (k : Kept) → IsKeptAtHome j k → IsKeptAtHome j (asked_kept what j k)
-asked_at_home CancelSend j k h = record { good = asked_good CancelSend k.clock k.thread h.good; armed = h.armed }
-asked_at_home CancelReceive j k h = record { good = asked_good CancelReceive k.clock k.thread h.good; armed = h.armed }
-asked_at_home CancelBoth j k h = record { good = asked_good CancelBoth k.clock k.thread h.good; armed = h.armed }
-asked_at_home Delete j k h = record { good = asked_good Delete k.clock k.thread h.good; armed = inr refl }
+asked_at_home CancelSend j k h = record { good = asked_good CancelSend k.clock k.thread h.good; armed = h.armed; owes = h.owes }
+asked_at_home CancelReceive j k h = record { good = asked_good CancelReceive k.clock k.thread h.good; armed = h.armed; owes = h.owes }
+asked_at_home CancelBoth j k h = record { good = asked_good CancelBoth k.clock k.thread h.good; armed = h.armed; owes = h.owes }
+asked_at_home Delete j k h = record { good = asked_good Delete k.clock k.thread h.good; armed = inr refl; owes = deleted_owes k.owed }
 
 asked_ready : (what : What) (j : ℕ) (k : Kept) → k.ready ≡ readied k.thread.phase j [] →
     (asked_kept what j k).ready ≡ readied (asked_kept what j k).thread.phase j []
@@ -184,10 +187,10 @@ asked_matches m j what v after world mail here listed clock other h =
     } in
     record {
       known = record {
-        agrees = subst (λ u. Agrees u (learned (locators after.mail) (at_home m j after).clock (at_home m j after).thread)) (sym world)
-            (subst (λ mail. Agrees (asked what v.world) (learned (locators mail) (at_home m j after).clock (at_home m j after).thread)) (sym mail)
-            (subst (λ c. Agrees (asked what v.world) (learned (locators v.mail) c (at_home m j after).thread)) (sym clock)
-            (subst (λ t. Agrees (asked what v.world) (learned (locators v.mail) k.clock t)) (sym thread_is) (asked_learned m j what v h.known))));
+        agrees = subst (λ u. Agrees m u (learned (locators after.mail) (at_home m j after).clock (at_home m j after).thread)) (sym world)
+            (subst (λ mail. Agrees m (asked what v.world) (learned (locators mail) (at_home m j after).clock (at_home m j after).thread)) (sym mail)
+            (subst (λ c. Agrees m (asked what v.world) (learned (locators v.mail) c (at_home m j after).thread)) (sym clock)
+            (subst (λ t. Agrees m (asked what v.world) (learned (locators v.mail) k.clock t)) (sym thread_is) (asked_learned m j what v h.known))));
         row = subst (λ mail. Row m j (seats m j after) (locators mail) (at_home m j after).thread.send) (sym mail)
             (subst (λ (s : Seats). Row m j s (locators v.mail) (s.sent (home m j))) (sym seats_same) h.known.row);
         kept = moves_kept m j v after h.known.kept moves (subst (IsKeptAtHome j) (sym here) (asked_at_home what j k h.known.kept.at_home));
@@ -240,6 +243,12 @@ asks_clock CancelReceive l j = refl
 asks_clock CancelBoth l j = refl
 asks_clock Delete l j = refl
 
+pub asks_owed : (what : What) (l : Local) (j : ℕ) → (asks what j l).owed ≡ l.owed
+asks_owed CancelSend l j = refl
+asks_owed CancelReceive l j = refl
+asks_owed CancelBoth l j = refl
+asks_owed Delete l j = refl
+
 pub asks_lists : (what : What) (l : Local) (j : ℕ) → (asks what j l).lists.waiting ≡ l.lists.waiting
 asks_lists CancelSend l j = refl
 asks_lists CancelReceive l j = refl
@@ -269,6 +278,7 @@ asks_relates m cpu j what except s w x here matches rel =
     (record {
       sized = asks_sized m what j except x.local here.within;
       clock = asks_clock what x.local j;
+      owed = asks_owed what x.local j;
       kept = λ i out. asks_other what x.local j i (λ e. out.0 (sym e));
     }) (asks_lists what x.local j) rel))
     (asked_matches m j what v after (get-changed (asked what) w.threads j opening_thread in_world) refl

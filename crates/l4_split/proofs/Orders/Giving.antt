@@ -4,7 +4,8 @@ use Rattle.std.proofs.Common.{◌≡◌, ℕ, ◌<◌, Bool, true, false, cond, 
 use Rattle.std.specs.Prelude.{◌==◌, not}
 use Rattle.std.proofs.lemmas.Bool.{eqb-true}
 use Rattle.l4_model.specs.Machine.{Machine, What, CancelSend, CancelReceive, CancelBoth, Delete, place_of}
-use Rattle.l4_model.specs.World.{Thread, World, Asked, change, is_deleted, opening_thread}
+use Rattle.l4_model.specs.World.{Thread, World, Asked, Ordering, change, is_deleted, opening_thread}
+use Rattle.l4_split.proofs.Frames.Owes.{none_owed}
 use Rattle.l4_model.specs.Effects.{asked, orders, obeyed}
 use Rattle.l4_model.specs.History.{run}
 use Rattle.l4_model.specs.Rules.{Orders}
@@ -13,7 +14,7 @@ use Rattle.l4_model.specs.Steps.{Order, Obey, what_code, order_of, next}
 use Rattle.l4_model.proofs.Chains.{cond_both}
 use Rattle.l4_model.specs.Reached.{Suits}
 use Rattle.l4_core_model.specs.Letters.{Cause, OrderLetter, cause_of}
-use Rattle.l4_core_model.specs.Local.{declared, is_own, thread, held, comes_to}
+use Rattle.l4_core_model.specs.Local.{declared, is_own, thread, owed_beside, held, comes_to}
 use Rattle.l4_core_model.specs.Acts.{Work, ◌▷◌, tells, does, posts, asks, withdraws, withdraws_for, split_receiver, obeys, order_goes_to, gives_order}
 use Rattle.l4_core_model.specs.Runs.{Posted, posted}
 use Rattle.l4_core_model.proofs.Changed.{same_nat, same_ids, get-changed}
@@ -35,7 +36,7 @@ use Rattle.l4_split.proofs.Turns.Instructions.{IsPicked, running_is, running_fou
 use Rattle.l4_split.proofs.Sends.Finding.{found_is}
 use Rattle.l4_split.proofs.Orders.Asked.{agrees_order, send_asked, asked_agrees}
 use Rattle.l4_split.proofs.Orders.Obeyed.{caller_unready, IsCalling, obeyed_here}
-use Rattle.l4_split.proofs.Orders.Asking.{asks_other, asked_kept, asked_thread, asked_at_home, asked_stays_true, asks_here, asks_sized, asks_clock, asks_lists, kept_lists}
+use Rattle.l4_split.proofs.Orders.Asking.{asks_other, asked_kept, asked_thread, asked_at_home, asked_stays_true, asks_here, asks_sized, asks_clock, asks_owed, asks_lists, kept_lists}
 use Rattle.l4_split.proofs.Orders.Obeying.{obeys_relates, obeys_steps}
 use Rattle.l4_split.proofs.Orders.Ordered.{obeys_local, obeys_mail}
 
@@ -80,12 +81,13 @@ calls_goes m cpu i order s w x e r act_is =
     record {
       here = r.here;
       goes = record {
+        starts = e.starts;
         now = u;
         reaches = one_more_told m w now u x.steps (Order (declared m i).id order.target order.what) e.reaches possible;
         relates = c.relates;
       };
       calls = record {
-        kept = moves_kept m i v after r.known.kept moves (subst (IsKeptAtHome i) (sym c.here) (come_kept i f k good tt));
+        kept = moves_kept m i v after r.known.kept moves (subst (IsKeptAtHome i) (sym c.here) (come_kept i f k good tt (none_owed Ordering (owed_beside x.local i) r.nothing_owed)));
         out = ap (λ (k : Kept). k.ready) c.here ∙ r.out;
         send = ap (λ (k : Kept). k.thread.send) c.here ∙ running.send;
         has = ap (λ (k : Kept). k.thread.order) c.here;
@@ -97,7 +99,7 @@ calls_goes m cpu i order s w x e r act_is =
               (λ ne. ap (λ (k : Kept). k.listed q) (c.elsewhere p ne) ∙ running.free.unplaced.listed p q);
           stand_in = λ p ne. ap (λ (k : Kept). k.thread.send) (c.elsewhere p ne) ∙ running.free.unplaced.stand_in p ne;
         };
-        agrees = subst (λ (a : Kept). Agrees after.world a.thread) (sym c.here) (same_agrees after.world (f (thread x.local i)) (c.world ∙ ap f running.same));
+        agrees = subst (λ (a : Kept). Agrees m after.world a.thread) (sym c.here) (same_agrees after.world (f (thread x.local i)) (c.world ∙ ap f running.same));
       };
     }
 
@@ -139,10 +141,11 @@ foreign_goes m cpu i j order s w y h at away =
       to = refl;
     } in
     record {
+      starts = e.starts;
       now = e.now;
       reaches = e.reaches;
       relates = takes_in m i [] (amid cpu s a) e.now
-          (letter_posted m cpu (home m j) i (OrderLetter (declared m i).id order.target order.what) (i ∷ []) s e.now y placed (first_about i []) e.relates)
+          (letter_posted m cpu (home m j) i (OrderLetter (declared m i).id order.target order.what) (i ∷ []) s e.now y placed refl (first_about i []) e.relates)
           (record {
             known = located_known m i after p keeps locator row c.agrees;
             ready = c.out ∙ sym (caller_unready i (at_home m i v).thread.phase (at_home m i v).thread.send order suits);
@@ -169,6 +172,7 @@ own_goes m cpu i j order s w y h at o =
     let possible : next m now (Obey (declared m i).id) ≡ Some u = rw (found_now, ordering, at) refl in
     let steps = obeys_steps m cpu j (declared m i).id order.what y in
     record {
+      starts = h.goes.starts;
       now = u;
       reaches = ap (run m w) steps ∙ one_more_told m w now u y.steps (Obey (declared m i).id) h.goes.reaches possible;
       relates = obeyed_here m cpu i order s (change now j (asked order.what)) z h.here o.calls o.relates;
@@ -239,6 +243,7 @@ self_obeyed m cpu i order s w y h =
     (record {
       sized = asks_sized m what i [] y.local h.here.within;
       clock = asks_clock what y.local i;
+      owed = asks_owed what y.local i;
       kept = λ j out. asks_other what y.local i j (λ e. out.0 (sym e));
     }) (asks_lists what y.local i) rel) in
     let moves : Moves m i v after = record {
@@ -261,8 +266,8 @@ self_obeyed m cpu i order s w y h =
             (λ ne. ap (λ (k : Kept). k.listed q) (other p ne) ∙ c.unplaced.listed p q);
         stand_in = λ p ne. ap (λ (k : Kept). k.thread.send) (other p ne) ∙ c.unplaced.stand_in p ne;
       };
-      agrees = subst (Agrees after.world) (sym thread_is)
-          (subst (λ a. Agrees a (asked what (at_home m i v).thread)) (sym (get-changed (asked what) now.threads i opening_thread in_world))
+      agrees = subst (Agrees m after.world) (sym thread_is)
+          (subst (λ a. Agrees m a (asked what (at_home m i v).thread)) (sym (get-changed (asked what) now.threads i opening_thread in_world))
           (asked_agrees what v.world (at_home m i v).thread c.agrees));
     } in
     let work : (y ▷ tells (Obey (declared m i).id) ▷ does (asks what i)) ≡ obeys m cpu (declared m i).id what i y = sym (self_work m cpu i what y none) in

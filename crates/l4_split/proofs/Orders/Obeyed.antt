@@ -3,12 +3,12 @@ use Rattle.std.proofs.Common.{◌≡◌, ℕ, false, Option, Some, None, [], ◌
 use Rattle.std.specs.Prelude.{◌||◌}
 use Rattle.l4_model.specs.Words.{GlobalId}
 use Rattle.l4_model.specs.Machine.{Machine, place_of}
-use Rattle.l4_model.specs.World.{Thread, World, Send, Asked, Phase, Ready, Sending, Receiving, Ordering, Ended, Deleted, change, is_alive, is_deleted}
+use Rattle.l4_model.specs.World.{Thread, World, Send, Asked, Phase, Ready, Sending, Receiving, Ordering, Ended, Deleted, change, is_alive, is_deleted, Owed}
 use Rattle.l4_model.specs.Effects.{obeyed}
 use Rattle.l4_model.proofs.Chains.{bind_then, guard_then, some_is, cond_both, cond_keeps}
 use Rattle.l4_model.specs.Reached.{Suits}
 use Rattle.l4_core_model.specs.Letters.{OrderDoneLetter, Letter}
-use Rattle.l4_core_model.specs.Local.{thread, comes_to, readied}
+use Rattle.l4_core_model.specs.Local.{thread, comes_to, readied, owed_beside}
 use Rattle.l4_core_model.specs.Acts.{Work, ◌▷◌, does}
 use Rattle.l4_core_model.specs.Mail.{own_place, is_ordering, handled}
 use Rattle.l4_core_model.specs.Runs.{Posted}
@@ -16,7 +16,7 @@ use Rattle.l4_core_model.proofs.Standing.{place_within}
 use Rattle.l4_core_model.proofs.Fit.{IsGood}
 use Rattle.l4_core_model.proofs.Good.{obeyed_good}
 use Rattle.l4_split.proofs.Relation.Views.{Scene, Kept, View, kept, view, home, amid, subject, is_locator, locators}
-use Rattle.l4_split.proofs.Relation.Rows.{seats, Agrees, learns, RowOf, IsObeyed, Matches, IsUnplaced, IsKept}
+use Rattle.l4_split.proofs.Relation.Rows.{seats, Agrees, learns, RowOf, IsObeyed, Matches, IsUnplaced, IsKept, OwesIn, HasJustReceived}
 use Rattle.l4_split.proofs.Relation.Relates.{RelatesExcept}
 use Rattle.l4_split.proofs.Frames.Places.{takes_in}
 use Rattle.l4_split.proofs.Frames.Moves.{at_home, IsFresh, of_none}
@@ -51,6 +51,19 @@ obeyed_fresh : (clock : ℕ) (t : Thread) → IsFresh clock (obeyed t).phase (ob
 obeyed_fresh clock t = cond_keeps (λ (u : Thread). IsFresh clock u.phase u.send) (is_alive t.phase) _ _ (λ alive. tt)
     (λ gone. caller_fresh clock t.phase t.send gone)
 
+-- A caller beside which a retarget is owed is deleted, and stays so.
+obeyed_owes : (t : Thread) (order : Asked) (owed : Option Owed) → Suits t.phase t.send (Some order) → OwesIn t.phase owed → OwesIn (obeyed t).phase owed
+obeyed_owes t order None suits owes = tt
+obeyed_owes t order (Some o) suits owes = by t.phase refl suits owes
+  where
+    by : (p : Phase) → t.phase ≡ p → Suits p t.send (Some order) → HasJustReceived p → HasJustReceived (obeyed t).phase
+    by Ready is s h = let none = s.1 in cc
+    by Sending is s h = absurd h
+    by (Receiving receive since) is s h = absurd h
+    by Ordering is s h = absurd h
+    by Ended is s h = absurd h
+    by Deleted is s h = let gone = obeyed_deleted t is in rw gone tt
+
 pub caller_unready : (i : ℕ) (p : Phase) (send : Option Send) (order : Asked) → Suits p send (Some order) → readied p i [] ≡ []
 caller_unready i Ready send order s = cc
 caller_unready i Sending send order s = refl
@@ -71,8 +84,8 @@ obeyed_relates m cpu i s w x before p caller here content t rel =
     let good : IsGood x.local.clock (thread x.local i) = subst (λ (k : Kept). IsGood k.clock k.thread) was t.matches.known.kept.at_home.good in
     let suits : Suits (thread x.local i).phase (thread x.local i).send (Some row.orders.order) =
     subst (Suits (thread x.local i).phase (thread x.local i).send) has good.suits in
-    let agrees : Agrees before.world (obeyed (thread x.local i)) = subst (λ (k : Kept). Agrees before.world (obeyed k.thread)) was
-    (subst (λ c. Agrees before.world (learns c (at_home m i before).clock (at_home m i before).thread)) content (taken_agrees m i before v p t)) in
+    let agrees : Agrees m before.world (obeyed (thread x.local i)) = subst (λ (k : Kept). Agrees m before.world (obeyed k.thread)) was
+    (subst (λ c. Agrees m before.world (learns c (at_home m i before).clock (at_home m i before).thread)) content (taken_agrees m i before v p t)) in
     let c = comes m cpu i [] s w x obeyed (λ t. t) here rel in
     let q : IsQuiet m i v (kept x.local i) obeyed (λ t. t) = record {
       kept = taken_kept m i before v p t;
@@ -85,9 +98,11 @@ obeyed_relates m cpu i s w x before p caller here content t rel =
           ∙ caller_unready i (thread x.local i).phase (thread x.local i).send row.orders.order suits;
       send = obeyed_send (thread x.local i) ∙ none;
       order = obeyed_order (thread x.local i);
-      agrees = subst (λ u. Agrees u (obeyed (thread x.local i))) (sym t.world) agrees;
+      agrees = subst (λ u. Agrees m u (obeyed (thread x.local i))) (sym t.world) agrees;
       good = obeyed_good x.local.clock (thread x.local i) row.orders.order has good;
       fresh = obeyed_fresh x.local.clock (thread x.local i);
+      owes = obeyed_owes (thread x.local i) row.orders.order (owed_beside x.local i) suits
+          (subst (λ (k : Kept). OwesIn k.thread.phase k.owed) was t.matches.known.kept.at_home.owes);
       stays_true = record {
         deleted = λ gone. obeyed_deleted (thread x.local i) gone;
         begun = let same = obeyed_begun (thread x.local i) in omega arith;
@@ -108,9 +123,10 @@ handles_order_done m from cpu letter s w x caller h content is =
     let at = own_place_is m cpu caller i own in
     let lt = place_within m caller i at.0 in
     let about : place_of m (subject letter.content) ≡ Some i = ap (λ c. place_of m (subject c)) content ∙ at.0 in
-    let rel = taken_relates m from cpu i letter s w h about in
+    let rel = taken_relates m from cpu i letter s w h about (ap is_locator content) in
     let t = taken_out m from cpu i letter s w h lt about (ap is_locator content) in
     subst (Goes m cpu (without from cpu s) w []) (some_is _ x rest) (record {
+      starts = h.starts;
       now = w;
       reaches = refl;
       relates = obeyed_relates m cpu i (without from cpu s) w y (view m s w i) (record { from = from; to = cpu; letter = letter }) caller
@@ -127,7 +143,7 @@ pub record IsCalling (m : Machine) (i : ℕ) (order : Asked) (v : View) : Type 0
   pub has : (at_home m i v).thread.order ≡ Some order
   pub quiet : locators v.mail ≡ []
   pub unplaced : IsUnplaced m i (seats m i v)
-  pub agrees : Agrees v.world (at_home m i v).thread
+  pub agrees : Agrees m v.world (at_home m i v).thread
 
 -- Its order is done: it goes on.
 pub obeyed_here : (m : Machine) (cpu i : ℕ) (order : Asked) (s : Scene) (w : World) (x : Work) → IsHere m cpu i →
@@ -149,9 +165,10 @@ obeyed_here m cpu i order s w x here c rel =
       out = sym (ap (λ (k : Kept). k.ready) was) ∙ c.out;
       send = obeyed_send t ∙ none;
       order = obeyed_order t;
-      agrees = obeyed_agrees v.world t order has suits (subst (λ (k : Kept). Agrees v.world k.thread) was c.agrees);
+      agrees = obeyed_agrees v.world t order has suits (subst (λ (k : Kept). Agrees m v.world k.thread) was c.agrees);
       good = obeyed_good x.local.clock t order has good;
       fresh = obeyed_fresh x.local.clock t;
+      owes = obeyed_owes t order (owed_beside x.local i) suits (subst (λ (k : Kept). OwesIn k.thread.phase k.owed) was c.kept.at_home.owes);
       stays_true = record {
         deleted = λ gone. obeyed_deleted t gone;
         begun = let same = obeyed_begun t in omega arith;

@@ -19,13 +19,13 @@ use Rattle.l4_core_model.proofs.Standing.{place_within}
 use Rattle.l4_core_model.proofs.Fit.{get_other}
 use Rattle.l4_split.proofs.Lists.{other_is, filter_last, filter_last_other}
 use Rattle.l4_split.proofs.Relation.Views.{Scene, Kept, View, kept, view, world_thread, home, amid, subject, is_locator, notices, is_about, locators}
-use Rattle.l4_split.proofs.Relation.Rows.{seats, AgreesIn, Agrees, learns, RowOf, IsOrdering, IsOrdered, IsObeyed, IsKeptAtHome, Matches, seats_of}
+use Rattle.l4_split.proofs.Relation.Rows.{seats, AgreesIn, AgreesByPhase, Agrees, learns, RowOf, IsOrdering, IsOrdered, IsObeyed, IsKeptAtHome, Matches, seats_of}
 use Rattle.l4_split.proofs.Relation.Relates.{RelatesExcept}
 use Rattle.l4_split.proofs.Frames.Places.{first_about, takes_in, put_same, world_changes}
 use Rattle.l4_split.proofs.Frames.Mail.{about_place, mail_posted, letter_posted, mail_here}
-use Rattle.l4_split.proofs.Relation.Agreement.{same_agrees}
+use Rattle.l4_split.proofs.Relation.Agreement.{same_by_phase}
 use Rattle.l4_split.proofs.Frames.Moves.{at_home, StaysTrue, same_alike, Moves, moves_kept, located_known}
-use Rattle.l4_split.proofs.Frames.Going.{Goes, one_more_told, IsHere}
+use Rattle.l4_split.proofs.Frames.Going.{Goes, one_more_told, IsHere, IsReached}
 use Rattle.l4_split.proofs.Sends.Answering.{same_stays_true}
 use Rattle.l4_split.proofs.Sends.Finding.{found_at_is}
 use Rattle.l4_split.proofs.Sends.Coming.{IsTakenOut, taken_row, taken_agrees}
@@ -35,15 +35,15 @@ use Rattle.l4_split.proofs.Orders.Asking.{asks_other}
 use Rattle.l4_split.proofs.Orders.Obeying.{obeys_relates, obeys_steps}
 
 -- The caller goes on, in the world; home hears of it later.
-pub obeyed_agrees : (world t : Thread) (order : Asked) → t.order ≡ Some order → Suits t.phase t.send (Some order) → Agrees world t →
-    Agrees (obeyed world) (obeyed t)
-obeyed_agrees world t order has suits a = by t.phase refl suits a
+obeyed_by_phase : (world t : Thread) (order : Asked) → t.order ≡ Some order → Suits t.phase t.send (Some order) → AgreesByPhase world t →
+    AgreesByPhase (obeyed world) (obeyed t)
+obeyed_by_phase world t order has suits a = by t.phase refl suits a
   where
-    by : (p : Phase) → t.phase ≡ p → Suits p t.send (Some order) → AgreesIn p world t → Agrees (obeyed world) (obeyed t)
+    by : (p : Phase) → t.phase ≡ p → Suits p t.send (Some order) → AgreesIn p world t → AgreesByPhase (obeyed world) (obeyed t)
     by Ready is s a = let none = s.1 in cc
     by Sending is s a = let none = s.1 in cc
     by (Receiving receive since) is s a = let none = s.1 in cc
-    by Ordering is s a = same_agrees (obeyed world) (obeyed t) (ap obeyed a)
+    by Ordering is s a = same_by_phase (obeyed world) (obeyed t) (ap obeyed a)
     by Ended is s a = let none = s.1 in cc
     by Deleted is s a =
         let there = a.deleted in
@@ -56,9 +56,16 @@ obeyed_agrees world t order has suits a = by t.phase refl suits a
           order = refl;
           cancel_send = a.cancel_send;
         } in
-        subst (λ x. Agrees x (obeyed t)) (sym u)
-        (subst (Agrees (record world { order = None })) (sym v)
+        subst (λ x. AgreesByPhase x (obeyed t)) (sym u)
+        (subst (AgreesByPhase (record world { order = None })) (sym v)
         (subst (λ p. AgreesIn p (record world { order = None }) (record t { order = None })) (sym is) left))
+
+pub obeyed_agrees : {m : Machine} (world t : Thread) (order : Asked) → t.order ≡ Some order → Suits t.phase t.send (Some order) → Agrees m world t →
+    Agrees m (obeyed world) (obeyed t)
+obeyed_agrees world t order has suits a = record {
+  by_phase = obeyed_by_phase world t order has suits a.by_phase;
+  together = λ one. ap obeyed (a.together one);
+}
 
 -- Of another thread than the target nothing changes.
 
@@ -105,15 +112,15 @@ order_letter caller target what id order h = (cc, cc)
 order_goes : (m : Machine) (cpu i j : ℕ) (s : Scene) (w : World) (x : Work) (before : View) (p : Posted) (caller target : GlobalId) (what : What) →
     IsHere m cpu j → i < length m.threads → (home m i ≡ cpu → ⊥) → place_of m caller ≡ Some i → place_of m target ≡ Some j → p.to ≡ cpu →
     p.letter.content ≡ OrderLetter caller target what →
-    IsTakenOut m i before (view m (amid cpu s x) w i) p → RelatesExcept m (Matches m) (i ∷ []) (amid cpu s x) w → x.steps ≡ [] →
+    IsReached m w → IsTakenOut m i before (view m (amid cpu s x) w i) p → RelatesExcept m (Matches m) (i ∷ []) (amid cpu s x) w → x.steps ≡ [] →
     Goes m cpu s w [] (x ▷ obeys m cpu caller what j ▷ posts (home m i) (OrderDoneLetter caller))
-order_goes m cpu i j s w x before p caller target what here lt away at_i at_j to content t rel nothing =
+order_goes m cpu i j s w x before p caller target what here lt away at_i at_j to content starts t rel nothing =
     let v : View = view m (amid cpu s x) w i in
     let row : IsOrdered m i (seats m i before) p = subst (RowOf m i (seats m i before) p) content (taken_row m i before v p t) in
     let o = row.orders in
     let says = order_letter caller target what (declared m i).id o.order (sym content ∙ row.letter) in
-    let agrees : Agrees before.world (at_home m i before).thread =
-    subst (λ c. Agrees before.world (learns c (at_home m i before).clock (at_home m i before).thread)) content (taken_agrees m i before v p t) in
+    let agrees : Agrees m before.world (at_home m i before).thread =
+    subst (λ c. Agrees m before.world (learns c (at_home m i before).clock (at_home m i before).thread)) content (taken_agrees m i before v p t) in
     let ne : j ≡ i → ⊥ = λ e. away (sym (ap (home m) e) ∙ here.home) in
     let y : Work = obeys m cpu caller what j x in
     let z : Work = posts (home m i) (OrderDoneLetter caller) y in
@@ -121,7 +128,7 @@ order_goes m cpu i j s w x before p caller target what here lt away at_i at_j to
     let u2 : World = change u1 i obeyed in
     let q : Posted = posted cpu (home m i, record { stamp = y.local.stamp; content = OrderDoneLetter caller }) in
     let rel1 = obeys_relates m cpu j caller what (i ∷ []) s w x here (ne, tt) rel in
-    let rel3 = letter_posted m cpu (home m i) i (OrderDoneLetter caller) (i ∷ []) s u2 y at_i (first_about i [])
+    let rel3 = letter_posted m cpu (home m i) i (OrderDoneLetter caller) (i ∷ []) s u2 y at_i refl (first_about i [])
     (world_changes m i (i ∷ []) (amid cpu s y) u1 obeyed (first_about i []) rel1) in
     let after : View = view m (amid cpu s z) u2 i in
     let same_local : kept y.local i ≡ kept x.local i = ap (λ l. kept l i) (obeys_local m cpu j caller what x) ∙ asks_other what x.local j i ne in
@@ -167,14 +174,15 @@ order_goes m cpu i j s w x before p caller target what here lt away at_i at_j to
     let possible : next m w (Obey caller) ≡ Some (change (change w j (asked o.order.what)) i obeyed) = rw (at_i, found_now, ordering, place) refl in
     let steps : z.steps ≡ Obey caller ∷ [] = obeys_steps m cpu j caller what x ∙ ap (λ ss. ss ++ Obey caller ∷ []) nothing in
     record {
+      starts = starts;
       now = u2;
       reaches = ap (run m w) steps
           ∙ one_more_told m w w u2 [] (Obey caller) refl (possible ∙ ap (λ k. Some (change (change w j (asked k)) i obeyed)) (sym says.1));
       relates = takes_in m i [] (amid cpu s z) u2 rel3 (record {
         known = located_known m i after q
             (moves_kept m i before after t.matches.known.kept moves (subst (IsKeptAtHome i) (sym home_same) t.matches.known.kept.at_home)) locator obeys_row
-            (subst (λ (k : Kept). Agrees after.world (obeyed k.thread)) (sym home_same)
-            (subst (λ u. Agrees u (obeyed (at_home m i before).thread)) (sym world)
+            (subst (λ (k : Kept). Agrees m after.world (obeyed k.thread)) (sym home_same)
+            (subst (λ u. Agrees m u (obeyed (at_home m i before).thread)) (sym world)
             (obeyed_agrees before.world (at_home m i before).thread o.order o.has suits agrees)));
         ready = subst (λ (k : Kept). k.ready ≡ readied k.thread.phase i []) (sym home_same) t.matches.ready;
       });
@@ -192,8 +200,8 @@ handles_order m from cpu letter s w x caller target what h content is =
     let at_i = foreign_place_is m cpu caller i foreign in
     let lt = place_within m caller i at_i.0 in
     let about : place_of m (subject letter.content) ≡ Some i = ap (λ c. place_of m (subject c)) content ∙ at_i.0 in
-    let rel = taken_relates m from cpu i letter s w h about in
+    let rel = taken_relates m from cpu i letter s w h about (ap is_locator content) in
     let t = taken_out m from cpu i letter s w h lt about (ap is_locator content) in
     subst (Goes m cpu (without from cpu s) w []) (some_is _ x rest)
     (order_goes m cpu i j (without from cpu s) w y (view m s w i) (record { from = from; to = cpu; letter = letter }) caller target what
-    (record { machine = h.machine; within = place_within m target j at_j.0; home = at_j.1 }) lt at_i.1 at_i.0 at_j.0 refl content t rel refl)
+    (record { machine = h.machine; within = place_within m target j at_j.0; home = at_j.1 }) lt at_i.1 at_i.0 at_j.0 refl content h.starts t rel refl)

@@ -4,23 +4,23 @@ use Rattle.std.proofs.Common.{◌≡◌, ℕ, ◌<◌, true, Option, Some, None,
 use Rattle.std.specs.List.{AllByRecursion}
 use Rattle.std.proofs.lemmas.Bool.{eqb-true}
 use Rattle.l4_model.specs.Words.{GlobalId}
-use Rattle.l4_model.specs.Machine.{Machine, Instr, is_place}
-use Rattle.l4_model.specs.World.{Receive, Send, Phase, Ready, Sending, Receiving, Ordering, Ended, Deleted, is_ready, is_deleted}
-use Rattle.l4_model.specs.Rules.{received_tag, is_cross}
+use Rattle.l4_model.specs.Machine.{Machine, Instr, is_place, place_of}
+use Rattle.l4_model.specs.World.{Receive, Send, Phase, Ready, Sending, Receiving, Ordering, Ended, Deleted, is_ready, is_deleted, Owed}
+use Rattle.l4_model.specs.Rules.{received_tag, is_cross, owed_by}
 use Rattle.l4_model.specs.Steps.{Step, Local as RanLocal, Begin, Queue, Deliver, Wait}
 use Rattle.l4_model.specs.Conditions.{instruction, is_zero}
 use Rattle.l4_model.specs.Effects.{runs, begins, waits, fails, decided, receives}
 use Rattle.l4_model.proofs.Chains.{cond_keeps}
 use Rattle.l4_core_model.specs.Plain as plain
-use Rattle.l4_core_model.specs.Letters.{Refusal, TimedOut, Nobody, Result, Delivered, Refused, DoneLetter, SendLetter, refusal_step}
-use Rattle.l4_core_model.specs.Local.{Local, declared, is_own, thread, held, destination_place, last_name, relists, changes, comes_to, after_decision}
-use Rattle.l4_core_model.specs.Acts.{Work, ◌▷◌, tells, does, posts, tells_send, decides_send, refuses, delivers_send, delivers, first_of_list, first_acceptable, entry, zero_refusable, queues_send, arrives, posts_send, send_goes_to, begins_send, fails_receive, runs_alone_at, waits_at}
+use Rattle.l4_core_model.specs.Letters.{Refusal, TimedOut, Nobody, Result, Delivered, Refused, DoneLetter, SendLetter, refusal_step, RetargetLetter}
+use Rattle.l4_core_model.specs.Local.{Local, declared, is_own, thread, held, destination_place, last_name, relists, changes, comes_to, after_decision, keeps_beside}
+use Rattle.l4_core_model.specs.Acts.{Work, ◌▷◌, tells, does, posts, tells_send, decides_send, refuses, delivers_send, delivers, first_of_list, first_acceptable, entry, zero_refusable, queues_send, arrives, posts_send, send_goes_to, begins_send, fails_receive, runs_alone_at, waits_at, owes, owes_for}
 use Rattle.l4_core_model.specs.Runs.{Posted}
 use Rattle.l4_core_model.proofs.Apart.{apart}
 use Rattle.l4_split.proofs.Relation.Views.{Scene, home, amid}
 use Rattle.l4_split.proofs.Promises.Promised.{MayFollow, IsNotWithdrawalOf, Promised}
 use Rattle.l4_split.proofs.Promises.Frames.{leaves_one, posts_keeps}
-use Rattle.l4_split.proofs.Promises.Locals.{relists_keeps, changes_away, comes_keeps, comes_on}
+use Rattle.l4_split.proofs.Promises.Locals.{relists_keeps, changes_away, comes_keeps, comes_on, local_keeps}
 use Rattle.l4_split.proofs.Promises.Phases.{IsWishless, receiving_wishless, runs_afresh, waits_afresh, begins_afresh, receives_afresh, fails_afresh, ended_afresh}
 
 -- The middle of an event
@@ -73,6 +73,30 @@ first_wishless m l r i h = by (thread l r).phase refl h
     by Ended is h = cc
     by Deleted is h = cc
 
+-- What is owed beside a thread is no matter of promises, nor is a letter of a retarget.
+pub beside_keeps : (m : Machine) (cpu r : ℕ) (o : Option Owed) (s : Scene) (x : Work) → cpu < m.cpus → StaysPromised m cpu s x →
+    StaysPromised m cpu s (x ▷ does (keeps_beside r o))
+beside_keeps m cpu r o s x processor p = local_keeps m cpu [] s x (keeps_beside r o) processor (record {
+  threads = refl;
+  told_ones = refl;
+  told = λ i. refl;
+  calm = λ i lt here h. h;
+  steady = λ i lt here out. record { armed = λ h. h; ending = λ send has ending. (has, (ending, refl)) };
+  away = λ i lt away h. h;
+}) p
+
+owes_keeps : (m : Machine) (cpu r : ℕ) (o : Option Owed) (s : Scene) (x : Work) → cpu < m.cpus → StaysPromised m cpu s x →
+    StaysPromised m cpu s (owes_for m cpu r o x)
+owes_keeps m cpu r None s x processor p = p
+owes_keeps m cpu r (Some o) s x processor p = by (place_of m o.originator)
+  where
+    by : (q : Option ℕ) → StaysPromised m cpu s (owes m cpu r o q x)
+    by None = p
+    by (Some j) = cond_keeps (StaysPromised m cpu s) (is_own m cpu j) (x ▷ does (keeps_beside r (Some o))) (posts (declared m j).cpu (RetargetLetter o) x)
+        (λ own. beside_keeps m cpu r (Some o) s x processor p)
+        (λ other. posts_keeps m cpu (declared m j).cpu (RetargetLetter o) [] s x
+        (all_true (λ (q : Posted). MayFollow (RetargetLetter o) q.letter.content) (λ q. tt) (amid cpu s x).mail) p)
+
 -- A delivery to the first that is accepted.
 pub delivers_keeps : (m : Machine) (cpu r i : ℕ) (s : Scene) (x : Work) → cpu < m.cpus → home m r ≡ cpu → is_place (first_acceptable x.local r) i ≡ true →
     StaysPromised m cpu s x → StaysPromised m cpu s (delivers m cpu r i x)
@@ -83,11 +107,14 @@ delivers_keeps m cpu r i s x processor here first p = by (thread x.local i).send
     by (Some send) =
         let tag = received_tag (is_cross m (declared m r).id send.message) send.message in
         let y : Work = x ▷ does (comes_to r (receives send.message tag)) in
-        ends_keeps m cpu i Delivered s
+        owes_keeps m cpu r (owed_by m (last_name m x.local i) send.message (declared m r).id) s
+        (decides_send m cpu Delivered i (x ▷ tells (Deliver (last_name m x.local i) (declared m r).id send.message.shown send.message.actual tag send.message.words)
+        ▷ does (comes_to r (receives send.message tag)))) processor
+        (ends_keeps m cpu i Delivered s
         (x ▷ tells (Deliver (last_name m x.local i) (declared m r).id send.message.shown send.message.actual tag send.message.words)
         ▷ does (comes_to r (receives send.message tag))) processor
         (comes_on m cpu r s x (receives send.message tag) processor here
-        (receives_afresh send.message tag (thread x.local r) (first_wishless m x.local r i first)) p)
+        (receives_afresh send.message tag (thread x.local r) (first_wishless m x.local r i first)) p))
 
 -- A send has come to its receiver's processor.
 pub arrives_keeps : (m : Machine) (cpu r i : ℕ) (s : Scene) (x : Work) → cpu < m.cpus → home m r ≡ cpu → StaysPromised m cpu s x →

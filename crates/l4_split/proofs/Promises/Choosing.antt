@@ -18,7 +18,7 @@ use Rattle.std.proofs.lemmas.List.{append-nil}
 use Rattle.l4_model.specs.Rules.{Act, RunsAlone, Sends, Receives, Orders}
 use Rattle.l4_model.specs.Conditions.{act_of}
 use Rattle.l4_model.specs.Effects.{begins}
-use Rattle.l4_core_model.specs.Letters.{Content, SendLetter, DoneLetter, WithdrawLetter, GoneLetter, OrderLetter, OrderDoneLetter}
+use Rattle.l4_core_model.specs.Letters.{Content, SendLetter, DoneLetter, WithdrawLetter, GoneLetter, OrderLetter, OrderDoneLetter, RetargetLetter}
 use Rattle.l4_core_model.specs.Acts.{Work, ◌▷◌, does, acts}
 use Rattle.l4_core_model.specs.Turns.{Choice, ByDuty, ByDue, ByReady, does_choice, turn, opened}
 use Rattle.l4_core_model.specs.Runs.{Posted, IsMachine}
@@ -27,9 +27,9 @@ use Rattle.l4_split.proofs.Turns.Choices.{IsChoice, turn_then}
 use Rattle.l4_split.proofs.Relation.Relates.{RelatesExcept}
 use Rattle.l4_split.proofs.Frames.Locals.{comes_here}
 use Rattle.l4_split.proofs.Frames.Moves.{at_home}
-use Rattle.l4_split.proofs.Frames.Going.{IsHere, opened_goes}
+use Rattle.l4_split.proofs.Frames.Going.{IsHere, opened_goes, IsReached}
 use Rattle.l4_split.proofs.Turns.Timing.{due_goes}
-use Rattle.l4_split.proofs.Turns.Choosing.{ready_goes}
+use Rattle.l4_split.proofs.Turns.Choosing.{ready_goes, nothing_beside}
 use Rattle.l4_split.proofs.Promises.Locals.{size_now, relists_keeps}
 use Rattle.l4_split.proofs.Promises.Acts.{StaysPromised, begins_keeps, runs_keeps, waits_keeps}
 use Rattle.l4_split.proofs.Promises.Giving.{gives_keeps}
@@ -97,6 +97,7 @@ none_of_next m i s w name place above matches =
     not_about q (GoneLetter id) out = tt
     not_about q (OrderLetter caller target what) out = tt
     not_about q (OrderDoneLetter caller) out = tt
+    not_about q (RetargetLetter o) out = tt
 
     not_late : (c : Content) → not (is_locator c) ≡ false → IsNotWithdrawalOf name c
     not_late (WithdrawLetter t receiver cause) out = cc
@@ -105,6 +106,7 @@ none_of_next m i s w name place above matches =
     not_late (GoneLetter id) out = tt
     not_late (OrderLetter caller target what) out = tt
     not_late (OrderDoneLetter caller) out = tt
+    not_late (RetargetLetter o) out = tt
 
     by : (q : Posted) (c : Content) → IsNoticeOf m i k q c → IsNotWithdrawalOf name c
     by q (WithdrawLetter t receiver cause) h = λ e. let same : name.k ≡ t.k = ap (λ (n : Name). n.k) e in let low = h.number in absurd (omega (arith, above))
@@ -113,6 +115,7 @@ none_of_next m i s w name place above matches =
     by q (GoneLetter id) h = tt
     by q (OrderLetter caller target what) h = tt
     by q (OrderDoneLetter caller) h = tt
+    by q (RetargetLetter o) h = tt
 
 -- The first ready thread goes on.
 acts_keeps : (m : Machine) (cpu i : ℕ) (s : Scene) (w : World) (l : Local) → l ≡ s.locals cpu → cpu < m.cpus → IsHere m cpu i →
@@ -140,22 +143,23 @@ acts_keeps m cpu i s w l is processor here ready matches p = by (act_of m (held 
     by (Orders order) = gives_keeps m cpu i order s x processor here.within here.home ready p
 
 -- The choice
-choice_keeps : (m : Machine) (cpu : ℕ) (s : Scene) (w : World) (c : Choice) → IsMachine m → cpu < m.cpus → RelatesExcept m (Matches m) [] s w →
+choice_keeps : (m : Machine) (cpu : ℕ) (s : Scene) (w : World) (c : Choice) → IsMachine m → cpu < m.cpus → IsReached m w → RelatesExcept m (Matches m) [] s w →
     StaysPromised m cpu s (opened 0 (s.locals cpu)) → IsChoice m cpu (s.locals cpu) c →
     StaysPromised m cpu s (does_choice m cpu c (opened 0 (s.locals cpu)))
-choice_keeps m cpu s w (ByDuty i duty) machine processor rel p c = duty_keeps m cpu i s (opened 0 (s.locals cpu)) duty processor c.0.home p c.1
-choice_keeps m cpu s w (ByDue i) machine processor rel p c =
-    let due = due_goes m cpu s w (opened 0 (s.locals cpu)) (c.0, i) c.1.0 machine processor (opened_goes m cpu 0 [] s w rel) c.1.1.0 in
+choice_keeps m cpu s w (ByDuty i duty) machine processor starts rel p c = duty_keeps m cpu i s (opened 0 (s.locals cpu)) duty processor c.0.home p c.1
+choice_keeps m cpu s w (ByDue i) machine processor starts rel p c =
+    let due = due_goes m cpu s w (opened 0 (s.locals cpu)) (c.0, i) c.1.0 machine processor (opened_goes m cpu 0 [] s w starts rel) c.1.1.0 in
     due_keeps m cpu s (opened 0 (s.locals cpu)) (c.0, i) c.1.0 processor due.here.home
     (subst (λ c. IsListedHere m i (s.locals c)) due.here.home (listed_here m i s w (rel.places i due.here.within tt))) c.1.1.0 p
-choice_keeps m cpu s w (ByReady i) machine processor rel p c =
-    let r = ready_goes m cpu s w (opened 0 (s.locals cpu)) i c.0 machine processor (opened_goes m cpu 0 [] s w rel) c.1 in
+choice_keeps m cpu s w (ByReady i) machine processor starts rel p c =
+    let r = ready_goes m cpu s w (opened 0 (s.locals cpu)) i c.0 machine processor (opened_goes m cpu 0 [] s w starts rel) c.1.0
+    (λ here. nothing_beside m cpu (s.locals cpu) i (c.1.1 i here)) in
     acts_keeps m cpu i s w (s.locals cpu) refl processor r.picked.here r.picked.ready (rel.places i r.picked.here.within tt)
     (relists_keeps m cpu [] s (opened 0 (s.locals cpu)) plain.popped processor refl p)
 
 -- A turn.
-pub turn_keeps : (m : Machine) (cpu : ℕ) (s : Scene) (w : World) (x : Work) → IsMachine m → cpu < m.cpus → RelatesExcept m (Matches m) [] s w →
+pub turn_keeps : (m : Machine) (cpu : ℕ) (s : Scene) (w : World) (x : Work) → IsMachine m → cpu < m.cpus → IsReached m w → RelatesExcept m (Matches m) [] s w →
     Promised m [] s → turn m cpu (s.locals cpu) ≡ Some x → StaysPromised m cpu s x
-turn_keeps m cpu s w x machine processor rel promised h =
+turn_keeps m cpu s w x machine processor starts rel promised h =
     turn_then m cpu (s.locals cpu) x (StaysPromised m cpu s) h λ c is.
-    choice_keeps m cpu s w c machine processor rel (opened_keeps m cpu 0 [] s processor promised) is
+    choice_keeps m cpu s w c machine processor starts rel (opened_keeps m cpu 0 [] s processor promised) is

@@ -1,4 +1,5 @@
 -- What is promised is kept by what a letter brings about.
+use Rattle.l4_split.proofs.Promises.Retargets.{retargets_keeps}
 use Rattle.l4_split.proofs.Lists.{all_true}
 use Rattle.l4_split.proofs.Promises.Withdrawn.{withdraw_keeps}
 use Rattle.l4_model.proofs.Rows.Writing.{id, send}
@@ -9,7 +10,7 @@ use Rattle.l4_model.specs.Words.{same_id}
 use Rattle.l4_model.specs.Machine.{Machine, is_declared}
 use Rattle.l4_model.specs.World.{Name, World, Send, Thread, Phase, Ready, Sending, Receiving, Ordering, Ended, Deleted, is_deleted}
 use Rattle.l4_model.proofs.Chains.{bind_then, guard_then, some_is}
-use Rattle.l4_core_model.specs.Letters.{Content, SendLetter, DoneLetter, WithdrawLetter, GoneLetter, OrderLetter, OrderDoneLetter, Letter}
+use Rattle.l4_core_model.specs.Letters.{Content, SendLetter, DoneLetter, WithdrawLetter, GoneLetter, OrderLetter, OrderDoneLetter, Letter, RetargetLetter}
 use Rattle.l4_core_model.specs.Local.{declared, thread, changes, comes_to, stands_in, stand_in, is_gone_now, after_decision}
 use Rattle.l4_core_model.specs.Acts.{Work, ◌▷◌, does, split_place, obeys}
 use Rattle.l4_core_model.specs.Mail.{own_place, foreign_place, is_ordering, handled}
@@ -114,3 +115,12 @@ letter_keeps m from cpu letter s w x (OrderDoneLetter caller) h first content pr
     taken_keeps m from cpu letter s x h.first (silent_spent m from cpu letter s x _ content ((λ s a b p h. h), (λ id to p h. h)))
     (subst (StaysPromised m cpu s) (some_is _ x rest)
     (obeyed_keeps m cpu i s y h.processor (own_place_is m cpu caller i own).1 (has_asked (thread y.local i).phase asked) p))
+letter_keeps m from cpu letter s w x (RetargetLetter o) h first content promised is =
+    let y : Work = at_work cpu letter s in
+    guard_then m.retargeting _ x is λ profile rest.
+    bind_then (own_place m cpu o.originator) _ x rest λ j own rest.
+    guard_then (is_declared m o.old_partner) _ x rest λ old rest.
+    guard_then (is_some (foreign_place m cpu o.new_partner)) _ x rest λ foreign rest.
+    let p = opened_keeps m cpu letter.stamp [] s h.processor promised in
+    taken_keeps m from cpu letter s x h.first (silent_spent m from cpu letter s x _ content ((λ s a b p h. h), (λ id to p h. h)))
+    (subst (StaysPromised m cpu s) (some_is _ x rest) (retargets_keeps m cpu o j s y h.processor p))

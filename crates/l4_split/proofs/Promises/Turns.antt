@@ -1,15 +1,16 @@
 -- What is promised is kept by a duty, a due timeout and an instruction.
+use Rattle.l4_split.proofs.Promises.Retargets.{retargets_where}
 use Rattle.std.proofs.Common.{◌≡◌, ℕ, ◌<◌, true, false, Option, Some, None, List, [], ◌∷◌, refl, ap, sym, ◌∙◌, subst}
 use Rattle.std.specs.Prelude.{is_some}
-use Rattle.l4_model.specs.Machine.{Machine, is_place}
+use Rattle.l4_model.specs.Machine.{Machine, is_place, place_of}
 use Rattle.l4_model.specs.World.{Send, Phase, Ready, Sending, Receiving, Ordering, Ended, Deleted, receive_now}
 use Rattle.l4_model.specs.Steps.{ReceiveTimeout, ReceiveNobody, ReceiveCancel, SendTimeout}
 use Rattle.l4_model.proofs.Chains.{cond_keeps}
 use Rattle.l4_core_model.specs.Plain as plain
 use Rattle.l4_core_model.specs.Letters.{TimedOut, Nobody, Cancelled, Dropped, Refused, ByTimeout}
-use Rattle.l4_core_model.specs.Local.{Local, is_own, thread, relists, armed_period}
+use Rattle.l4_core_model.specs.Local.{Local, is_own, thread, relists, armed_period, keeps_beside}
 use Rattle.l4_core_model.specs.Acts.{Work, ◌▷◌, tells_send, does}
-use Rattle.l4_core_model.specs.Turns.{Duty, DropsOwn, RefusesFirst, TellsGone, CancelsOwn, CancelsReceive, DeliversFirst, ClosesReceive, RefusesZero, does_duty, times_out, opened, clock_is}
+use Rattle.l4_core_model.specs.Turns.{Duty, DropsOwn, RefusesFirst, TellsGone, CancelsOwn, CancelsReceive, DeliversFirst, ClosesReceive, RefusesZero, does_duty, times_out, opened, clock_is, Retargets}
 use Rattle.l4_core_model.proofs.Changed.{same_nat}
 use Rattle.l4_core_model.proofs.Apart.{apart}
 use Rattle.l4_split.proofs.Turns.Choices.{IsDuty, in_some_receive}
@@ -20,7 +21,7 @@ use Rattle.l4_split.proofs.Promises.Promised.{IsSplitSend, IsArmedUnlessSplit, P
 use Rattle.l4_split.proofs.Promises.Frames.{leaves_one}
 use Rattle.l4_split.proofs.Promises.Locals.{same_steady, IsHarmless, local_keeps}
 use Rattle.l4_split.proofs.Promises.Phases.{receiving_wishless}
-use Rattle.l4_split.proofs.Promises.Acts.{StaysPromised, ends_here, refuses_keeps, delivers_keeps, fails_keeps}
+use Rattle.l4_split.proofs.Promises.Acts.{StaysPromised, ends_here, refuses_keeps, delivers_keeps, fails_keeps, beside_keeps}
 use Rattle.l4_split.proofs.Promises.Orders.{withdraws_keeps}
 use Rattle.l4_split.proofs.Promises.Telling.{tells_keeps}
 
@@ -100,6 +101,8 @@ due_keeps m cpu s x a others processor here listed at p =
 -- A duty
 pub duty_keeps : (m : Machine) (cpu i : ℕ) (s : Scene) (x : Work) (duty : Duty) → cpu < m.cpus → home m i ≡ cpu → StaysPromised m cpu s x →
     IsDuty m cpu x.local i duty → StaysPromised m cpu s (does_duty m cpu i duty x)
+duty_keeps m cpu i s x (Retargets o) processor here p d =
+    retargets_where m cpu o (place_of m o.originator) s (x ▷ does (keeps_beside i None)) processor (beside_keeps m cpu i None s x processor p)
 duty_keeps m cpu i s x DropsOwn processor here p d = refuses_keeps m cpu i Dropped s x processor p
 duty_keeps m cpu i s x (RefusesFirst sender) processor here p d = refuses_keeps m cpu sender Nobody s x processor p
 duty_keeps m cpu i s x (TellsGone to) processor here p d = tells_keeps m cpu to i s x processor here d.1 p

@@ -10,7 +10,7 @@ use Rattle.l4_model.specs.Machine.{Machine}
 use Rattle.l4_model.specs.World.{Name, World, Send}
 use Rattle.l4_model.proofs.Chains.{bind_then, some_is, cond_keeps}
 use Rattle.l4_core_model.specs.Plain as plain
-use Rattle.l4_core_model.specs.Letters.{Cause, Refused, Content, SendLetter, DoneLetter, WithdrawLetter, GoneLetter, OrderLetter, OrderDoneLetter, Letter, refusal_of, refusal_step, Result}
+use Rattle.l4_core_model.specs.Letters.{Cause, Refused, Content, SendLetter, DoneLetter, WithdrawLetter, GoneLetter, OrderLetter, OrderDoneLetter, Letter, refusal_of, refusal_step, Result, RetargetLetter}
 use Rattle.l4_core_model.specs.Local.{declared, is_own, thread, destination_place, last_name, relists, changes}
 use Rattle.l4_model.specs.Effects.{decided}
 use Rattle.l4_core_model.specs.Acts.{Work, ◌▷◌, does, posts, tells_send, refuses}
@@ -46,6 +46,7 @@ done_answers s from to p (WithdrawLetter t receiver cause) h = absurd h
 done_answers s from to p (GoneLetter id) h = absurd h
 done_answers s from to p (OrderLetter caller target what) h = absurd h
 done_answers s from to p (OrderDoneLetter caller) h = absurd h
+done_answers s from to p (RetargetLetter o) h = absurd h
 
 -- The send of the first letter of a pair, a withdrawal, does not stand behind it.
 abbrev IsSendBetween : Name → (from cpu : ℕ) → Posted → Type 0
@@ -69,6 +70,7 @@ not_behind {P = P} s receiver cause from cpu letter mail content first order h =
     behind g p (GoneLetter id) is h may = absurd h
     behind g p (OrderLetter caller target what) is h may = absurd h
     behind g p (OrderDoneLetter caller) is h may = absurd h
+    behind g p (RetargetLetter o) is h may = absurd h
 
     by : (ps : List Posted) → slice_get (map (λ (p : Posted). p.letter) ps) 0 ≡ Some letter → InOrder ps → AnyOf (IsSendBetween s from cpu) ps → P
     by [] none order h = absurd h

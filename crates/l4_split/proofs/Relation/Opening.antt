@@ -6,7 +6,7 @@ use Rattle.l4_core_model.proofs.Lists.{range_below, get-same, all-map, all-filte
 use Rattle.l4_core_model.proofs.Apart.{same_or_apart}
 use Rattle.std.proofs.Common.{◌≡◌, ℕ, ◌+◌, ◌<◌, ◌≤◌, false, List, [], ◌∷◌, map, filter, length, refl, ap, sym, ◌∙◌, subst, arith, inl, inr, ◌⊎◌, Some, None}
 use Rattle.std.specs.Prelude.{◌==◌}
-use Rattle.std.specs.List.{range_with_len, AllByRecursion}
+use Rattle.std.specs.List.{range_with_len, AllByRecursion, cons_option}
 use Rattle.std.proofs.lemmas.List.{length-map, get_or-replicate, length-replicate, get_or_past}
 use Rattle.std.proofs.lemmas.Bool.{eqb-true, cases_lt}
 use Rattle.l4_model.specs.Machine.{Machine}
@@ -18,20 +18,31 @@ use Rattle.l4_core_model.proofs.Changed.{blocks}
 use Rattle.l4_split.proofs.Lists.{filter_out, other_is}
 use Rattle.l4_split.proofs.Relation.Views.{Kept, View, kept, view, home, nowhere, scene}
 use Rattle.l4_split.proofs.Relation.Rows.{Matches}
-use Rattle.l4_split.proofs.Relation.Relates.{IsSized, Relates, senders}
+use Rattle.l4_split.proofs.Relation.Agreement.{same_agrees}
+use Rattle.l4_split.proofs.Relation.Relates.{IsSized, Relates, senders, beside}
+use Rattle.l4_split.proofs.Relation.Owing.{Owing}
 use Rattle.l4_split.proofs.Promises.Promised.{IsArmedUnlessSplit, IsCalm, IsAnswered, Promised}
 
 -- What is kept of a thread where nothing has happened yet.
 
 abbrev opened : ℕ → List ℕ → Kept
-opened i ready = record { thread = opening_thread; ready = ready; armed = []; listed = λ r. []; told = 0; clock = 0 }
+opened i ready = record { thread = opening_thread; ready = ready; armed = []; listed = λ r. []; told = 0; owed = None; clock = 0 }
 
 opening_kept : (m : Machine) (cpu i : ℕ) → kept (opening_local m cpu) i ≡ opened i (filter (λ j. i == j) (own_places m cpu))
 opening_kept m cpu i =
     let threads = get-same opening_thread m.threads i in
     let lists = λ (r : ℕ). ap (filter (λ (e : plain.Waiting). i == e.block)) (get-same [] m.threads r) in
     let told = get-same 0 m.threads i in
-    λ d. record { thread = threads d; ready = filter (λ j. i == j) (own_places m cpu); armed = []; listed = λ r. lists r d; told = told d; clock = 0 }
+    let owed = get-same None m.threads i in
+    λ d. record {
+      thread = threads d;
+      ready = filter (λ j. i == j) (own_places m cpu);
+      armed = [];
+      listed = λ r. lists r d;
+      told = told d;
+      owed = owed d;
+      clock = 0;
+    }
 
 in_range : (m : Machine) (cpu : ℕ) → cpu < m.cpus → (scene (opening_system m)).locals cpu ≡ opening_local m cpu
 in_range m cpu lt = get_or-map-range_with_len (opening_local m) 0 m.cpus cpu cpu nowhere lt (omega arith)
@@ -63,13 +74,13 @@ opening_matches : (m : Machine) (i : ℕ) (v : View) → v.world ≡ opening_thr
     ((cpu : ℕ) → (cpu ≡ home m i → ⊥) → v.kept cpu ≡ opened i []) → Matches m i v
 opening_matches m i v world mail here other = record {
   known = record {
-    agrees = rw (mail, here) world;
+    agrees = rw (mail, here) (same_agrees v.world opening_thread world);
     row = rw (mail, here) (record {
       order = ap (λ (k : Kept). k.thread.order) here;
       unplaced = record { listed = λ cpu r. listed cpu r; stand_in = λ cpu ne. ap (λ (k : Kept). k.thread.send) (other cpu ne) };
     });
     kept = record {
-      at_home = rw here (record { good = record { suits = (refl, refl); sends = tt; receives = tt }; armed = inl refl });
+      at_home = rw here (record { good = record { suits = (refl, refl); sends = tt; receives = tt }; armed = inl refl; owes = tt });
       elsewhere = λ cpu ne. rw (other cpu ne, here) (record { ready = refl; armed = refl; gone = λ h. h });
       notices = rw mail tt;
     };
@@ -98,6 +109,16 @@ opening_list : (m : Machine) (r : ℕ) → list_at (opening m).waiting r ≡ blo
 opening_list m r =
     get-same [] m.threads r ∙ sym (at_processor m (λ l. blocks (plain.list_of l.lists r) ≡ []) (home m r) (λ lt. ap blocks (get-same [] m.threads r)) refl)
 
+-- Nothing is owed.
+opening_owing : (m : Machine) → IsMachine m → Owing m (beside (scene (opening_system m))) [] []
+opening_owing m is = record {
+  sized = λ cpu lt. subst (λ (l : Local). length l.owed ≡ length m.threads) (sym (in_range m cpu lt)) (length-map m.threads (λ d. None));
+  letters = refl;
+  kept = λ r lt. ap (λ o. cons_option o []) (sym (ap (λ (k : Kept). k.owed) (home_kept m r is lt)));
+  routed = tt;
+  in_order = tt;
+}
+
 -- At the opening all is related.
 pub opening_relates : (m : Machine) → IsMachine m → Relates m (opening_system m) (opening m)
 opening_relates m is = record {
@@ -105,6 +126,7 @@ opening_relates m is = record {
   sized_world = record { threads = length-map m.threads (λ d. opening_thread); lists = length-map m.threads (λ d. []); clocks = length-replicate m.cpus 0 };
   clocks = λ cpu lt. get_or-replicate m.cpus cpu 0 0 lt ∙ at_processor m (λ l. 0 ≡ l.clock) cpu (λ here. refl) refl;
   lists = λ r lt. opening_list m r;
+  owing = opening_owing m is;
   places = λ i lt except. opening_matches m i (view m (scene (opening_system m)) (opening m) i) (get-same opening_thread m.threads i) refl (home_kept m i is lt)
       (λ cpu ne. other_kept m cpu i ne);
 }

@@ -3,11 +3,11 @@ use Rattle.std.specs.Prelude.{ℕ, ◌≤◌, ◌≡◌, ◌⊎◌, true, false,
 use Rattle.std.specs.List.{AllByRecursion}
 use Rattle.l4_model.specs.Words.{GlobalId}
 use Rattle.l4_model.specs.Machine.{Machine, place_of}
-use Rattle.l4_model.specs.World.{Name, Receive, Send, Asked, Phase, Receiving, Deleted, Thread, is_deleted}
+use Rattle.l4_model.specs.World.{Name, Receive, Send, Asked, Owed, Phase, Ready, Receiving, Deleted, Thread, is_deleted}
 use Rattle.l4_model.specs.Conditions.{is_zero, has_passed}
 use Rattle.l4_model.specs.Effects.{obeyed}
 use Rattle.l4_core_model.specs.Plain as plain
-use Rattle.l4_core_model.specs.Letters.{Cause, ByTimeout, ByCancel, ByDeletion, Content, SendLetter, DoneLetter, WithdrawLetter, GoneLetter, OrderLetter, OrderDoneLetter}
+use Rattle.l4_core_model.specs.Letters.{Cause, ByTimeout, ByCancel, ByDeletion, Content, SendLetter, DoneLetter, WithdrawLetter, GoneLetter, OrderLetter, OrderDoneLetter, RetargetLetter}
 use Rattle.l4_core_model.specs.Local.{declared, destination_place, armed_period, armed_for, readied, after_decision, stand_in}
 use Rattle.l4_core_model.specs.Acts.{entry}
 use Rattle.l4_core_model.specs.Runs.{Posted}
@@ -31,14 +31,23 @@ pub record IsLeft (world t : Thread) : Type 0 where
   pub order : world.order ≡ t.order
   pub cancel_send : world.cancel_send ≡ t.cancel_send
 
--- The thread of the world and its home's agree, by the phase that it is in at home.
+-- So they are alike by the phase that it is in at home.
 abbrev pub AgreesIn : Phase → (world t : Thread) → Type 0
 AgreesIn (Receiving receive since) world t = IsEarlier receive since world t
 AgreesIn Deleted world t = IsLeft world t
 AgreesIn _ world t = world ≡ t
 
-abbrev pub Agrees : (world t : Thread) → Type 0
-Agrees world t = AgreesIn t.phase world t
+abbrev pub AgreesByPhase : (world t : Thread) → Type 0
+AgreesByPhase world t = AgreesIn t.phase world t
+
+-- All threads are of one processor.
+abbrev pub AreTogether : Machine → Type 0
+AreTogether m = (i j : ℕ) → home m i ≡ home m j
+
+-- The thread of the world and its home's agree: where all are of one processor, they are the same.
+pub record Agrees (m : Machine) (world t : Thread) : Type 0 where
+  pub by_phase : AgreesByPhase world t
+  pub together : AreTogether m → world ≡ t
 
 -- The thread as its home will have it once the letter that is under way to it is handled, with the clock that home has now.
 abbrev pub learns : Content → (clock : ℕ) → Thread → Thread
@@ -184,13 +193,23 @@ deadlines i phase send = armed_for (armed_period phase send) (since_of phase sen
 abbrev pub IsArmed : ℕ → Thread → List (ℕ × ℕ) → Type 0
 IsArmed i t armed = (armed ≡ deadlines i t.phase t.send) ⊎ (armed ≡ [])
 
+-- A retarget is owed beside a thread only since it received the message: it has run nothing since.
+abbrev pub HasJustReceived : Phase → Type 0
+HasJustReceived Ready = Unit {0}
+HasJustReceived Deleted = Unit {0}
+HasJustReceived _ = ⊥
+
+abbrev pub OwesIn : Phase → Option Owed → Type 0
+OwesIn phase owed = IfSome owed (λ o. HasJustReceived phase)
+
 -- What is true of a thread at home, whatever it sends or orders.
-pub record IsHomeEntry (i clock : ℕ) (t : Thread) (armed_entries : List (ℕ × ℕ)) : Type 0 where
+pub record IsHomeEntry (i clock : ℕ) (t : Thread) (armed_entries : List (ℕ × ℕ)) (owed : Option Owed) : Type 0 where
   pub good : IsGood clock t
   pub armed : IsArmed i t armed_entries
+  pub owes : OwesIn t.phase owed
 
 abbrev pub IsKeptAtHome : ℕ → Kept → Type 0
-IsKeptAtHome i k = IsHomeEntry i k.clock k.thread k.armed
+IsKeptAtHome i k = IsHomeEntry i k.clock k.thread k.armed k.owed
 
 -- Elsewhere
 
@@ -224,6 +243,7 @@ pub record IsWithdrawal (m : Machine) (i clock : ℕ) (t : Thread) (p : Posted) 
 abbrev pub IsNoticeAt : Machine → (i clock : ℕ) → Thread → Posted → Content → Type 0
 IsNoticeAt m i clock t p (WithdrawLetter s receiver cause) = IsWithdrawal m i clock t p s receiver cause
 IsNoticeAt m i clock t p (GoneLetter id) = (t.phase ≡ Deleted) × (p.to ≡ home m i → ⊥)
+IsNoticeAt m i clock t p (RetargetLetter o) = Unit {0}
 IsNoticeAt m i clock t p _ = ⊥
 
 abbrev pub IsNoticeOf : Machine → ℕ → Kept → Posted → Content → Type 0
@@ -240,7 +260,7 @@ pub record IsKept (m : Machine) (i : ℕ) (v : View) : Type 0 where
 
 -- What is known of one thread: all that the relation says of it but for its entry among the ready ones, which is out while it runs.
 pub record Known (m : Machine) (i : ℕ) (v : View) : Type 0 where
-  pub agrees : Agrees v.world (learned (locators v.mail) (v.kept (home m i)).clock (v.kept (home m i)).thread)
+  pub agrees : Agrees m v.world (learned (locators v.mail) (v.kept (home m i)).clock (v.kept (home m i)).thread)
   pub row : Row m i (seats m i v) (locators v.mail) (v.kept (home m i)).thread.send
   pub kept : IsKept m i v
 

@@ -10,18 +10,19 @@ use Rattle.std.specs.Option.{option_map}
 use Rattle.std.specs.List.{AllByRecursion, list_all, range_with_len}
 use Rattle.std.proofs.lemmas.Bool.{eqb-true}
 use Rattle.l4_model.specs.Machine.{Machine}
-use Rattle.l4_model.specs.World.{Receive, is_deleted, receive_now}
+use Rattle.l4_model.specs.World.{Receive, is_deleted, receive_now, Owed}
 use Rattle.l4_model.specs.Conditions.{Found, is_nobody, ◌>>=◌, ◌>>◌}
 use Rattle.l4_model.proofs.Chains.{some_is}
 use Rattle.l4_core_model.specs.Plain as plain
-use Rattle.l4_core_model.specs.Local.{Local, own_places, thread, held, held_by}
+use Rattle.l4_core_model.specs.Local.{Local, own_places, thread, held, held_by, owed_beside}
 use Rattle.l4_core_model.specs.Acts.{first_acceptable, zero_refusable}
-use Rattle.l4_core_model.specs.Turns.{DropsOwn, RefusesFirst, TellsGone, CancelsOwn, CancelsReceive, ClosesReceive, RefusesZero, next_untold, duty_drops_own, duty_refuses_waiting, duty_tells_gone, duty_cancels_own, duty_cancels_receive, duty_delivers_first, duty_closes_receive, duty_refuses_zero, duty_of, first_duty, Choice, ByDue, ByReady, choice, is_busy}
+use Rattle.l4_core_model.specs.Turns.{DropsOwn, RefusesFirst, TellsGone, CancelsOwn, CancelsReceive, ClosesReceive, RefusesZero, next_untold, duty_drops_own, duty_refuses_waiting, duty_tells_gone, duty_cancels_own, duty_cancels_receive, duty_delivers_first, duty_closes_receive, duty_refuses_zero, duty_of, first_duty, Choice, ByDue, ByReady, choice, is_busy, Retargets, duty_retargets}
 use Rattle.l4_core_model.specs.Runs.{System, Posted, processors, is_empty, local_at_rest, at_rest, IsMachine}
 use Rattle.l4_split.proofs.Relation.Views.{home, nowhere}
 
 -- A thread of a processor that is idle and has nothing armed: none of its duties is one.
 pub record IsIdle (m : Machine) (cpu : ℕ) (l : Local) (i : ℕ) : Type 0 where
+  pub nothing_owed : owed_beside l i ≡ None
   pub no_drop : is_deleted (thread l i).phase ≡ true → plain.is_queued l.lists i ≡ true → ⊥
   pub no_refusal : is_deleted (thread l i).phase ≡ true → plain.list_of l.lists i ≡ []
   pub all_told : is_deleted (thread l i).phase ≡ true → next_untold m cpu (slice_index_or l.told i 0) ≡ None
@@ -34,6 +35,10 @@ pub record IsIdle (m : Machine) (cpu : ℕ) (l : Local) (i : ℕ) : Type 0 where
   pub none_armed : l.lists.armed ≡ []
 
 -- It has no duty of any kind.
+
+owes_none : (o : Option Owed) → (o >>= λ x. Some (Retargets x)) ≡ None → o ≡ None
+owes_none None h = refl
+owes_none (Some x) h = cc
 
 refuses_none : (b : Bool) (es : List plain.Waiting) → (b >> (slice_get es 0 >>= λ e. Some (RefusesFirst e.block))) ≡ None → b ≡ true → es ≡ []
 refuses_none true [] h gone = refl
@@ -57,19 +62,20 @@ closes_none m l receive (Some other) h receiving nobody =
 idle_from : (m : Machine) (cpu : ℕ) (l : Local) (i : ℕ) → duty_of m cpu l (held m l i) ≡ None → l.lists.ready ≡ [] → l.lists.armed ≡ [] → IsIdle m cpu l i
 idle_from m cpu l i h ready armed =
     let t : Found = held m l i in
-    let d = none_of (duty_drops_own l t ∷ duty_refuses_waiting l t ∷ duty_tells_gone m cpu l t ∷ duty_cancels_own l t ∷ duty_cancels_receive
+    let d = none_of (duty_retargets l t ∷ duty_drops_own l t ∷ duty_refuses_waiting l t ∷ duty_tells_gone m cpu l t ∷ duty_cancels_own l t ∷ duty_cancels_receive
     t ∷ duty_delivers_first l t ∷ duty_closes_receive m l t ∷ duty_refuses_zero m l t ∷ []) h in
     record {
-      no_drop = guarded (is_deleted (thread l i).phase) (plain.is_queued l.lists i) DropsOwn d.0;
-      no_refusal = refuses_none (is_deleted (thread l i).phase) (plain.list_of l.lists i) d.1.0;
-      all_told = tells_none (is_deleted (thread l i).phase) (next_untold m cpu (slice_index_or l.told i 0)) d.1.1.0;
-      no_cancel = guarded (plain.is_queued l.lists i) (thread l i).cancel_send CancelsOwn d.1.1.1.0;
+      nothing_owed = owes_none (owed_beside l i) d.0;
+      no_drop = guarded (is_deleted (thread l i).phase) (plain.is_queued l.lists i) DropsOwn d.1.0;
+      no_refusal = refuses_none (is_deleted (thread l i).phase) (plain.list_of l.lists i) d.1.1.0;
+      all_told = tells_none (is_deleted (thread l i).phase) (next_untold m cpu (slice_index_or l.told i 0)) d.1.1.1.0;
+      no_cancel = guarded (plain.is_queued l.lists i) (thread l i).cancel_send CancelsOwn d.1.1.1.1.0;
       no_wish = λ receive receiving.
-          guarded (is_some (receive_now (thread l i).phase)) (thread l i).cancel_receive CancelsReceive d.1.1.1.1.0 (ap (λ o. is_some o) receiving);
-      no_delivery = accepts_none (first_acceptable l i) d.1.1.1.1.1.0;
-      no_close = λ receive receiving. closes_none m l receive (receive_now (thread l i).phase) d.1.1.1.1.1.1.0 receiving;
+          guarded (is_some (receive_now (thread l i).phase)) (thread l i).cancel_receive CancelsReceive d.1.1.1.1.1.0 (ap (λ o. is_some o) receiving);
+      no_delivery = accepts_none (first_acceptable l i) d.1.1.1.1.1.1.0;
+      no_close = λ receive receiving. closes_none m l receive (receive_now (thread l i).phase) d.1.1.1.1.1.1.1.0 receiving;
       no_zero = found_none (λ (e : plain.Waiting). zero_refusable m t (thread l e.block).send) (λ (e : plain.Waiting). Some (RefusesZero e.block)) (λ e h. cc)
-          (plain.list_of l.lists i) d.1.1.1.1.1.1.1.0;
+          (plain.list_of l.lists i) d.1.1.1.1.1.1.1.1.0;
       none_ready = ready;
       none_armed = armed;
     }

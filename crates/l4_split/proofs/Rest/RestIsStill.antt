@@ -1,14 +1,17 @@
 -- Where a machine is at rest, nothing but clocks can go on in the world.
+use Rattle.l4_core_model.proofs.Changed.{same_nat}
+use Rattle.l4_split.proofs.Letters.Lawful.{placed}
+use Rattle.l4_split.proofs.Relation.Owing.{is_at_one, goes_away, is_beside, retargets_in}
 use Rattle.l4_split.proofs.Lists.{any_block, any_kept, any_list}
 use Rattle.l4_model.proofs.Rows.Writing.{send}
-use Rattle.l4_model.specs.Reached.{Suits}
+use Rattle.l4_model.specs.Reached.{Suits, IsOwedAmong, WorldFacts}
 use Rattle.l4_core_model.specs.Plain.{Waiting}
-use Rattle.std.proofs.Common.{◌≡◌, ℕ, ◌<◌, true, false, Some, List, [], ◌∷◌, filter, length, refl, ap, sym, ◌∙◌, subst, inl, inr, None, Option}
-use Rattle.std.specs.Prelude.{◌==◌, slice_index}
-use Rattle.std.specs.List.{list_any}
+use Rattle.std.proofs.Common.{◌≡◌, ℕ, ◌<◌, true, false, Some, List, [], ◌∷◌, filter, length, refl, ap, sym, ◌∙◌, subst, inl, inr, None, Option, Bool, ◌&&◌}
+use Rattle.std.specs.Prelude.{◌==◌, slice_index, not}
+use Rattle.std.specs.List.{list_any, AllByRecursion, cons_option}
 use Rattle.std.proofs.lemmas.Bool.{eqb-true}
-use Rattle.l4_model.specs.Machine.{Machine, place_of}
-use Rattle.l4_model.specs.World.{World, Send, Phase, Ready, Sending, Receiving, Ordering, Ended, Deleted, is_deleted, Receive, receive_now}
+use Rattle.l4_model.specs.Machine.{Machine, place_of, is_place}
+use Rattle.l4_model.specs.World.{World, Send, Phase, Ready, Sending, Receiving, Ordering, Ended, Deleted, is_deleted, Receive, receive_now, Owed}
 use Rattle.l4_model.specs.Conditions.{is_zero, is_refusable, is_nobody}
 use Rattle.l4_model.proofs.Chains.{some_is}
 use Rattle.l4_core_model.specs.Plain as plain
@@ -195,8 +198,36 @@ settled_thread m s w i rest lt = record {
   receives = λ receive is. settled_receive m s w i receive rest lt is;
 }
 
+-- Nothing is owed: neither beside a thread nor by a letter.
+nothing_owed : (m : Machine) (owed : List Owed) → AllByRecursion (IsOwedAmong m) owed →
+    ((r : ℕ) → r < length m.threads → filter (is_beside m r) owed ≡ []) → filter (goes_away m) owed ≡ [] → owed ≡ []
+nothing_owed m [] among kept letters = refl
+nothing_owed m (o ∷ owed) among kept letters =
+    let r = placed m o.new_partner among.0.new_partner in
+    by (is_at_one m o) refl r.0 r.1
+  where
+    kept_one : (r : ℕ) → is_beside m r o ≡ true → filter (is_beside m r) (o ∷ owed) ≡ o ∷ filter (is_beside m r) owed
+    kept_one r is = rw is refl
+
+    by : (b : Bool) → is_at_one m o ≡ b → (r : ℕ) → place_of m o.new_partner ≡ Some r → o ∷ owed ≡ []
+    by true is r at =
+        let same = same_nat r in
+        let here : is_beside m r o ≡ true = ap (λ b. b && is_at_one m o) (ap (λ p. is_place p r) at ∙ same) ∙ is in
+        let none = kept r (place_within m o.new_partner r at) in
+        let some = kept_one r here in
+        cc (none, some)
+    by false is r at =
+        let away : goes_away m o ≡ true = ap not is in
+        let some : filter (goes_away m) (o ∷ owed) ≡ o ∷ filter (goes_away m) owed = rw away refl in
+        cc (letters, some)
+
 pub resting_still : (m : Machine) (g : System) (w : World) → IsMachine m → length g.locals ≡ m.cpus → Relates m g w → Promised m [] (scene g) →
-    at_rest m g ≡ true → IsStill m w
-resting_still m g w machine counted rel promised h =
+    WorldFacts m w → at_rest m g ≡ true → IsStill m w
+resting_still m g w machine counted rel promised facts h =
     let rest = is_at_rest m g w machine counted rel promised h in
-    settled_still m w (record { size = rel.sized_world.threads; threads = λ i lt. settled_thread m (scene g) w i rest lt })
+    settled_still m w (record {
+      size = rel.sized_world.threads;
+      nothing_owed = nothing_owed m w.owed facts.owed_among
+          (λ r lt. rel.owing.kept r lt ∙ ap (λ o. cons_option o []) (rest.idle r lt).nothing_owed) (sym rel.owing.letters ∙ ap retargets_in rest.quiet);
+      threads = λ i lt. settled_thread m (scene g) w i rest lt;
+    })

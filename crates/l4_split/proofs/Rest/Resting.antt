@@ -43,9 +43,9 @@ own m s i = thread (s.locals (home m i)) i
 no_mail : (m : Machine) (s : Scene) (w : World) (i : ℕ) → IsAtRest m s w → (view m s w i).mail ≡ []
 no_mail m s w i rest = ap (filter (is_about m i)) rest.quiet
 
-pub own_agrees : (m : Machine) (s : Scene) (w : World) (i : ℕ) → IsAtRest m s w → i < length m.threads → Agrees (world_thread w i) (own m s i)
+pub own_agrees : (m : Machine) (s : Scene) (w : World) (i : ℕ) → IsAtRest m s w → i < length m.threads → Agrees m (world_thread w i) (own m s i)
 own_agrees m s w i rest lt =
-    subst (λ mail. Agrees (world_thread w i) (learned (locators mail) (s.locals (home m i)).clock (own m s i))) (no_mail m s w i rest)
+    subst (λ mail. Agrees m (world_thread w i) (learned (locators mail) (s.locals (home m i)).clock (own m s i))) (no_mail m s w i rest)
     (rest.relates.places i lt tt).known.agrees
 
 pub own_shown : (m : Machine) (s : Scene) (w : World) (i : ℕ) → IsAtRest m s w → i < length m.threads → IsShown (world_thread w i) (own m s i)

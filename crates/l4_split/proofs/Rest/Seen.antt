@@ -29,8 +29,8 @@ same_shown world t e = record {
   cancel_receive = λ receive is. ap (λ (t : Thread). t.cancel_receive) e;
 }
 
-pub is_shown : (world t : Thread) → Agrees world t → IsShown world t
-is_shown world t a = by t.phase refl a
+pub is_shown : {m : Machine} (world t : Thread) → Agrees m world t → IsShown world t
+is_shown world t a = by t.phase refl a.by_phase
   where
     by : (p : Phase) → t.phase ≡ p → AgreesIn p world t → IsShown world t
     by Ready is a = same_shown world t a
@@ -83,9 +83,9 @@ clock_free m r clock other send t = by t.phase refl
     by Deleted is = rw is refl
 
 -- What the world may refuse, home may.
-pub refusable_at_home : (m : Machine) (r clock other : ℕ) (send : Send) (world t : Thread) → Agrees world t →
+pub refusable_at_home : (m : Machine) (r clock other : ℕ) (send : Send) (world t : Thread) → Agrees m world t →
     is_refusable m send (Some (seen m r clock world)) ≡ true → is_refusable m send (Some (seen m r other t)) ≡ true
-refusable_at_home m r clock other send world t a h = sym (clock_free m r clock other send t) ∙ by t.phase refl a
+refusable_at_home m r clock other send world t a h = sym (clock_free m r clock other send t) ∙ by t.phase refl a.by_phase
   where
     one : world ≡ t → is_refusable m send (Some (seen m r clock t)) ≡ true
     one e = subst (λ u. is_refusable m send (Some (seen m r clock u)) ≡ true) e h

@@ -7,8 +7,8 @@ use Rattle.std.specs.Option.{option_map}
 use Rattle.std.proofs.lemmas.Option.{slice_get-get_or}
 use Rattle.l4_model.specs.Words.{GlobalId, Id, NilThread, AnyThread, AnyLocalThread, LocalThread, GlobalThread}
 use Rattle.l4_model.specs.Machine.{Machine, place_of}
-use Rattle.l4_model.specs.World.{World, Send, Receive, Phase, Ready, Sending, Receiving, Ordering, Ended, Deleted, Name, is_queued, is_ready, is_deleted, receive_now, opening_thread}
-use Rattle.l4_model.specs.Steps.{receive_passed, Step, Local as RanLocal, Begin, Queue, Deliver, Wait, SendTimeout, ReceiveTimeout, SendNobody, ReceiveNobody, SendCancel, ReceiveCancel, Drop, Order, Obey, Tick, next}
+use Rattle.l4_model.specs.World.{World, Send, Receive, Phase, Ready, Sending, Receiving, Ordering, Ended, Deleted, Name, is_queued, is_ready, is_deleted, receive_now, opening_thread, owed_of}
+use Rattle.l4_model.specs.Steps.{receive_passed, Step, Local as RanLocal, Begin, Queue, Deliver, Wait, SendTimeout, ReceiveTimeout, SendNobody, ReceiveNobody, SendCancel, ReceiveCancel, Drop, Order, Obey, Tick, next, Retarget}
 use Rattle.l4_model.specs.Conditions.{Found, Pending, found, found_at, found_by, undecided, receiver_of, is_waiting, first_accepted, is_nobody, is_no_destination, is_zero, is_timed_out, is_refusable, has_passed}
 use Rattle.l4_model.proofs.Chains.{bind_then, guard_then, some_is}
 use Rattle.l4_core_model.specs.Local.{declared, undeclared, destination_place}
@@ -17,7 +17,7 @@ use Rattle.l4_split.proofs.Relation.Views.{world_thread}
 use Rattle.std.specs.List.{AllByRecursion}
 use Rattle.l4_model.specs.History.{run}
 use Rattle.l4_model.specs.Still.{is_tick, IsStill}
-use Rattle.l4_model.proofs.Inversions.{local_taken, begin_taken, queue_taken, deliver_taken, wait_taken, send_timeout_taken, send_nobody_taken, send_cancel_taken, drop_taken, receive_timeout_taken, receive_nobody_taken, receive_cancel_taken, order_taken, obey_taken, tick_taken}
+use Rattle.l4_model.proofs.Inversions.{local_taken, begin_taken, queue_taken, deliver_taken, wait_taken, send_timeout_taken, send_nobody_taken, send_cancel_taken, drop_taken, receive_timeout_taken, receive_nobody_taken, receive_cancel_taken, order_taken, obey_taken, tick_taken, retarget_taken}
 
 -- What is found at a place under any clocks.
 abbrev pub there : Machine → World → (clocks : List ℕ) → ℕ → Found
@@ -51,6 +51,7 @@ pub record IsSettledThread (m : Machine) (w : World) (i : ℕ) : Type 0 where
 -- All threads of a world are so.
 pub record IsSettled (m : Machine) (w : World) : Type 0 where
   pub size : length w.threads ≡ length m.threads
+  pub nothing_owed : w.owed ≡ []
   pub threads : (i : ℕ) → i < length m.threads → IsSettledThread m w i
 
 -- Looking up after ticks
@@ -232,6 +233,11 @@ nothing_next m w clocks (Obey caller) v s no_tick h =
     let some = ap (λ (t : Found). t.now.order) f.is ∙ t.ordered in
     cc (none, some)
 nothing_next m w clocks (Tick cpu to) v s no_tick h = cc
+nothing_next m w clocks (Retarget n) v s no_tick h =
+    let t = retarget_taken m (at_clocks w clocks) v n h in
+    let none : owed_of w.owed n ≡ None = ap (λ os. owed_of os n) s.nothing_owed in
+    let some : owed_of w.owed n ≡ Some t.o = t.is_owed in
+    cc (none, some)
 
 -- After ticks only the clocks are others.
 ticked : (m : Machine) (w : World) (clocks : List ℕ) (ticks : List Step) (v : World) → AllByRecursion (λ tick. is_tick tick ≡ true) ticks →

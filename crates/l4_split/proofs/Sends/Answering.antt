@@ -62,7 +62,7 @@ decided_away m cpu i except s w x result send g here at is rel =
     let left = unqueues m cpu i (i ∷ except) s w x (first_about i except) at.elsewhere rel in
     let dropped = local_changes m cpu (i ∷ except) s u y (changes i decided)
     (changes_spares m i (i ∷ except) y.local decided (first_about i except)) refl left in
-    let sent = letter_posted m cpu (home m i) i (DoneLetter name result) (i ∷ except) s u z placed (first_about i except) dropped in
+    let sent = letter_posted m cpu (home m i) i (DoneLetter name result) (i ∷ except) s u z placed refl (first_about i except) dropped in
     let relates = world_changes m i (i ∷ except) (amid cpu s a) u g (first_about i except) sent in
     let mail : after.mail ≡ v.mail ++ p ∷ [] = mail_here m cpu (home m i) i (DoneLetter name result) s u z placed in
     let locator : locators after.mail ≡ p ∷ [] =
@@ -113,8 +113,8 @@ decided_away m cpu i except s w x result send g here at is rel =
     } in
     takes_in m i except (amid cpu s a) (change u i g) relates (record {
       known = located_known m i after p keeps locator row
-          (subst (λ (k : Kept). Agrees after.world (after_decision result k.clock k.thread)) (sym home_same)
-          (subst (λ t. Agrees t (after_decision result (at_home m i v).clock (at_home m i v).thread)) (sym (world ∙ is)) learns));
+          (subst (λ (k : Kept). Agrees m after.world (after_decision result k.clock k.thread)) (sym home_same)
+          (subst (λ t. Agrees m t (after_decision result (at_home m i v).clock (at_home m i v).thread)) (sym (world ∙ is)) learns));
       ready = subst (λ (k : Kept). k.ready ≡ readied k.thread.phase i []) (sym home_same)
           (at.out ∙ sym (sender_unready i (at_home m i v).thread.phase send (at_home m i v).thread.order suits));
     })

@@ -1,16 +1,19 @@
 -- A send begins: it is in hand, and is decided here or goes to its receiver's processor.
+use Rattle.std.specs.List.{cons_option}
+use Rattle.l4_split.proofs.Sends.Free.{nowhere_free, own_free}
 use Rattle.std.proofs.Common.{◌≡◌, ℕ, ◌+◌, ◌<◌, ◌≤◌, Bool, true, false, cond, Option, Some, None, [], ◌∷◌, ◌++◌, length, refl, ap, sym, ◌∙◌, subst, arith}
 use Rattle.std.specs.Prelude.{◌==◌, not}
 use Rattle.std.proofs.lemmas.Bool.{eqb-true}
 use Rattle.l4_model.specs.Words.{NilThread}
 use Rattle.l4_model.specs.Machine.{Machine}
-use Rattle.l4_model.specs.World.{Thread, World, Send, Name, change, opening_thread}
+use Rattle.l4_model.specs.World.{Thread, World, Send, Name, Sending, change, opening_thread}
+use Rattle.l4_split.proofs.Frames.Owes.{none_owed}
 use Rattle.l4_model.specs.Conditions.{act_of, is_zero}
 use Rattle.l4_model.specs.Steps.{Begin, send_of, next}
 use Rattle.l4_model.specs.Effects.{begins}
 use Rattle.l4_model.specs.Reached.{Suits}
 use Rattle.l4_core_model.specs.Letters.{SendLetter}
-use Rattle.l4_core_model.specs.Local.{declared, thread, held, is_own, destination_place, last_name, comes_to}
+use Rattle.l4_core_model.specs.Local.{declared, thread, owed_beside, held, is_own, destination_place, last_name, comes_to, Local}
 use Rattle.l4_core_model.specs.Acts.{Work, ◌▷◌, tells, does, posts_send, arrives, send_goes_to, begins_send}
 use Rattle.l4_core_model.specs.Runs.{Posted, posted}
 use Rattle.l4_core_model.proofs.Changed.{same_nat, get-changed}
@@ -24,7 +27,7 @@ use Rattle.l4_split.proofs.Relation.Agreement.{same_agrees}
 use Rattle.l4_split.proofs.Frames.Places.{first_about, takes_in}
 use Rattle.l4_split.proofs.Frames.Mail.{letter_posted, mail_here}
 use Rattle.l4_split.proofs.Frames.Moves.{at_home, StaysTrue, same_alike, Moves, moves_kept, located_known, come_kept, ready_is_alive}
-use Rattle.l4_split.proofs.Frames.Going.{Goes, one_more_told, home_is, sized_here, comes}
+use Rattle.l4_split.proofs.Frames.Going.{Goes, one_more_told, home_is, sized_here, comes, now_facts, put_home}
 use Rattle.l4_split.proofs.Turns.Instructions.{IsPicked, running_is, running_found}
 use Rattle.l4_split.proofs.Sends.Deciding.{sender_unready}
 use Rattle.l4_split.proofs.Sends.Refusing.{nowhere_goes}
@@ -71,14 +74,14 @@ begin_goes m cpu i s w x send processor e r sends since =
         machine = r.here.machine;
         processor = processor;
         within = r.here.within;
-        goes = record { now = u; reaches = one_more_told m w now u x.steps (Begin (last_name m y.local i)) e.reaches possible; relates = c.relates };
+        goes = record { starts = e.starts; now = u; reaches = one_more_told m w now u x.steps (Begin (last_name m y.local i)) e.reaches possible; relates = c.relates };
         at = record {
-          kept = moves_kept m i v after r.known.kept moves (subst (IsKeptAtHome i) (sym c.here) (come_kept i f k good since));
+          kept = moves_kept m i v after r.known.kept moves (subst (IsKeptAtHome i) (sym c.here) (come_kept i f k good since (none_owed Sending (owed_beside x.local i) r.nothing_owed)));
           out = ap (λ (k : Kept). k.ready) c.here ∙ r.out;
           has = ap (λ (k : Kept). k.thread.send) c.here;
           order = ap (λ (k : Kept). k.thread.order) c.here ∙ running.order;
           quiet = running.free.quiet;
-          agrees = subst (λ (a : Kept). Agrees after.world a.thread) (sym c.here)
+          agrees = subst (λ (a : Kept). Agrees m after.world a.thread) (sym c.here)
               (same_agrees after.world (f (thread x.local i)) (c.world ∙ ap f running.same));
           elsewhere = λ p q ne. ap (λ (k : Kept). k.listed q) (c.elsewhere p (λ h. ne (sym (h ∙ r.here.home)))) ∙ running.free.unplaced.listed p q;
           foreign = λ away. absurd (away r.here.home);
@@ -124,11 +127,12 @@ posted_goes m cpu i r s w x send h here to away =
       unplaced = record { listed = λ c q. none_listed m cpu i s w x send h c q; stand_in = λ c ne. at.no_other c ne (λ same. ne (sym (here ∙ same))) };
     } in
     record {
+      starts = e.starts;
       now = e.now;
       reaches = e.reaches;
       relates = takes_in m i [] (amid cpu s a) e.now
           (letter_posted m cpu (home m r) i (SendLetter name (declared m r).id send.message (is_zero send.period)) (i ∷ []) s e.now x placed
-          (first_about i []) e.relates)
+          refl (first_about i []) e.relates)
           (record {
             known = located_known m i after p keeps locator row at.agrees;
             ready = at.out ∙ sym (sender_unready i (at_home m i v).thread.phase send (at_home m i v).thread.order suits);
@@ -145,10 +149,15 @@ begins_send_goes m cpu i s w x send processor e r sends since not_nil = by (dest
     hand = begin_goes m cpu i s w x send processor e r sends since
 
     by : (o : Option ℕ) → destination_place m send.to ≡ o → Goes m cpu s w [] (send_goes_to m cpu i send o (begun m i send x))
-    by None to = nowhere_goes m cpu i s w (begun m i send x) send hand.has to not_nil
+    by None to = nowhere_goes m cpu i s w (begun m i send x) send hand.has
+        (nowhere_free m (declared m i).id send.to hand.has.goes.now.owed to
+        (now_facts m cpu s w (i ∷ []) (begun m i send x) hand.has.goes).owed_among) to not_nil
     by (Some q) to = split (is_own m cpu q) refl
       where
         split : (b : Bool) → (home m q == cpu) ≡ b →
             Goes m cpu s w [] (cond b (arrives m cpu q i (begun m i send x)) (posts_send m q i send (begun m i send x)))
         split true own = arrives_goes m cpu i q s w (begun m i send x) send hand (eqb-true (home m q) cpu own) (destination_within m send.to q to) to
+            (own_free m i q send.to hand.has.goes.now.owed (r.here.machine.placed i r.here.within) to (eqb-true (home m q) cpu own ∙ sym r.here.home)
+            (hand.has.goes.relates.owing.kept i r.here.within ∙ ap (λ o. cons_option o [])
+            (ap (λ (l : Local). owed_beside l i) (put_home m cpu i s (begun m i send x).local r.here.home) ∙ r.nothing_owed)))
         split false other = posted_goes m cpu i q s w (begun m i send x) send hand r.here.home to (apart (home m q) cpu other)

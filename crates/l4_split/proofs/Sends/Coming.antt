@@ -1,13 +1,13 @@
 -- Letters that bring a send to its receiver, and its decision home.
-use Rattle.std.proofs.Common.{◌≡◌, ℕ, zero, suc, ◌<◌, Bool, Some, None, List, [], ◌∷◌, length, refl, ap, sym, ◌∙◌, subst, arith}
-use Rattle.l4_model.specs.Words.{GlobalId}
+use Rattle.std.proofs.Common.{◌≡◌, ℕ, zero, suc, ◌<◌, Bool, Some, None, List, [], ◌∷◌, length, refl, ap, sym, ◌∙◌, subst, arith, false}
+use Rattle.l4_model.specs.Words.{GlobalId, Id}
 use Rattle.l4_model.specs.Machine.{Machine, place_of}
-use Rattle.l4_model.specs.World.{Thread, World, Send, Message, Name, changed, change}
+use Rattle.l4_model.specs.World.{Thread, World, Send, Message, Name, changed, change, must_wait}
 use Rattle.l4_model.specs.Conditions.{is_zero}
 use Rattle.l4_model.proofs.Chains.{some_is}
 use Rattle.l4_model.specs.Reached.{Suits}
 use Rattle.l4_core_model.specs.Letters.{Result, SendLetter, DoneLetter}
-use Rattle.l4_core_model.specs.Local.{declared, thread, changes, comes_to, readied, after_decision, stand_in, stands_in}
+use Rattle.l4_core_model.specs.Local.{declared, thread, owed_beside, changes, comes_to, readied, after_decision, stand_in, stands_in, destination_place}
 use Rattle.l4_core_model.specs.Acts.{Work, ◌▷◌, does, arrives}
 use Rattle.l4_core_model.specs.Runs.{Posted}
 use Rattle.l4_core_model.proofs.Standing.{destination_within}
@@ -15,13 +15,13 @@ use Rattle.l4_core_model.proofs.Fit.{IsGood}
 use Rattle.l4_core_model.proofs.Apart.{same_or_apart}
 use Rattle.l4_split.proofs.Frames.Locals.{changes_here}
 use Rattle.l4_split.proofs.Relation.Views.{Scene, Kept, View, kept, view, home, amid, notices, locators}
-use Rattle.l4_split.proofs.Relation.Rows.{seats, Agrees, learns, learned, Row, RowOf, name_of, IsSent, IsDecided, IsKept, IsKeptAtHome, Matches}
+use Rattle.l4_split.proofs.Relation.Rows.{seats, Agrees, learns, learned, Row, RowOf, name_of, IsSent, IsDecided, IsKept, IsKeptAtHome, Matches, OwesIn}
 use Rattle.l4_split.proofs.Relation.Relates.{IsSized, RelatesExcept}
 use Rattle.l4_split.proofs.Frames.Places.{first_about, takes_in, local_changes, changes_spares}
 use Rattle.l4_split.proofs.Frames.Lists.{put_here}
 use Rattle.l4_split.proofs.Frames.Moves.{at_home, StaysTrue, IsAlike, same_alike, Moves, moves_kept}
 use Rattle.l4_split.proofs.Frames.Going.{Goes, IsHere, IsQuiet, home_is, put_other, comes, quiet_matches}
-use Rattle.l4_split.proofs.Sends.Deciding.{sender_unready, ended_good, ended_none, ended_fresh, ended_stays_true}
+use Rattle.l4_split.proofs.Sends.Deciding.{sender_unready, ended_good, ended_none, ended_fresh, ended_owes, ended_stays_true}
 use Rattle.l4_split.proofs.Sends.Answering.{IsAway, same_stays_true}
 use Rattle.l4_split.proofs.Sends.Delivering.{arrives_goes}
 
@@ -47,9 +47,9 @@ pub taken_row : (m : Machine) (i : ℕ) (before v : View) (p : Posted) → IsTak
 taken_row m i before v p t = subst (λ ps. Row m i (seats m i before) ps (at_home m i before).thread.send) t.was t.matches.known.row
 
 pub taken_agrees : (m : Machine) (i : ℕ) (before v : View) (p : Posted) → IsTakenOut m i before v p →
-    Agrees before.world (learned (p ∷ []) (at_home m i before).clock (at_home m i before).thread)
+    Agrees m before.world (learned (p ∷ []) (at_home m i before).clock (at_home m i before).thread)
 taken_agrees m i before v p t =
-    subst (λ ps. Agrees before.world (learned ps (at_home m i before).clock (at_home m i before).thread)) t.was t.matches.known.agrees
+    subst (λ ps. Agrees m before.world (learned ps (at_home m i before).clock (at_home m i before).thread)) t.was t.matches.known.agrees
 
 -- A decision comes home
 
@@ -73,8 +73,8 @@ done_relates m cpu i s w x before p name result here content t rel =
     let suits : Suits (thread x.local i).phase (Some row.goes.send) (thread x.local i).order =
     subst (λ o. Suits (thread x.local i).phase o (thread x.local i).order) has good.suits in
     let none = ended_none result x.local.clock (thread x.local i) row.goes.send has order in
-    let agrees : Agrees before.world (f (thread x.local i)) = subst (λ (k : Kept). Agrees before.world (after_decision result k.clock k.thread)) was
-    (subst (λ c. Agrees before.world (learns c (at_home m i before).clock (at_home m i before).thread)) content (taken_agrees m i before v p t)) in
+    let agrees : Agrees m before.world (f (thread x.local i)) = subst (λ (k : Kept). Agrees m before.world (after_decision result k.clock k.thread)) was
+    (subst (λ c. Agrees m before.world (learns c (at_home m i before).clock (at_home m i before).thread)) content (taken_agrees m i before v p t)) in
     let c = comes m cpu i [] s w x f (λ t. t) here rel in
     let q : IsQuiet m i v (kept x.local i) f (λ t. t) = record {
       kept = taken_kept m i before v p t;
@@ -87,9 +87,11 @@ done_relates m cpu i s w x before p name result here content t rel =
           ∙ sender_unready i (thread x.local i).phase row.goes.send (thread x.local i).order suits;
       send = none.0;
       order = none.1;
-      agrees = subst (λ u. Agrees u (f (thread x.local i))) (sym t.world) agrees;
+      agrees = subst (λ u. Agrees m u (f (thread x.local i))) (sym t.world) agrees;
       good = ended_good result x.local.clock (thread x.local i) row.goes.send has good;
       fresh = ended_fresh result x.local.clock (thread x.local i) row.goes.send has;
+      owes = ended_owes result x.local.clock (thread x.local i) row.goes.send (owed_beside x.local i) has suits
+          (subst (λ (k : Kept). OwesIn k.thread.phase k.owed) was t.matches.known.kept.at_home.owes);
       stays_true = ended_stays_true result (kept x.local i) i row.goes.send has order;
     } in
     subst (RelatesExcept m (Matches m) [] (amid cpu s (x ▷ does (comes_to i f)))) (ap (λ ts. record w { threads = ts }) (unchanged w.threads i))
@@ -116,8 +118,9 @@ letter_of m i r t send name receiver message zero_timeout h =
 pub send_goes : (m : Machine) (cpu i r : ℕ) (s : Scene) (w : World) (x : Work) (before : View) (p : Posted) (name : Name) (receiver : GlobalId)
     (message : Message) (zero_timeout : Bool) → IsAway m cpu i → p.to ≡ cpu → p.letter.content ≡ SendLetter name receiver message zero_timeout →
     (e : Goes m cpu s w (i ∷ []) x) → IsTakenOut m i before (view m (amid cpu s x) e.now i) p → place_of m receiver ≡ Some r → r < length m.threads →
+    ((to : Id) → destination_place m to ≡ Some r → home m i ≡ p.from → home m r ≡ cpu → must_wait e.now.owed (declared m i).id to ≡ false) →
     Goes m cpu s w [] (x ▷ does (changes i (stands_in name.k (stand_in receiver message zero_timeout))) ▷ arrives m cpu r i)
-send_goes m cpu i r s w x before p name receiver message zero_timeout here to content e t placed lt =
+send_goes m cpu i r s w x before p name receiver message zero_timeout here to content e t placed lt free =
     let now = e.now in
     let v : View = view m (amid cpu s x) now i in
     let row : IsSent m i (seats m i before) p = subst (RowOf m i (seats m i before) p) content (taken_row m i before v p t) in
@@ -161,7 +164,7 @@ send_goes m cpu i r s w x before p name receiver message zero_timeout here to co
         machine = here.machine;
         processor = here.processor;
         within = here.within;
-        goes = record { now = now; reaches = e.reaches; relates = rel };
+        goes = record { starts = e.starts; now = now; reaches = e.reaches; relates = rel };
         at = record {
           kept = moves_kept m i v after kept_now moves (subst (IsKeptAtHome i) (sym home_same) kept_now.at_home);
           out = ap (λ (k : Kept). k.ready) home_old ∙ t.matches.ready
@@ -169,8 +172,8 @@ send_goes m cpu i r s w x before p name receiver message zero_timeout here to co
           has = ap (λ (k : Kept). k.thread.send) home_old ∙ row.goes.has;
           order = ap (λ (k : Kept). k.thread.order) home_old ∙ row.goes.order;
           quiet = t.quiet;
-          agrees = subst (λ (k : Kept). Agrees after.world k.thread) (sym home_old) (subst (λ u. Agrees u (at_home m i before).thread) (sym t.world)
-              (subst (λ c. Agrees before.world (learns c (at_home m i before).clock (at_home m i before).thread)) content (taken_agrees m i before v p t)));
+          agrees = subst (λ (k : Kept). Agrees m after.world k.thread) (sym home_old) (subst (λ u. Agrees m u (at_home m i before).thread) (sym t.world)
+              (subst (λ c. Agrees m before.world (learns c (at_home m i before).clock (at_home m i before).thread)) content (taken_agrees m i before v p t)));
           elsewhere = λ c q ne. listed c q;
           foreign = λ away. record {
             r = r;
@@ -185,4 +188,4 @@ send_goes m cpu i r s w x before p name receiver message zero_timeout here to co
         };
       };
       free = λ q. sym (ap (λ l. (kept l i).listed q) (put_here cpu cpu y.local s.locals refl)) ∙ listed cpu q;
-    }) at_r lt (row.goes.to ∙ ap Some which)
+    }) at_r lt (row.goes.to ∙ ap Some which) (free send.to (row.goes.to ∙ ap Some which) (sym row.from) at_r)

@@ -1,19 +1,19 @@
 -- A send is decided on the processor where it is: its sender goes on, at once or by a letter.
 use Rattle.std.proofs.Common.{◌≡◌, ℕ, false, Option, Some, None, List, [], ◌∷◌, refl, ap, sym, ◌∙◌, subst, arith}
 use Rattle.l4_model.specs.Machine.{Machine}
-use Rattle.l4_model.specs.World.{Thread, World, Send, Asked, Receive, Phase, Ready, Sending, Receiving, Ordering, Ended, Deleted, change, unqueued, is_alive}
+use Rattle.l4_model.specs.World.{Thread, World, Send, Asked, Owed, Receive, Phase, Ready, Sending, Receiving, Ordering, Ended, Deleted, change, unqueued, is_alive}
 use Rattle.l4_model.specs.Effects.{decided, goes_on}
 use Rattle.l4_model.proofs.Chains.{cond_both, cond_keeps}
 use Rattle.l4_model.specs.Reached.{Suits}
 use Rattle.l4_core_model.specs.Plain as plain
 use Rattle.l4_core_model.specs.Letters.{Result, Delivered, Refused, TimedOut, Nobody, Cancelled, Dropped}
-use Rattle.l4_core_model.specs.Local.{thread, destination_place, relists, comes_to, readied, after_decision, was_delivered}
+use Rattle.l4_core_model.specs.Local.{thread, owed_beside, destination_place, relists, comes_to, readied, after_decision, was_delivered}
 use Rattle.l4_core_model.specs.Acts.{Work, ◌▷◌, does}
 use Rattle.l4_core_model.proofs.Fit.{IsGood}
 use Rattle.l4_core_model.proofs.Good.{ended_refused_good, ended_delivered_good, ended_refused_none, ended_delivered_none}
 use Rattle.l4_split.proofs.Frames.Locals.{come}
 use Rattle.l4_split.proofs.Relation.Views.{Scene, Kept, View, kept, view, world_thread, home, amid, locators}
-use Rattle.l4_split.proofs.Relation.Rows.{seats, Agrees, IsUnplaced, IsStandIn, IsKept, Matches}
+use Rattle.l4_split.proofs.Relation.Rows.{seats, Agrees, IsUnplaced, IsStandIn, IsKept, Matches, OwesIn, HasJustReceived}
 use Rattle.l4_split.proofs.Relation.Agreement.{ended_agrees, ended_deleted}
 use Rattle.l4_split.proofs.Frames.Moves.{at_home, StaysTrue, IsFresh, of_none}
 use Rattle.l4_split.proofs.Frames.Places.{first_about, takes_in}
@@ -35,7 +35,7 @@ pub record IsSendAt (m : Machine) (cpu i : ℕ) (send : Send) (v : View) : Type 
   pub has : (at_home m i v).thread.send ≡ Some send
   pub order : (at_home m i v).thread.order ≡ None
   pub quiet : locators v.mail ≡ []
-  pub agrees : Agrees v.world (at_home m i v).thread
+  pub agrees : Agrees m v.world (at_home m i v).thread
   pub elsewhere : (c q : ℕ) → (cpu ≡ c → ⊥) → (v.kept c).listed q ≡ []
   pub foreign : (home m i ≡ cpu → ⊥) → IsForeign m cpu i send v
   pub no_other : (c : ℕ) → (c ≡ home m i → ⊥) → (cpu ≡ c → ⊥) → (v.kept c).thread.send ≡ None
@@ -119,6 +119,21 @@ ended_stays_true result k i send has order = record {
   causes = λ cause same old. of_none _ (after_decision result k.clock k.thread).send (ended_none result k.clock k.thread send has order).0;
 }
 
+-- A sender beside which a retarget is owed is deleted, and stays so.
+pub ended_owes : (result : Result) (clock : ℕ) (t : Thread) (send : Send) (owed : Option Owed) → t.send ≡ Some send → Suits t.phase (Some send) t.order →
+    OwesIn t.phase owed → OwesIn (after_decision result clock t).phase owed
+ended_owes result clock t send None has suits owes = tt
+ended_owes result clock t send (Some o) has suits owes = by t.phase refl suits owes
+  where
+    by : (p : Phase) → t.phase ≡ p → Suits p (Some send) t.order → HasJustReceived p → HasJustReceived (after_decision result clock t).phase
+    by Ready is s h = cc
+    by Sending is s h = absurd h
+    by (Receiving receive since) is s h = absurd h
+    by Ordering is s h = absurd h
+    by Ended is s h = absurd h
+    by Deleted is s h = let gone : (after_decision result clock t).phase ≡ Deleted = ap (λ (u : Thread). u.phase) (ended_deleted result clock t send is has) ∙ is in
+        rw gone tt
+
 -- What is kept of it says nothing of lists.
 
 pub kept_without_lists : (m : Machine) (i : ℕ) (v : View) → IsKept m i v → IsKept m i (without_lists v)
@@ -153,7 +168,7 @@ decided_here m cpu i except s w x result send g here at is relates =
     let has : (thread x.local i).send ≡ Some send = sym (ap (λ (k : Kept). k.thread.send) was) ∙ at.has in
     let order : (thread x.local i).order ≡ None = sym (ap (λ (k : Kept). k.thread.order) was) ∙ at.order in
     let good : IsGood x.local.clock (thread x.local i) = subst (λ (k : Kept). IsGood k.clock k.thread) was at.kept.at_home.good in
-    let agrees : Agrees v.world (thread x.local i) = subst (λ (k : Kept). Agrees v.world k.thread) was at.agrees in
+    let agrees : Agrees m v.world (thread x.local i) = subst (λ (k : Kept). Agrees m v.world k.thread) was at.agrees in
     let none = ended_none result x.local.clock (thread x.local i) send has order in
     let suits : Suits (thread x.local i).phase (Some send) (thread x.local i).order =
     subst (λ o. Suits (thread x.local i).phase o (thread x.local i).order) has good.suits in
@@ -170,9 +185,11 @@ decided_here m cpu i except s w x result send g here at is relates =
       out = sym (ap (λ (k : Kept). k.ready) was) ∙ at.out;
       send = none.0;
       order = none.1;
-      agrees = subst (λ t. Agrees t (f (thread x.local i))) (sym (is ∙ clock))
+      agrees = subst (λ t. Agrees m t (f (thread x.local i))) (sym (is ∙ clock))
           (ended_agrees result x.local.clock v.world (thread x.local i) send has suits agrees);
       good = ended_good result x.local.clock (thread x.local i) send has good;
       fresh = ended_fresh result x.local.clock (thread x.local i) send has;
+      owes = ended_owes result x.local.clock (thread x.local i) send (owed_beside x.local i) has suits
+          (subst (λ (k : Kept). OwesIn k.thread.phase k.owed) was at.kept.at_home.owes);
       stays_true = ended_stays_true result (kept y.local i) i send has order;
     }))

@@ -1,33 +1,41 @@
 -- The first waiting send that a receiver accepts is delivered to it; so is a send in hand that arrives where it is waited for.
-use Rattle.std.proofs.Common.{◌≡◌, ℕ, ◌<◌, Some, None, [], length, refl, ap, sym, ◌∙◌, subst, arith, true, inl, inr}
+use Rattle.l4_split.proofs.Retargets.Owes.{IsOwedTo, owes_relates, owes_steps}
+use Rattle.l4_split.proofs.Frames.Locals.{come, comes_here}
+use Rattle.l4_split.proofs.Relation.Whereabouts.{not_both}
+use Rattle.std.proofs.lemmas.Option.{slice_get-get_or}
+use Rattle.std.specs.Prelude.{IfSome, slice_index}
+use Rattle.l4_model.proofs.Owed.{owed_by_is}
+use Rattle.l4_model.specs.Reached.{IsSendOf}
+use Rattle.l4_split.proofs.Frames.Owes.{ready_owes, receiving_owes}
+use Rattle.std.proofs.Common.{◌≡◌, ℕ, ◌<◌, Some, None, [], length, refl, ap, sym, ◌∙◌, subst, arith, true, inl, inr, false, Option}
 use Rattle.l4_model.specs.Words.{Id}
 use Rattle.l4_model.specs.Machine.{Machine, is_place}
-use Rattle.l4_model.specs.World.{Thread, World, Send, Receive, Message, Phase, Ready, Receiving, Deleted, change, unqueued, opening_thread, is_deleted, is_alive}
+use Rattle.l4_model.specs.World.{Thread, World, Send, Receive, Message, Phase, Ready, Receiving, Deleted, change, unqueued, opening_thread, is_deleted, is_alive, must_wait, Owed}
 use Rattle.l4_model.specs.Conditions.{first_accepted}
 use Rattle.l4_model.specs.History.{run}
-use Rattle.l4_model.specs.Steps.{Step, Deliver, next, Queue}
-use Rattle.l4_model.specs.Rules.{takes, received_tag, is_cross}
+use Rattle.l4_model.specs.Steps.{Step, Deliver, next, Queue, owing}
+use Rattle.l4_model.specs.Rules.{takes, received_tag, is_cross, owed_by}
 use Rattle.l4_model.specs.Effects.{receives, delivered}
 use Rattle.l4_core_model.specs.Plain as plain
 use Rattle.l4_core_model.specs.Letters.{Delivered, TimedOut, Nobody}
-use Rattle.l4_core_model.specs.Local.{Local, declared, thread, destination_place, last_name, comes_to, readied, after_decision, was_delivered, held, relists}
-use Rattle.l4_core_model.specs.Acts.{Work, ◌▷◌, tells, does, delivers, delivers_send, delivers_message, refuses, entry, first_acceptable, delivers_if_first, zero_refusable, queues_send, arrives}
+use Rattle.l4_core_model.specs.Local.{Local, declared, thread, destination_place, last_name, comes_to, readied, after_decision, was_delivered, held, relists, owed_beside, undeclared}
+use Rattle.l4_core_model.specs.Acts.{Work, ◌▷◌, tells, does, delivers, delivers_send, delivers_message, refuses, entry, first_acceptable, delivers_if_first, zero_refusable, queues_send, arrives, decides_send}
 use Rattle.l4_core_model.proofs.Changed.{same_nat, same_ids, same_bytes, part-changed_at}
 use Rattle.l4_core_model.proofs.Fit.{IsGood}
 use Rattle.l4_core_model.proofs.Choosing.{accepts_is}
 use Rattle.l4_core_model.proofs.Apart.{same_or_apart}
 use Rattle.l4_core_model.proofs.Good.{receiving_has_none, receives_good}
 use Rattle.l4_split.proofs.Relation.Views.{Scene, Kept, View, kept, view, world_thread, home, amid}
-use Rattle.l4_split.proofs.Relation.Rows.{Agrees, IsEarlier, Matches}
+use Rattle.l4_split.proofs.Relation.Rows.{Agrees, IsEarlier, Matches, OwesIn}
 use Rattle.l4_split.proofs.Relation.Agreement.{same_agrees, receiving_is, receives_agrees}
 use Rattle.l4_split.proofs.Relation.Relates.{RelatesExcept, senders}
 use Rattle.l4_split.proofs.Frames.Places.{leaves_out, takes_in, put_same}
 use Rattle.l4_split.proofs.Frames.Moves.{at_home, of_none}
-use Rattle.l4_split.proofs.Frames.Going.{Goes, IsHere, one_more_told, put_home, home_is, IsQuiet, comes, quiet_matches}
+use Rattle.l4_split.proofs.Frames.Going.{Goes, IsHere, one_more_told, put_home, home_is, IsQuiet, comes, quiet_matches, now_facts, sized_here}
 use Rattle.l4_split.proofs.Turns.Instructions.{IsFree, free_is}
 use Rattle.l4_split.proofs.Sends.Deciding.{IsSendAt}
 use Rattle.l4_split.proofs.Sends.Waiting.{entry_at, entries_here, first_accepted_is, IsFirstSender, first_entry, agrees_send}
-use Rattle.l4_split.proofs.Sends.Finding.{place_found, receiver_is, held_is, pending_is, ends_relates, ends_steps}
+use Rattle.l4_split.proofs.Sends.Finding.{place_found, receiver_is, held_is, pending_is, ends_relates, ends_steps, ends_spares}
 use Rattle.l4_model.proofs.Chains.{cond_keeps}
 use Rattle.l4_split.proofs.Sends.Refusing.{HasSend, IsSeen, IsReceiver, deleted_goes, zero_goes}
 use Rattle.l4_split.proofs.Sends.Queueing.{IsInHand, queue_goes}
@@ -40,7 +48,7 @@ pub record IsReceivingAt (m : Machine) (cpu r : ℕ) (s : Scene) (w : World) (x 
   pub order : (thread x.local r).order ≡ None
   pub out : (kept x.local r).ready ≡ []
   pub free : IsFree m r (view m (amid cpu s x) w r)
-  pub agrees : Agrees (world_thread w r) (thread x.local r)
+  pub agrees : Agrees m (world_thread w r) (thread x.local r)
   pub earlier : IsEarlier receive since (world_thread w r) (thread x.local r)
 
 pub receiving_at : (m : Machine) (cpu r : ℕ) (s : Scene) (w : World) (x : Work) (receive : Receive) (since : ℕ) → IsHere m cpu r →
@@ -51,7 +59,7 @@ receiving_at m cpu r s w x receive since here matches is =
     let good = subst (λ (k : Kept). IsGood k.clock k.thread) was matches.known.kept.at_home.good in
     let none = receiving_has_none (thread x.local r).phase receive since (thread x.local r).send (thread x.local r).order is good.suits in
     let free = free_is m r v matches.known (ap (λ (k : Kept). k.thread.send) was ∙ none.0) (ap (λ (k : Kept). k.thread.order) was ∙ none.1) in
-    let agrees : Agrees v.world (thread x.local r) = subst (λ (k : Kept). Agrees v.world k.thread) was free.agrees in
+    let agrees : Agrees m v.world (thread x.local r) = subst (λ (k : Kept). Agrees m v.world k.thread) was free.agrees in
     record {
       matches = matches;
       good = good;
@@ -79,6 +87,7 @@ receiving_quiet m cpu r s w x receive since f at is send order begun ready good 
   agrees = same_agrees (f (world_thread w r)) (f (thread x.local r)) same;
   good = good;
   fresh = rw ready tt;
+  owes = ready_owes (f (thread x.local r)).phase (owed_beside x.local r) ready;
   stays_true = record {
     deleted = λ gone. absurd (not_deleted (thread x.local r).phase is gone);
     begun = omega (arith, begun);
@@ -145,11 +154,37 @@ message_goes m cpu r i s w x receive since send here processor e is first at lt 
     let t4 = same_nat tag in
     let t5 = same_bytes send.message.words in
     let phase : (world_thread now r).phase ≡ Receiving receive a.earlier.began = ap (λ (t : Thread). t.phase) waits in
-    let possible : next m now step ≡ Some (change (unqueued w1 i) i g) = rw (pending, receiver, phase, accepted, t0, t1, t2, t3, t4, t5) refl in
+    let u : World = change (unqueued w1 i) i g in
+    let x2 : Work = decides_send m cpu Delivered i x1 in
+    let owed : Option Owed = owed_by m (last_name m x.local i) send.message (declared m r).id in
+    let possible : next m now step ≡ Some (owing owed u) = rw (pending, receiver, phase, accepted, t0, t1, t2, t3, t4, t5) refl in
+    let rel2 = ends_relates m cpu i [] s w1 x1 Delivered i1.is.send g here.machine processor lt at1 ended_is (leaves_out m i [] (amid cpu s x1) w1 rel1) in
+    let was = home_is m cpu r s x now here.home in
+    let apart : i ≡ r → ⊥ = λ same. not_both (at_home m i (view m (amid cpu s x) now i)).thread.send send at.has
+    (ap (λ j. (at_home m j (view m (amid cpu s x) now j)).thread.send) same ∙ ap (λ (k : Kept). k.thread.send) was ∙ a.send) in
+    let sized = sized_here m cpu r [] s now x here rel in
+    let served : kept x2.local r ≡ come r f (kept x.local r) =
+    ends_spares m cpu i r x1 Delivered apart ∙ comes_here x.local r f (let within = here.within in omega (arith, sized.threads)) in
+    let v2 : View = view m (amid cpu s x2) u r in
+    let is2 : at_home m r v2 ≡ come r f (kept x.local r) = home_is m cpu r s x2 u here.home ∙ served in
+    let free2 = free_is m r v2 (rel2.places r here.within tt).known (ap (λ (k : Kept). k.thread.send) is2 ∙ a.send)
+    (ap (λ (k : Kept). k.thread.order) is2 ∙ a.order) in
+    let nothing : owed_beside x.local r ≡ None = receiving_owes (thread x.local r).phase (owed_beside x.local r) receive since is
+    (subst (λ (k : Kept). OwesIn k.thread.phase k.owed) was a.matches.known.kept.at_home.owes) in
+    let facts = now_facts m cpu s w [] x e in
+    let in_world : i < length now.threads = omega (arith, rel.sized_world.threads) in
+    let here_i = facts.each_thread i (declared m i) (world_thread now i) (slice_get-get_or m.threads i undeclared lt)
+    (slice_get-get_or now.threads i opening_thread in_world) in
+    let its = subst (λ o. IfSome o (IsSendOf m (declared m i).id (slice_index now.clocks (declared m i).cpu)))
+    (agrees_send (world_thread now i) _ at.agrees ∙ at.has) here_i.send in
     record {
-      now = change (unqueued w1 i) i g;
-      reaches = ap (run m w) steps ∙ one_more_told m w now (change (unqueued w1 i) i g) x.steps step e.reaches possible;
-      relates = ends_relates m cpu i [] s w1 x1 Delivered i1.is.send g here.machine processor lt at1 ended_is (leaves_out m i [] (amid cpu s x1) w1 rel1);
+      starts = e.starts;
+      now = owing owed u;
+      reaches = ap (run m w) (owes_steps m cpu r owed x2 ∙ steps) ∙ one_more_told m w now (owing owed u) x.steps step e.reaches possible;
+      relates = owes_relates m cpu r owed s u x2 here processor (ap (λ (k : Kept). k.thread.phase) served) (ap (λ (k : Kept). k.owed) served ∙ nothing)
+          free2.quiet
+          (owed_by_is (IsOwedTo m r) m (last_name m x.local i) send.message (declared m r).id
+          (record { new_partner = here.machine.placed r here.within; originator = its.shown })) rel2;
     }
 
 -- The first that a receiver accepts is delivered to it, whatever processor its sender is of.
@@ -184,21 +219,22 @@ if_first_goes m cpu i r s w y here processor e = cond_keeps (Goes m cpu s w []) 
     (λ otherwise. e)
 
 -- A send in hand arrives at its receiver.
-pub arrives_goes : (m : Machine) (cpu i r : ℕ) (s : Scene) (w : World) (x : Work) (send : Send) → IsInHand m cpu i s w x send → home m r ≡ cpu →
-    r < length m.threads → destination_place m send.to ≡ Some r → Goes m cpu s w [] (arrives m cpu r i x)
-arrives_goes m cpu i r s w x send h home_is lt to =
+pub arrives_goes : (m : Machine) (cpu i r : ℕ) (s : Scene) (w : World) (x : Work) (send : Send) → (h : IsInHand m cpu i s w x send) → home m r ≡ cpu →
+    r < length m.threads → destination_place m send.to ≡ Some r → must_wait h.has.goes.now.owed (declared m i).id send.to ≡ false →
+    Goes m cpu s w [] (arrives m cpu r i x)
+arrives_goes m cpu i r s w x send h home_is lt to free =
     let has = h.has in
     let q : IsReceiver m cpu r s has.goes.now x send = record { within = lt; home = home_is; to = to; seen = receiver_seen m cpu i r s w x send has lt } in
     let held_here = held_is m cpu i send s x has.goes.now has.at in
     let here : IsHere m cpu r = record { machine = has.machine; within = lt; home = home_is } in
     cond_keeps (Goes m cpu s w []) (is_deleted (thread x.local r).phase) (refuses m cpu Nobody i x) _
-    (λ gone. deleted_goes m cpu i r s w x send has q gone)
+    (λ gone. deleted_goes m cpu i r s w x send has q free gone)
     (λ alive. cond_keeps (Goes m cpu s w []) (zero_refusable m (held m x.local r) (thread x.local i).send) (refuses m cpu TimedOut i x)
     (queues_send m cpu r i (thread x.local i).send x)
-    (λ refusable. zero_goes m cpu i r s w x send has q refusable)
+    (λ refusable. zero_goes m cpu i r s w x send has q free refusable)
     (λ otherwise. let living : is_alive (thread x.local r).phase ≡ true = rw alive refl in
     subst (λ o. Goes m cpu s w [] (queues_send m cpu r i o x)) (sym held_here.has)
     (subst (λ (message : Message).
     Goes m cpu s w [] (x ▷ tells (Queue (last_name m x.local i)) ▷ does (relists (plain.queued r (entry m r i (record send { message = message }))))
     ▷ delivers_if_first m cpu r i)) (sym held_here.message)
-    (if_first_goes m cpu i r s w _ here has.processor (queue_goes m cpu i r s w x send h q living)))))
+    (if_first_goes m cpu i r s w _ here has.processor (queue_goes m cpu i r s w x send h q free living)))))

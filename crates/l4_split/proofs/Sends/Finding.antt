@@ -1,4 +1,6 @@
 -- What the world finds of a place, and of a send that is on a processor.
+use Rattle.l4_model.specs.Effects.{decided}
+use Rattle.l4_split.proofs.Frames.Locals.{unqueued_other, comes_other, changes_other}
 use Rattle.std.proofs.Common.{◌≡◌, ℕ, ◌<◌, Bool, true, false, cond, Some, None, List, ◌∷◌, length, refl, ap, sym, ◌∙◌, arith}
 use Rattle.std.specs.Prelude.{◌==◌}
 use Rattle.std.proofs.lemmas.Option.{slice_get-get_or}
@@ -123,3 +125,12 @@ pub ends_steps : (m : Machine) (cpu i : ℕ) (x : Work) (result : Result) → (d
 ends_steps m cpu i x result =
     cond_both (λ (y : Work). y.steps) x.steps (is_own m cpu i) (x ▷ does (relists (plain.unqueued i)) ▷ does (comes_to i (after_decision result x.local.clock)))
     (answers m i result x) refl refl
+
+-- Another thread of this processor is as it was.
+pub ends_spares : (m : Machine) (cpu i r : ℕ) (x : Work) (result : Result) → (i ≡ r → ⊥) → kept (decides_send m cpu result i x).local r ≡ kept x.local r
+ends_spares m cpu i r x result ne =
+    let left = unqueued_other x.local i r ne in
+    cond_both (λ (y : Work). kept y.local r) (kept x.local r) (is_own m cpu i)
+    (x ▷ does (relists (plain.unqueued i)) ▷ does (comes_to i (after_decision result x.local.clock))) (answers m i result x)
+    (comes_other (relists (plain.unqueued i) x.local) i r (after_decision result x.local.clock) ne ∙ left)
+    (changes_other (relists (plain.unqueued i) x.local) i r decided ne ∙ left)

@@ -4,14 +4,14 @@ use Rattle.std.proofs.Common.{◌≡◌, ℕ, ◌<◌, true, false, Option, Some
 use Rattle.std.specs.Prelude.{◌==◌}
 use Rattle.std.specs.List.{list_any}
 use Rattle.l4_model.specs.Machine.{Machine}
-use Rattle.l4_model.specs.World.{Thread, World, Send, Receive, Phase, Ready, Sending, Receiving, Ordering, Ended, Deleted, queued, is_queued, is_alive}
+use Rattle.l4_model.specs.World.{Thread, World, Send, Receive, Phase, Ready, Sending, Receiving, Ordering, Ended, Deleted, queued, is_queued, must_wait, is_alive}
 use Rattle.l4_model.specs.Steps.{Queue}
 use Rattle.l4_model.specs.Effects.{decided, goes_on}
 use Rattle.l4_model.proofs.Chains.{cond_both, some_is}
 use Rattle.l4_model.specs.Reached.{Suits}
 use Rattle.l4_core_model.specs.Plain as plain
-use Rattle.l4_core_model.specs.Letters.{Result, Delivered, Refused, TimedOut, Nobody, Cancelled, Dropped, Content, SendLetter, DoneLetter, WithdrawLetter, GoneLetter, OrderLetter, OrderDoneLetter}
-use Rattle.l4_core_model.specs.Local.{Local, thread, destination_place, last_name, relists, readied, after_decision, was_delivered}
+use Rattle.l4_core_model.specs.Letters.{Result, Delivered, Refused, TimedOut, Nobody, Cancelled, Dropped, Content, SendLetter, DoneLetter, WithdrawLetter, GoneLetter, OrderLetter, OrderDoneLetter, RetargetLetter}
+use Rattle.l4_core_model.specs.Local.{Local, declared, thread, destination_place, last_name, relists, readied, after_decision, was_delivered}
 use Rattle.l4_core_model.specs.Acts.{Work, ◌▷◌, tells, does, entry}
 use Rattle.l4_core_model.specs.Runs.{Posted}
 use Rattle.l4_core_model.proofs.Apart.{same_or_apart}
@@ -29,8 +29,8 @@ use Rattle.l4_split.proofs.Sends.Refusing.{HasSend, IsSeen, IsReceiver}
 
 -- A thread that is alive at home is alive in the world.
 
-agrees_alive : (world t : Thread) → is_alive t.phase ≡ true → Agrees world t → is_alive world.phase ≡ true
-agrees_alive world t alive a = by t.phase refl a
+agrees_alive : {m : Machine} (world t : Thread) → is_alive t.phase ≡ true → Agrees m world t → is_alive world.phase ≡ true
+agrees_alive world t alive a = by t.phase refl a.by_phase
   where
     by : (p : Phase) → t.phase ≡ p → AgreesIn p world t → is_alive world.phase ≡ true
     by Ready is a = ap (λ (t : Thread). is_alive t.phase) a ∙ alive
@@ -63,6 +63,7 @@ learns_alive (WithdrawLetter s receiver cause) clock t alive = alive
 learns_alive (GoneLetter id) clock t alive = alive
 learns_alive (OrderLetter caller target what) clock t alive = alive
 learns_alive (OrderDoneLetter caller) clock t alive = rw alive refl
+learns_alive (RetargetLetter o) clock t alive = alive
 
 learned_alive : (ps : List Posted) (clock : ℕ) (t : Thread) → is_alive t.phase ≡ true → is_alive (learned ps clock t).phase ≡ true
 learned_alive [] clock t alive = alive
@@ -143,8 +144,8 @@ queued_matches m cpu i r s w x send at free home_is to within =
     } in
     record {
       known = record {
-        agrees = subst (λ ps. Agrees after.world (learned ps (at_home m i after).clock (at_home m i after).thread)) (sym at.quiet)
-            (subst (Agrees v.world) (sym thread_same) at.agrees);
+        agrees = subst (λ ps. Agrees m after.world (learned ps (at_home m i after).clock (at_home m i after).thread)) (sym at.quiet)
+            (subst (Agrees m v.world) (sym thread_same) at.agrees);
         row = subst (λ ps. Row m i (seats m i after) ps (at_home m i after).thread.send) (sym at.quiet)
             (subst (Row m i (seats m i after) []) (sym (ap (λ (t : Thread). t.send) thread_same ∙ at.has)) row);
         kept = kept_with_lists m i after (subst (IsKept m i) (sym same) (kept_without_lists m i v at.kept));
@@ -155,9 +156,9 @@ queued_matches m cpu i r s w x send at free home_is to within =
 
 -- It may be queued where its receiver is alive.
 pub queue_goes : (m : Machine) (cpu i r : ℕ) (s : Scene) (w : World) (x : Work) (send : Send) → (h : IsInHand m cpu i s w x send) →
-    IsReceiver m cpu r s h.has.goes.now x send → is_alive (thread x.local r).phase ≡ true →
+    IsReceiver m cpu r s h.has.goes.now x send → must_wait h.has.goes.now.owed (declared m i).id send.to ≡ false → is_alive (thread x.local r).phase ≡ true →
     Goes m cpu s w [] (x ▷ tells (Queue (last_name m x.local i)) ▷ does (relists (plain.queued r (entry m r i send))))
-queue_goes m cpu i r s w x send h q alive =
+queue_goes m cpu i r s w x send h q free alive =
     let now = h.has.goes.now in
     let at = h.has.at in
     let rel = h.has.goes.relates in
@@ -170,8 +171,9 @@ queue_goes m cpu i r s w x send h q alive =
     let y : Work = x ▷ does (relists (plain.queued r e)) in
     let u : World = queued now r i in
     record {
+      starts = h.has.goes.starts;
       now = u;
-      reaches = one_more_told m w now u x.steps (Queue (last_name m x.local i)) h.has.goes.reaches (rw (pending, receiver, living, none) refl);
+      reaches = one_more_told m w now u x.steps (Queue (last_name m x.local i)) h.has.goes.reaches (rw (pending, receiver, living, none, free) refl);
       relates = takes_in m i [] (amid cpu s y) u (queues m cpu r e (i ∷ []) s now x (sym q.home) h.has.processor q.within h.has.within (first_about i []) rel)
           (queued_matches m cpu i r s now x send at h.free q.home q.to
           (let z = sized_here m cpu r (i ∷ []) s now x (record { machine = h.has.machine; within = q.within; home = q.home }) rel in

@@ -17,7 +17,7 @@ use Rattle.l4_core_model.proofs.Standing.{place_within}
 use Rattle.l4_core_model.proofs.Choosing.{both}
 use Rattle.l4_split.proofs.Lists.{other_is}
 use Rattle.l4_split.proofs.Relation.Views.{View, home}
-use Rattle.l4_split.proofs.Relation.Rows.{AgreesIn, Agrees, Known}
+use Rattle.l4_split.proofs.Relation.Rows.{AgreesIn, AgreesByPhase, Agrees, Known}
 use Rattle.l4_split.proofs.Relation.Agreement.{ready_is}
 use Rattle.l4_split.proofs.Frames.Moves.{at_home}
 
@@ -70,14 +70,14 @@ refuses_in m found shown phase = is_alive phase && not (may_still_accept m found
 -- What home learns of its own decided call does not make it accept a sender that the call would not have accepted.
 goes_on_refusable : (m : Machine) (r q clock now : ℕ) (send call : Send) (t world : Thread) → place_of m (declared m r).id ≡ Some r →
     destination_place m call.to ≡ Some q → (home m q ≡ home m r → ⊥) →
-    t.phase ≡ Sending → t.send ≡ Some call → Agrees world (goes_on call.receive now t) → is_refusable m send (Some (seen m r clock t)) ≡ true →
+    t.phase ≡ Sending → t.send ≡ Some call → Agrees m world (goes_on call.receive now t) → is_refusable m send (Some (seen m r clock t)) ≡ true →
     is_refusable m send (Some (seen m r clock world)) ≡ true
-goes_on_refusable m r q clock now send call t world here to split sending has agrees h = by call.receive refl agrees
+goes_on_refusable m r q clock now send call t world here to split sending has agrees h = by call.receive refl agrees.by_phase
   where
     before : not (receive_accepts m call.receive send.message.shown (declared m r).id) ≡ true
     before = let elsewhere = call_elsewhere m r q call (seen m r clock t) send.message.shown refl here to split in sym (rw (sending, has, elsewhere) refl) ∙ h
 
-    by : (o : Option Receive) → call.receive ≡ o → Agrees world (goes_on o now t) → is_refusable m send (Some (seen m r clock world)) ≡ true
+    by : (o : Option Receive) → call.receive ≡ o → AgreesByPhase world (goes_on o now t) → is_refusable m send (Some (seen m r clock world)) ≡ true
     by None is a = rw a refl
     by (Some receive) is a = let same = a.same in rw same (subst (λ o. not (receive_accepts m o send.message.shown (declared m r).id) ≡ true) is before)
 
@@ -86,9 +86,9 @@ ready_refusable : (m : Machine) (r clock : ℕ) (send : Send) (world : Thread) �
 ready_refusable m r clock send world is = rw is refl
 
 -- where the world has it as home does
-pub same_refusable : (m : Machine) (r clock : ℕ) (send : Send) (t world : Thread) → Agrees world t → is_refusable m send (Some (seen m r clock t)) ≡ true →
+pub same_refusable : (m : Machine) (r clock : ℕ) (send : Send) (t world : Thread) → Agrees m world t → is_refusable m send (Some (seen m r clock t)) ≡ true →
     is_refusable m send (Some (seen m r clock world)) ≡ true
-same_refusable m r clock send t world a h = by t.phase refl a
+same_refusable m r clock send t world a h = by t.phase refl a.by_phase
   where
     one : world ≡ t → is_refusable m send (Some (seen m r clock world)) ≡ true
     one e = subst (λ u. is_refusable m send (Some (seen m r clock u)) ≡ true) (sym e) h
@@ -112,7 +112,7 @@ alive_refusable m r clock send t h = (both (is_alive t.phase) _ h).0
 -- where its own call was decided
 decided_refusable : (m : Machine) (r clock : ℕ) (send : Send) (result : Result) (t world : Thread) → place_of m (declared m r).id ≡ Some r →
     (call : Send) (q : ℕ) → t.send ≡ Some call → destination_place m call.to ≡ Some q → (home m q ≡ home m r → ⊥) → Suits t.phase t.send t.order →
-    Agrees world (after_decision result clock t) →
+    Agrees m world (after_decision result clock t) →
     is_refusable m send (Some (seen m r clock t)) ≡ true → is_refusable m send (Some (seen m r clock world)) ≡ true
 decided_refusable m r clock send result t world here call q has to split suits a h = by result a
   where
@@ -130,7 +130,7 @@ decided_refusable m r clock send result t world here call q has to split suits a
         in_phase Ended alive s = cc
         in_phase Deleted alive s = cc
 
-    fallen : (u : Thread) → u.phase ≡ Ready → Agrees world u → is_refusable m send (Some (seen m r clock world)) ≡ true
+    fallen : (u : Thread) → u.phase ≡ Ready → Agrees m world u → is_refusable m send (Some (seen m r clock world)) ≡ true
     fallen u is a = let ready : is_ready u.phase ≡ true = ap is_ready is in
         ready_refusable m r clock send world (ap (λ (t : Thread). t.phase) (ready_is world u ready a) ∙ is)
 
@@ -140,16 +140,16 @@ decided_refusable m r clock send result t world here call q has to split suits a
     dropped_ready : (was_dropped t).phase ≡ Ready
     dropped_ready = rw alive refl
 
-    by : (result : Result) → Agrees world (after_decision result clock t) → is_refusable m send (Some (seen m r clock world)) ≡ true
+    by : (result : Result) → Agrees m world (after_decision result clock t) → is_refusable m send (Some (seen m r clock world)) ≡ true
     by (Refused TimedOut) a = fallen (refused 2 t) (refused_ready 2) a
     by (Refused Nobody) a = fallen (refused 4 t) (refused_ready 4) a
     by (Refused Cancelled) a = fallen (refused 6 t) (refused_ready 6) a
     by (Refused Dropped) a = fallen (was_dropped t) dropped_ready a
     by Delivered a =
         let delivered_is : after_decision Delivered clock t ≡ goes_on call.receive clock t = rw (has, alive) refl in
-        goes_on_refusable m r q clock clock send call t world here to split sending has (subst (Agrees world) delivered_is a) h
+        goes_on_refusable m r q clock clock send call t world here to split sending has (subst (Agrees m world) delivered_is a) h
 
-obeyed_refusable : (m : Machine) (r clock : ℕ) (send : Send) (t world : Thread) → Agrees world (obeyed t) →
+obeyed_refusable : (m : Machine) (r clock : ℕ) (send : Send) (t world : Thread) → Agrees m world (obeyed t) →
     is_refusable m send (Some (seen m r clock t)) ≡ true → is_refusable m send (Some (seen m r clock world)) ≡ true
 obeyed_refusable m r clock send t world a h =
     let alive = alive_refusable m r clock send t h in

@@ -3,11 +3,11 @@ use Rattle.l4_split.proofs.Relation.Whereabouts.{where_then}
 use Rattle.l4_core_model.proofs.Sending.{nowhere_is}
 use Rattle.l4_core_model.proofs.Fit.{zero_passed, SendIsSince}
 use Rattle.l4_core_model.proofs.Choosing.{both}
-use Rattle.std.proofs.Common.{◌≡◌, ℕ, ◌<◌, ◌≤◌, true, Some, None, [], ◌∷◌, length, refl, ap, sym, ◌∙◌, subst, inl, inr, ◌⊎◌}
+use Rattle.std.proofs.Common.{◌≡◌, ℕ, ◌<◌, ◌≤◌, true, Some, None, [], ◌∷◌, length, refl, ap, sym, ◌∙◌, subst, inl, inr, ◌⊎◌, false}
 use Rattle.std.specs.Prelude.{◌&&◌, not}
 use Rattle.l4_model.specs.Words.{Id, NilThread, AnyThread, AnyLocalThread, LocalThread, GlobalThread}
 use Rattle.l4_model.specs.Machine.{Machine, place_of}
-use Rattle.l4_model.specs.World.{Thread, World, Send, Message, Deleted, change, unqueued, is_deleted, is_alive}
+use Rattle.l4_model.specs.World.{Thread, World, Send, Message, Deleted, change, unqueued, must_wait, is_deleted, is_alive}
 use Rattle.l4_model.specs.Conditions.{Found, is_no_destination, is_zero, is_refusable, may_still_accept}
 use Rattle.l4_model.specs.History.{run}
 use Rattle.l4_model.specs.Steps.{next}
@@ -44,6 +44,7 @@ refuses_goes m cpu i s w x refusal send g h is possible =
     let y : Work = x ▷ tells (refusal_step refusal (last_name m x.local i)) in
     let steps = ends_steps m cpu i y (Refused refusal) in
     record {
+      starts = h.goes.starts;
       now = u;
       reaches = ap (run m w) steps ∙ one_more_told m w h.goes.now u x.steps (refusal_step refusal (last_name m x.local i)) h.goes.reaches possible;
       relates = ends_relates m cpu i [] s h.goes.now y (Refused refusal) send g h.machine h.processor h.within h.at is h.goes.relates;
@@ -51,12 +52,13 @@ refuses_goes m cpu i s w x refusal send g h is possible =
 
 -- Nobody is there
 
-pub nowhere_goes : (m : Machine) (cpu i : ℕ) (s : Scene) (w : World) (x : Work) (send : Send) → HasSend m cpu i s w x send →
+pub nowhere_goes : (m : Machine) (cpu i : ℕ) (s : Scene) (w : World) (x : Work) (send : Send) → (h : HasSend m cpu i s w x send) →
+    must_wait h.goes.now.owed (declared m i).id send.to ≡ false →
     destination_place m send.to ≡ None → (send.to ≡ NilThread → ⊥) → Goes m cpu s w [] (refuses m cpu Nobody i x)
-nowhere_goes m cpu i s w x send h to not_nil =
+nowhere_goes m cpu i s w x send h free to not_nil =
     let pending = pending_is m cpu i send (i ∷ []) s x h.goes.now h.machine h.within h.goes.relates h.at in
     let nobody = nowhere_is m h.goes.now send.to to not_nil in
-    refuses_goes m cpu i s w x Nobody send (refused 4) h refl (rw (pending, nobody) refl)
+    refuses_goes m cpu i s w x Nobody send (refused 4) h refl (rw (pending, nobody, free) refl)
 
 -- A thread that is deleted at home is deleted in the world.
 pub deleted_known : (m : Machine) (r : ℕ) (v : View) → Known m r v → (at_home m r v).thread.phase ≡ Deleted → v.world.phase ≡ Deleted
@@ -75,20 +77,20 @@ deleted_known m r v known gone = where_then m r v known
     clock : ℕ
     clock = (at_home m r v).clock
 
-    left : (u : Thread) → u.phase ≡ Deleted → Agrees v.world u → v.world.phase ≡ Deleted
-    left u is a = let l : AgreesIn Deleted v.world u = subst (λ p. AgreesIn p v.world u) is a in l.deleted
+    left : (u : Thread) → u.phase ≡ Deleted → Agrees m v.world u → v.world.phase ≡ Deleted
+    left u is a = let l : AgreesIn Deleted v.world u = subst (λ p. AgreesIn p v.world u) is a.by_phase in l.deleted
 
     obeyed_gone : (obeyed t).phase ≡ Deleted
     obeyed_gone = rw gone refl
 
 -- The world has a thread as its home does, now or once the letter under way to it is handled.
 abbrev pub IsSeen : Machine → ℕ → View → Type 0
-IsSeen m r v = Known m r v ⊎ Agrees v.world (at_home m r v).thread
+IsSeen m r v = Known m r v ⊎ Agrees m v.world (at_home m r v).thread
 
 deleted_seen : (m : Machine) (r : ℕ) (v : View) → IsSeen m r v → (at_home m r v).thread.phase ≡ Deleted → v.world.phase ≡ Deleted
 deleted_seen m r v (inl known) gone = deleted_known m r v known gone
 deleted_seen m r v (inr agrees) gone = let left : AgreesIn Deleted v.world (at_home m r v).thread =
-    subst (λ p. AgreesIn p v.world (at_home m r v).thread) gone agrees in left.deleted
+    subst (λ p. AgreesIn p v.world (at_home m r v).thread) gone agrees.by_phase in left.deleted
 
 refusable_seen : (m : Machine) (r : ℕ) (send : Send) (v : View) → place_of m (declared m r).id ≡ Some r → IsSeen m r v →
     is_refusable m send (Some (record { at = r; declared = declared m r; now = (at_home m r v).thread; clock = (at_home m r v).clock })) ≡ true →
@@ -105,14 +107,15 @@ pub record IsReceiver (m : Machine) (cpu r : ℕ) (s : Scene) (w : World) (x : W
 
 -- Its receiver is deleted.
 pub deleted_goes : (m : Machine) (cpu i r : ℕ) (s : Scene) (w : World) (x : Work) (send : Send) → (h : HasSend m cpu i s w x send) →
-    IsReceiver m cpu r s h.goes.now x send → is_deleted (thread x.local r).phase ≡ true → Goes m cpu s w [] (refuses m cpu Nobody i x)
-deleted_goes m cpu i r s w x send h q gone =
+    IsReceiver m cpu r s h.goes.now x send → must_wait h.goes.now.owed (declared m i).id send.to ≡ false → is_deleted (thread x.local r).phase ≡ true →
+    Goes m cpu s w [] (refuses m cpu Nobody i x)
+deleted_goes m cpu i r s w x send h q free gone =
     let pending = pending_is m cpu i send (i ∷ []) s x h.goes.now h.machine h.within h.goes.relates h.at in
     let receiver = receiver_is m r send.to (i ∷ []) (amid cpu s x) h.goes.now h.machine q.within h.goes.relates q.to in
     let was = ap (λ (k : Kept). k.thread.phase) (home_is m cpu r s x h.goes.now q.home) in
     let is = deleted_seen m r (view m (amid cpu s x) h.goes.now r) q.seen (was ∙ deleted_phase (thread x.local r).phase gone) in
     let nobody = no_destination send.to is q.to in
-    refuses_goes m cpu i s w x Nobody send (refused 4) h refl (rw (pending, receiver, nobody) refl)
+    refuses_goes m cpu i s w x Nobody send (refused 4) h refl (rw (pending, receiver, nobody, free) refl)
   where
     no_destination : (to : Id) → (world_thread h.goes.now r).phase ≡ Deleted → destination_place m to ≡ Some r →
         is_no_destination to (Some (place_found m (amid cpu s x) h.goes.now r)) ≡ true
@@ -124,9 +127,9 @@ deleted_goes m cpu i r s w x send h q gone =
 
 -- It is of timeout zero, and its receiver does not wait for it.
 pub zero_goes : (m : Machine) (cpu i r : ℕ) (s : Scene) (w : World) (x : Work) (send : Send) → (h : HasSend m cpu i s w x send) →
-    IsReceiver m cpu r s h.goes.now x send →
+    IsReceiver m cpu r s h.goes.now x send → must_wait h.goes.now.owed (declared m i).id send.to ≡ false →
     zero_refusable m (held m x.local r) (thread x.local i).send ≡ true → Goes m cpu s w [] (refuses m cpu TimedOut i x)
-zero_goes m cpu i r s w x send h q refusable =
+zero_goes m cpu i r s w x send h q free refusable =
     let now = h.goes.now in
     let v : View = view m (amid cpu s x) now r in
     let pending = pending_is m cpu i send (i ∷ []) s x now h.machine h.within h.goes.relates h.at in
@@ -142,7 +145,7 @@ zero_goes m cpu i r s w x send h q refusable =
     let in_world : is_refusable m send (Some (place_found m (amid cpu s x) now r)) ≡ true =
     refusable_seen m r send v (h.machine.placed r q.within) q.seen at_r in
     let passed = zero_passed send.period send.since (at_home m i (view m (amid cpu s x) now i)).clock zero (since (view m (amid cpu s x) now i) h.at) in
-    refuses_goes m cpu i s w x TimedOut send (refused 2) h refl (rw (pending, passed, zero, receiver, in_world) refl)
+    refuses_goes m cpu i s w x TimedOut send (refused 2) h refl (rw (pending, passed, zero, receiver, in_world, free) refl)
   where
     other_send : (a b : Send) (f : Found) → a.message ≡ b.message → is_refusable m a (Some f) ≡ true → is_refusable m b (Some f) ≡ true
     other_send a b f e h = subst (λ (message : Message). (is_alive f.now.phase && not (may_still_accept m f message.shown f.now.phase)) ≡ true) e h

@@ -28,8 +28,8 @@ use Rattle.l4_split.proofs.Sends.Deciding.{IsSendAt, sender_unready}
 
 -- What the world has of a thread
 
-pub agrees_send : (world t : Thread) → Agrees world t → world.send ≡ t.send
-agrees_send world t a = by t.phase a
+pub agrees_send : {m : Machine} (world t : Thread) → Agrees m world t → world.send ≡ t.send
+agrees_send world t a = by t.phase a.by_phase
   where
     by : (p : Phase) → AgreesIn p world t → world.send ≡ t.send
     by Ready a = ap (λ (t : Thread). t.send) a
@@ -39,8 +39,8 @@ agrees_send world t a = by t.phase a
     by Ended a = ap (λ (t : Thread). t.send) a
     by Deleted a = a.send
 
-pub agrees_begun : (world t : Thread) → Agrees world t → world.context.begun ≡ t.context.begun
-agrees_begun world t a = by t.phase a
+pub agrees_begun : {m : Machine} (world t : Thread) → Agrees m world t → world.context.begun ≡ t.context.begun
+agrees_begun world t a = by t.phase a.by_phase
   where
     by : (p : Phase) → AgreesIn p world t → world.context.begun ≡ t.context.begun
     by Ready a = ap (λ (t : Thread). t.context.begun) a
@@ -57,7 +57,7 @@ pub record IsEntry (m : Machine) (r i : ℕ) (v : View) (e : plain.Waiting) : Ty
   pub send : Send
   pub has : (at_home m i v).thread.send ≡ Some send
   pub quiet : locators v.mail ≡ []
-  pub agrees : Agrees v.world (at_home m i v).thread
+  pub agrees : Agrees m v.world (at_home m i v).thread
   pub waits : IsWaiting m i send (seats m i v)
   pub receiver : waits.r ≡ r
   pub is : e ≡ entry m r i send

@@ -9,9 +9,9 @@ use Rattle.l4_model.specs.World.{Receive, Phase, Receiving, is_deleted, receive_
 use Rattle.l4_model.specs.Conditions.{Found, is_nobody}
 use Rattle.l4_model.proofs.Chains.{bind_then, guard_then, some_is}
 use Rattle.l4_core_model.specs.Plain as plain
-use Rattle.l4_core_model.specs.Local.{Local, is_own, own_places, thread, held, held_by}
+use Rattle.l4_core_model.specs.Local.{Local, is_own, own_places, thread, held, held_by, owed_beside}
 use Rattle.l4_core_model.specs.Acts.{Work, first_acceptable, zero_refusable}
-use Rattle.l4_core_model.specs.Turns.{Duty, DropsOwn, RefusesFirst, TellsGone, CancelsOwn, CancelsReceive, DeliversFirst, ClosesReceive, RefusesZero, duty_drops_own, duty_refuses_waiting, next_untold, duty_tells_gone, duty_cancels_own, duty_cancels_receive, duty_delivers_first, duty_closes_receive, duty_refuses_zero, first_some, duty_of, Choice, ByDuty, ByDue, ByReady, first_duty, choice, does_choice, turn, opened}
+use Rattle.l4_core_model.specs.Turns.{Duty, DropsOwn, RefusesFirst, TellsGone, CancelsOwn, CancelsReceive, DeliversFirst, ClosesReceive, RefusesZero, duty_drops_own, duty_refuses_waiting, next_untold, duty_tells_gone, duty_cancels_own, duty_cancels_receive, duty_delivers_first, duty_closes_receive, duty_refuses_zero, first_some, duty_of, Choice, ByDuty, ByDue, ByReady, first_duty, choice, does_choice, turn, opened, Retargets, duty_retargets}
 use Rattle.l4_core_model.proofs.Lists.{all-map, all-filter, range_below}
 use Rattle.l4_core_model.proofs.Choosing.{receiving_is, first_then, accepts_none, receives_some}
 use Rattle.l4_core_model.proofs.Changed.{same_nat}
@@ -50,6 +50,7 @@ pub record IsInReceive (phase : Phase) (receive : Receive) : Type 0 where
 
 -- What makes a duty of the thread at a place its first one.
 abbrev pub IsDuty : Machine → (cpu : ℕ) → Local → (place : ℕ) → Duty → Type 0
+IsDuty m cpu l i (Retargets o) = owed_beside l i ≡ Some o
 IsDuty m cpu l i DropsOwn = (is_deleted (thread l i).phase ≡ true) × (plain.is_queued l.lists i ≡ true)
 IsDuty m cpu l i (RefusesFirst sender) =
     (is_deleted (thread l i).phase ≡ true) × ((e : plain.Waiting) × (StandsIn e (plain.list_of l.lists i) × (e.block ≡ sender)))
@@ -73,6 +74,11 @@ duty_is : (m : Machine) (cpu : ℕ) (l : Local) (i : ℕ) (d : Duty) → duty_of
 duty_is m cpu l i d h =
     let t : Found = held m l i in
     let P : Duty → Type 0 = IsDuty m cpu l i in
+    first_then (duty_retargets l t) _ d h
+    (λ is.
+    bind_then (owed_beside l i) _ d is λ o owed rest.
+    subst P (some_is (Retargets o) d rest) owed)
+    λ none_owed h.
     first_then (duty_drops_own l t) _ d h
     (λ is.
     guard_then (is_deleted t.now.phase) _ d is λ gone rest.
@@ -125,6 +131,7 @@ duty_is m cpu l i d h =
 
 -- At the opening of the event it is one too.
 duty_opened : (m : Machine) (cpu : ℕ) (l : Local) (i : ℕ) (d : Duty) → IsDuty m cpu l i d → IsDuty m cpu (opened 0 l).local i d
+duty_opened m cpu l i (Retargets o) is = is
 duty_opened m cpu l i DropsOwn is = is
 duty_opened m cpu l i (RefusesFirst sender) is = is
 duty_opened m cpu l i (TellsGone to) is = is
@@ -191,7 +198,7 @@ abbrev pub IsChoice : Machine → (cpu : ℕ) → Local → Choice → Type 0
 IsChoice m cpu l (ByDuty i duty) = IsOwn m cpu i × IsDuty m cpu (opened 0 l).local i duty
 IsChoice m cpu l (ByDue i) =
     (deadline : ℕ) × ((others : List (ℕ × ℕ)) × ((l.lists.armed ≡ (deadline, i) ∷ others) × ((nat_le deadline l.clock ≡ true) × HasNoDuty m cpu l)))
-IsChoice m cpu l (ByReady i) = (others : List ℕ) × (l.lists.ready ≡ i ∷ others)
+IsChoice m cpu l (ByReady i) = (others : List ℕ) × ((l.lists.ready ≡ i ∷ others) × HasNoDuty m cpu l)
 
 chosen_duty : (m : Machine) (cpu : ℕ) (l : Local) (c : Choice) (is : List ℕ) → AllByRecursion (IsOwn m cpu) is → first_duty m cpu l is ≡ Some c →
     IsChoice m cpu l c
@@ -218,10 +225,10 @@ chosen_due m cpu l c none (a ∷ others) at h = by (nat_le a.0 l.clock) refl h
     by true past h = subst (IsChoice m cpu l) (some_is (ByDue a.1) c h) (a.0, (others, (at, (past, none))))
     by false past h = cc
 
-chosen_ready : (m : Machine) (cpu : ℕ) (l : Local) (c : Choice) (ready : List ℕ) → l.lists.ready ≡ ready → option_map ByReady (slice_get ready 0) ≡ Some c →
+chosen_ready : (m : Machine) (cpu : ℕ) (l : Local) (c : Choice) → HasNoDuty m cpu l → (ready : List ℕ) → l.lists.ready ≡ ready → option_map ByReady (slice_get ready 0) ≡ Some c →
     IsChoice m cpu l c
-chosen_ready m cpu l c [] at h = cc
-chosen_ready m cpu l c (i ∷ others) at h = subst (IsChoice m cpu l) (some_is (ByReady i) c h) (others, at)
+chosen_ready m cpu l c none [] at h = cc
+chosen_ready m cpu l c none (i ∷ others) at h = subst (IsChoice m cpu l) (some_is (ByReady i) c h) (others, (at, none))
 
 choice_is : (m : Machine) (cpu : ℕ) (l : Local) (c : Choice) → choice m cpu l ≡ Some c → IsChoice m cpu l c
 choice_is m cpu l c h =
@@ -229,7 +236,7 @@ choice_is m cpu l c h =
     λ none h.
     first_then (option_map ByDue (plain.due_block l.clock l.lists.armed)) _ c h (λ due. chosen_due m cpu l c (has_no_duty m cpu l none) l.lists.armed refl due)
     λ none_due h.
-    first_then (option_map ByReady (slice_get l.lists.ready 0)) _ c h (λ ready. chosen_ready m cpu l c l.lists.ready refl ready)
+    first_then (option_map ByReady (slice_get l.lists.ready 0)) _ c h (λ ready. chosen_ready m cpu l c (has_no_duty m cpu l none) l.lists.ready refl ready)
     λ none_ready h.
     cc
 

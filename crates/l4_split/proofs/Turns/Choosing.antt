@@ -1,16 +1,17 @@
 -- The core's turn: whatever duty, due timeout or ready thread comes first, what is told is possible.
+use Rattle.l4_split.proofs.Retargets.Doing.{duty_retargets_goes}
 use Rattle.std.proofs.Common.{◌≡◌, ℕ, ◌<◌, Some, [], refl, ap, sym, ◌∙◌, subst, Bool, true, false, cond, Option, None, List, ◌∷◌, filter, drop, length}
 use Rattle.std.specs.List.{AllByRecursion}
 use Rattle.l4_model.specs.Machine.{Machine}
-use Rattle.l4_model.specs.World.{World, Phase, Ready, Sending, Receiving, Ordering, Ended, Deleted, is_ready}
+use Rattle.l4_model.specs.World.{World, Phase, Ready, Sending, Receiving, Ordering, Ended, Deleted, is_ready, Owed}
 use Rattle.l4_core_model.specs.Plain as plain
-use Rattle.l4_core_model.specs.Local.{Local, thread, held, declared, relists, readied}
+use Rattle.l4_core_model.specs.Local.{Local, thread, held, declared, relists, readied, owed_beside}
 use Rattle.l4_core_model.specs.Acts.{Work, delivers, first_of_list, first_acceptable, zero_refusable, ◌▷◌, does, acts}
-use Rattle.l4_core_model.specs.Turns.{Duty, DropsOwn, RefusesFirst, TellsGone, CancelsOwn, CancelsReceive, DeliversFirst, ClosesReceive, RefusesZero, does_duty, duty_drops_own, duty_refuses_waiting, duty_tells_gone, duty_cancels_own, duty_cancels_receive, duty_delivers_first, duty_closes_receive, duty_refuses_zero, duty_of, first_some, Choice, ByDuty, ByDue, ByReady, does_choice, turn, opened}
-use Rattle.l4_split.proofs.Turns.Choices.{IsDuty, StandsIn, entry_of_all, IsChoice, turn_then}
+use Rattle.l4_core_model.specs.Turns.{Duty, DropsOwn, RefusesFirst, TellsGone, CancelsOwn, CancelsReceive, DeliversFirst, ClosesReceive, RefusesZero, does_duty, duty_drops_own, duty_refuses_waiting, duty_tells_gone, duty_cancels_own, duty_cancels_receive, duty_delivers_first, duty_closes_receive, duty_refuses_zero, duty_of, first_some, Choice, ByDuty, ByDue, ByReady, does_choice, turn, opened, Retargets, duty_retargets}
+use Rattle.l4_split.proofs.Turns.Choices.{IsDuty, StandsIn, entry_of_all, IsChoice, turn_then, IsOwn}
 use Rattle.l4_split.proofs.Relation.Views.{Scene, Kept, amid, View, kept, view, home, put}
 use Rattle.l4_split.proofs.Frames.Moves.{deleted_phase, at_home}
-use Rattle.l4_split.proofs.Frames.Going.{Goes, IsHere, put_home, home_is, put_other, opened_goes}
+use Rattle.l4_split.proofs.Frames.Going.{Goes, IsHere, put_home, home_is, put_other, opened_goes, IsReached}
 use Rattle.l4_split.proofs.Sends.Waiting.{IsEntryHere, entries_here}
 use Rattle.l4_split.proofs.Sends.Delivering.{delivers_goes}
 use Rattle.l4_split.proofs.Turns.Failing.{cancel_goes, nobody_goes}
@@ -63,6 +64,7 @@ listed_at m cpu r i s w x f here processor e at same =
 -- Whatever duty is done, its step is possible.
 duty_goes : (m : Machine) (cpu i : ℕ) (s : Scene) (w : World) (x : Work) (duty : Duty) → IsHere m cpu i → cpu < m.cpus → Goes m cpu s w [] x →
     IsDuty m cpu x.local i duty → Goes m cpu s w [] (does_duty m cpu i duty x)
+duty_goes m cpu i s w x (Retargets o) here processor e d = duty_retargets_goes m cpu i o s w x here processor e d
 duty_goes m cpu i s w x DropsOwn here processor e d =
     let q = queued_here m cpu i s w x processor e here.machine here.within d.1 in
     let was = home_is m cpu i s x q.1.has.goes.now here.home in
@@ -126,6 +128,7 @@ popped_spares m l i is at = record {
     listed = z.listed;
   };
   clock = refl;
+  owed = refl;
   kept = λ j out. popped_other l i j is at (λ e. out.0 (sym e));
 }
 
@@ -152,8 +155,8 @@ pub record IsFirstReady (m : Machine) (cpu i : ℕ) (s : Scene) (w : World) (x :
 
 -- The first ready thread is taken out.
 pub ready_goes : (m : Machine) (cpu : ℕ) (s : Scene) (w : World) (x : Work) (i : ℕ) (is : List ℕ) → IsMachine m → cpu < m.cpus → Goes m cpu s w [] x →
-    x.local.lists.ready ≡ i ∷ is → IsFirstReady m cpu i s w (x ▷ does (relists plain.popped))
-ready_goes m cpu s w x i is machine processor e at =
+    x.local.lists.ready ≡ i ∷ is → (IsOwn m cpu i → owed_beside x.local i ≡ None) → IsFirstReady m cpu i s w (x ▷ does (relists plain.popped))
+ready_goes m cpu s w x i is machine processor e at nothing =
     let y : Work = x ▷ does (relists plain.popped) in
     let v : View = view m (amid cpu s x) e.now i in
     let sized = subst (IsSized m) (put_here cpu cpu x.local s.locals refl) (e.relates.sized cpu processor) in
@@ -170,6 +173,7 @@ ready_goes m cpu s w x i is machine processor e at =
     let r = ready_entry i (thread x.local i).phase (filter (λ k. i == k) is) mine in
     record {
       goes = record {
+        starts = e.starts;
         now = e.now;
         reaches = e.reaches;
         relates = local_changes m cpu (i ∷ []) s e.now x (relists plain.popped) (popped_spares m x.local i is at) refl
@@ -183,6 +187,7 @@ ready_goes m cpu s w x i is machine processor e at =
             ∙ (h.known.kept.elsewhere c ne).ready) h.known);
         out = ap (λ xs. filter (λ k. i == k) (drop 1 xs)) at ∙ r.1;
         ready = r.0;
+        nothing_owed = nothing (record { within = lt; home = home_is_cpu });
       };
     }
   where
@@ -199,17 +204,26 @@ ready_goes m cpu s w x i is machine processor e at =
 -- The choice
 
 due_first : (m : Machine) (cpu : ℕ) (l : Local) (t : Found) → duty_of m cpu l t ≡ None → duty_delivers_first l t ≡ None
-due_first m cpu l t h = by (duty_drops_own l t) (duty_refuses_waiting l t) (duty_tells_gone m cpu l t) (duty_cancels_own l t) (duty_cancels_receive t)
+due_first m cpu l t h = by (duty_retargets l t) (duty_drops_own l t) (duty_refuses_waiting l t) (duty_tells_gone m cpu l t) (duty_cancels_own l t) (duty_cancels_receive t)
     (duty_delivers_first l t) (duty_closes_receive m l t ∷ duty_refuses_zero m l t ∷ []) h
   where
-    by : (a b c d e f : Option Duty) (rest : List (Option Duty)) → first_some (a ∷ b ∷ c ∷ d ∷ e ∷ f ∷ rest) ≡ None → f ≡ None
-    by None None None None None None rest h = refl
-    by None None None None None (Some y) rest h = cc
-    by None None None None (Some y) f rest h = cc
-    by None None None (Some y) e f rest h = cc
-    by None None (Some y) d e f rest h = cc
-    by None (Some y) c d e f rest h = cc
-    by (Some y) b c d e f rest h = cc
+    by : (o a b c d e f : Option Duty) (rest : List (Option Duty)) → first_some (o ∷ a ∷ b ∷ c ∷ d ∷ e ∷ f ∷ rest) ≡ None → f ≡ None
+    by None None None None None None None rest h = refl
+    by None None None None None None (Some y) rest h = cc
+    by None None None None None (Some y) f rest h = cc
+    by None None None None (Some y) e f rest h = cc
+    by None None None (Some y) d e f rest h = cc
+    by None None (Some y) c d e f rest h = cc
+    by None (Some y) b c d e f rest h = cc
+    by (Some y) a b c d e f rest h = cc
+
+-- Without a duty nothing is owed beside it.
+pub nothing_beside : (m : Machine) (cpu : ℕ) (l : Local) (i : ℕ) → duty_of m cpu l (held m l i) ≡ None → owed_beside l i ≡ None
+nothing_beside m cpu l i none = by (owed_beside l i) refl
+  where
+    by : (o : Option Owed) → owed_beside l i ≡ o → o ≡ None
+    by None is = refl
+    by (Some o) is = let some : duty_of m cpu l (held m l i) ≡ Some (Retargets o) = rw is refl in cc
 
 choice_goes : (m : Machine) (cpu : ℕ) (s : Scene) (w : World) (l : Local) (c : Choice) → IsMachine m → cpu < m.cpus → Goes m cpu s w [] (opened 0 l) →
     IsChoice m cpu l c → Goes m cpu s w [] (does_choice m cpu c (opened 0 l))
@@ -220,11 +234,11 @@ choice_goes m cpu s w l (ByDue i) machine processor e c =
     let none = due_first m cpu l (held m l i) (c.1.1.1.1 i (record { within = due.here.within; home = due.here.home })) in
     times_out_goes m cpu c.0 i s w (opened 0 l ▷ does (relists plain.popped_due)) processor due c.1.1.1.0 (accepts_none (first_acceptable l i) none)
 choice_goes m cpu s w l (ByReady i) machine processor e c =
-    let r = ready_goes m cpu s w (opened 0 l) i c.0 machine processor e c.1 in
+    let r = ready_goes m cpu s w (opened 0 l) i c.0 machine processor e c.1.0 (λ here. nothing_beside m cpu l i (c.1.1 i here)) in
     acts_goes m cpu i s w (opened 0 l ▷ does (relists plain.popped)) processor r.goes r.picked
 
 -- Whatever a turn does, its steps are possible.
-pub turn_goes : (m : Machine) (cpu : ℕ) (s : Scene) (w : World) (x : Work) → IsMachine m → cpu < m.cpus → RelatesExcept m (Matches m) [] s w →
+pub turn_goes : (m : Machine) (cpu : ℕ) (s : Scene) (w : World) (x : Work) → IsMachine m → cpu < m.cpus → IsReached m w → RelatesExcept m (Matches m) [] s w →
     turn m cpu (s.locals cpu) ≡ Some x → Goes m cpu s w [] x
-turn_goes m cpu s w x machine processor rel h =
-    turn_then m cpu (s.locals cpu) x (Goes m cpu s w []) h λ c is. choice_goes m cpu s w (s.locals cpu) c machine processor (opened_goes m cpu 0 [] s w rel) is
+turn_goes m cpu s w x machine processor starts rel h =
+    turn_then m cpu (s.locals cpu) x (Goes m cpu s w []) h λ c is. choice_goes m cpu s w (s.locals cpu) c machine processor (opened_goes m cpu 0 [] s w starts rel) is

@@ -1,16 +1,17 @@
 -- A waiting send is refused, cancelled or dropped on its receiver's processor.
+use Rattle.l4_split.proofs.Sends.Free.{waiting_free}
 use Rattle.l4_split.proofs.Relation.Whereabouts.{where_then}
 use Rattle.l4_split.proofs.Lists.{any_block, any_kept, any_list, none_kept}
 use Rattle.std.proofs.Common.{◌≡◌, ℕ, ◌<◌, true, false, Some, [], ◌∷◌, length, refl, ap, sym, ◌∙◌, subst, inl}
 use Rattle.std.specs.Prelude.{◌==◌}
 use Rattle.std.specs.List.{list_any}
 use Rattle.l4_model.specs.Machine.{Machine}
-use Rattle.l4_model.specs.World.{Thread, World, Send, Phase, Ready, Sending, Receiving, Ordering, Ended, Deleted, is_queued, is_deleted}
+use Rattle.l4_model.specs.World.{Thread, World, Send, Phase, Ready, Sending, Receiving, Ordering, Ended, Deleted, is_queued, is_deleted, must_wait, is_in, list_at}
 use Rattle.l4_model.specs.Conditions.{is_zero, has_passed}
 use Rattle.l4_model.specs.Effects.{decided, refused}
 use Rattle.l4_core_model.specs.Plain as plain
 use Rattle.l4_core_model.specs.Letters.{TimedOut, Nobody, Cancelled, Dropped}
-use Rattle.l4_core_model.specs.Local.{thread, held}
+use Rattle.l4_core_model.specs.Local.{thread, held, declared}
 use Rattle.l4_core_model.specs.Acts.{Work, entry, refuses, zero_refusable}
 use Rattle.l4_core_model.specs.Runs.{IsMachine}
 use Rattle.l4_core_model.proofs.Standing.{destination_within, any_at}
@@ -21,7 +22,7 @@ use Rattle.l4_split.proofs.Relation.Relates.{senders}
 use Rattle.l4_split.proofs.Frames.Places.{leaves_out}
 use Rattle.l4_split.proofs.Frames.Moves.{at_home}
 use Rattle.l4_split.proofs.Frames.Lists.{put_here}
-use Rattle.l4_split.proofs.Frames.Going.{Goes, IsHere}
+use Rattle.l4_split.proofs.Frames.Going.{Goes, IsHere, now_facts}
 use Rattle.l4_split.proofs.Sends.Deciding.{IsSendAt}
 use Rattle.l4_split.proofs.Sends.Waiting.{IsEntry, entry_at}
 use Rattle.l4_split.proofs.Sends.Finding.{pending_is}
@@ -35,6 +36,7 @@ pub record IsListedSend (m : Machine) (cpu r i : ℕ) (s : Scene) (w : World) (x
   pub has : HasSend m cpu i s w x send
   pub receiver : IsReceiver m cpu r s has.goes.now x send
   pub queued : is_queued has.goes.now.waiting i ≡ true
+  pub free : must_wait has.goes.now.owed (declared m i).id send.to ≡ false
 
 pub listed_send : (m : Machine) (cpu r i : ℕ) (s : Scene) (w : World) (x : Work) (seat : plain.Waiting) → IsHere m cpu r → cpu < m.cpus →
     (e : Goes m cpu s w [] x) → i < length m.threads → IsEntry m r i (view m (amid cpu s x) e.now i) seat → IsListedSend m cpu r i s w x
@@ -42,31 +44,34 @@ listed_send m cpu r i s w x seat here processor e lt is =
     let v : View = view m (amid cpu s x) e.now i in
     let q = is.receiver in
     let listed = subst (λ q. (v.kept (home m q)).listed q ≡ entry m q i is.send ∷ []) q is.waits.listed in
+    let stands : is_in i (list_at e.now.waiting r) ≡ true =
+    ap (list_any (λ x. i == x)) (e.relates.lists r here.within) ∙ any_block i (senders m (amid cpu s x) r)
+    ∙ any_kept (is_of i) (senders m (amid cpu s x) r) [] _ listed in
     record {
       send = is.send;
       has = record {
         machine = here.machine;
         processor = processor;
         within = lt;
-        goes = record { now = e.now; reaches = e.reaches; relates = leaves_out m i [] (amid cpu s x) e.now e.relates };
+        goes = record { starts = e.starts; now = e.now; reaches = e.reaches; relates = leaves_out m i [] (amid cpu s x) e.now e.relates };
         at = subst (λ p. IsSendAt m p i is.send v) here.home (entry_at m r i v seat (e.relates.places i lt tt) is);
       };
       receiver = record { within = here.within; home = here.home; to = is.waits.to ∙ ap Some q; seen = inl (e.relates.places r here.within tt).known };
-      queued = any_list (λ x. i == x) e.now.waiting r
-          (ap (list_any (λ x. i == x)) (e.relates.lists r here.within) ∙ any_block i (senders m (amid cpu s x) r)
-          ∙ any_kept (is_of i) (senders m (amid cpu s x) r) [] _ listed);
+      queued = any_list (λ x. i == x) e.now.waiting r stands;
+      free = waiting_free m i r is.send.to e.now.waiting e.now.owed (here.machine.placed i lt) (is.waits.to ∙ ap Some q) stands
+          (now_facts m cpu s w [] x e).owed_apart;
     }
 
 -- What waits at a deleted thread, and what is of timeout zero and not waited for
 
 pub refuses_first_goes : (m : Machine) (cpu r i : ℕ) (s : Scene) (w : World) (x : Work) → IsListedSend m cpu r i s w x →
     is_deleted (thread x.local r).phase ≡ true → Goes m cpu s w [] (refuses m cpu Nobody i x)
-refuses_first_goes m cpu r i s w x l gone = deleted_goes m cpu i r s w x l.send l.has l.receiver gone
+refuses_first_goes m cpu r i s w x l gone = deleted_goes m cpu i r s w x l.send l.has l.receiver l.free gone
 
 -- It is of timeout zero, and its receiver does not wait for it.
 pub refuses_zero_goes : (m : Machine) (cpu r i : ℕ) (s : Scene) (w : World) (x : Work) → IsListedSend m cpu r i s w x →
     zero_refusable m (held m x.local r) (thread x.local i).send ≡ true → Goes m cpu s w [] (refuses m cpu TimedOut i x)
-refuses_zero_goes m cpu r i s w x l h = zero_goes m cpu i r s w x l.send l.has l.receiver h
+refuses_zero_goes m cpu r i s w x l h = zero_goes m cpu i r s w x l.send l.has l.receiver l.free h
 
 -- Its period is over.
 pub refuses_timed_goes : (m : Machine) (cpu r i : ℕ) (s : Scene) (w : World) (x : Work) → (l : IsListedSend m cpu r i s w x) → is_zero l.send.period ≡ false →
@@ -75,12 +80,13 @@ refuses_timed_goes m cpu r i s w x l finite passed =
     let h = l.has in
     let pending = pending_is m cpu i l.send (i ∷ []) s x h.goes.now h.machine h.within h.goes.relates h.at in
     let queued = l.queued in
-    refuses_goes m cpu i s w x TimedOut l.send (refused 2) h refl (rw (pending, passed, finite, queued) refl)
+    let free = l.free in
+    refuses_goes m cpu i s w x TimedOut l.send (refused 2) h refl (rw (pending, passed, finite, queued, free) refl)
 
 -- It is cancelled, or its thread is deleted.
 
-pub agrees_wish : (world t : Thread) → Agrees world t → world.cancel_send ≡ t.cancel_send
-agrees_wish world t a = by t.phase a
+pub agrees_wish : {m : Machine} (world t : Thread) → Agrees m world t → world.cancel_send ≡ t.cancel_send
+agrees_wish world t a = by t.phase a.by_phase
   where
     by : (p : Phase) → AgreesIn p world t → world.cancel_send ≡ t.cancel_send
     by Ready a = ap (λ (t : Thread). t.cancel_send) a
@@ -109,7 +115,7 @@ drops_goes m cpu r i s w x l gone =
     let v : View = view m (amid cpu s x) h.goes.now i in
     let pending = pending_is m cpu i l.send (i ∷ []) s x h.goes.now h.machine h.within h.goes.relates h.at in
     let queued = l.queued in
-    let left : AgreesIn Deleted v.world (at_home m i v).thread = subst (λ p. AgreesIn p v.world (at_home m i v).thread) gone h.at.agrees in
+    let left : AgreesIn Deleted v.world (at_home m i v).thread = subst (λ p. AgreesIn p v.world (at_home m i v).thread) gone h.at.agrees.by_phase in
     let deleted : (world_thread h.goes.now i).phase ≡ Deleted = left.deleted in
     refuses_goes m cpu i s w x Dropped l.send decided h (rw deleted refl) (rw (pending, queued, deleted) refl)
 

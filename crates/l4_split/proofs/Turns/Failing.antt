@@ -45,6 +45,7 @@ fails_goes m cpu i s w x receive since step code h possible =
     let is = h.receiving in
     let failed_is : fails code t ≡ record t { context = failed code t.context; phase = Ready; cancel_receive = false } = rw is refl in
     comes_quiet m cpu i s w x (step (declared m i).id) (fails code) (fails code) h.here (record {
+      starts = e.starts;
       now = e.now;
       reaches = e.reaches;
       relates = leaves_out m i [] (amid cpu s x) e.now e.relates;

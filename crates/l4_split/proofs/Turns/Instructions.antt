@@ -7,7 +7,8 @@ use Rattle.l4_model.specs.World.{Thread, World, Send, Receive, is_ready, Asked}
 use Rattle.l4_model.specs.Steps.{Local as RanLocal, Wait, runs_alone, receive_of}
 use Rattle.l4_model.specs.Conditions.{instruction, act_of, found}
 use Rattle.l4_model.specs.Effects.{runs, waits, phase_after, receives}
-use Rattle.l4_core_model.specs.Local.{declared, thread, held}
+use Rattle.l4_core_model.specs.Local.{declared, thread, held, owed_beside}
+use Rattle.l4_split.proofs.Frames.Owes.{none_owed}
 use Rattle.l4_core_model.specs.Acts.{Work, runs_alone_at, waits_at}
 use Rattle.l4_core_model.proofs.Fit.{IsGood}
 use Rattle.l4_core_model.proofs.Good.{ready_has_none, runs_good, waits_good}
@@ -21,7 +22,7 @@ use Rattle.l4_split.proofs.Frames.Going.{Goes, IsHere, IsQuiet, home_is, found_h
 pub record IsFree (m : Machine) (i : ℕ) (v : View) : Type 0 where
   pub quiet : locators v.mail ≡ []
   pub unplaced : IsUnplaced m i (seats m i v)
-  pub agrees : Agrees v.world (at_home m i v).thread
+  pub agrees : Agrees m v.world (at_home m i v).thread
 
 pub free_is : (m : Machine) (i : ℕ) (v : View) → Known m i v → (at_home m i v).thread.send ≡ None → (at_home m i v).thread.order ≡ None → IsFree m i v
 free_is m i v known no_send no_order = where_then m i v known
@@ -41,6 +42,7 @@ pub record IsPicked (m : Machine) (cpu i : ℕ) (s : Scene) (x : Work) (w : Worl
   pub known : Known m i (view m (amid cpu s x) w i)
   pub out : (kept x.local i).ready ≡ []
   pub ready : is_ready (thread x.local i).phase ≡ true
+  pub nothing_owed : owed_beside x.local i ≡ None
 
 -- The same, with what follows for a ready thread.
 pub record IsRunning (m : Machine) (cpu i : ℕ) (s : Scene) (x : Work) (w : World) : Type 0 where
@@ -62,7 +64,7 @@ running_is m cpu i s x w r =
       send = none.0;
       order = none.1;
       free = free;
-      same = ready_is (world_thread w i) (thread x.local i) r.ready (subst (λ (k : Kept). Agrees v.world k.thread) was free.agrees);
+      same = ready_is (world_thread w i) (thread x.local i) r.ready (subst (λ (k : Kept). Agrees m v.world k.thread) was free.agrees);
     }
 
 -- The world finds a running thread as its home has it.
@@ -92,6 +94,7 @@ running_quiet m cpu i s w x f e r send order begun good fresh =
       agrees = same_agrees (f (world_thread e.now i)) (f (thread x.local i)) (ap f is.same);
       good = good is.good;
       fresh = fresh;
+      owes = none_owed (f (thread x.local i)).phase (owed_beside x.local i) r.nothing_owed;
       stays_true = record {
         deleted = λ gone. ready_is_alive (thread x.local i).phase gone r.ready;
         begun = omega (arith, begun);

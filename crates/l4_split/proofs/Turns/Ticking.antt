@@ -11,7 +11,7 @@ use Rattle.std.proofs.lemmas.Option.{slice_get-get_or}
 use Rattle.l4_model.specs.Machine.{Machine}
 use Rattle.l4_model.specs.World.{Thread, World, Send}
 use Rattle.l4_model.specs.Steps.{Tick, next}
-use Rattle.l4_core_model.specs.Letters.{Content, SendLetter, DoneLetter, WithdrawLetter, GoneLetter, OrderLetter, OrderDoneLetter, Cause, ByTimeout, ByCancel, ByDeletion}
+use Rattle.l4_core_model.specs.Letters.{Content, SendLetter, DoneLetter, WithdrawLetter, GoneLetter, OrderLetter, OrderDoneLetter, RetargetLetter, Cause, ByTimeout, ByCancel, ByDeletion}
 use Rattle.l4_core_model.specs.Local.{Local}
 use Rattle.l4_core_model.specs.Acts.{Work, ◌▷◌, tells, does}
 use Rattle.l4_core_model.specs.Turns.{clock_is}
@@ -21,6 +21,8 @@ use Rattle.l4_split.proofs.Lists.{other_is}
 use Rattle.l4_split.proofs.Relation.Views.{Scene, Kept, View, kept, view, home, put, amid, notices, locators}
 use Rattle.l4_split.proofs.Relation.Rows.{IsCause, IsNotice, IsNoticeOf, Matches, IsNoticeAt}
 use Rattle.l4_split.proofs.Relation.Agreement.{learned_later}
+use Rattle.l4_split.proofs.Relation.Whereabouts.{quiet_together}
+use Rattle.l4_split.proofs.Relation.Owing.{Owing}
 use Rattle.l4_split.proofs.Relation.Relates.{IsSized}
 use Rattle.l4_split.proofs.Frames.Places.{put_keeps, put_same}
 use Rattle.l4_split.proofs.Frames.Lists.{put_here}
@@ -53,6 +55,7 @@ notice_later m i k clock p (WithdrawLetter s receiver cause) le h = record {
 notice_later m i k clock p (GoneLetter id) le h = h
 notice_later m i k clock p (OrderLetter caller target what) le h = h
 notice_later m i k clock p (OrderDoneLetter caller) le h = h
+notice_later m i k clock p (RetargetLetter o) le h = tt
 
 matches_later : (m : Machine) (i : ℕ) (clocks : ℕ → ℕ) (v : View) → (at_home m i v).clock ≤ clocks (home m i) → Matches m i v →
     Matches m i (with_clocks clocks v)
@@ -61,7 +64,8 @@ matches_later m i clocks v le h =
     let here = h.known.kept.at_home in
     record {
       known = record {
-        agrees = learned_later (locators v.mail) k.clock (clocks (home m i)) v.world k.thread le h.known.agrees;
+        agrees = learned_later (locators v.mail) k.clock (clocks (home m i)) v.world k.thread le (quiet_together m i v h.known)
+            h.known.agrees;
         row = h.known.row;
         kept = record {
           at_home = record {
@@ -71,6 +75,7 @@ matches_later m i clocks v le h =
               receives = phase_later k.clock (clocks (home m i)) k.thread.phase le here.good.receives;
             };
             armed = here.armed;
+            owes = here.owes;
           };
           elsewhere = h.known.kept.elsewhere;
           notices = all-map (IsNotice m i k) (λ p. IsNoticeAt m i (clocks (home m i)) k.thread p p.letter.content)
@@ -101,6 +106,7 @@ tick_goes m cpu to s w x processor e above below =
     let lt = ltb-true x.local.clock to above in
     let clocks : ℕ → ℕ = λ c. (put cpu y.local s.locals c).clock in
     record {
+      starts = e.starts;
       now = v;
       reaches = one_more_told m w now v x.steps (Tick cpu to) e.reaches (tick_possible m now cpu to x.local.clock at above below);
       relates = record {
@@ -117,6 +123,8 @@ tick_goes m cpu to s w x processor e above below =
             (λ ne. get_or-set_other now.clocks cpu c to 0 (λ h. ne (sym h)) ∙ rel.clocks c c_lt ∙ others c ne);
         lists = λ q q_lt. rel.lists q q_lt
             ∙ ap (λ ess. blocks (slice_index_or ess q [])) (sym (put_same (λ l. l.lists.waiting) cpu (home m q) x.local y.local s.locals refl));
+        owing = subst (λ owed. Owing m owed (amid cpu s x).mail now.owed)
+            (λ d c. sym (put_same (λ l. l.owed) cpu c x.local y.local s.locals refl) d) rel.owing;
         places = λ j j_lt out. subst (Matches m j) (sym (seen j))
             (matches_later m j clocks (view m (amid cpu s x) now j) (no_sooner (home m j) j lt) (rel.places j j_lt out));
       };

@@ -90,6 +90,7 @@ popped_spares m l a others at = record {
     listed = z.listed;
   };
   clock = refl;
+  owed = refl;
   kept = λ j out. ap (λ es. record (kept l j) { armed = es })
       (ap (λ es. entries j (drop 1 es)) at ∙ sym (skipped j a others (λ e. out.0 (sym e))) ∙ sym (ap (entries j) at));
 }
@@ -105,7 +106,7 @@ matches_with_armed m i armed v here none h = record {
     agrees = h.known.agrees;
     row = h.known.row;
     kept = record {
-      at_home = record { good = h.known.kept.at_home.good; armed = here };
+      at_home = record { good = h.known.kept.at_home.good; armed = here; owes = h.known.kept.at_home.owes };
       elsewhere = λ c ne. let e = h.known.kept.elsewhere c ne in record { ready = e.ready; armed = none c ne; gone = e.gone };
       notices = h.known.kept.notices;
     };
@@ -144,6 +145,7 @@ due_goes m cpu s w x a others machine processor e at =
     record {
       here = here;
       goes = record {
+        starts = e.starts;
         now = e.now;
         reaches = e.reaches;
         relates = takes_in m i [] (amid cpu s y) e.now

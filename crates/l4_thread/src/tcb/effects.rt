@@ -1,10 +1,11 @@
 //! What happens to a thread.
 ghost use Rattle.std.specs.Prelude.{◌≡◌, ◌<◌, ◌^◌, ◌+◌, ℕ, List, true, false, None, IfSome, IsSome, length};
 ghost use Rattle.std.specs.Option.{option_map};
-ghost use Rattle.l4_model.specs.Words.{word_of_tag, register_count};
+ghost use Rattle.l4_model.specs.Words.{GlobalId as ModelGlobalId, word_of_tag, register_count};
 ghost use Rattle.l4_model.specs.Machine.{Machine};
+ghost use Rattle.l4_model.specs.World.{Name};
 ghost use Rattle.l4_model.specs.Rules.{act};
-ghost use Rattle.l4_model.specs.Effects.{runs, fails, receives, refused, decided, delivered, goes_on, asked, asked_send, asked_receive, has_receive_phase, orders, obeyed};
+ghost use Rattle.l4_model.specs.Effects.{runs, fails, receives, refused, decided, delivered, goes_on, asked, asked_send, asked_receive, has_receive_phase, orders, obeyed, turns};
 ghost use Rattle.l4_core_model.specs.Local.{after_decision, is_gone_now, stand_in, stands_in, was_delivered, was_dropped};
 ghost use Rattle.l4_types.specs.Codes.{code_of};
 ghost use Rattle.l4_types.specs.Ids.{global_of};
@@ -16,6 +17,7 @@ ghost use Rattle.l4_thread.specs.Changes.{change_of, may_advance};
 ghost use Rattle.l4_thread.specs.Held.{sent_of};
 ghost use Rattle.l4_thread.specs.Ipcs.{may_show, starts, began_of};
 ghost use Rattle.l4_thread.specs.Messages.{unlabelled};
+ghost use Rattle.l4_thread.specs.Partners.{owed_between, send_turned_from};
 ghost use Rattle.l4_thread.specs.Requests.{asks_to_send, is_end, receive_from};
 
 use crate::changes::Change;
@@ -293,6 +295,29 @@ impl Tcb {
         if !self.is_deleted() {
             self.thread.ordered(0);
             self.phase = Phase::Ready;
+        }
+    }
+
+    /// It is the originator of a propagated message that the old partner sent and the new one received. Where its receive phase is for the
+    /// old partner alone, it is for the new one now: the phase that it is in, or the one that follows its send phase.
+    pub fn turn_to(&mut self, old_partner: GlobalId, new_partner: GlobalId)
+        ensures { (send : Name) (originator : ModelGlobalId) → self.new ≡ record self.old { thread = turns (owed_between send originator old_partner new_partner) self.old.thread } }
+    {
+        match &self.phase {
+            Phase::Receiving(receive, since) => {
+                self.phase = Phase::Receiving(receive.turned(old_partner, new_partner), *since);
+            }
+            Phase::Sending => self.turn_send(old_partner, new_partner),
+            Phase::Ready | Phase::Ordering | Phase::Ended | Phase::Deleted => {}
+        }
+    }
+
+    // The same of the receive phase that follows its send phase.
+    fn turn_send(&mut self, old_partner: GlobalId, new_partner: GlobalId)
+        ensures { self.new ≡ record self.old { thread = record self.old.thread { send = option_map (send_turned_from old_partner new_partner) self.old.thread.send } } }
+    {
+        if let Some(send) = &mut self.send {
+            send.turn_to(old_partner, new_partner);
         }
     }
 }

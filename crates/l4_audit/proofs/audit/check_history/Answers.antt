@@ -1,4 +1,4 @@
-use Rattle.l4_model.proofs.Stillness.{still_exactly}
+use Rattle.l4_audit.proofs.Quieting.{quiet_exactly}
 use Rattle.l4_audit.proofs.Replaying.{reached_of}
 use Rattle.l4_audit.proofs.audit.check_history.Goals as goal
 
@@ -19,5 +19,5 @@ returns-clause-passed c =
       reached_by = reached;
       threads = c.in_ok-threads.ensures;
       waiting_are = c.in_ok-waiting.ensures;
-      ending = rw c.in_ok-ending.ensures (still_exactly m h a.world reached);
+      ending = rw c.in_ok-ending.ensures (quiet_exactly m h a.world reached);
     }

@@ -12,14 +12,14 @@ take-requires-clause-placed c i d t declared now has =
 pub loop-place-init : goal.loop-place-init
 loop-place-init c = opened c.args.machine.now c.args.history.now.steps c.in_ok-world.world c.in_ok-world.ensures
 
-pub returns-then-not-take-clause-refused : goal.returns-then-not-take-clause-refused
-returns-then-not-take-clause-refused c =
+pub returns-then-not-branch-clause-refused : goal.returns-then-not-branch-clause-refused
+returns-then-not-branch-clause-refused c =
     let l = c.loop-place in
     refused_here c.args.machine.now c.args.history.now.steps l.place l.world _ l.invariant c.step-step.ensures
-    (rw c.if-not-take.true at c.take.ensures.step)
+    (rw c.if-not-branch.true at c.in_ok-take.ensures.step)
 
 pub loop-place-preserved : goal.loop-place-preserved
 loop-place-preserved c =
     let l = c.loop-place in
     one_more c.args.machine.now c.args.history.now.steps l.place l.world c.take.new.self _ l.invariant c.step-step.ensures
-    (rw c.if-not-take.false at c.take.ensures.step) c.take.ensures.ids
+    (rw c.if-not-branch.false at c.in_ok-take.ensures.step) c.take.ensures.ids

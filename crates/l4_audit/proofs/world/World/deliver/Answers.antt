@@ -22,5 +22,5 @@ returns-clause-step c =
     let first : first_accepted m a.world r receive.from ≡ Some p.sender.at =
     rw (← c.from.ensures) (sym c.in-Some-first_accepted.ensures) ∙ ap Some (c.if-first-sender.false ∙ ap (λ x. x.0) c.sender_now-sender.ensures) in
     let tells : is_delivery m d p r ≡ true = grind (arith, common_steps) in
-    delivers_now m a c.take_over.new.self d p r receive (sym c.in-Some.ensures) (sym c.in-Some-receiver_of.ensures) (sym c.in-Some-receiving.ensures) first tells
-    (c.take_over.ensures ∙ rw (c.place-place.ensures, c.sender_now-sender.ensures) refl)
+    delivers_now m a c.take_over.new.self c.owe.new.self d p r receive _ (sym c.in-Some.ensures) (sym c.in-Some-receiver_of.ensures) (sym c.in-Some-receiving.ensures) first tells
+    (c.take_over.ensures ∙ rw (c.place-place.ensures, c.sender_now-sender.ensures) refl) (c.owed_by-owed.ensures ∙ rw c.send.ensures refl) c.in_ok-owe.ensures.ok

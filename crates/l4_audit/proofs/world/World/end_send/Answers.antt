@@ -7,5 +7,5 @@ use Rattle.l4_audit.proofs.world.World.end_send.Goals as goal
 pub returns : goal.returns
 returns c =
     let s = c.self.inside in
-    written s.threads.items (senders_of s.lists.waiting) s.clocks.items c.args.self.now c.args.place (after_decision (decision_of c.args.decision) c.args.now) _ _ c.self.view_is
+    written s.threads.items (senders_of s.lists.waiting) s.clocks.items _ c.args.self.now c.args.place (after_decision (decision_of c.args.decision) c.args.now) _ _ c.self.view_is
     c.requires c.index_mut.ensures.value c.end_send.ensures

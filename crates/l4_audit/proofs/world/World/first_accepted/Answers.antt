@@ -12,7 +12,7 @@ waiting_at-requires c =
     let i = c.self.inside in
     let a = c.args.self.now in
     let r = c.args.receiver.now in
-    let same = as_many i.threads.items i.lists.waiting i.clocks.items a c.self.view_is in
+    let same = as_many i.threads.items i.lists.waiting i.clocks.items _ a c.self.view_is in
     let lt = has_list c.args.machine.now a r.at r.now c.requires.of c.requires.there in
     rw c.place.ensures (omega (arith, same, lt))
 
@@ -24,4 +24,4 @@ returns c =
     let test : ℕ → Bool = λ s. shows_accepted c.args.machine.now c.args.from r.declared.id (slice_get a.world.threads s) in
     sym (option_map_id c.find.result)
     ∙ find_from_yields_List test _ _ c.find.result c.find.ensures.ran (YieldsList-from_first (λ x. x) (λ left. left) _ c.waiting_at.ensures.blocks) (λ x b q k. search (rules, tests))
-    ∙ ap (find test) (rw c.place.ensures (list_there i.threads.items i.lists.waiting i.clocks.items a r.at c.self.view_is))
+    ∙ ap (find test) (rw c.place.ensures (list_there i.threads.items i.lists.waiting i.clocks.items _ a r.at c.self.view_is))

@@ -10,7 +10,7 @@ is_queued-requires c =
     let i = c.self.inside in
     let a = c.args.self.now in
     let p = c.args.pending.now in
-    let same = as_many i.threads.items i.lists.waiting i.clocks.items a c.self.view_is in
+    let same = as_many i.threads.items i.lists.waiting i.clocks.items _ a c.self.view_is in
     let lt = has_list c.args.machine.now a p.sender.at p.sender.now c.requires.of c.requires.sender in
     rw (c.place.ensures, c.sender.ensures) (omega (arith, same, lt))
 

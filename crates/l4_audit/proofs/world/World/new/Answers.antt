@@ -1,11 +1,12 @@
-use Rattle.std.proofs.Common.{ap, ◌∙◌}
+use Rattle.std.proofs.Common.{map, ap, ◌∙◌}
 use Rattle.std.specs.Prelude.{length, replicate, []}
 use Rattle.l4_core_model.specs.Plain.{Plain}
+use Rattle.l4_types.specs.OwedView.{owed_of}
 use Rattle.l4_audit.proofs.Reporting.{opened_is}
 use Rattle.l4_audit.proofs.world.World.new.Goals as goal
 
 pub returns : goal.returns
 returns c =
-    opened_is c.args.machine.now _ _ _ c.in_ok-blocks.ensures
+    opened_is c.args.machine.now _ _ _ _ c.in_ok-blocks.ensures
     (ap (λ (p : Plain). p.waiting) c.in_ok-new.ensures ∙ ap (λ ds. replicate (length ds) []) c.threads.ensures.value)
-    c.in_ok-clocks.ensures
+    c.in_ok-clocks.ensures (ap (map owed_of) c.new-2.ensures.items)

@@ -8,13 +8,13 @@ use Rattle.l4_audit.proofs.world.World.queue.Goals as goal
 pub queue_send-requires-clause-receiver : goal.queue_send-requires-clause-receiver
 queue_send-requires-clause-receiver c =
     let i = c.self.inside in
-    let same = as_many i.threads.items i.lists.waiting i.clocks.items c.args.self.now c.self.view_is in
+    let same = as_many i.threads.items i.lists.waiting i.clocks.items _ c.args.self.now c.self.view_is in
     omega (arith, same, c.requires.receiver)
 
 pub queue_send-requires-clause-block : goal.queue_send-requires-clause-block
 queue_send-requires-clause-block c =
     let i = c.self.inside in
-    let same = as_many i.threads.items i.lists.waiting i.clocks.items c.args.self.now c.self.view_is in
+    let same = as_many i.threads.items i.lists.waiting i.clocks.items _ c.args.self.now c.self.view_is in
     omega (arith, same, c.requires.sender)
 
 pub queue_send-requires-clause-free : goal.queue_send-requires-clause-free
@@ -25,4 +25,4 @@ queue_send-requires-clause-free c =
 pub returns : goal.returns
 returns c =
     let i = c.self.inside in
-    rw c.queue_send.ensures (arrived i.threads.items i.lists i.clocks.items c.args.self.now c.args.receiver (record { block = c.args.sender; shown = c.default.result; local = false }) c.self.view_is)
+    rw c.queue_send.ensures (arrived i.threads.items i.lists i.clocks.items _ c.args.self.now c.args.receiver (record { block = c.args.sender; shown = c.default.result; local = false }) c.self.view_is)

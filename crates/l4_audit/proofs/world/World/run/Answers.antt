@@ -9,5 +9,5 @@ use Rattle.l4_audit.proofs.world.World.run.Goals as goal
 pub returns : goal.returns
 returns c =
     let s = c.self.inside in
-    written s.threads.items (senders_of s.lists.waiting) s.clocks.items c.args.self.now c.args.place (runs (instr_of c.args.instr.now)) _ _ c.self.view_is
+    written s.threads.items (senders_of s.lists.waiting) s.clocks.items _ c.args.self.now c.args.place (runs (instr_of c.args.instr.now)) _ _ c.self.view_is
     (is_within (λ t. is_end (instr_of c.args.instr.now) ≡ false → t.context.place + 1 < 2 ^ 64) _ _ c.requires) c.index_mut.ensures.value c.run.ensures

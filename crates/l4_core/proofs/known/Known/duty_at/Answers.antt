@@ -8,9 +8,9 @@ living_duty-requires-clause-zeros c = λ e. none_refusable c.args.self.now.machi
 pub returns-then-is_deleted : goal.returns-then-is_deleted
 returns-then-is_deleted c =
     let p = c.args.self.now in
-    c.deleted_duty.ensures ∙ sym (deleted_is p.machine p.cpu p.local c.args.place (sym c.is_deleted.ensures ∙ c.if-is_deleted.true))
+    c.deleted_duty.ensures ∙ sym (deleted_is p.machine p.cpu p.local c.args.place (sym c.keeps_owed.ensures ∙ c.if-keeps_owed.false) (sym c.is_deleted.ensures ∙ c.if-is_deleted.true))
 
 pub returns-else-is_deleted : goal.returns-else-is_deleted
 returns-else-is_deleted c =
     let p = c.args.self.now in
-    c.living_duty.ensures ∙ sym (living_is p.machine p.cpu p.local c.args.place (sym c.is_deleted.ensures ∙ c.if-is_deleted.false))
+    c.living_duty.ensures ∙ sym (living_is p.machine p.cpu p.local c.args.place (sym c.keeps_owed.ensures ∙ c.if-keeps_owed.false) (sym c.is_deleted.ensures ∙ c.if-is_deleted.false))

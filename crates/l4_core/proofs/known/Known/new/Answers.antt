@@ -5,9 +5,9 @@ use Rattle.l4_core.proofs.known.Known.new.Goals as goal
 
 pub invariant_of-result : goal.invariant_of-result
 invariant_of-result c =
-    opened-kept c.args.machine.now c.args.cpu c.in_ok-threads.threads.items c.in_ok-lists.lists c.in_ok-told.told.items c.threads-few.ensures.lawful c.requires (omega (arith, ap length c.threads-few.ensures.value, c.threads-few.ensures.limit))
-    c.in_ok-threads.ensures.threads c.in_ok-threads.ensures.ids c.in_ok-lists.ensures c.in_ok-told.ensures
+    opened-kept c.args.machine.now c.args.cpu c.in_ok-threads.threads.items c.in_ok-lists.lists c.in_ok-told.told.items _ c.threads-few.ensures.lawful c.requires (omega (arith, ap length c.threads-few.ensures.value, c.threads-few.ensures.limit))
+    c.in_ok-threads.ensures.threads c.in_ok-threads.ensures.ids c.in_ok-lists.ensures c.in_ok-told.ensures c.in_ok-owed.ensures
 
 pub returns : goal.returns
 returns c =
-    ap (λ (l : Local). record { machine = c.args.machine.now; cpu = c.args.cpu; local = l }) (opened-is c.args.machine.now c.args.cpu c.in_ok-threads.threads.items c.in_ok-lists.lists c.in_ok-told.told.items c.in_ok-threads.ensures.threads c.in_ok-lists.ensures c.in_ok-told.ensures)
+    ap (λ (l : Local). record { machine = c.args.machine.now; cpu = c.args.cpu; local = l }) (opened-is c.args.machine.now c.args.cpu c.in_ok-threads.threads.items c.in_ok-lists.lists c.in_ok-told.told.items _ c.in_ok-threads.ensures.threads c.in_ok-lists.ensures c.in_ok-told.ensures c.in_ok-owed.ensures)

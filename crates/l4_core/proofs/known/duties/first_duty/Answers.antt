@@ -15,7 +15,7 @@ pub places-preserved-then-is_none : goal.places-preserved-then-is_none
 places-preserved-then-is_none c =
     let none : c.duty_at.result ≡ None = c.in_default-duty_at.is in
     let p = c.args.known.now in (
-      covers-removed c.places.duties c.remove.new.self p.machine p.cpu p.local c.in-Some.place c.places.invariant.0 c.remove.ensures (sym c.duty_at.ensures ∙ ap (option_map duty_of) none),
+      covers-removed c.places.duties c.remove.new.self p.machine p.cpu p.local c.in-Some.place c.places.invariant.0 c.remove.ensures (sym c.duty_at.ensures ∙ ap (option_map (duty_of p.local.owed c.in-Some.place)) none),
       zeros-removed c.places.zeros c.remove-then-is_none.new.self p.local c.in-Some.place c.places.invariant.1 c.remove-then-is_none.ensures
           (none_found (first_zero p.local (list_of p.local.lists c.in-Some.place)) c.first_zero.result c.first_zero.ensures (c.is_none.ensures ∙ ap not c.if-is_none.true)),
     )
@@ -27,7 +27,7 @@ pub places-preserved : goal.places-preserved
 places-preserved c =
     let none : c.duty_at.result ≡ None = c.in_default-duty_at.is in
     let p = c.args.known.now in (
-      covers-removed c.places.duties c.remove.new.self p.machine p.cpu p.local c.in-Some.place c.places.invariant.0 c.remove.ensures (sym c.duty_at.ensures ∙ ap (option_map duty_of) none),
+      covers-removed c.places.duties c.remove.new.self p.machine p.cpu p.local c.in-Some.place c.places.invariant.0 c.remove.ensures (sym c.duty_at.ensures ∙ ap (option_map (duty_of p.local.owed c.in-Some.place)) none),
       c.places.invariant.1,
     )
 

@@ -1,25 +1,26 @@
-use Rattle.std.proofs.Common.{subst, ap, sym, ◌∙◌, not}
+use Rattle.std.proofs.Common.{◌≡◌, Some, None, ap, sym, ◌∙◌, subst}
 use Rattle.std.specs.Option.{option_map}
-use Rattle.l4_model.specs.Words.{word_of_tag}
 use Rattle.l4_model.specs.World.{Send}
-use Rattle.l4_core_model.specs.Local.{is_own, last_name, declared, thread}
-use Rattle.l4_core.specs.Changing.{receives_from}
-use Rattle.l4_core.specs.Parts.{AreCore}
+use Rattle.l4_model.specs.Rules.{owed_by}
+use Rattle.l4_types.specs.OwedView.{owed_of}
+use Rattle.l4_core_model.specs.Local.{declared, last_name, thread}
 use Rattle.l4_core.specs.Processor.{Processor}
-use Rattle.l4_core.proofs.Delivering.{still_sends, deliver_does}
+use Rattle.l4_core.proofs.Owing.{delivers_both, owes_nothing}
+use Rattle.l4_core.proofs.Sending.{has_send}
 use Rattle.l4_core.proofs.processor.Core.deliver.Goals as goal
 
-pub end_send-requires-clause-sender : goal.end_send-requires-clause-sender
-end_send-requires-clause-sender g c = still_sends c.args.self.now c.receive_from.new.self c.args.receiver c.args.sender (receives_from (thread c.args.self.now.local c.args.sender).send (word_of_tag c.tag-tag.result)) (subst AreCore c.self.view_is c.is_own.ensures.core) c.requires.receiver c.requires.sender c.receive_from.ensures
+pub returns-in-Some : goal.returns-in-Some
+returns-in-Some g c =
+    let s = has_send _ c.requires.sender.sends in
+    let left = subst (λ (p : Processor). (send : Send) → (thread p.local c.args.sender).send ≡ Some send →
+    option_map owed_of c.owed_by-owed.result ≡ owed_by p.machine (last_name p.machine p.local c.args.sender) send.message (declared p.machine c.args.receiver).id) c.self.view_is c.owed_by-owed.ensures.value s.0 s.1 in
+    delivers_both c.args.self.now c.hand_over.new.self c.owe.new.self c.args.receiver c.args.sender s.0 (Some (owed_of c.in-Some.owed)) c.args.told.now c.hand_over.new.told c.owe.new.told s.1
+    (sym (ap (option_map owed_of) c.in-Some.is) ∙ left) c.hand_over.ensures.does c.owe.ensures
 
-pub returns : goal.returns
-returns g c =
-    let v = c.self.view_is in
-    deliver_does c.args.self.now c.receive_from.new.self c.end_send.new.self c.args.receiver c.args.sender c.args.told.now c.tell.new.self c.end_send.new.told
-    (record { name = c.last_name.result; receiver = c.id.result; message = c.message.result; cross = not c.is_own.result }) (word_of_tag c.tag-tag.result) (subst AreCore c.self.view_is c.is_own.ensures.core) c.requires.receiver c.requires.sender
-    (c.last_name.ensures ∙ ap (λ (p : Processor). last_name p.machine p.local c.args.sender) v)
-    (c.id.ensures ∙ ap (λ (p : Processor). (declared p.machine c.args.receiver).id) v)
-    (sym (ap (λ (p : Processor). option_map (λ (s : Send). s.message) (thread p.local c.args.sender).send) v) ∙ c.message.ensures.message)
-    (c.message.ensures.actual ∙ ap (λ (p : Processor). (declared p.machine c.args.sender).id) v)
-    (ap not (c.is_own.ensures.value ∙ ap (λ (p : Processor). is_own p.machine p.cpu c.args.sender) v))
-    c.tag-tag.ensures.word c.tell.ensures c.receive_from.ensures c.end_send.ensures
+pub returns-in_default : goal.returns-in_default
+returns-in_default g c =
+    let s = has_send _ c.requires.sender.sends in
+    let left = subst (λ (p : Processor). (send : Send) → (thread p.local c.args.sender).send ≡ Some send →
+    option_map owed_of c.owed_by-owed.result ≡ owed_by p.machine (last_name p.machine p.local c.args.sender) send.message (declared p.machine c.args.receiver).id) c.self.view_is c.owed_by-owed.ensures.value s.0 s.1 in
+    delivers_both c.args.self.now c.hand_over.new.self c.hand_over.new.self c.args.receiver c.args.sender s.0 None c.args.told.now c.hand_over.new.told c.hand_over.new.told s.1
+    (sym (ap (option_map owed_of) c.in_default.is) ∙ left) c.hand_over.ensures.does (owes_nothing c.hand_over.new.self c.args.receiver c.hand_over.new.told)

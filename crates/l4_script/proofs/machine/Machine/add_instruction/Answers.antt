@@ -1,13 +1,14 @@
 use Rattle.std.proofs.Common.{◌-◌, ◌<◌, length, subst, sym, ap, ◌∙◌, arith}
 use Rattle.std.proofs.Math.Seq.{map-set_same}
-use Rattle.l4_model.specs.Machine.{Declaration, Machine, machine_of}
+use Rattle.l4_model.specs.Machine.{Declaration, Machine}
+use Rattle.l4_script.specs.Machines.{machine_with}
 use Rattle.l4_script.specs.Scripts.{instr_of}
 use Rattle.l4_script.proofs.Growing.{lawful-changed, keeps}
 use Rattle.l4_script.proofs.machine.Machine.add_instruction.Goals as goal
 
 pub invariant_of-self : goal.invariant_of-self
 invariant_of-self c =
-    let old : Machine = machine_of c.self.inside.cpus c.self.inside.threads.items in
+    let old : Machine = machine_with c.self.inside.retargeting c.self.inside.cpus c.self.inside.threads.items in
     let some : 0 < length old.threads = subst (λ (m : Machine). 0 < length m.threads) (sym c.self.view_is) c.requires.some in
     let last : c.len-last.result - 1 < length old.threads = omega (arith, c.self.inside.threads.ok.0) in
     let before : Declaration = c.index_mut-thread.result.now in

@@ -1,13 +1,13 @@
 use Rattle.std.proofs.Common.{◌≡◌, ◌<◌, ◌++◌, ◌∷◌, [], List, length, false, subst, sym, ap, ◌∙◌}
-use Rattle.l4_model.specs.Machine.{Declaration, Machine, machine_of, most_threads}
-use Rattle.l4_script.specs.Machines.{is_taken}
+use Rattle.l4_model.specs.Machine.{Declaration, Machine, most_threads}
+use Rattle.l4_script.specs.Machines.{is_taken, machine_with}
 use Rattle.l4_script.proofs.Finding.{id_added}
 use Rattle.l4_script.proofs.Growing.{lawful-with_thread}
 use Rattle.l4_script.proofs.machine.Machine.declare.Goals as goal
 
 pub invariant_of-self-2 : goal.invariant_of-self-2
 invariant_of-self-2 c =
-    let old : Machine = machine_of c.self.inside.cpus c.self.inside.threads.items in
+    let old : Machine = machine_with c.self.inside.retargeting c.self.inside.cpus c.self.inside.threads.items in
     let room : length old.threads < most_threads = subst (λ (m : Machine). length m.threads < most_threads) (sym c.self.view_is) c.requires.room in
     let home : c.args.thread.cpu < old.cpus = subst (λ (m : Machine). c.args.thread.cpu < m.cpus) (sym c.self.view_is) c.requires.home in
     let fresh : is_taken c.args.thread.id.number old ≡ false = subst (λ (m : Machine). is_taken c.args.thread.id.number m ≡ false) (sym c.self.view_is) c.requires.fresh in

@@ -2,7 +2,7 @@ use Rattle.std.proofs.Common.{◌≡◌, drop}
 use Rattle.std.specs.List.{list_all}
 use Rattle.l4_model.specs.Machine.{Declaration}
 use Rattle.l4_model.specs.Still.{is_still_thread}
-use Rattle.l4_audit.proofs.world.World.is_still.Given as goal
+use Rattle.l4_audit.proofs.world.World.are_still.Given as goal
 
 abbrev pub invariant-loop-declared : goal.invariant-loop-declared
 invariant-loop-declared l =

@@ -1,0 +1,100 @@
+//! Owed retargets: the guard of a send, and the step that does one.
+ghost use Rattle.std.specs.Prelude.{◌≡◌, ◌<◌, OnOk, find, length};
+ghost use Rattle.std.specs.List.{list_any};
+ghost use Rattle.std.specs.Option.{option_copied, option_map};
+ghost use Rattle.l4_model.specs.World.{change, owed_of as owed_named, others_owed, must_wait};
+ghost use Rattle.l4_model.specs.Effects.{turns};
+ghost use Rattle.l4_model.specs.Steps.{next, owing, Retarget};
+ghost use Rattle.l4_types.specs.OwedView.{owed_of};
+ghost use Rattle.l4_audit.specs.Audited.{Makes, with_world};
+ghost use Rattle.l4_audit.specs.Owing.{is_of_name, holds_up};
+ghost use Rattle.l4_audit.specs.Stillness.{owes_nothing};
+
+use crate::world::World;
+use l4_script::machine::Machine;
+use l4_thread::sends::is_id_of;
+use l4_types::errors::NoMemory;
+use l4_types::ids::{GlobalId, ThreadId};
+use l4_types::owed::Owed;
+use l4_types::steps::Name;
+
+// The retarget of this name.
+fn named(owed: &[Owed], name: Name) -> Option<&Owed>
+    ensures { option_copied result ≡ find (is_of_name name) owed.now }
+{
+    owed.iter().find(|owed| name == owed.send)
+}
+
+// Whether a send of a thread to this destination must wait until one of these is done.
+fn is_held_up(owed: &[Owed], sender: GlobalId, to: ThreadId) -> bool
+    ensures { result ≡ list_any (holds_up sender to) owed.now }
+{
+    owed.iter().any(|owed| sender == owed.new_partner && is_id_of(to, owed.originator))
+}
+
+impl World {
+    /// Whether no retarget is owed.
+    pub fn owes_nothing(&self) -> bool
+        ensures { result ≡ owes_nothing self.now.world }
+    {
+        self.owed.as_slice().is_empty()
+    }
+
+    /// Whether a send of a thread must wait, since the destination is an originator that may not have turned to the thread yet.
+    pub fn must_wait(&self, sender: GlobalId, to: ThreadId) -> bool
+        ensures { result ≡ must_wait self.now.world.owed sender to }
+    {
+        is_held_up(self.owed.as_slice(), sender, to)
+    }
+
+    // The retarget that is owed by this name.
+    fn owed_named(&self, name: Name) -> Option<Owed>
+        ensures { option_map owed_of result ≡ owed_named self.now.world.owed name }
+    {
+        named(self.owed.as_slice(), name).copied()
+    }
+
+    /// One more retarget is owed, or none.
+    pub fn owe(&mut self, owed: Option<Owed>) -> Result<(), NoMemory>
+        ensures ok { OnOk result (self.new ≡ with_world self.old (owing (option_map owed_of owed) self.old.world)) }
+        ensures ids { self.new.ids ≡ self.old.ids }
+    {
+        let Some(owed) = owed else {
+            return Ok(());
+        };
+        self.owed.push(owed)?;
+        Ok(())
+    }
+
+    // The retarget of this name is owed no longer.
+    fn forget(&mut self, name: Name)
+        ensures { self.new ≡ with_world self.old (record self.old.world { owed = others_owed self.old.world.owed name }) }
+    {
+        self.owed.retain(|owed| name != owed.send);
+    }
+
+    // The originator of a message turns to its new partner.
+    fn turn(&mut self, place: usize, owed: &Owed)
+        requires { place < length self.old.world.threads }
+        ensures { self.new ≡ with_world self.old (change self.old.world place (turns (owed_of owed.now))) }
+    {
+        self.threads[place].turn_to(owed.old_partner, owed.new_partner);
+    }
+
+    /// The originator of a delivered send turns to the thread that received it, and no longer owes it.
+    pub fn retarget(&mut self, machine: &Machine, name: Name) -> bool
+        ensures step { Makes result (next machine.now self.old.world (Retarget name)) self.new.world }
+        ensures ids { self.new.ids ≡ self.old.ids }
+    {
+        let Some(owed) = self.owed_named(name) else {
+            return false;
+        };
+        let Some(originator) = self.found(machine, owed.originator) else {
+            return false;
+        };
+        let place = originator.place();
+        self.forget(name);
+        self.turn(place, &owed);
+        true
+    }
+}

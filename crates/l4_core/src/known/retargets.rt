@@ -1,0 +1,76 @@
+//! Retargets that are owed, at a machine of profile 2.
+ghost use Rattle.std.specs.Prelude.{◌≡◌, ◌<◌, None, Some, is_some, length, true};
+ghost use Rattle.std.specs.Option.{option_map};
+ghost use Rattle.l4_model.specs.World.{Send};
+ghost use Rattle.l4_model.specs.Rules.{owed_by};
+ghost use Rattle.l4_model.specs.Effects.{turns};
+ghost use Rattle.l4_types.specs.OwedView.{owed_of};
+ghost use Rattle.l4_core_model.specs.Local.{changes, declared, keeps_beside, last_name, owed_beside, thread};
+ghost use Rattle.l4_core.specs.Processor.{with_local};
+ghost use Rattle.l4_core.specs.Turning.{IsSender};
+
+use crate::known::Known;
+use l4_types::owed::Owed;
+
+impl Known<'_> {
+    /// What the delivery of a sender's message to a receiver leaves owed.
+    #[inline(always)]
+    pub(crate) fn owed_by(&self, receiver: usize, sender: usize) -> Option<Owed>
+        requires receiver { receiver < length self.now.machine.threads }
+        requires sender { IsSender self.now sender }
+        ensures value { (send : Send) → (thread self.now.local sender).send ≡ Some send →
+            option_map owed_of result ≡ owed_by self.now.machine (last_name self.now.machine self.now.local sender) send.message (declared self.now.machine receiver).id }
+        ensures profile { is_some result ≡ true → self.now.machine.retargeting ≡ true }
+    {
+        if !self.machine.retargets() || !self.message(sender).propagated() {
+            return None;
+        }
+        let message = self.message(sender);
+        Some(Owed {
+            send: self.last_name(sender),
+            originator: message.shown(),
+            old_partner: message.actual(),
+            new_partner: self.id(receiver),
+        })
+    }
+
+    /// Whether a retarget is kept beside a thread.
+    pub(crate) fn keeps_owed(&self, place: usize) -> bool
+        requires { place < length self.now.machine.threads }
+        ensures { result ≡ is_some (owed_beside self.now.local place) }
+    {
+        self.machine.retargets() && self.owed[place].is_some()
+    }
+
+    /// An owed retarget is kept beside a thread.
+    pub(crate) fn keep_owed(&mut self, place: usize, owed: Owed)
+        requires within { place < length self.old.machine.threads }
+        requires profile { self.old.machine.retargeting ≡ true }
+        ensures { self.new ≡ with_local self.old (keeps_beside place (Some (owed_of owed)) self.old.local) }
+    {
+        let _ = &self.machine;
+        self.owed[place] = Some(owed);
+    }
+
+    /// The retarget that is kept beside a thread is taken out.
+    pub(crate) fn take_owed(&mut self, place: usize) -> Option<Owed>
+        requires { place < length self.old.machine.threads }
+        ensures owed { option_map owed_of result ≡ owed_beside self.old.local place }
+        ensures state { self.new ≡ with_local self.old (keeps_beside place None self.old.local) }
+    {
+        if !self.machine.retargets() {
+            return None;
+        }
+        let owed = self.owed[place];
+        self.owed[place] = None;
+        owed
+    }
+
+    /// An originator turns to the new partner, where it waits for the old one.
+    pub(crate) fn turn_to(&mut self, place: usize, owed: &Owed)
+        requires { place < length self.old.machine.threads }
+        ensures { self.new ≡ with_local self.old (changes place (turns (owed_of owed.now)) self.old.local) }
+    {
+        self.threads[place].turn_to(owed.old_partner, owed.new_partner);
+    }
+}

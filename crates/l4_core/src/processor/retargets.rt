@@ -1,0 +1,60 @@
+//! Originators turn to those that their messages were handed to, at a machine of profile 2.
+ghost use Rattle.std.specs.Prelude.{◌≡◌, ◌<◌, Some, length, true};
+ghost use Rattle.l4_model.specs.World.{Owed as ModelOwed};
+ghost use Rattle.l4_types.specs.OwedView.{owed_of};
+ghost use Rattle.l4_core_model.specs.Acts.{owes_for, retargets};
+ghost use Rattle.l4_core_model.specs.Local.{owed_beside};
+ghost use Rattle.l4_core_model.specs.Turns.{does_duty, Retargets};
+ghost use Rattle.l4_core.specs.Turning.{Does, IsOwnOf};
+
+use crate::processor::Core;
+use crate::told::Told;
+use l4_history::sink::Sink;
+use l4_history::step_ref::StepRef;
+use l4_types::letters::Content;
+use l4_types::owed::Owed;
+
+impl Core<'_> {
+    /// A retarget is owed since a message came to this receiver. It is kept beside the receiver where the originator is of this processor,
+    /// else a letter goes to that one's.
+    pub(super) fn owe<S: Sink>(&mut self, receiver: usize, owed: Owed, told: &mut Told<S>)
+        requires receiver { IsOwnOf self.old receiver }
+        requires profile { self.old.machine.retargeting ≡ true }
+        requires slots { 0 < told.old.slots }
+        ensures { Does (owes_for self.old.machine self.old.cpu receiver (Some (owed_of owed))) self.old self.new told.old told.new }
+    {
+        match self.known.place_of(owed.originator) {
+            Some(originator) if self.known.is_own(originator) => self.keep_owed(receiver, owed),
+            Some(originator) => {
+                let letter = self.letter(Content::Retarget(owed));
+                told.post(self.known.cpu_of(originator), letter);
+            }
+            None => {}
+        }
+    }
+
+    /// The retarget that is kept beside a thread is done.
+    pub(super) fn retarget_owed<S: Sink>(&mut self, place: usize, told: &mut Told<S>)
+        requires own { IsOwnOf self.old place }
+        requires room { 0 < told.old.room }
+        ensures { (owed : ModelOwed) → owed_beside self.old.local place ≡ Some owed →
+            Does (does_duty self.old.machine self.old.cpu place (Retargets owed)) self.old self.new told.old told.new }
+    {
+        let Some(owed) = self.take_owed(place) else {
+            return;
+        };
+        if let Some(originator) = self.known.place_of(owed.originator) {
+            self.retarget(originator, &owed, told);
+        }
+    }
+
+    /// The originator of a message that was delivered turns to the one that received it.
+    pub(super) fn retarget<S: Sink>(&mut self, originator: usize, owed: &Owed, told: &mut Told<S>)
+        requires originator { originator < length self.old.machine.threads }
+        requires room { 0 < told.old.room }
+        ensures { Does (retargets (owed_of owed.now) originator) self.old self.new told.old told.new }
+    {
+        told.tell(StepRef::Retarget(owed.send));
+        self.turn_to(originator, owed);
+    }
+}

@@ -1,7 +1,6 @@
 //! The two forms of a case.
 
 use std::iter::Skip;
-use std::str;
 use std::str::Split;
 
 /// A file with commands and what they come to.
@@ -21,36 +20,28 @@ pub struct Case<'a> {
     pub is_apart: bool,
 }
 
-// What stands before the line `---`, and what stands behind it.
-fn halves(bytes: &[u8]) -> Option<(&[u8], &[u8])> {
-    let at = bytes
-        .windows(5)
-        .position(|window| window == b"\n---\n".as_slice())?;
-    Some((bytes.get(..at)?, bytes.get(at.checked_add(5)?..)?))
-}
-
 impl<'a> Case<'a> {
     /// A machine text with the case in its comments.
-    pub fn in_comments(name: &'a str, bytes: &'a [u8]) -> Option<Case<'a>> {
-        Some(Case {
+    pub fn in_comments(name: &'a str, text: &'a str) -> Case<'a> {
+        Case {
             name,
             mark: "; ",
             command: "\n; $ ",
-            lines: str::from_utf8(bytes).ok()?,
-            text: bytes,
+            lines: text,
+            text: text.as_bytes(),
             is_apart: false,
-        })
+        }
     }
 
     /// A case, and behind its line `---` a machine text.
-    pub fn apart(name: &'a str, bytes: &'a [u8]) -> Option<Case<'a>> {
-        let (lines, text) = halves(bytes)?;
+    pub fn apart(name: &'a str, text: &'a str) -> Option<Case<'a>> {
+        let (lines, text) = text.split_once("\n---\n")?;
         Some(Case {
             name,
             mark: "",
             command: "\n$ ",
-            lines: str::from_utf8(lines).ok()?,
-            text,
+            lines,
+            text: text.as_bytes(),
             is_apart: true,
         })
     }

@@ -5,13 +5,17 @@
 mod audits;
 mod case;
 mod commands;
+mod counts;
 mod differences;
 mod outcome;
+mod repeats;
 mod said;
 
 use crate::case::Case;
 use crate::commands::do_command;
+use crate::counts::as_counted;
 use crate::differences::print_difference;
+use crate::repeats::written_out;
 use crate::said::said_of;
 use std::process::ExitCode;
 use std::rt::{Env, Files};
@@ -26,13 +30,16 @@ fn is_other<R: Files + AllocGlobal + Threads + Sync + Print>(
 ) -> io::Result<bool> {
     let (line, lines) = block.split_once('\n').unwrap_or((block, ""));
     let said = said_of(rt, lines, case.mark)?;
-    let done = do_command(rt, case, line, said.trace.as_slice())?;
-    if done == said.outcome {
+    let wanted = said.outcome;
+    let mut done = do_command(rt, case, line, said.trace.as_slice())?;
+    done.output = as_counted(rt.alloc(), wanted.output.as_slice(), done.output)?;
+    done.faults = as_counted(rt.alloc(), wanted.faults.as_slice(), done.faults)?;
+    if done == wanted {
         return Ok(false);
     }
     let name = case.name;
     println!(rt; "{name}: {line}")?;
-    print_difference(rt, &said.outcome, &done)?;
+    print_difference(rt, &wanted, &done)?;
     Ok(true)
 }
 
@@ -62,10 +69,14 @@ fn count_of_case<R: Files + AllocGlobal + Threads + Sync + Print>(
     rt: &R,
     name: &str,
 ) -> io::Result<usize> {
-    let bytes = fs::read(rt, name)?;
-    let case = match name.ends_with(".case") {
-        true => Case::apart(name, bytes.as_slice()),
-        false => Case::in_comments(name, bytes.as_slice()),
+    let mut text = fs::read_to_string(rt, name)?;
+    let is_apart = name.ends_with(".case");
+    if is_apart {
+        text = written_out(rt.alloc(), text.as_str())?;
+    }
+    let case = match is_apart {
+        true => Case::apart(name, text.as_str()),
+        false => Some(Case::in_comments(name, text.as_str())),
     };
     let Some(case) = case else {
         println!(rt; "{name}: no text")?;

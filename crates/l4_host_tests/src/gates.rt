@@ -2,11 +2,10 @@
 // end, and its history is one of the machine. A gate holds nobody for ever: it looks so often, and then lets go.
 use crate::runs::comes_to;
 use l4_proc::gate::Gate;
-use std::alloc::AllocError;
-use std::process::Abort;
+use std::alloc::{AllocError, Global};
 use std::sync::atomic::{AtomicU64, Ordering};
+use std::test::Fail;
 use std::thread;
-use std::thread::Threads;
 
 const CPUS: u8 = 16;
 
@@ -40,18 +39,12 @@ fn write_threads(text: &mut String, cpu: u8) -> Result<(), AllocError> {
 }
 
 /// The text of a machine with these threads on each of 16 processors.
-pub(crate) fn busy_text<R: AllocGlobal + Abort>(rt: &R) -> String {
-    let mut text = format!(in rt.alloc(); "l4 1 64\ncpus {CPUS}\n").expect(rt, "memory");
+pub(crate) fn busy_text(alloc: Global) -> Result<String, AllocError> {
+    let mut text = format!(in alloc; "l4 1 64\ncpus {CPUS}\n")?;
     for cpu in 0..CPUS {
-        assert!(rt; write_threads(&mut text, cpu).is_ok());
+        write_threads(&mut text, cpu)?;
     }
-    text
-}
-
-// Tests that a run of the machine under a gate comes to its end.
-fn ends<R: AllocGlobal + Abort + Threads + Sync, G: Gate + Sync>(rt: &R, text: &str, gate: &G) {
-    let outcome = comes_to(rt, text, TURNS, gate);
-    assert!(rt; outcome.turns >= TURNS);
+    Ok(text)
 }
 
 // Looks until the number has come to this value, at most so often. Answers whether it has.
@@ -85,12 +78,14 @@ impl Gate for Stopped {
 }
 
 #[test]
-fn one_is_stopped_at_every_turn(rt: HostRuntime) {
-    let text = busy_text(&rt);
+fn one_is_stopped_at_every_turn(rt: HostRuntime) -> Result<(), Fail> {
+    let text = busy_text(rt.alloc())?;
     for cpu in [0, 7, 15] {
         let looks = AtomicU64::new(0);
-        ends(&rt, text.as_str(), &Stopped { cpu, looks });
+        let outcome = comes_to(&rt, text.as_str(), TURNS, &Stopped { cpu, looks })?;
+        assert!(rt; outcome.turns >= TURNS, "{cpu}");
     }
+    Ok(())
 }
 
 // Lets one processor take its share alone. The others may begin when it has tried its last turn, or finds nothing and tries a turn again.
@@ -100,17 +95,6 @@ struct Alone {
     last: AtomicU64,
     open: AtomicU64,
     missed: AtomicU64,
-}
-
-impl Alone {
-    fn new(cpu: u8) -> Alone {
-        Alone {
-            cpu,
-            last: AtomicU64::new(0),
-            open: AtomicU64::new(0),
-            missed: AtomicU64::new(0),
-        }
-    }
 }
 
 impl Gate for Alone {
@@ -125,19 +109,21 @@ impl Gate for Alone {
     }
 }
 
-// Tests that all wait for a processor to take its share, in a run that comes to its end.
-fn has_its_share_first<R: AllocGlobal + Abort + Threads + Sync>(rt: &R, text: &str, cpu: u8) {
-    let gate = Alone::new(cpu);
-    ends(rt, text, &gate);
-    assert_eq!(rt; gate.missed.load(Ordering::SeqCst), 0, "{cpu}");
-}
-
 #[test]
-fn each_has_its_share_alone_first(rt: HostRuntime) {
-    let text = busy_text(&rt);
+fn each_has_its_share_alone_first(rt: HostRuntime) -> Result<(), Fail> {
+    let text = busy_text(rt.alloc())?;
     for cpu in 0..CPUS {
-        has_its_share_first(&rt, text.as_str(), cpu);
+        let gate = Alone {
+            cpu,
+            last: AtomicU64::new(0),
+            open: AtomicU64::new(0),
+            missed: AtomicU64::new(0),
+        };
+        let outcome = comes_to(&rt, text.as_str(), TURNS, &gate)?;
+        assert!(rt; outcome.turns >= TURNS, "{cpu}");
+        assert!(rt; gate.missed.load(Ordering::SeqCst) == 0, "{cpu}");
     }
+    Ok(())
 }
 
 // Lets the processors take one turn after the other, at odd turns in the order of their numbers, at even ones against it. One that has nothing to do
@@ -164,10 +150,12 @@ impl Gate for Reversed {
 }
 
 #[test]
-fn the_order_is_turned_round_at_each_turn(rt: HostRuntime) {
-    let text = busy_text(&rt);
+fn the_order_is_turned_round_at_each_turn(rt: HostRuntime) -> Result<(), Fail> {
+    let text = busy_text(rt.alloc())?;
     for _ in 0..4 {
         let place = AtomicU64::new(u64::from(CPUS));
-        ends(&rt, text.as_str(), &Reversed { place });
+        let outcome = comes_to(&rt, text.as_str(), TURNS, &Reversed { place })?;
+        assert!(rt; outcome.turns >= TURNS);
     }
+    Ok(())
 }

@@ -4,7 +4,6 @@ ghost use Rattle.l4_machine.specs.Gathers.{AreOfOne};
 ghost use Rattle.l4_proc.specs.Working.{HasGoneOn};
 ghost use Rattle.l4_mail.specs.Fabrics.{most_room};
 
-use crate::runs::machine_of;
 use l4_jobs::report_lines::write_report;
 use l4_machine::{Outcome, RunFault, gather};
 use l4_proc::assembly::assemble;
@@ -85,19 +84,6 @@ pub(crate) fn worked<'m, R: AllocGlobal + Print>(
     Some(processors)
 }
 
-// What they come to.
-fn gathered<R: AllocGlobal + Print>(
-    rt: &R,
-    machine: &Machine,
-    room: usize,
-    shares: &[(usize, u64)],
-) -> Option<Outcome>
-    requires { (0 < room) × (room ≤ most_room) }
-{
-    let processors = worked(rt, machine, room, shares)?;
-    gathered_again(rt, machine, processors)
-}
-
 /// What they come to, by a second call where memory was refused.
 pub(crate) fn gathered_again<R: AllocGlobal + Print>(
     rt: &R,
@@ -135,17 +121,16 @@ pub(crate) fn has<R: AllocGlobal + Abort>(
     lines: &str,
     report: &str,
     turns: u64,
-) {
-    let told = trace(rt.alloc(), outcome.history.as_slice())
-        .ok()
-        .expect(rt, "a trace");
-    assert_eq!(rt; told.as_slice(), lines.as_bytes());
+) -> Result<(), Fail> {
+    let told = trace(rt.alloc(), outcome.history.as_slice())?;
+    assert!(rt; told.as_slice() == lines.as_bytes(), "{lines}");
     let mut reported = Vec::new(rt.alloc());
     let threads = outcome.threads.as_slice();
     let waiting = outcome.waiting.as_slice();
-    assert!(rt; write_report(threads, waiting, outcome.ending, &mut reported).is_ok());
-    assert_eq!(rt; reported.as_slice(), report.as_bytes());
-    assert_eq!(rt; outcome.turns, turns);
+    write_report(threads, waiting, outcome.ending, &mut reported)?;
+    assert!(rt; reported.as_slice() == report.as_bytes(), "{report}");
+    assert!(rt; outcome.turns == turns, "{turns}");
+    Ok(())
 }
 
 // Tests what the processors of a text come to.
@@ -155,60 +140,48 @@ fn come_to<R: AllocGlobal + Abort + Print>(
     room: usize,
     shares: &[(usize, u64)],
     wanted: (&str, &str, u64),
-)
+) -> Result<(), Fail>
     requires { (0 < room) × (room ≤ most_room) }
 {
     let (lines, report, turns) = wanted;
-    let machine = machine_of(rt, text);
-    let outcome = gathered(rt, &machine, room, shares).expect(rt, "an outcome");
-    has(rt, &outcome, lines, report, turns);
+    let machine = Machine::parse(rt.alloc(), text.as_bytes())?;
+    let processors = worked(rt, &machine, room, shares).ok_or("processors")?;
+    let outcome = gathered_again(rt, &machine, processors).ok_or("an outcome")?;
+    has(rt, &outcome, lines, report, turns)
 }
 
 #[test]
-fn two_logs_make_one_history(rt: HostRuntime) {
+fn two_logs_make_one_history(rt: HostRuntime) -> Result<(), Fail> {
     let shares = [(1, 1), (0, 3), (1, 1), (0, 2), (1, 1)];
     let lines =
         "local 1.1\nwait 2.1\nlocal 1.1\nbegin 1.1#1\nqueue 1.1#1\ndeliver 1.1#1 2.1 1.1 1.1 74001 a\nlocal 2.1\nlocal 1.1\n";
     let report =
         "thread 1.1 ended 0 nil nil 0 a\nthread 2.1 ended 0 1.1 1.1 74001 a\nending quiet\n";
-    come_to(&rt, ACROSS, 64, &shares, (lines, report, 8));
+    come_to(&rt, ACROSS, 64, &shares, (lines, report, 8))
 }
 
 // There is room for one letter between the two: the others wait in the outbox. Two sends and one answer are under way.
 #[test]
-fn full_rings_hold_nothing_back(rt: HostRuntime) {
+fn full_rings_hold_nothing_back(rt: HostRuntime) -> Result<(), Fail> {
     let lines =
         "begin 1.1#1\nbegin 2.1#1\nqueue 1.1#1\nbegin 3.1#1\nwait 4.1\ndeliver 1.1#1 4.1 1.1 1.1 4000\n";
     let report =
         "thread 1.1 ready 0 nil nil 0\nthread 2.1 sending 0 nil nil 0\nthread 3.1 sending 0 nil nil 0\nthread 4.1 ready 0 1.1 1.1 4000\nwaiting 2.1#1 4.1\nwaiting 3.1#1 4.1\nending spent\n";
-    come_to(&rt, QUEUED, 1, &[(0, 3), (1, 3)], (lines, report, 6));
+    come_to(&rt, QUEUED, 1, &[(0, 3), (1, 3)], (lines, report, 6))
 }
 
-// None of two is there.
-#[test]
-fn nobody_is_not_all(rt: HostRuntime) {
-    let machine = machine_of(&rt, ACROSS);
-    assert!(rt; gather(rt.alloc(), &machine, Vec::new(rt.alloc())).is_err());
-}
-
-// Tests that these are the first two processors, each with two turns in its log.
-fn are_the_first_two<R: Abort>(rt: &R, processors: &[Processor<'_>]) {
-    assert_eq!(rt; processors.len(), 2);
-    for (cpu, processor) in processors.iter().enumerate() {
-        assert_eq!(rt; usize::from(processor.cpu()), cpu);
-        assert_eq!(rt; processor.turns(), 2);
-        assert_eq!(rt; processor.log().len(), 2);
-    }
-}
-
-// The last of three is missing: the two others come back in their order, with all that they did. That one is there twice is ruled out by
-// ownership, since no processor can be copied.
+// None of them is there; then the last of three is missing: the two others come back in their order, with all that they did. That one is there twice is
+// ruled out by ownership, since no processor can be copied.
 #[test]
 fn one_of_them_is_missing(rt: HostRuntime) -> Result<(), Fail> {
-    let machine = machine_of(&rt, TOGETHER);
+    let machine = Machine::parse(rt.alloc(), TOGETHER.as_bytes())?;
+    assert!(rt; gather(rt.alloc(), &machine, Vec::new(rt.alloc())).is_err());
     let processors = worked(&rt, &machine, 1, &[(1, 2), (2, 1), (0, 2)]).ok_or("processors")?;
     let (fault, back) = gathered_without_last(rt.alloc(), &machine, processors).ok_or("a fault")?;
-    assert_eq!(rt; fault, RunFault::Strangers);
-    are_the_first_two(&rt, back.as_slice());
+    assert!(rt; fault == RunFault::Strangers && back.len() == 2);
+    for (cpu, processor) in back.iter().enumerate() {
+        assert!(rt; usize::from(processor.cpu()) == cpu);
+        assert!(rt; processor.turns() == 2 && processor.log().len() == 2);
+    }
     Ok(())
 }

@@ -2,7 +2,7 @@ ghost use Rattle.std.specs.Prelude.{map};
 ghost use Rattle.l4_mail.specs.Ports.{AreOneFabric};
 ghost use Rattle.l4_proc.specs.Logs.{IsClosed};
 
-use crate::runs::{Meeting, machine_of};
+use crate::runs::Meeting;
 use l4_mail::rests::RestFault;
 use l4_proc::assembly::assemble;
 use l4_proc::gate::Open;
@@ -13,9 +13,7 @@ use l4_proc::stops::Stop;
 use l4_proc::together::work_together;
 use l4_samples::{ACROSS, endless};
 use l4_script::machine::Machine;
-use std::process::Abort;
 use std::test::Fail;
-use std::thread::Threads;
 
 // A thread waits for five ticks.
 const TIMED: &str = "l4 1 64
@@ -39,99 +37,66 @@ pub(crate) fn has_stamps(log: &Log, stamps: &[u64]) -> bool
     true
 }
 
-/// The last processor of a machine, whose rings have room for one letter.
-pub(crate) fn last<'m, R: AllocGlobal + Abort>(rt: &R, machine: &'m Machine) -> Processor<'m> {
-    let mut processors = assemble(rt.alloc(), machine, 1).expect(rt, "memory");
-    processors.pop().expect(rt, "a processor")
+// Whether a processor has taken so many turns, with events of these stamps, and there is nothing left to do.
+fn is_done(processor: &mut Processor<'_>, turns: u64, stamps: &[u64]) -> bool {
+    has_stamps(processor.log(), stamps)
+        && processor.turns() == turns
+        && processor.work(1, &Open) == Stop::Idle
 }
 
-// The two processors of a machine, whose rings have room for 64 letters.
-fn pair<'m, R: AllocGlobal + Abort>(
-    rt: &R,
-    machine: &'m Machine,
-) -> (Processor<'m>, Processor<'m>) {
-    let mut processors = assemble(rt.alloc(), machine, 64).expect(rt, "memory");
-    assert_eq!(rt; processors.len(), 2);
-    let other = processors.pop().expect(rt, "a processor");
-    let home = processors.pop().expect(rt, "a processor");
-    (home, other)
-}
-
-// Takes so many turns.
-fn takes<R: Abort>(rt: &R, processor: &mut Processor<'_>, turns: u64) {
-    assert!(rt; processor.work(turns, &Open) == Stop::Used);
-}
-
-// Tests that a processor has taken so many turns, with events of these stamps, and that there is nothing left to do.
-fn is_done<R: Abort>(rt: &R, processor: &mut Processor<'_>, turns: u64, stamps: &[u64]) {
-    assert!(rt; has_stamps(processor.log(), stamps));
-    assert_eq!(rt; processor.turns(), turns);
-    assert!(rt; processor.work(1, &Open) == Stop::Idle);
-}
-
-// The receiver waits, the send goes, it is delivered, the sender learns of it, and both end.
-fn exchange<R: Abort>(rt: &R, home: &mut Processor<'_>, other: &mut Processor<'_>) {
-    takes(rt, other, 1);
-    takes(rt, home, 3);
-    takes(rt, other, 1);
-    takes(rt, home, 2);
-    takes(rt, other, 1);
-}
-
-// Two letters: the send, and that it was delivered. A processor that takes no letter, or that never moves one on, keeps all contracts.
+// Two letters: the send, and that it was delivered. The receiver waits, the send goes, it is delivered, the sender learns of it, and both end. A
+// processor that takes no letter, or that never moves one on, keeps all contracts.
 #[test]
-fn a_message_crosses(rt: HostRuntime) {
-    let machine = machine_of(&rt, ACROSS);
-    let (mut home, mut other) = pair(&rt, &machine);
-    exchange(&rt, &mut home, &mut other);
-    is_done(&rt, &mut home, 5, &[1, 2, 3, 5, 6]);
-    is_done(&rt, &mut other, 3, &[1, 4, 5]);
+fn a_message_crosses(rt: HostRuntime) -> Result<(), Fail> {
+    let machine = Machine::parse(rt.alloc(), ACROSS.as_bytes())?;
+    let mut processors = assemble(rt.alloc(), &machine, 64)?;
+    assert_eq!(rt; processors.len(), 2);
+    let mut other = processors.pop().ok_or("a processor")?;
+    let mut home = processors.pop().ok_or("a processor")?;
+    assert!(rt; other.work(1, &Open) == Stop::Used);
+    assert!(rt; home.work(3, &Open) == Stop::Used);
+    assert!(rt; other.work(1, &Open) == Stop::Used);
+    assert!(rt; home.work(2, &Open) == Stop::Used);
+    assert!(rt; other.work(1, &Open) == Stop::Used);
+    assert!(rt; is_done(&mut home, 5, &[1, 2, 3, 5, 6]));
+    assert!(rt; is_done(&mut other, 3, &[1, 4, 5]));
+    Ok(())
 }
 
 // The clock goes on, which is no turn, and then the receive has timed out.
-fn times_out<R: Abort>(rt: &R, processor: &mut Processor<'_>) {
+#[test]
+fn a_clock_goes_on(rt: HostRuntime) -> Result<(), Fail> {
+    let machine = Machine::parse(rt.alloc(), TIMED.as_bytes())?;
+    let mut processors = assemble(rt.alloc(), &machine, 1)?;
+    assert_eq!(rt; processors.len(), 1);
+    let mut processor = processors.pop().ok_or("a processor")?;
     assert!(rt; processor.work(2, &Open) == Stop::Idle);
     assert_eq!(rt; processor.core().least_deadline(), Some(5));
-    assert!(rt; processor.tick(0).is_err());
-    assert!(rt; processor.tick(5).is_ok());
+    assert!(rt; processor.tick(0).is_err() && processor.tick(5).is_ok());
     assert_eq!(rt; processor.turns(), 1);
     assert!(rt; processor.work(3, &Open) == Stop::Idle);
-}
-
-#[test]
-fn a_clock_goes_on(rt: HostRuntime) {
-    let machine = machine_of(&rt, TIMED);
-    assert_eq!(rt; machine.cpus(), 1);
-    let mut processor = last(&rt, &machine);
-    times_out(&rt, &mut processor);
     assert!(rt; has_stamps(processor.log(), &[1, 2, 3, 4]));
     assert!(rt; !processor.in_hand());
+    Ok(())
 }
 
-// Tests that these processors, each with a thread that goes on for ever, meet while each takes ten turns.
-fn meet<R: Abort + Threads + Sync>(rt: &R, processors: &mut [Processor<'_>], gate: &Meeting) {
-    work_together(rt, processors, 10, gate);
-    gate.was_kept(rt);
-    for processor in processors.iter() {
-        assert_eq!(rt; processor.turns(), 10);
-        assert!(rt; processor.stop() == Stop::Used);
-    }
-}
-
-// The same of so many.
-fn so_many_meet<R: AllocGlobal + Abort + Threads + Sync>(rt: &R, cpus: u8) {
-    let text = endless(rt.alloc(), cpus, cpus).expect(rt, "memory");
-    let machine = machine_of(rt, text.as_str());
-    let mut processors = assemble(rt.alloc(), &machine, 1).expect(rt, "memory");
-    assert_eq!(rt; processors.len(), usize::from(cpus));
-    meet(rt, processors.as_mut_slice(), &Meeting::new(cpus));
-}
-
-// No clause says that host threads run side by side: where they do not, the looks of a gate that waits for all run out.
+// Each has a thread that goes on for ever, and they meet while each takes ten turns. No clause says that host threads run side by side: where they do
+// not, the looks of a gate that waits for all run out.
 #[test]
-fn processors_are_at_work_at_the_same_time(rt: HostRuntime) {
-    so_many_meet(&rt, 2);
-    so_many_meet(&rt, 16);
+fn processors_are_at_work_at_the_same_time(rt: HostRuntime) -> Result<(), Fail> {
+    for cpus in [2, 16] {
+        let text = endless(rt.alloc(), cpus, cpus)?;
+        let machine = Machine::parse(rt.alloc(), text.as_bytes())?;
+        let mut processors = assemble(rt.alloc(), &machine, 1)?;
+        assert_eq!(rt; processors.len(), usize::from(cpus));
+        let gate = Meeting::new(cpus);
+        work_together(&rt, processors.as_mut_slice(), 10, &gate);
+        assert!(rt; gate.was_kept());
+        for processor in processors.iter() {
+            assert!(rt; processor.turns() == 10 && processor.stop() == Stop::Used);
+        }
+    }
+    Ok(())
 }
 
 // How many turns the processor at this place took.
@@ -142,23 +107,19 @@ fn turns_at(processors: &[Processor<'_>], at: usize) -> u64 {
     }
 }
 
-// Processors work until the first one has its five turns. No clause says that a letter comes, so there is a limit to how often it is waited for.
-fn work_on<R: Threads + Sync>(rt: &R, processors: &mut [Processor<'_>]) {
+// They work until the first one has its five turns. No clause says that a letter comes, so there is a limit to how often it is waited for.
+#[test]
+fn a_message_crosses_between_threads(rt: HostRuntime) -> Result<(), Fail> {
+    let machine = Machine::parse(rt.alloc(), ACROSS.as_bytes())?;
+    let mut processors = assemble(rt.alloc(), &machine, 64)?;
     for _ in 0..1000 {
-        work_together(rt, processors, 100, &Open);
-        if turns_at(processors, 0) == 5 {
-            return;
+        if turns_at(processors.as_slice(), 0) != 5 {
+            work_together(&rt, processors.as_mut_slice(), 100, &Open);
         }
     }
-}
-
-#[test]
-fn a_message_crosses_between_threads(rt: HostRuntime) {
-    let machine = machine_of(&rt, ACROSS);
-    let mut processors = assemble(rt.alloc(), &machine, 64).expect(&rt, "memory");
-    work_on(&rt, processors.as_mut_slice());
     assert_eq!(rt; turns_at(processors.as_slice(), 0), 5);
     assert!(rt; turns_at(processors.as_slice(), 1) >= 3);
+    Ok(())
 }
 
 /// Whether the processor at this place takes turns until it finds nothing.
@@ -179,18 +140,18 @@ fn drop_last(processors: &mut Vec<Processor<'_>>)
     let _last = processors.pop();
 }
 
-/// Tests the logs of two processors whose letters came to rest. The send is put by at its receiver's processor, which queues it, begins to receive,
+/// Whether two processors have the logs of letters that came to rest. The send is put by at its receiver's processor, which queues it, begins to receive,
 /// delivers it, and ends its thread.
-pub(crate) fn have_rested<R: Abort>(rt: &R, processors: &[Processor<'_>]) {
-    assert_eq!(rt; processors.len(), 2);
-    assert!(rt; has_stamps(processors[0].log(), &[1, 2, 3, 7, 8]));
-    assert!(rt; has_stamps(processors[1].log(), &[4, 5, 6, 7]));
-    assert!(rt; processors[0].stop() == Stop::Idle);
+pub(crate) fn have_rested(processors: &[Processor<'_>]) -> bool {
+    processors.len() == 2
+        && has_stamps(processors[0].log(), &[1, 2, 3, 7, 8])
+        && has_stamps(processors[1].log(), &[4, 5, 6, 7])
+        && processors[0].stop() == Stop::Idle
 }
 
 #[test]
 fn letters_come_to_rest(rt: HostRuntime) -> Result<(), Fail> {
-    let machine = machine_of(&rt, ACROSS);
+    let machine = Machine::parse(rt.alloc(), ACROSS.as_bytes())?;
     let mut processors = assemble(rt.alloc(), &machine, 1)?;
     assert!(rt; rest(rt.alloc(), &mut processors) == Ok(true));
     assert!(rt; runs_idle(&mut processors, 0));
@@ -198,7 +159,7 @@ fn letters_come_to_rest(rt: HostRuntime) -> Result<(), Fail> {
     assert!(rt; runs_idle(&mut processors, 1));
     assert!(rt; runs_idle(&mut processors, 0));
     assert!(rt; rest(rt.alloc(), &mut processors) == Ok(true));
-    have_rested(&rt, processors.as_slice());
+    assert!(rt; have_rested(processors.as_slice()));
     drop_last(&mut processors);
     assert!(rt; rest(rt.alloc(), &mut processors) == Err(RestFault::Numbers));
     assert_eq!(rt; processors.len(), 1);

@@ -6,13 +6,13 @@ ghost use Rattle.l4_mail.specs.Fabrics.{most_room};
 
 use crate::gates::busy_text;
 use crate::gathers::gathered_again;
-use crate::runs::{machine_of, passes};
-use l4_machine::Outcome;
+use crate::runs::passes;
 use l4_proc::assembly::assemble;
 use l4_proc::gate::Open;
 use l4_proc::processor::Processor;
 use l4_script::machine::Machine;
 use std::process::Abort;
+use std::test::Fail;
 
 // So often a processor is asked to take turns, and so many at most each time.
 const CALLS: u64 = 400;
@@ -50,27 +50,29 @@ fn mixed<'m, R: AllocGlobal>(
     Some(processors)
 }
 
-// What they come to.
-fn mixed_outcome<R: AllocGlobal + Print>(rt: &R, machine: &Machine, room: usize) -> Option<Outcome>
-    requires { (0 < room) × (room ≤ most_room) }
-{
-    let processors = mixed(rt, machine, room)?;
-    gathered_again(rt, machine, processors)
-}
-
 // Tests that with rings of this room they come to a history.
-fn come_to_a_history<R: AllocGlobal + Abort + Print>(rt: &R, machine: &Machine, room: usize)
+fn come_to_a_history<R: AllocGlobal + Abort + Print>(
+    rt: &R,
+    machine: &Machine,
+    room: usize,
+) -> Result<(), Fail>
     requires { (0 < room) × (room ≤ most_room) }
 {
-    let outcome = mixed_outcome(rt, machine, room).expect(rt, "an outcome");
-    passes(rt, machine, &outcome);
+    let processors = mixed(rt, machine, room).ok_or("processors")?;
+    let outcome = gathered_again(rt, machine, processors).ok_or("an outcome")?;
+    passes(rt, machine, &outcome)?;
     assert!(rt; outcome.turns > CALLS, "{room}");
+    Ok(())
 }
 
 #[test]
-fn processors_come_to_a_history_whatever_room_their_rings_have(rt: HostRuntime) {
-    let machine = machine_of(&rt, busy_text(&rt).as_str());
+fn processors_come_to_a_history_whatever_room_their_rings_have(
+    rt: HostRuntime,
+) -> Result<(), Fail> {
+    let text = busy_text(rt.alloc())?;
+    let machine = Machine::parse(rt.alloc(), text.as_bytes())?;
     for room in 1..65 {
-        come_to_a_history(&rt, &machine, room);
+        come_to_a_history(&rt, &machine, room)?;
     }
+    Ok(())
 }

@@ -4,10 +4,6 @@
 #[cfg(test)]
 mod arena;
 #[cfg(test)]
-mod cores;
-#[cfg(test)]
-mod deadlines;
-#[cfg(test)]
 mod histories;
 #[cfg(test)]
 mod ports;
@@ -15,6 +11,10 @@ mod ports;
 mod refused;
 #[cfg(test)]
 mod retargets;
+#[cfg(test)]
+mod rows;
+#[cfg(test)]
+mod sessions;
 #[cfg(test)]
 mod texts;
 #[cfg(test)]

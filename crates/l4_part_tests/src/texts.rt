@@ -2,85 +2,60 @@
 use l4_samples::PING;
 use l4_script::machine::Machine;
 use l4_script::text::{TextFault, TextFaultKind};
-use std::process::Abort;
+use std::alloc::Global;
+use std::test::Fail;
 
-// The lengths of the beginnings of the text that are whole lines.
+// Where the lines of the text end.
 const LINE_ENDS: [usize; 8] = [8, 15, 40, 49, 61, 85, 110, 134];
 
 // The fault of a text, or none.
-fn fault_of<R: AllocGlobal>(rt: &R, text: &[u8]) -> Option<TextFault> {
-    Machine::parse(rt.alloc(), text).err()
+fn fault_of(alloc: Global, text: &[u8]) -> Option<TextFault> {
+    match Machine::parse(alloc, text) {
+        Ok(_machine) => None,
+        Err(fault) => Some(fault),
+    }
 }
 
-// The fault in this line of a text.
-fn bad_line(line: usize) -> Option<TextFault> {
+// Whether the text with a carriage return in the place of this byte, and the beginning up to it, are both faulty in this line: the one that is not
+// whole. The beginning is a text where it ends with a line, behind both header lines.
+fn names_its_line(alloc: Global, place: usize, line: usize, is_start: bool) -> Result<bool, Fail> {
     let kind = TextFaultKind::BadLine;
-    Some(TextFault { line, kind })
-}
-
-// The line of the text in which the byte at this place stands, or would stand, counted from 1.
-fn line_at(place: usize) -> usize {
-    LINE_ENDS
-        .iter()
-        .filter(|end| **end <= place)
-        .count()
-        .saturating_add(1)
-}
-
-// Whether the beginning of this length is a text: it has both header lines, and no line is cut.
-fn is_text(length: usize) -> bool {
-    length >= 15 && LINE_ENDS.contains(&length)
-}
-
-// Tests that the beginning of this length is a text, or else faulty in the line that is cut or missing.
-fn is_judged<R: AllocGlobal + Abort>(rt: &R, length: usize) {
-    let beginning = PING.as_bytes().get(..length).expect(rt, "a beginning");
-    let fault = if is_text(length) {
-        None
-    } else {
-        bad_line(line_at(length))
-    };
-    assert_eq!(rt; fault_of(rt, beginning), fault, "{length}");
+    let bad_line = Some(TextFault { line, kind });
+    let mut text = PING.as_bytes().to_vec(alloc)?;
+    *text.get_mut(place).ok_or("a place of the text")? = b'\r';
+    let noticed = fault_of(alloc, text.as_slice());
+    let beginning = PING.as_bytes().get(..place).ok_or("a beginning")?;
+    let cut = if is_start && line > 2 { None } else { bad_line };
+    Ok(noticed == bad_line && fault_of(alloc, beginning) == cut)
 }
 
 #[test]
-fn each_beginning_of_a_text_is_a_text_or_names_the_line_that_is_cut(rt: HostRuntime) {
-    assert_eq!(rt; PING.len(), 134);
-    for length in 0..135 {
-        is_judged(&rt, length);
+fn a_text_that_is_cut_or_spoilt_names_the_line(rt: HostRuntime) -> Result<(), Fail> {
+    let mut start = 0;
+    for (number, end) in LINE_ENDS.iter().enumerate() {
+        for place in start..*end {
+            let line = number + 1;
+            assert!(rt;
+                names_its_line(rt.alloc(), place, line, place == start)?,
+                "{place}"
+            );
+        }
+        start = *end;
     }
+    assert!(rt; PING.len() == start && fault_of(rt.alloc(), PING.as_bytes()).is_none());
+    Ok(())
 }
 
-// Tests that the text with a carriage return in the place of this byte is faulty in its line.
-fn is_noticed<R: AllocGlobal + Abort>(rt: &R, place: usize) {
-    let mut text = PING.as_bytes().to_vec(rt.alloc()).expect(rt, "memory");
-    *text.get_mut(place).expect(rt, "a place") = b'\r';
-    let fault = fault_of(rt, text.as_slice());
-    assert_eq!(rt; fault, bad_line(line_at(place)), "{place}");
-}
-
+// Its third line is one long comment.
 #[test]
-fn a_carriage_return_is_found_wherever_it_stands(rt: HostRuntime) {
-    for place in 0..134 {
-        is_noticed(&rt, place);
-    }
-}
-
-// A text of a mebibyte, whose third line is one long comment.
-fn a_mebibyte<R: AllocGlobal + Abort>(rt: &R) -> Vec<u8> {
-    let mut text = b"l4 1 64\ncpus 1\n".to_vec(rt.alloc()).expect(rt, "memory");
-    text.resize(1_048_575, b';').expect(rt, "memory");
-    text.push(b'\n').expect(rt, "memory");
-    text
-}
-
-#[test]
-fn a_text_may_have_a_mebibyte(rt: HostRuntime) {
-    let mut text = a_mebibyte(&rt);
-    assert_eq!(rt; text.len(), 1_048_576);
-    assert_eq!(rt; fault_of(&rt, text.as_slice()), None);
-    text.push(b'\n').expect(&rt, "memory");
+fn a_text_may_have_a_mebibyte(rt: HostRuntime) -> Result<(), Fail> {
+    let mut text = b"l4 1 64\ncpus 1\n".to_vec(rt.alloc())?;
+    text.resize(1_048_575, b';')?;
+    text.push(b'\n')?;
+    assert!(rt; fault_of(rt.alloc(), text.as_slice()).is_none());
+    text.push(b'\n')?;
     let kind = TextFaultKind::TooLong;
-    let fault = fault_of(&rt, text.as_slice());
-    assert_eq!(rt; fault, Some(TextFault { line: 0, kind }));
+    let too_long = Some(TextFault { line: 0, kind });
+    assert!(rt; fault_of(rt.alloc(), text.as_slice()) == too_long);
+    Ok(())
 }

@@ -1,35 +1,31 @@
 // Lines of traces, read and written.
-use crate::cores::id;
 use arrayvec::ArrayVec;
 use l4_samples::PING_TRACE;
 use l4_trace::fault::TraceFault;
 use l4_trace::lines::write_event;
 use l4_trace::reading::read_events;
+use l4_trace::traces::trace;
 use l4_types::ids::GlobalId;
 use l4_types::messages::Message;
 use l4_types::steps::{Delivery, Name, Step, Tick, What};
-use std::process::Abort;
+use std::alloc::Global;
+use std::test::Fail;
 
-// The number of the faulty line of a text.
-fn line_refused<R: AllocGlobal>(rt: &R, text: &[u8]) -> Option<usize> {
-    match read_events(rt.alloc(), text) {
-        Err(TraceFault::Line(line)) => Some(line),
-        _ => None,
-    }
-}
+const FAULTY: [&str; 7] = [
+    "tick 16 1\n",
+    "tick 0 0\n",
+    "tick 0 4611686018427387904\n",
+    "begin 1.1#0\n",
+    "begin 1.1#18446744073709551616\n",
+    "deliver 1.1#1 2.1 1.1 1.1 70041 1\n",
+    "deliver 1.1#1 2.1 1.1 1.1 70002 1\n",
+];
 
 #[test]
 fn a_line_outside_the_grammar_is_refused(rt: HostRuntime) {
-    for line in [
-        "tick 16 1\n",
-        "tick 0 0\n",
-        "tick 0 4611686018427387904\n",
-        "begin 1.1#0\n",
-        "begin 1.1#18446744073709551616\n",
-        "deliver 1.1#1 2.1 1.1 1.1 70041 1\n",
-        "deliver 1.1#1 2.1 1.1 1.1 70002 1\n",
-    ] {
-        assert_eq!(rt; line_refused(&rt, line.as_bytes()), Some(1), "{line}");
+    for line in FAULTY {
+        let read = read_events(rt.alloc(), line.as_bytes());
+        assert!(rt; matches!(read, Err(TraceFault::Line(1))), "{line}");
     }
 }
 
@@ -50,37 +46,36 @@ obey 1.1
 tick 15 4611686018427387903
 ";
 
-// The last send of a thread.
-fn last_send<R: Abort>(rt: &R, thread: GlobalId) -> Name {
-    Name::new(thread, u64::MAX).expect(rt, "sends are counted from 1")
-}
-
-// A delivery of the least and the greatest word to a thread that is shown itself.
-fn delivery<R: Abort>(rt: &R, one: GlobalId, two: GlobalId) -> Step {
-    let mut words = ArrayVec::new();
-    words.push(0);
-    words.push(u64::MAX);
-    Step::Deliver(Delivery {
-        name: last_send(rt, two),
-        receiver: one,
-        message: Message::new(5, true, words, one, two).expect(rt, "label 5 is small"),
+// The delivery of the last send of a thread.
+fn delivered(
+    sender: GlobalId,
+    receiver: GlobalId,
+    label: u64,
+    words: ArrayVec<u64, 63>,
+) -> Option<Step> {
+    Some(Step::Deliver(Delivery {
+        name: Name::new(sender, u64::MAX)?,
+        receiver,
+        message: Message::new(label, true, words, receiver, sender)?,
         cross: true,
-    })
+    }))
 }
 
 // The steps of the lines.
-fn steps_of_lines<R: Abort>(rt: &R) -> [Step; 14] {
-    let one = id(1);
-    let two = GlobalId::new(2, 65).expect(rt, "2.65 is a global id");
-    let send = last_send(rt, two);
-    let tick = Tick::new(15, (1 << 62) - 1).expect(rt, "clocks are below 2^62");
+fn steps_of_lines() -> Option<[Step; 14]> {
+    let one = GlobalId::new(1, 1)?;
+    let two = GlobalId::new(2, 65)?;
+    let send = Name::new(two, u64::MAX)?;
     let order = |what| Step::Order {
         caller: one,
         target: two,
         what,
     };
-    [
-        delivery(rt, one, two),
+    let mut words = ArrayVec::new();
+    words.push(0);
+    words.push(u64::MAX);
+    Some([
+        delivered(two, one, 5, words)?,
         Step::SendTimeout(send),
         Step::ReceiveTimeout(one),
         Step::SendNobody(send),
@@ -93,55 +88,55 @@ fn steps_of_lines<R: Abort>(rt: &R) -> [Step; 14] {
         order(What::CancelBoth),
         order(What::Delete),
         Step::Obey(one),
-        Step::Tick(tick),
-    ]
+        Step::Tick(Tick::new(15, (1 << 62) - 1)?),
+    ])
 }
 
-// Tests that the lines are read as these steps.
-fn reads<R: AllocGlobal + Abort>(rt: &R, lines: &str, steps: &[Step]) {
-    let read = read_events(rt.alloc(), lines.as_bytes());
-    assert_eq!(rt; read.ok().expect(rt, "steps").as_slice(), steps);
+// Whether the lines are read as these steps, and these are written as the lines.
+fn are_lines_of(alloc: Global, lines: &str, steps: &[Step]) -> Result<bool, Fail> {
+    let read = read_events(alloc, lines.as_bytes())?;
+    let written = trace(alloc, steps)?;
+    Ok(read.as_slice() == steps && written.as_slice() == lines.as_bytes())
 }
 
-// Tests that these steps are written as the lines.
-fn writes<R: AllocGlobal + Abort>(rt: &R, steps: &[Step], lines: &str) {
-    let mut out = Vec::new(rt.alloc());
-    for step in steps {
-        write_event(step, &mut out).expect(rt, "memory");
-    }
-    assert_eq!(rt; out.as_slice(), lines.as_bytes());
+// The longest line, which a delivery has.
+fn longest_line(alloc: Global) -> Result<String, Fail> {
+    let thread = "4294967295.4294967294";
+    let mut line = format!(in alloc;
+        "deliver {thread}#18446744073709551615 {thread} {thread} {thread} ffffffffffff503f"
+    )?;
+    line.push_str(" ffffffffffffffff".repeat(alloc, 63)?.as_str())?;
+    line.push_str("\n")?;
+    Ok(line)
 }
 
 #[test]
-fn each_kind_of_step_is_read_and_written(rt: HostRuntime) {
-    let steps = steps_of_lines(&rt);
-    reads(&rt, LINES, &steps);
-    writes(&rt, &steps, LINES);
-}
-
-// Tests that the tick is written in a whole line behind those before it, or not at all.
-fn writes_all_or_nothing<R: Abort>(rt: &R, tick: &Step, out: &mut Vec<u8>) {
-    let before = out.len();
-    let written = write_event(tick, out).is_ok();
-    let line = out.get(before..).expect(rt, "the lines before it stay");
-    let whole = if written { "tick 0 24\n" } else { "" };
-    assert_eq!(rt; line, whole.as_bytes());
+fn each_kind_of_step_is_read_and_written(rt: HostRuntime) -> Result<(), Fail> {
+    let steps = steps_of_lines().ok_or("steps")?;
+    assert!(rt; are_lines_of(rt.alloc(), LINES, &steps)?);
+    let last = GlobalId::new(4294967295, 4294967294).ok_or("a thread")?;
+    let words = ArrayVec::from([u64::MAX; 63]);
+    let step = delivered(last, last, (1 << 48) - 1, words).ok_or("a delivery")?;
+    assert!(rt; are_lines_of(rt.alloc(), longest_line(rt.alloc())?.as_str(), &[step])?);
+    Ok(())
 }
 
 // To be run with each allocation refused in turn.
 #[test]
-fn a_line_is_whole_or_missing(rt: HostRuntime) {
-    let tick = Step::Tick(Tick::new(0, 24).expect(&rt, "24 is a clock"));
+fn a_line_is_whole_or_missing_where_memory_is_refused(rt: HostRuntime) -> Result<(), Fail> {
+    let tick = Step::Tick(Tick::new(0, 24).ok_or("a tick")?);
     let mut out = Vec::new(rt.alloc());
     for _ in 0..100 {
-        writes_all_or_nothing(&rt, &tick, &mut out);
+        let before = out.len();
+        let is_written = write_event(&tick, &mut out).is_ok();
+        let line = out.get(before..).ok_or("the lines before it")?;
+        let whole = if is_written { "tick 0 24\n" } else { "" };
+        assert!(rt; line == whole.as_bytes());
     }
     assert!(rt; out.len() >= 990);
-}
-
-// To be run with each allocation refused in turn.
-#[test]
-fn a_text_is_read_or_memory_is_refused(rt: HostRuntime) {
-    let read = read_events(rt.alloc(), PING_TRACE.as_bytes()).map(|steps| steps.len());
-    assert!(rt; matches!(read, Ok(8) | Err(TraceFault::NoMemory)));
+    match read_events(rt.alloc(), PING_TRACE.as_bytes()) {
+        Ok(steps) => assert!(rt; steps.len() == 8),
+        Err(fault) => assert!(rt; fault == TraceFault::NoMemory),
+    }
+    Ok(())
 }

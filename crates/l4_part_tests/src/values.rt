@@ -9,23 +9,19 @@ use l4_types::steps::{Delivery, Name, Step, Tick};
 use l4_types::tags::{MsgTag, TagFault};
 use l4_types::times::{Period, time_of, timeouts};
 use std::alloc::AllocError;
-use std::process::Abort;
+use std::test::Fail;
 
 #[test]
-fn ids_have_their_words(rt: HostRuntime) {
-    let id = GlobalId::new(2, 65).expect(&rt, "a global id");
+fn ids_and_tags_have_their_words(rt: HostRuntime) -> Result<(), Fail> {
+    let id = GlobalId::new(2, 65).ok_or("a global id")?;
     let same = ThreadId::from_raw(8589934657);
     assert_eq!(rt; [id.id().raw(), ThreadId::from(id).raw()], [8589934657; 2]);
     assert!(rt; same.as_global() == Some(id) && ThreadId::global(2, 65) == Some(same));
     let (number, version) = (id.number(), id.version());
     assert!(rt; same.kind() == Kind::Global { number, version });
     assert!(rt; GlobalId::new(4294967295, 4294967295).is_none());
-}
-
-#[test]
-fn tags_have_their_words(rt: HostRuntime) {
-    let tag = MsgTag::new(7, 1, false).expect(&rt, "a tag");
-    let asking = MsgTag::new(5, 1, true).expect(&rt, "a tag");
+    let tag = MsgTag::new(7, 1, false).ok_or("a tag")?;
+    let asking = MsgTag::new(5, 1, true).ok_or("a tag")?;
     let words = [
         tag.raw(),
         tag.received(true, false).raw(),
@@ -34,16 +30,14 @@ fn tags_have_their_words(rt: HostRuntime) {
         asking.received(false, false).raw(),
     ];
     assert_eq!(rt; words, [0x70001, 0x74001, 0x51001, 0x51001, 0x50001]);
-    assert_eq!(rt;
-        (asking.label(), asking.untyped(), asking.propagate()),
-        (5, 1, true)
-    );
+    assert!(rt; asking.label() == 5 && asking.untyped() == 1 && asking.propagate());
     assert!(rt; MsgTag::from_raw(0x51001) == Ok(asking));
     assert!(rt; MsgTag::from_raw(0x41) == Err(TagFault::TypedItems));
+    Ok(())
 }
 
 #[test]
-fn times_have_their_periods(rt: HostRuntime) {
+fn times_and_faults_have_their_codes(rt: HostRuntime) {
     for (time, period) in [
         (0, Some(Period::Never)),
         (0x0400, Some(Period::Zero)),
@@ -51,54 +45,9 @@ fn times_have_their_periods(rt: HostRuntime) {
         (0x7fff, Some(Period::Ticks(2196875771904))),
         (0x8000, None),
     ] {
-        assert_eq!(rt; time_of(time), period, "at {time}");
+        assert!(rt; time_of(time) == period, "at {time}");
     }
-    assert_eq!(rt;
-        timeouts(0x0005_0400),
-        Some((Period::Ticks(5), Period::Zero))
-    );
-}
-
-// Tests that a message of 63 words shows its sender, of which it is the third send.
-fn shows_its_sender<R: Abort>(rt: &R, message: &Message, name: Name) {
-    assert!(rt; name.thread() == message.shown() && name.thread() == message.actual());
-    assert!(rt; message.copy() == *message && !message.propagated());
-    assert_eq!(rt; message.words().last(), Some(&10));
-    let numbers = [name.k(), message.label(), message.tag().raw()];
-    assert_eq!(rt; numbers, [3, 7, 0x7003f]);
-}
-
-#[test]
-fn a_delivery_has_the_received_tag(rt: HostRuntime) {
-    let id = GlobalId::new(1, 1).expect(&rt, "a global id");
-    let name = Name::new(id, 3).expect(&rt, "a name");
-    let message = Message::new(7, false, ArrayVec::from([10; 63]), id, id).expect(&rt, "a message");
-    shows_its_sender(&rt, &message, name);
-    let delivery = Delivery {
-        name,
-        receiver: id,
-        message,
-        cross: true,
-    };
-    assert_eq!(rt; delivery.tag().raw(), 0x7403f);
-}
-
-#[test]
-fn rooms_for_steps_and_letters(rt: HostRuntime) {
-    let tick = Tick::new(15, 24).expect(&rt, "a tick");
-    assert!(rt; tick.cpu() == 15 && tick.clock() == 24);
-    let mut steps: ArrayVec<Step, 3> = ArrayVec::new();
-    steps.push(Step::Tick(tick));
-    let mut letters: ArrayVec<(u8, Letter), 2> = ArrayVec::new();
-    let content = Content::Gone(GlobalId::default());
-    letters.push((1, Letter { stamp: 4, content }));
-    assert_eq!(rt; (steps.len(), letters.len()), (1, 1));
-}
-
-#[test]
-fn registers_and_faults(rt: HostRuntime) {
-    let regs = Regs::new();
-    assert!(rt; regs == Regs::default() && regs.from == ThreadId::NIL);
+    assert!(rt; timeouts(0x0005_0400) == Some((Period::Ticks(5), Period::Zero)));
     let codes = [
         IpcError::SendTimeout.code(),
         IpcError::ReceiveTimeout.code(),
@@ -109,4 +58,40 @@ fn registers_and_faults(rt: HostRuntime) {
     ];
     assert_eq!(rt; codes, [2, 3, 4, 5, 6, 7]);
     assert!(rt; NoMemory::from(AllocError) == NoMemory);
+    let regs = Regs::new();
+    assert!(rt; regs == Regs::default() && regs.from == ThreadId::NIL);
+}
+
+// A message of 63 words, in the third send of its thread.
+#[test]
+fn a_delivery_has_the_received_tag(rt: HostRuntime) -> Result<(), Fail> {
+    let id = GlobalId::new(1, 1).ok_or("a global id")?;
+    let name = Name::new(id, 3).ok_or("a name")?;
+    let message = Message::new(7, false, ArrayVec::from([10; 63]), id, id).ok_or("a message")?;
+    assert!(rt; name.thread() == message.shown() && name.thread() == message.actual());
+    assert!(rt; message.copy() == message && !message.propagated());
+    assert_eq!(rt; message.words().last(), Some(&10));
+    let numbers = [name.k(), message.label(), message.tag().raw()];
+    assert_eq!(rt; numbers, [3, 7, 0x7003f]);
+    let delivery = Delivery {
+        name,
+        receiver: id,
+        message,
+        cross: true,
+    };
+    assert_eq!(rt; delivery.tag().raw(), 0x7403f);
+    Ok(())
+}
+
+#[test]
+fn there_is_room_for_steps_and_letters(rt: HostRuntime) -> Result<(), Fail> {
+    let tick = Tick::new(15, 24).ok_or("a tick")?;
+    assert!(rt; tick.cpu() == 15 && tick.clock() == 24);
+    let mut steps: ArrayVec<Step, 3> = ArrayVec::new();
+    steps.push(Step::Tick(tick));
+    let mut letters: ArrayVec<(u8, Letter), 2> = ArrayVec::new();
+    let content = Content::Gone(GlobalId::default());
+    letters.push((1, Letter { stamp: 4, content }));
+    assert!(rt; steps.len() == 1 && letters.len() == 1);
+    Ok(())
 }

@@ -17,14 +17,15 @@ PASSED = re.compile(rb"passed \d+ (quiet|spent)\n")
 QUIET, FAULT, SPENT = 0, 1, 3
 
 NUMBERS = ["0", "1", "63", "64", "15", "16", "17", "0x3f", "18446744073709551615", "18446744073709551616", "4294967296", "-1", "0x", "00", "1.", ""]
-WORDS = ["never", "zero", "nil", "any", "anylocal", "last", "S", "R", "SR", "1.1", "2.1", "3.65", "1.64", "1.0", "#0000000000000001", ";", "cpu", "end", "tick", "retarget"]
+WORDS = ["never", "zero", "nil", "any", "anylocal", "last", "S", "R", "SR", "1.1", "2.1", "3.65", "1.64", "1.0", "#0000000000000001", "#00004001", "262143.16383", ";", "cpu", "end", "tick", "retarget"]
 BYTES = [0, 9, 10, 13, 32, 59, 127, 128, 255]
 
 
 def machine(dice):
     """A small machine, most of whose threads talk."""
     threads, cpus = dice.randint(1, 5), dice.choice([1, 1, 2, 3, 16])
-    lines = [f"l4 {dice.choice([1, 2])} 64", f"cpus {cpus}"]
+    profile, bits = dice.choice([1, 2]), dice.choice([64, 32])
+    lines = [f"l4 {profile} {bits}", f"cpus {cpus}"]
 
     def thread():
         return f"{dice.randint(1, threads)}.1"
@@ -38,7 +39,7 @@ def machine(dice):
                 f"ipc nil {dice.choice(['any', 'anylocal', thread()])} never {dice.choice(['never', 'zero', '4'])}",
                 f"ipc {thread()} {thread()} never 5",
                 "ipc last any never never",
-                f"set {dice.randint(1, 63)} {dice.getrandbits(64)}",
+                f"{dice.choice(['set', 'add'])} {dice.randint(1, 63)} {dice.getrandbits(bits)}",
                 f"tag {dice.randint(0, 9) << 16 | dice.choice([0, 0x1000]) | dice.randint(0, 5)}",
                 f"exregs {thread()} {dice.choice(['S', 'R', 'SR'])}",
                 f"delete {thread()}",

@@ -80,6 +80,7 @@ def tried(case, dice, kind, counts):
             counts[f"audits of {what}: {ending}"] += 1
     counts["machines"] += 1
     counts[f"machines of profile {machine.profile}"] += 1
+    counts[f"machines of {machine.format.bits} bits"] += 1
     counts["entries of schedules"] += len(entries)
     counts["steps"] += len(replay.history)
     counts["deliveries"] += traces.count("deliver", replay.history)

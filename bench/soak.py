@@ -22,6 +22,8 @@ DECISIONS = {"deliver", "stimeout", "snobody", "scancel", "drop"}
 # Bit 14 of a delivery's tag: the message came from another processor.
 ACROSS = 0x4000
 PROFILES = (1, 2)
+# How many bits a word has.
+FORMATS = (64, 32)
 # How often a script of each profile hands a message on, in place of another instruction.
 HANDS_ON = {1: 0.02, 2: 0.2}
 
@@ -34,22 +36,22 @@ def period(dice):
     return dice.choice(["never", "never", "zero", "5", "0xc03"])
 
 
-def instruction(dice, threads, lines):
-    """A line of a script of so many lines, on a machine of so many threads."""
+def instruction(dice, threads, bits, lines):
+    """A line of a script of so many lines, on a machine of so many threads with words of so many bits."""
 
     def anybody():
         return thread(dice.randint(1, threads))
 
-    kind = dice.choices(["ipc", "set", "tag", "vs", "exregs", "delete", "jump"], [12, 4, 4, 1, 2, 0.05, 1])[0]
+    kind = dice.choices(["ipc", "set", "add", "tag", "vs", "exregs", "delete", "jump"], [12, 3, 2, 4, 1, 2, 0.05, 1])[0]
     match kind:
         case "ipc":
             to = dice.choice([anybody(), anybody(), "last", "nil"])
             source = dice.choice(["any", "any", "anylocal", anybody(), "nil"])
             return f"ipc {to} {source} {period(dice)} {period(dice)}"
-        case "set":
-            return f"set {dice.randint(1, 63)} {dice.getrandbits(64)}"
+        case "set" | "add":
+            return f"{kind} {dice.randint(1, 63)} {dice.getrandbits(bits)}"
         case "tag":
-            return f"tag {dice.randint(0, 7) << 16 | dice.choice([0, 0x1000]) | dice.randint(0, 63)}"
+            return f"tag {dice.choice([0, 1, 7, dice.getrandbits(bits - 16)]) << 16 | dice.choice([0, 0x1000]) | dice.randint(0, 63)}"
         case "vs":
             return f"vs {anybody()}"
         case "exregs":
@@ -65,21 +67,21 @@ def handed_on(dice, threads):
     return ["ipc nil any never never", f"vs {originator}", "tag 0x1000", f"ipc {receiver} nil never never"]
 
 
-def script(dice, threads, profile):
+def script(dice, threads, profile, bits):
     """Up to so many lines, and a few more. Most scripts go on for ever."""
     lines, most = [], dice.randint(1, MOST_LINES)
     while len(lines) < most - 1:
-        lines += handed_on(dice, threads) if dice.random() < HANDS_ON[profile] else [instruction(dice, threads, most)]
+        lines += handed_on(dice, threads) if dice.random() < HANDS_ON[profile] else [instruction(dice, threads, bits, most)]
     return lines + ["jump 0" if dice.random() < 0.9 else "end"]
 
 
-def text(dice, cpus, profile):
-    """A machine of so many processors and up to as many threads as there may be."""
+def text(dice, cpus, profile, bits):
+    """A machine of this profile, with words of so many bits, of so many processors and up to as many threads as there may be."""
     threads = dice.choice([dice.randint(2, 64), dice.randint(2, texts.MOST_THREADS), texts.MOST_THREADS])
-    told = [f"l4 {profile} 64\ncpus {cpus}\n"]
+    told = [f"l4 {profile} {bits}\ncpus {cpus}\n"]
     for number in range(1, threads + 1):
         told.append(f"thread {thread(number)} cpu {dice.randrange(cpus)} space {dice.randint(1, 4)}\n")
-        told.extend(line + "\n" for line in script(dice, threads, profile))
+        told.extend(line + "\n" for line in script(dice, threads, profile, bits))
     return "".join(told)
 
 
@@ -141,9 +143,9 @@ def main(program, folder, runs, part):
     dice = random.Random(SEED + part)
     counts, different = collections.Counter(), set()
     for number in range(runs):
-        cpus, profile = dice.randint(2, texts.MOST_CPUS), dice.choice(PROFILES)
+        cpus, profile, bits = dice.randint(2, texts.MOST_CPUS), dice.choice(PROFILES), dice.choice(FORMATS)
         with open(machine, "w") as file:
-            file.write(text(dice, cpus, profile))
+            file.write(text(dice, cpus, profile, bits))
         run = [program, "run", machine, "--turns", str(TURNS)]
         told = done(run, (QUIET, SPENT))
         audited(program, machine, trace, told)

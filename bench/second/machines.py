@@ -95,9 +95,10 @@ class Declaration:
 
 @dataclasses.dataclass(frozen=True)
 class Machine:
-    """The profile, the number of processors, and the threads by their ids, in order of declaration."""
+    """The profile, the format, the number of processors, and the threads by their ids, in order of declaration."""
 
     profile: int
+    format: words.Format
     cpus: int
     threads: dict
 
@@ -115,11 +116,11 @@ def number(word):
     return int(word, HEXADECIMAL_BASE) if word.startswith(HEXADECIMAL) else int(word)
 
 
-def identifier(word):
+def identifier(word, form):
     if word in NAMED_IDS:
         return NAMED_IDS[word]
     if word.startswith(RAW_ID):
-        return int(word.removeprefix(RAW_ID), HEXADECIMAL_BASE)
+        return form.identifier(int(word.removeprefix(RAW_ID), HEXADECIMAL_BASE))
     thread_number, version = word.split(".")
     return words.global_id(int(thread_number), int(version))
 
@@ -130,7 +131,7 @@ def period(word):
     return 0 if word == ZERO else words.period(number(word))
 
 
-def instruction(line):
+def instruction(line, form):
     match line.split():
         case "set", register, word:
             return Set(number(register), number(word))
@@ -141,13 +142,13 @@ def instruction(line):
         case "tag", word:
             return Tag(number(word))
         case "vs", thread:
-            return Virtual(identifier(thread))
+            return Virtual(identifier(thread, form))
         case "ipc", to, source, send, receive:
-            return Ipc(to if to == LAST else identifier(to), identifier(source), period(send), period(receive))
+            return Ipc(to if to == LAST else identifier(to, form), identifier(source, form), period(send), period(receive))
         case "exregs", target, bits:
-            return Order(identifier(target), bits)
+            return Order(identifier(target, form), bits)
         case "delete", target:
-            return Order(identifier(target), DELETE)
+            return Order(identifier(target, form), DELETE)
         case "jump", place:
             return Jump(number(place))
         case "onerr", place:
@@ -161,14 +162,16 @@ def read(text):
     """The machine of a text."""
     lines = [line for line in text.splitlines() if line and not line.startswith(COMMENT)]
     first, cpus, *declared = lines
-    machine = Machine(number(first.split()[1]), number(cpus.split()[1]), {})
+    _, profile, bits = first.split()
+    form = words.FORMATS[number(bits)]
+    machine = Machine(number(profile), form, number(cpus.split()[1]), {})
     script = []
     for line in declared:
         match line.split():
             case "thread", thread, "cpu", cpu, "space", space:
                 script = []
-                thread = identifier(thread)
+                thread = identifier(thread, form)
                 machine.threads[thread] = Declaration(thread, number(cpu), number(space), script)
             case _:
-                script.append(instruction(line))
+                script.append(instruction(line, form))
     return machine

@@ -65,7 +65,7 @@ def late(_thread):
 class World:
     def __init__(self, machine):
         self.machine = machine
-        self.members = {thread: Member(Context(declared)) for thread, declared in machine.threads.items()}
+        self.members = {thread: Member(Context(machine, declared)) for thread, declared in machine.threads.items()}
         # The undecided sends by their names, in order of beginning, and those of them that are to be cancelled.
         self.sends = {}
         self.send_wishes = set()

@@ -108,7 +108,7 @@ class Processor:
     def __init__(self, machine, cpu):
         self.machine = machine
         self.cpu = cpu
-        self.own = {thread: Block(Context(declared)) for thread, declared in machine.threads.items() if declared.cpu == cpu}
+        self.own = {thread: Block(Context(machine, declared)) for thread, declared in machine.threads.items() if declared.cpu == cpu}
         self.waiting = {thread: [] for thread in self.own}
         self.ready = list(self.own)
         # Pairs of a clock and a thread, the least clock first, and equal ones in the order in which they were armed.

@@ -6,29 +6,29 @@ from second.processors import Entry, Replay
 
 MOST_CPUS = 16
 MOST_REGISTERS = 63
-# The highest thread number that goes with every version.
-MOST_NUMBER = words.VERSION_MASK - 1
+MOST_SPACE = (1 << 32) - 1
 MOST_TIME = 0x7FFF
-LABEL_BITS = 48
+FORMATS = list(words.FORMATS.values())
 
 # What general machines are drawn from. What stands there more than once is drawn more often.
 CPUS = [1, 2, 2, 2, 2, 2, 3, 3, 3, 3, 4, 4, 5, 8, MOST_CPUS]
 THREADS = [1, 2, 3, 3, 3, 4, 4, 4, 5, 5, 6, 7, 8]
-SPACES = [[1], [1], [1, 1, 2], [1, 2], [1, 2, 3], [0, words.VERSION_MASK]]
-VERSIONS = [1, 1, 1, 1, 1, 2, 63, 65, words.VERSION_MASK]
+SPACES = [[1], [1], [1, 1, 2], [1, 2], [1, 2, 3], [0, MOST_SPACE]]
+# Of these the last is the greatest of the format.
+VERSIONS = [1, 1, 1, 1, 1, 2, 63, 65]
 # How often an id stands where it names nobody.
 ODDITIES = [0, 0.02, 0.05, 0.05, 0.15]
 # So many processors have threads at most.
 MOST_LIVE = 4
 MESSAGE_LENGTHS = [0, 0, 0, 1, 1, 2, 3, MOST_REGISTERS]
 IGNORED_FLAGS = [0, 0, 0, 0, words.REDIRECTED, words.ACROSS, words.ERROR]
-VALUES = [0, 1, 2, 5, 41, 255, 1 << 63, words.WORD_MASK]
+VALUES = [0, 1, 2, 5, 41, 255]
 ZEROS = ["zero", "zero", "zero", "1024", "0x800", "0x7c00", "0x0400"]
 LONG_TIMES = ["0xc03", "0x401", "0x7fff", "1025", "0x801"]
-LOCAL_IDS = [0x40, 0x1C0, words.global_id(1, 0x40), 1 << 63]
+LOCAL_IDS = [0x40, 0x1C0]
 UNDECLARED = words.global_id(99, 1)
 # Makes the id of a thread that of its number with another version.
-OTHER_VERSION = 2
+OTHER_VERSION = 4
 BITS = ["S", "R", "SR"]
 
 # What small machines are drawn from, in which all that is near to each other happens.
@@ -60,8 +60,9 @@ class Text:
     profile = 1
     lengths = LENGTHS
 
-    def __init__(self, dice, cpus, live, numbers, versions, spaces):
+    def __init__(self, dice, form, cpus, live, numbers, versions, spaces):
         self.dice = dice
+        self.format = form
         self.cpus = cpus
         self.threads = [words.global_id(number, dice.choice(versions)) for number in numbers]
         self.cpu = {thread: dice.choice(live) for thread in self.threads}
@@ -82,12 +83,16 @@ class Text:
     def exregs(self, target):
         return f"exregs {target} {self.dice.choice(BITS)}"
 
+    def value(self):
+        bits = self.format.bits
+        return self.dice.choice([*VALUES, 1 << bits - 1, self.format.mask, self.dice.getrandbits(bits)])
+
     def additions(self, most):
         """Instructions that pass the time."""
-        return ["add 1 1"] * self.dice.randint(0, most)
+        return [f"add 1 {self.value()}" for _ in range(self.dice.randint(0, most))]
 
     def text(self):
-        lines = [f"l4 {self.profile} 64", f"cpus {self.cpus}"]
+        lines = [f"l4 {self.profile} {self.format.bits}", f"cpus {self.cpus}"]
         for thread in self.threads:
             self.me = thread
             lines.append(f"thread {words.spelled(thread)} cpu {self.cpu[thread]} space {self.space[thread]}")
@@ -99,29 +104,31 @@ class General(Text):
     """Machines with all instructions and ids of all kinds, whose threads have roles."""
 
     def __init__(self, dice):
-        cpus = dice.choice(CPUS)
+        form, cpus = dice.choice(FORMATS), dice.choice(CPUS)
         live = dice.sample(range(cpus), dice.randint(1, min(cpus, MOST_LIVE)))
         threads = dice.choice(THREADS)
-        numbers = dice.choice([range(1, threads + 1), range(threads), [*range(1, threads), MOST_NUMBER]])
-        super().__init__(dice, cpus, live, numbers, VERSIONS, dice.choice(SPACES))
+        # The last number goes with every version.
+        numbers = dice.choice([range(1, threads + 1), range(threads), [*range(1, threads), form.number_mask - 1]])
+        super().__init__(dice, form, cpus, live, numbers, [*VERSIONS, form.version_mask], dice.choice(SPACES))
         self.oddity = dice.choice(ODDITIES)
 
     def spelled(self, thread):
         """An id is now and then spelled by its word, a local one always."""
-        if words.is_local(thread) or self.chance(0.08):
-            return f"#{thread:016x}"
+        if words.is_local(thread) or self.chance(0.15):
+            return f"#{self.format.word(thread):0{self.format.digits}x}"
         return words.spelled(thread)
 
     def odd(self):
         """An id that no thread has."""
-        ids = [words.NIL, words.ANY, words.ANY_LOCAL, UNDECLARED, self.threads[0] ^ OTHER_VERSION, *LOCAL_IDS]
+        greatest_bit, above_a_version = 1 << self.format.bits - 1, 1 << self.format.version_bits | LOCAL_IDS[0]
+        ids = [words.NIL, words.ANY, words.ANY_LOCAL, UNDECLARED, self.threads[0] ^ OTHER_VERSION, *LOCAL_IDS, above_a_version, greatest_bit]
         return self.spelled(self.dice.choice(ids))
 
     def to(self):
         return self.odd() if self.chance(self.oddity) else self.spelled(self.anybody())
 
     def source(self):
-        return self.dice.choices(["any", "anylocal", self.to()], [50, 15, 35])[0]
+        return self.dice.choices([self.spelled(words.ANY), self.spelled(words.ANY_LOCAL), self.to()], [50, 15, 35])[0]
 
     def mate(self):
         return self.odd() if self.chance(self.oddity) else self.spelled(self.dice.choice(self.mates()))
@@ -140,14 +147,11 @@ class General(Text):
 
     def tag(self, propagated=0.2):
         flags = self.dice.choice(IGNORED_FLAGS) | (words.PROPAGATED if self.chance(propagated) else 0)
-        label = self.dice.choice([0, 1, 7, self.dice.getrandbits(LABEL_BITS)])
+        label = self.dice.choice([0, 1, 7, self.dice.getrandbits(self.format.label_bits)])
         return f"tag {label << words.LABEL_SHIFT | flags | self.dice.choice(MESSAGE_LENGTHS)}"
 
     def register(self):
         return self.dice.choice([1, 1, 2, 3, self.dice.randint(1, MOST_REGISTERS)])
-
-    def value(self):
-        return self.dice.choice([*VALUES, self.dice.getrandbits(words.WORD_BITS)])
 
     def script(self):
         roles = [
@@ -204,7 +208,7 @@ class Conflicts(Text):
 
     def __init__(self, dice):
         cpus, threads = dice.choice(FEW_CPUS), dice.choice(FEW_THREADS)
-        super().__init__(dice, cpus, range(cpus), range(1, threads + 1), FEW_VERSIONS, dice.choice(FEW_SPACES))
+        super().__init__(dice, dice.choice(FORMATS), cpus, range(cpus), range(1, threads + 1), FEW_VERSIONS, dice.choice(FEW_SPACES))
         self.prey = dice.choice(self.threads)
 
     def to(self):
@@ -262,7 +266,7 @@ class Conflicts(Text):
         return [self.send("zero")] * self.dice.randint(1, 3)
 
     def forwarder(self):
-        tag = self.dice.getrandbits(LABEL_BITS) << words.LABEL_SHIFT | words.PROPAGATED | self.dice.randint(0, 3)
+        tag = self.dice.getrandbits(self.format.label_bits) << words.LABEL_SHIFT | words.PROPAGATED | self.dice.randint(0, 3)
         return [self.receive(), f"vs {words.spelled(self.dice.choice(self.mates()))}", f"tag {tag}", self.send()]
 
     def mixture(self):
@@ -282,7 +286,7 @@ class HandingOn(Text):
 
     def __init__(self, dice):
         cpus, threads = dice.choice(HANDING_CPUS), dice.choice(FEW_THREADS)
-        super().__init__(dice, cpus, range(cpus), range(1, threads + 1), FEW_VERSIONS, dice.choice(HANDING_SPACES))
+        super().__init__(dice, dice.choice(FORMATS), cpus, range(cpus), range(1, threads + 1), FEW_VERSIONS, dice.choice(HANDING_SPACES))
         count = dice.choice([1, 1, 2])
         self.clients, self.servers = self.threads[:count], self.threads[count:]
         self.periods = dice.choice(HANDING_PERIODS)

@@ -65,7 +65,8 @@ class Owed(typing.NamedTuple):
 class Context:
     """The registers of a thread, its place in its script and how many sends it began."""
 
-    def __init__(self, declaration):
+    def __init__(self, machine, declaration):
+        self.format = machine.format
         self.declaration = declaration
         self.thread = declaration.thread
         self.registers = [0] * REGISTERS
@@ -105,7 +106,7 @@ class Context:
             case machines.Copy(register, source):
                 self.registers[register] = self.registers[source]
             case machines.Add(register, word):
-                self.registers[register] = self.registers[register] + word & words.WORD_MASK
+                self.registers[register] = self.registers[register] + word & self.format.mask
             case machines.Tag(word):
                 self.registers[0] = word
             case machines.Virtual(thread):

@@ -1,5 +1,6 @@
-"""Words of 64 bits as thread ids, message tags and times, and the ErrorCodes."""
+"""Words of both formats as thread ids, words as message tags and times, and the ErrorCodes. An id is one value in both formats: here its word of 64 bits."""
 
+import dataclasses
 import enum
 
 WORD_BITS = 64
@@ -26,6 +27,60 @@ LABEL_SHIFT = 16
 # The parts of a time.
 MANTISSA_BITS = 10
 MANTISSA_MASK = (1 << MANTISSA_BITS) - 1
+
+
+@dataclasses.dataclass(frozen=True)
+class Format:
+    """How many bits a word has, and how many of these the version of a global id has."""
+
+    bits: int
+    version_bits: int
+
+    @property
+    def mask(self):
+        return (1 << self.bits) - 1
+
+    @property
+    def digits(self):
+        """How many hexadecimal digits a word has where an id is spelled by it."""
+        return self.bits // 4
+
+    @property
+    def label_bits(self):
+        return self.bits - LABEL_SHIFT
+
+    @property
+    def number_mask(self):
+        return (1 << self.bits - self.version_bits) - 1
+
+    @property
+    def version_mask(self):
+        return (1 << self.version_bits) - 1
+
+    @property
+    def any_local(self):
+        return self.mask ^ LOCAL_MASK
+
+    def identifier(self, word):
+        """The id that a word of this format stands for. A local one has the same word in both."""
+        if word == self.mask:
+            return ANY
+        if word == self.any_local:
+            return ANY_LOCAL
+        return word if not word & LOCAL_MASK else global_id(word >> self.version_bits, word & self.version_mask)
+
+    def word(self, identifier):
+        """The word of this format for an id that has one."""
+        if identifier == ANY:
+            return self.mask
+        if identifier == ANY_LOCAL:
+            return self.any_local
+        if not is_global(identifier):
+            return identifier
+        return identifier >> VERSION_BITS << self.version_bits | identifier & VERSION_MASK
+
+
+FORMATS = {64: Format(64, VERSION_BITS), 32: Format(32, 14)}
 
 
 class ErrorCode(enum.IntEnum):

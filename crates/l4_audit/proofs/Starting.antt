@@ -143,7 +143,7 @@ no_send m t i e has asks = by i (subst (λ j. is_some (receive_of (act m t.decla
     by : {P : Type 0} (i : Instr) → is_some (receive_of (act m t.declared.id t.clock t.now.context i)) ≡ true → asks_to_send t.now.context i ≡ true → P
     by (Set x word) h a = cc
     by (Copy x y) h a = cc
-    by (Add x word) h a = cc
+    by (Add format x word) h a = cc
     by (Tag word) h a = cc
     by (Vs id) h a = cc
     by (Ipc to from send_period receive_period) h a = by_id (destination t.now.context to) send_period (receive_phase from receive_period) h a

@@ -1,9 +1,9 @@
--- Which threads are of another processor.
+-- Which threads are of another processor, and which of one space.
 use Rattle.std.proofs.Common.{◌≡◌, ℕ, ◌<◌, Some, length, ap, sym, subst, ◌∙◌}
 use Rattle.std.specs.Prelude.{◌==◌, not, ◌&&◌, is_some, slice_get, slice_index_or}
 use Rattle.std.proofs.lemmas.Option.{slice_get-get_or}
 use Rattle.l4_model.specs.Words.{GlobalId, Id, NilThread, AnyThread, AnyLocalThread, LocalThread, GlobalThread}
-use Rattle.l4_model.specs.Machine.{Machine, place_of, declaration_of, agree}
+use Rattle.l4_model.specs.Machine.{Machine, place_of, declaration_of, agree, same_space}
 use Rattle.l4_core_model.specs.Local.{declared, undeclared}
 use Rattle.l4_types.specs.Ids.{global_of}
 use Rattle.l4_core_model.proofs.Standing.{place_within}
@@ -32,3 +32,10 @@ elsewhere_at m AnyThread to other i e at here = cc
 elsewhere_at m AnyLocalThread to other i e at here = cc
 elsewhere_at m (LocalThread word) to other i e at here = cc
 elsewhere_at m (GlobalThread t) to other i e at here = let same : to ≡ t = cc in subst (λ t. not ((declared m other).cpu == (declared m i).cpu) ≡ is_elsewhere m (declared m i).id (GlobalThread t)) same (elsewhere_is m to other i at here)
+
+-- Threads are of one space that are declared with one.
+pub same_space_at : (m : Machine) (i j : ℕ) → place_of m (declared m i).id ≡ Some i → place_of m (declared m j).id ≡ Some j →
+    ((declared m i).space == (declared m j).space) ≡ same_space m (declared m i).id (declared m j).id
+same_space_at m i j at here =
+    ap (λ o. agree (λ d. d.space) o (Some (declared m j))) (sym (declaration_is m (declared m i).id i at))
+    ∙ ap (λ o. agree (λ d. d.space) (declaration_of m (declared m i).id) o) (sym (declaration_is m (declared m j).id j here))

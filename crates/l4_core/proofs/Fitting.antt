@@ -127,7 +127,7 @@ begun_on place c = either (c.error == 0)
 pub keeps-runs : (i : Instr) (t : Thread) → is_deleted t.phase ≡ false → Keeps t (runs i t)
 keeps-runs (model.Set a word) t e = record { sends = inl refl; begun = refl; dead = sym e }
 keeps-runs (model.Copy a b) t e = record { sends = inl refl; begun = refl; dead = sym e }
-keeps-runs (model.Add a word) t e = record { sends = inl refl; begun = refl; dead = sym e }
+keeps-runs (model.Add format a word) t e = record { sends = inl refl; begun = refl; dead = sym e }
 keeps-runs (model.Tag word) t e = record { sends = inl refl; begun = refl; dead = sym e }
 keeps-runs (model.Vs id) t e = record { sends = inl refl; begun = refl; dead = sym e }
 keeps-runs (model.Ipc to from send receive) t e = record { sends = inl refl; begun = refl; dead = sym e }
@@ -283,7 +283,7 @@ dead_orders_nothing Deleted e f = cc
 next-runs : (i : Instr) (t : Thread) → is_ordering (runs i t).phase ≡ true → ⊥
 next-runs (model.Set a word) t e = cc
 next-runs (model.Copy a b) t e = cc
-next-runs (model.Add a word) t e = cc
+next-runs (model.Add format a word) t e = cc
 next-runs (model.Tag word) t e = cc
 next-runs (model.Vs id) t e = cc
 next-runs (model.Ipc to from send receive) t e = cc

@@ -1,7 +1,7 @@
 //! What one processor knows: its threads, their lists, its clock, and of other processors' threads what it was told.
 ghost use Rattle.std.specs.Prelude.{◌≡◌, ◌<◌, ◌≤◌, ◌+◌, None, Some, length, false, is_some, map, replicate, IfOk, IfSome, slice_get};
 ghost use Rattle.std.specs.Option.{option_map};
-ghost use Rattle.l4_model.specs.Machine.{place_of, is_place, most_processors, most_threads, most_instructions};
+ghost use Rattle.l4_model.specs.Machine.{place_of, is_place, same_space, most_processors, most_threads, most_instructions};
 ghost use Rattle.l4_model.specs.World.{Send, is_deleted, opening_thread, receive_now};
 ghost use Rattle.l4_model.specs.Conditions.{instruction};
 ghost use Rattle.l4_model.specs.History.{report_of};
@@ -183,6 +183,14 @@ impl<'m> Known<'m> {
         self.declared(place).cpu()
     }
 
+    // The space of a thread.
+    fn space_of(&self, place: usize) -> u32
+        requires { place < length self.now.machine.threads }
+        ensures { result ≡ (declared self.now.machine place).space }
+    {
+        self.declared(place).space()
+    }
+
     /// Whether a thread is of this processor.
     pub(crate) fn is_own(&self, place: usize) -> bool
         requires { place < length self.now.machine.threads }
@@ -324,8 +332,32 @@ impl<'m> Known<'m> {
         Waiting {
             block: sender,
             shown,
-            local: self.machine.same_space(shown, self.id(receiver)),
+            local: self.is_of_space(shown, sender, receiver),
         }
+    }
+
+    // Whether a thread that is shown by a sender is of the receiver's space. Mostly it is the sender, and nothing is looked up then.
+    #[inline(always)]
+    fn is_of_space(&self, shown: GlobalId, sender: usize, receiver: usize) -> bool
+        requires sender { sender < length self.now.machine.threads }
+        requires receiver { receiver < length self.now.machine.threads }
+        ensures { result ≡ same_space self.now.machine shown (declared self.now.machine receiver).id }
+    {
+        if shown == self.id(sender) {
+            self.share_space(sender, receiver)
+        } else {
+            self.machine.same_space(shown, self.id(receiver))
+        }
+    }
+
+    // Whether two threads are of one space.
+    fn share_space(&self, one: usize, other: usize) -> bool
+        requires one { one < length self.now.machine.threads }
+        requires other { other < length self.now.machine.threads }
+        ensures { result ≡ same_space self.now.machine (declared self.now.machine one).id (declared self.now.machine other).id }
+    {
+        let _ = &self.machine;
+        self.space_of(one) == self.space_of(other)
     }
 
     /// Whether a receiver waits, and takes this sender first.

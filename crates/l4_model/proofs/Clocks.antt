@@ -128,7 +128,7 @@ ask_retimed m id later (GlobalThread t) what = by (is_admitted m id t what)
 act_retimed : (m : Machine) (id : GlobalId) (now later : ℕ) (c : Context) (i : Instr) → act m id later c i ≡ retimed later (act m id now c i)
 act_retimed m id now later c (Set a word) = refl
 act_retimed m id now later c (Copy a b) = refl
-act_retimed m id now later c (Add a word) = refl
+act_retimed m id now later c (Add format a word) = refl
 act_retimed m id now later c (Tag word) = refl
 act_retimed m id now later c (Vs other) = refl
 act_retimed m id now later c (Ipc to from send_period receive_period) = ipc_retimed m id now later c (destination c to) send_period (receive_phase from receive_period)

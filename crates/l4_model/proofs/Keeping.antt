@@ -1,12 +1,12 @@
 -- A fact of each thread is true of every world that a history reaches, where it is true at the opening and each change of a
 -- thread keeps it.
 use Rattle.std.proofs.Common.{subst, ◌≡◌, ℕ, zero, suc, ◌≤◌, true, Some, List, [], ◌∷◌, map, ◌<◌, refl, ap, sym, ◌∙◌, arith, inl, inr, ⊎_elim}
-use Rattle.std.proofs.lemmas.Bool.{ltb-true}
-use Rattle.std.specs.Prelude.{slice_get, slice_set, slice_index, nat_lt, ◌⊎◌, is_some, ◌^◌}
+use Rattle.std.proofs.lemmas.Bool.{ltb-true, eqb-true}
+use Rattle.std.specs.Prelude.{slice_get, slice_set, slice_index, nat_lt, ◌⊎◌, Bool, is_some, ◌^◌}
 use Rattle.l4_model.specs.Words.{GlobalId, Id, NilThread, AnyThread, AnyLocalThread, LocalThread, GlobalThread}
 use Rattle.l4_model.specs.Machine.{Machine, Declaration, What, CancelSend, CancelReceive, CancelBoth, Delete, place_of, is_declared, instruction_at}
 use Rattle.l4_model.specs.World.{World, Thread, Send, Receive, Asked, changed, change, opening, opening_thread, is_ready, is_deleted, receive_now, unqueued, others_owed, Owed, Name}
-use Rattle.l4_model.specs.Rules.{act}
+use Rattle.l4_model.specs.Rules.{act, received_tag, is_cross}
 use Rattle.l4_model.specs.Conditions.{Found, found, found_by, Pending, undecided, instruction}
 use Rattle.l4_model.specs.Steps.{Step, Local, Begin, Queue, Deliver, Wait, SendTimeout, ReceiveTimeout, SendNobody, ReceiveNobody, SendCancel, ReceiveCancel, Drop, Order, Obey, Tick, Retarget, send_of, without_send, next}
 use Rattle.l4_model.specs.Effects.{runs, begins, waits, fails, decided, refused, receives, delivered, asked, orders, obeyed, turns}
@@ -31,8 +31,8 @@ pub record Maintained (m : Machine) (P : Fact) : Type 0 where
   pub at_failure : (d : Declaration) (now : ℕ) (t : Thread) (code : ℕ) (receive : Receive) → receive_now t.phase ≡ Some receive → P d now t → P d now (fails code t)
   pub at_refusal : (d : Declaration) (now : ℕ) (t : Thread) (code : ℕ) (send : Send) → t.send ≡ Some send → P d now t → P d now (refused code t)
   pub at_drop : (d : Declaration) (now : ℕ) (t : Thread) → is_deleted t.phase ≡ true → P d now t → P d now (decided t)
-  pub at_receipt : (d sd : Declaration) (now sender_now : ℕ) (t sender : Thread) (receive : Receive) (send : Send) (tag : ℕ) → receive_now t.phase ≡ Some receive →
-      sender.send ≡ Some send → P sd sender_now sender → P d now t → P d now (receives send.message tag t)
+  pub at_receipt : (d sd : Declaration) (now sender_now : ℕ) (t sender : Thread) (receive : Receive) (send : Send) (cross : Bool) → receive_now t.phase ≡ Some receive →
+      sender.send ≡ Some send → P sd sender_now sender → P d now t → P d now (receives send.message (received_tag cross send.message) t)
   pub at_delivery : (d : Declaration) (now : ℕ) (t : Thread) (send : Send) → t.send ≡ Some send → P d now t → P d now (delivered send now t)
   pub at_asked : (d : Declaration) (now : ℕ) (t : Thread) (what : What) → P d now t → P d now (asked what t)
   pub at_obedience : (d : Declaration) (now : ℕ) (t : Thread) (order : Asked) → t.order ≡ Some order → P d now t → P d now (obeyed t)
@@ -89,6 +89,10 @@ found_fact m P w id t is each =
     let k = known m w id t is in
     subst (λ n. P t.declared n t.now) (sym k.clock) (each t.at t.declared t.now k.declared k.now)
 
+-- and of the sender of an undecided send
+pub sender_fact : (m : Machine) (P : Fact) (w : World) (s : Name) (p : Pending) → undecided m w s ≡ Some p → Each m P w → P p.sender.declared p.sender.clock p.sender.now
+sender_fact m P w s p is each = found_fact m P w s.thread p.sender (sender_found m w s p is) each
+
 -- a change of a receiver
 receiver_each : (m : Machine) (P : Fact) (w : World) (to : Id) (r : Found) (f : Thread → Thread) → found_by m w to ≡ Some r → Each m P w →
     (P r.declared r.clock r.now → P r.declared r.clock (f r.now)) → Each m P (change w r.at f)
@@ -108,9 +112,12 @@ deliver_each m P w v s receiver shown actual tag words keeps k each =
     let u : World = change (unqueued w k.p.sender.at) k.r.at g in
     let known = known_send m w s k.p k.is_undecided in
     let sender : P k.p.sender.declared k.p.sender.clock k.p.sender.now = found_fact m P w s.thread k.p.sender (sender_found m w s k.p k.is_undecided) each in
+    let cross = is_cross m receiver k.p.send.message in
+    let tag_is : tag ≡ received_tag cross k.p.send.message = eqb-true tag (received_tag cross k.p.send.message) k.same_tag in
     let received : Each m P u =
     receiver_each m P (unqueued w k.p.sender.at) k.p.send.to k.r g k.to each
-    (keeps.at_receipt k.r.declared k.p.sender.declared k.r.clock k.p.sender.clock k.r.now k.p.sender.now k.receive k.p.send tag k.receiving known.send sender) in
+    (subst (λ x. P k.r.declared k.r.clock k.r.now → P k.r.declared k.r.clock (receives k.p.send.message x k.r.now)) (sym tag_is)
+    (keeps.at_receipt k.r.declared k.p.sender.declared k.r.clock k.p.sender.clock k.r.now k.p.sender.now k.receive k.p.send cross k.receiving known.send sender)) in
     subst (Each m P) k.leads_to (change_each m P u k.p.sender.at (delivered k.p.send k.p.sender.clock) received (λ d x declared now h.
     let has : x.send ≡ Some k.p.send = part-changed (λ (y : Thread). y.send) g (λ y. refl) w.threads k.r.at k.p.sender.at k.p.sender.now x known.sender.now now ∙ known.send in
     let same_d : k.p.sender.declared ≡ d = some_is _ _ (sym known.sender.declared ∙ declared) in
@@ -187,11 +194,15 @@ step_each m P w v (Retarget s) keeps h each =
     let u : World = record w { owed = others_owed w.owed s } in
     subst (Each m P) k.leads_to (found_each m P u k.o.originator k.t (turns k.o) k.found each (keeps.at_turn k.t.declared k.t.clock k.t.now k.o))
 
--- What is so of a fresh thread is so of each at the opening.
-pub opening_each : (m : Machine) (P : Fact) → ((d : Declaration) (now : ℕ) → P d now opening_thread) → Each m P (opening m)
-opening_each m P fresh i d t declared now = subst (P d (slice_index (opening m).clocks d.cpu)) (one m.threads i now) (fresh d (slice_index (opening m).clocks d.cpu))
+-- Each thread at the opening is a fresh one.
+pub opening_is : (m : Machine) (i : ℕ) (t : Thread) → slice_get (opening m).threads i ≡ Some t → opening_thread ≡ t
+opening_is m i t now = one m.threads i now
   where
     one : (ds : List Declaration) (i : ℕ) → slice_get (map (λ d. opening_thread) ds) i ≡ Some t → opening_thread ≡ t
     one [] i h = cc
     one (x ∷ ds) zero h = some_is opening_thread t h
     one (x ∷ ds) (suc i) h = one ds i h
+
+-- What is so of a fresh thread is so of each at the opening.
+pub opening_each : (m : Machine) (P : Fact) → ((d : Declaration) (now : ℕ) → P d now opening_thread) → Each m P (opening m)
+opening_each m P fresh i d t declared now = subst (P d (slice_index (opening m).clocks d.cpu)) (opening_is m i t now) (fresh d (slice_index (opening m).clocks d.cpu))

@@ -39,7 +39,7 @@ ask_sends_nothing m id (GlobalThread t) what = by (is_admitted m id t what) refl
 pub act_request : (m : Machine) (id : GlobalId) (now : ℕ) (c : Context) (i : Instr) (send : Send) → send_of (act m id now c i) ≡ Some send → IsRequest m id now c send
 act_request m id now c (Set a word) send h = cc
 act_request m id now c (Copy a b) send h = cc
-act_request m id now c (Add a word) send h = cc
+act_request m id now c (Add format a word) send h = cc
 act_request m id now c (Tag word) send h = cc
 act_request m id now c (Vs other) send h = cc
 act_request m id now c (Ipc to from send_period receive_period) send h = ipc_request m id now c (destination c to) send_period (receive_phase from receive_period) send h

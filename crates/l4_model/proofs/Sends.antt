@@ -76,7 +76,7 @@ status-asked Delete t = refl
 pub begun-ran : (i : Instr) (c : Context) → (ran i c).begun ≡ c.begun
 begun-ran (Set a word) c = refl
 begun-ran (Copy a b) c = refl
-begun-ran (Add a word) c = refl
+begun-ran (Add format a word) c = refl
 begun-ran (Tag word) c = refl
 begun-ran (Vs id) c = refl
 begun-ran (Ipc to from send_period receive_period) c = refl

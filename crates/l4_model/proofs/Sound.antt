@@ -7,7 +7,7 @@ use Rattle.std.specs.Option.{option_map}
 use Rattle.l4_model.specs.Words.{GlobalId}
 use Rattle.l4_model.specs.Machine.{Machine, Declaration, Instr, Set, Copy, Add, Tag, Vs, Ipc, Ask, Jump, OnErr, End, What, CancelSend, CancelReceive, CancelBoth, Delete, is_declared, instruction_at}
 use Rattle.l4_model.specs.World.{Context, Thread, World, Message, Send, Receive, Asked, Owed, Phase, Ready, Sending, Receiving, Ordering, Ended, Deleted, opening, is_alive, is_ready, is_sending, is_deleted, receive_now}
-use Rattle.l4_model.specs.Rules.{act, ran}
+use Rattle.l4_model.specs.Rules.{act, ran, received_tag}
 use Rattle.l4_model.specs.Steps.{Step, send_of, next}
 use Rattle.l4_model.specs.Effects.{phase_after, runs, begins, waits, fails, decided, refused, receives, goes_on, delivered, has_receive_phase, asked, asked_send, asked_receive, orders, obeyed, calls_to_receive, turned_receive, turned_send, turns_in, turns}
 use Rattle.l4_model.specs.Reached.{Suits, BeganBy, IsSendOf, ThreadFacts}
@@ -78,7 +78,7 @@ suits_gone Deleted send order h = tt
 registers_ran : (i : Instr) (c : Context) → length (ran i c).words ≡ length c.words
 registers_ran (Set a word) c = length-set c.words a word
 registers_ran (Copy a b) c = length-set c.words a _
-registers_ran (Add a word) c = length-set c.words a _
+registers_ran (Add format a word) c = length-set c.words a _
 registers_ran (Tag word) c = length-set c.words 0 word
 registers_ran (Vs id) c = refl
 registers_ran (Ipc to from send_period receive_period) c = length-set c.words 0 0
@@ -330,7 +330,7 @@ facts_kept m =
       at_failure = failure_keeps m;
       at_refusal = refusal_keeps m;
       at_drop = λ d now t gone h. decided_gone m d now t (suits_gone t.phase None t.order gone) h;
-      at_receipt = receipt_keeps m;
+      at_receipt = λ d sd now sender_now t sender receive send cross. receipt_keeps m d sd now sender_now t sender receive send (received_tag cross send.message);
       at_delivery = delivery_keeps m;
       at_asked = asked_keeps m;
       at_obedience = obedience_keeps m;

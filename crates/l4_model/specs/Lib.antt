@@ -6,6 +6,7 @@ pub mod Rules
 pub mod Effects
 pub mod Conditions
 pub mod Steps
+pub mod Formats
 pub mod History
 pub mod Laws
 pub mod Still

@@ -1,6 +1,6 @@
 -- The instructions of a script, and the machine that a text declares.
 use Rattle.std.specs.Prelude.{ℕ, Bool, ◌==◌, true, false, Option, Some, None, is_some, List, find, position, slice_get, unwrap_or}
-use Rattle.l4_model.specs.Words.{GlobalId, Id, same_id, Period}
+use Rattle.l4_model.specs.Words.{Format, GlobalId, Id, same_id, Period}
 
 -- Where an ipc sends to (manual: Ipc, `to`): an id, or what the register `from` has at that moment.
 pub data To : Type 0 where
@@ -15,11 +15,12 @@ pub data What : Type 0 where
   CancelBoth : What
   Delete : What
 
--- One instruction of a script. `Vs` writes VirtualSender, `Ask` is an ExchangeRegisters or a deletion.
+-- One instruction of a script. `Add` has the format of its text, whose words it counts by. `Vs` writes VirtualSender, `Ask` is an
+-- ExchangeRegisters or a deletion.
 pub data Instr : Type 0 where
   Set : (a word : ℕ) → Instr
   Copy : (a b : ℕ) → Instr
-  Add : (a word : ℕ) → Instr
+  Add : (format : Format) (a word : ℕ) → Instr
   Tag : (word : ℕ) → Instr
   Vs : Id → Instr
   Ipc : (to : To) (from : Id) (send_period receive_period : Period) → Instr

@@ -1,6 +1,6 @@
 -- What an instruction, a message and a failure do to the registers of a thread, and what an instruction asks for.
 use Rattle.std.specs.Prelude.{ℕ, ◌+◌, ◌*◌, ◌/◌, ◌%◌, ◌^◌, Bool, if◌then◌else◌, ◌==◌, not, ◌&&◌, false, Option, Some, None, is_some, unwrap_or, true, ◌∷◌, ◌++◌, take, drop, length, slice_index, slice_set}
-use Rattle.l4_model.specs.Words.{GlobalId, Id, NilThread, AnyThread, AnyLocalThread, LocalThread, GlobalThread, same_id, Period}
+use Rattle.l4_model.specs.Words.{word_limit, GlobalId, Id, NilThread, AnyThread, AnyLocalThread, LocalThread, GlobalThread, same_id, Period}
 use Rattle.l4_model.specs.Machine.{Tag, To, ToId, ToLast, What, Delete, Instr, Set, Copy, Add, Vs, Ipc, Ask, Jump, OnErr, End, Machine, is_declared, same_space, same_cpu}
 use Rattle.l4_model.specs.World.{Name, Context, Receive, Message, Send, Asked, Owed}
 
@@ -77,7 +77,7 @@ ordered code c = advanced (record c { error = code })
 abbrev pub ran : Instr → Context → Context
 ran (Set a word) c = advanced (with_register a word c)
 ran (Copy a b) c = advanced (with_register a (register c b) c)
-ran (Add a word) c = advanced (with_register a ((register c a + word) % 2 ^ 64) c)
+ran (Add format a word) c = advanced (with_register a ((register c a + word) % word_limit format) c)
 ran (Tag word) c = advanced (with_register 0 word c)
 ran (Vs id) c = advanced (record c { actual = id })
 ran (Ipc to from send_period receive_period) c = advanced (sent c)

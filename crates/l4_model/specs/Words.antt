@@ -1,14 +1,42 @@
--- The ids, tags and times of the manual (X.2), and the words that stand for them in the 64-bit format. A section of the
+-- The ids, tags and times of the manual (X.2), and the words that stand for them in its two formats. A section of the
 -- manual is named by its title; a rule that names none is this project's own, and so is what is marked own beside one.
-use Rattle.std.specs.Prelude.{ℕ, ◌+◌, ◌*◌, ◌/◌, ◌%◌, ◌^◌, ◌-◌, Bool, false, if◌then◌else◌, ◌==◌, not, ◌&&◌, nat_lt, Option, Some, None}
+use Rattle.std.specs.Prelude.{ℕ, ◌+◌, ◌*◌, ◌/◌, ◌%◌, ◌^◌, ◌-◌, Bool, true, false, if◌then◌else◌, ◌==◌, not, ◌&&◌, nat_lt, Option, Some, None}
+
+-- The formats of words (manual: ThreadId, MsgTag): of 64 bits, and of 32.
+pub data Format : Type 0 where
+  W64 : Format
+  W32 : Format
+
+-- Words of a format are below it.
+abbrev pub word_limit : Format → ℕ
+word_limit W64 = 2 ^ 64
+word_limit W32 = 2 ^ 32
+
+abbrev pub is_word_in : Format → ℕ → Bool
+is_word_in f word = nat_lt word (word_limit f)
+
+abbrev pub same_format : Format → Format → Bool
+same_format W64 W64 = true
+same_format W32 W32 = true
+same_format f g = false
+
+-- In the word of a global id the thread number stands above the version (manual: ThreadId), each below these limits: 32 bits and 32 bits,
+-- or 18 bits and 14 bits.
+abbrev pub number_limit : Format → ℕ
+number_limit W64 = 2 ^ 32
+number_limit W32 = 2 ^ 18
+
+abbrev pub version_limit : Format → ℕ
+version_limit W64 = 2 ^ 32
+version_limit W32 = 2 ^ 14
 
 -- A global thread id (manual: ThreadId): a thread number and a version.
 pub record GlobalId : Type 0 where
   pub number : ℕ
   pub version : ℕ
 
--- Any thread id (manual: ThreadId), one value whatever the width of a word. A local id has no other meaning here than
--- its word: it names nobody.
+-- Any thread id (manual: ThreadId), one value whatever the format of words. A local id has no other meaning here than
+-- its word: it names nobody, and has the same word in both formats.
 pub data Id : Type 0 where
   NilThread : Id
   AnyThread : Id
@@ -27,32 +55,57 @@ is_id_of _ thread = false
 abbrev pub global_id : (number version : ℕ) → GlobalId
 global_id number version = record { number = number; version = version }
 
--- Which numbers make a global id in 64 bits (manual: ThreadId): 32 bits of number and 32 of version, of which the low six
--- are not all zero. The word of all ones is anythread.
+-- Which numbers make a global id of a format (manual: ThreadId): those that have room in its word, where the low six bits of the
+-- version are not all zero. The word of all ones is anythread.
+abbrev pub is_global_in : Format → GlobalId → Bool
+is_global_in f t =
+    nat_lt t.number (number_limit f) && nat_lt t.version (version_limit f) && not (t.version % 64 == 0)
+    && not (t.number == number_limit f - 1 && t.version == version_limit f - 1)
+
+-- Those of 32 bits are some of those of 64 bits, which are all that there are.
 abbrev pub is_global : GlobalId → Bool
-is_global t =
-    nat_lt t.number (2 ^ 32) && nat_lt t.version (2 ^ 32) && not (t.version % 64 == 0)
-    && not (t.number == 2 ^ 32 - 1 && t.version == 2 ^ 32 - 1)
+is_global t = is_global_in W64 t
 
--- The word of an id (manual: ThreadId).
+-- Which ids have a word of a format. The words of 0xffffffc0 and of all ones are no local and no global id of 32 bits, though both are ids of
+-- 64 bits: they are anylocalthread and anythread.
+abbrev pub has_word_in : Format → Id → Bool
+has_word_in f (LocalThread word) = nat_lt word (word_limit f) && not (word == 0) && not (word == word_limit f - 64) && word % 64 == 0
+has_word_in f (GlobalThread t) = is_global_in f t
+has_word_in f id = true
+
+-- The word of an id in a format that has one for it (manual: ThreadId).
+abbrev pub word_by : Format → Id → ℕ
+word_by f NilThread = 0
+word_by f AnyThread = word_limit f - 1
+word_by f AnyLocalThread = word_limit f - 64
+word_by f (LocalThread word) = word
+word_by f (GlobalThread t) = t.number * version_limit f + t.version
+
+abbrev pub word_in : Format → Id → Option ℕ
+word_in f id = if has_word_in f id then Some (word_by f id) else None
+
 abbrev pub word_of : Id → ℕ
-word_of NilThread = 0
-word_of AnyThread = 2 ^ 64 - 1
-word_of AnyLocalThread = 2 ^ 64 - 64
-word_of (LocalThread word) = word
-word_of (GlobalThread t) = t.number * 2 ^ 32 + t.version
+word_of id = word_by W64 id
 
--- The id that a word of 64 bits stands for (manual: ThreadId).
-abbrev pub id_of_word : ℕ → Id
-id_of_word word =
+-- The id that a word of a format stands for (manual: ThreadId).
+abbrev pub id_by : Format → ℕ → Id
+id_by f word =
     if word == 0 then NilThread
-    else if word == 2 ^ 64 - 1 then AnyThread
-    else if word == 2 ^ 64 - 64 then AnyLocalThread
+    else if word == word_limit f - 1 then AnyThread
+    else if word == word_limit f - 64 then AnyLocalThread
     else if word % 64 == 0 then LocalThread word
-    else GlobalThread (record { number = word / 2 ^ 32; version = word % 2 ^ 32 })
+    else GlobalThread (record { number = word / version_limit f; version = word % version_limit f })
 
--- A message tag (manual: Messages and Message Registers, MsgTag): its label of 48 bits, its four flags, and the number of its
--- untyped words. The number of typed words, bits 6 to 11, is 0. Of the flags bit 0 is `p`, 1 `r`, 2 `X` and 3 `E`.
+-- None where it is no word of the format.
+abbrev pub id_in : Format → ℕ → Option Id
+id_in f word = if nat_lt word (word_limit f) then Some (id_by f word) else None
+
+abbrev pub id_of_word : ℕ → Id
+id_of_word word = id_by W64 word
+
+-- A message tag (manual: Messages and Message Registers, MsgTag): its label, of 48 bits or of 16, its four flags, and the number of its
+-- untyped words. The number of typed words, bits 6 to 11, is 0. Of the flags bit 0 is `p`, 1 `r`, 2 `X` and 3 `E`. Its word has the same
+-- bits in both formats, so it is below their limit exactly where the label is.
 pub record MessageTag : Type 0 where
   pub label : ℕ
   pub flags : ℕ
@@ -72,9 +125,13 @@ register_count = 64
 abbrev pub last_register : ℕ
 last_register = register_count - 1
 
--- Labels have 48 bits (manual: Messages and Message Registers, MsgTag), so each is below it.
+-- Labels have the bits of a word from bit 16 on (manual: Messages and Message Registers, MsgTag): 48 of them or 16. Each is below its limit.
+abbrev pub label_limit_in : Format → ℕ
+label_limit_in W64 = 2 ^ 48
+label_limit_in W32 = 2 ^ 16
+
 abbrev pub label_limit : ℕ
-label_limit = 2 ^ 48
+label_limit = label_limit_in W64
 
 -- Clocks and stamps are below it (own).
 abbrev pub clock_limit : ℕ

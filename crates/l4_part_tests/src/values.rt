@@ -1,6 +1,7 @@
 // The values of ids, tags, times, names, messages and codes.
 use arrayvec::ArrayVec;
 use l4_types::errors::{IpcError, NoMemory};
+use l4_types::formats::Format;
 use l4_types::ids::{GlobalId, Kind, ThreadId};
 use l4_types::letters::{Content, Letter};
 use l4_types::messages::Message;
@@ -34,6 +35,33 @@ fn ids_and_tags_have_their_words(rt: HostRuntime) -> Result<(), Fail> {
     assert!(rt; MsgTag::from_raw(0x51001) == Ok(asking));
     assert!(rt; MsgTag::from_raw(0x41) == Err(TagFault::TypedItems));
     Ok(())
+}
+
+#[test]
+fn ids_have_their_words_of_32_bits(rt: HostRuntime) {
+    let id = ThreadId::global_in(Format::W32, 262143, 16382).expect(&rt, "a global id");
+    assert_eq!(rt; id.raw_in(Format::W32), Some(0xffff_fffe));
+    assert!(rt; ThreadId::from_raw_in(Format::W32, 0xffff_fffe) == Some(id));
+    assert!(rt; ThreadId::from_raw_in(Format::W64, id.raw()) == Some(id));
+    assert!(rt; ThreadId::from_raw_in(Format::W32, 0x8041) == ThreadId::global(2, 65));
+    assert!(rt; ThreadId::from_raw_in(Format::W32, 0x1_0000_0001).is_none());
+    assert!(rt; ThreadId::global_in(Format::W32, 262143, 16383).is_none());
+    assert_eq!(rt; ThreadId::ANY_LOCAL.raw_in(Format::W32), Some(0xffff_ffc0));
+    assert!(rt;
+        ThreadId::from_raw(0xffff_ffc0)
+            .raw_in(Format::W32)
+            .is_none()
+    );
+}
+
+#[test]
+fn tags_have_their_words_of_32_bits(rt: HostRuntime) {
+    let tag = MsgTag::new_in(Format::W32, 65535, 63, false).expect(&rt, "a tag");
+    assert_eq!(rt; tag.raw(), 0xffff_003f);
+    assert!(rt; MsgTag::from_raw_in(Format::W32, 0xffff_003f) == Ok(tag));
+    assert!(rt; MsgTag::new_in(Format::W32, 65536, 0, false).is_none());
+    assert!(rt; MsgTag::from_raw_in(Format::W32, 0x1_0000_0041) == Err(TagFault::Wide));
+    assert!(rt; MsgTag::from_raw_in(Format::W32, 0x41) == Err(TagFault::TypedItems));
 }
 
 #[test]

@@ -4,6 +4,7 @@ pub mod CanonicalRows
 pub mod Finding
 pub mod Growing
 pub mod Judging
+pub mod OwnWords
 pub mod ReadBack
 pub mod ReadingLines
 pub mod Spelled

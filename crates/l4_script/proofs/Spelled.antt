@@ -1,25 +1,26 @@
 -- Words that are written are read: numbers and ids.
-use Rattle.std.proofs.Common.{◌≡◌, ℕ, zero, suc, ◌*◌, ◌+◌, ◌/◌, ◌%◌, ◌^◌, ◌-◌, ◌<◌, ◌≤◌, true, false, not, ◌&&◌, eqb, List, [], ◌∷◌, ◌++◌, length, take, Option, Some, None, Ok, refl, ap, ◌∙◌, arith}
-use Rattle.std.specs.Prelude.{◌==◌, codes, decimal, bytes_eq}
+use Rattle.std.proofs.Common.{◌≡◌, ℕ, zero, suc, ◌*◌, ◌+◌, ◌/◌, ◌%◌, ◌^◌, ◌<◌, ◌≤◌, true, false, ◌&&◌, eqb, List, [], ◌∷◌, ◌++◌, length, take, Option, Some, None, Ok, refl, ap, ◌∙◌, arith}
+use Rattle.std.specs.Prelude.{◌==◌, nat_le, codes, decimal, bytes_eq}
 use Rattle.std.specs.Char.{digit_value}
 use Rattle.std.specs.Fmt.{digit_glyph}
 use Rattle.std.specs.Str.Parse.{AllDigits, IsNumeral}
 use Rattle.std.specs.Option.{option_map}
-use Rattle.std.proofs.lemmas.Bool.{and_parts, and_left, and_right, ltb-true, lt-ltb, le-leb, ne_eqb, not-true, eqb-true}
+use Rattle.std.proofs.lemmas.Bool.{and_left, and_right, ltb-true, lt-ltb, le-leb, eq-eqb}
 use Rattle.std.proofs.lemmas.Bool.Decides.{nat_tests}
 use Rattle.std.proofs.lemmas.List.{length-append}
 use Rattle.std.proofs.lemmas.Fmt.{decimal_is_IsNumeral}
-use Rattle.l4_model.specs.Words.{GlobalId, is_global, Id, NilThread, AnyThread, AnyLocalThread, LocalThread, GlobalThread, id_of_word}
+use Rattle.l4_model.specs.Words.{Format, W64, W32, word_limit, is_word_in, GlobalId, is_global_in, has_word_in, id_by, Id, NilThread, AnyThread, AnyLocalThread, LocalThread, GlobalThread}
 use Rattle.l4_model.specs.Conditions.{◌>>=◌}
 use Rattle.l4_model.specs.Machine.{To, ToId, ToLast}
-use Rattle.l4_words.specs.Numbers.{is_word, with_digit, number_onto}
-use Rattle.l4_words.specs.Threads.{thread_of}
+use Rattle.l4_types.proofs.InFormats.{id_of_its_word, is_global_too}
+use Rattle.l4_words.specs.Numbers.{padded_of, with_digit, number_onto}
+use Rattle.l4_words.specs.Threads.{thread_word}
 use Rattle.l4_words.proofs.Numerals.{decimal_is_read, digit_written}
 use Rattle.l4_words.proofs.Spelled.{fits, thread_is_read}
-use Rattle.l4_script.specs.Numbers.{number_of, number_from}
-use Rattle.l4_script.specs.Ids.{raw_id_of, spelled_id_of, id_of}
+use Rattle.l4_script.specs.Numbers.{number_of, number_from, word_from}
+use Rattle.l4_script.specs.Ids.{id_digits, raw_id_of, thread_in, spelled_id_of, id_of}
 use Rattle.l4_script.specs.Statements.{destination_of}
-use Rattle.l4_script.specs.Canonical.{low_digits, id_word, to_word, has_word, has_destination}
+use Rattle.l4_script.specs.Canonical.{low_digits, id_word, to_word, has_destination}
 
 -- Numbers
 
@@ -39,19 +40,32 @@ pub ranged_read : (low high n : ℕ) → low ≤ n → n ≤ high → high < 2 ^
 unfolding number_from
 ranged_read low high n lower upper small = rw (number_read n (omega arith), le-leb low n lower, le-leb n high upper) refl
 
+-- A word of a format is below 2^64.
+pub word_small : (f : Format) (n : ℕ) → n < word_limit f → n < 2 ^ 64
+word_small W64 n small = small
+word_small W32 n small = omega (arith, small)
+
+pub word_read : (f : Format) (n : ℕ) → is_word_in f n ≡ true → word_from f (decimal n) ≡ Ok n
+unfolding word_from
+word_read f n h = rw (number_read n (word_small f n (ltb-true n (word_limit f) h)), h) refl
+
 -- Ids
 
-digits_of_number : (t : GlobalId) → is_global t ≡ true → IsNumeral 10 (decimal t.number)
-digits_of_number t h = (decimal_is_IsNumeral t.number (fits t h).number).0
+digits_of_number : (f : Format) (t : GlobalId) → is_global_in f t ≡ true → IsNumeral 10 (decimal t.number)
+digits_of_number f t h = (decimal_is_IsNumeral t.number (fits t (is_global_too f t h)).number).0
+
+pub thread_in_read : (f : Format) (t : GlobalId) → is_global_in f t ≡ true → thread_in f (thread_word t) ≡ Some t
+unfolding thread_in
+thread_in_read f t h = rw (thread_is_read t (is_global_too f t h), h) refl
 
 digit_no_name : (c : ℕ) → digit_value c < 10 → (eqb c 110 ≡ false) × (eqb c 97 ≡ false) × (eqb c 35 ≡ false)
 digit_no_name c l = (grind (arith, nat_tests), grind (arith, nat_tests), grind (arith, nat_tests))
 
 -- What begins with a digit is no name, and no word.
-spelled_by_numbers : (front dot rest : List ℕ) → IsNumeral 10 front → id_of (front ++ dot ++ rest) ≡ option_map GlobalThread (thread_of (front ++ dot ++ rest))
+spelled_by_numbers : (f : Format) (front dot rest : List ℕ) → IsNumeral 10 front → id_of f (front ++ dot ++ rest) ≡ option_map GlobalThread (thread_in f (front ++ dot ++ rest))
 unfolding spelled_id_of id_of
-spelled_by_numbers [] dot rest h = absurd (omega (arith, h.0))
-spelled_by_numbers (c ∷ cs) dot rest h = let other = digit_no_name c h.1.0 in rw (other.0, other.1, other.2) refl
+spelled_by_numbers f [] dot rest h = absurd (omega (arith, h.0))
+spelled_by_numbers f (c ∷ cs) dot rest h = let other = digit_no_name c h.1.0 in rw (other.0, other.1, other.2) refl
 
 -- Hexadecimal digits
 
@@ -90,28 +104,31 @@ low_digits_onto (suc k) n room small =
     ∙ ap (λ o. o >>= λ more. with_digit 16 more (digit_glyph false (n % 16))) (low_digits_onto k (n / 16) (omega (arith, room)) (omega (arith, small)))
     ∙ last_put n small
 
-raw_word : (w : List ℕ) (word : ℕ) → length w ≡ 16 → number_onto 16 0 w ≡ Some word → raw_id_of w ≡ Some (id_of_word word)
-raw_word w word size value = rw (size, value) refl
+-- So many digits have room for each word of the format.
+abbrev HasRoom : Format → ℕ → Type 0
+HasRoom f n = (n < 16 ^ id_digits f) × (nat_le (id_digits f) 16 ≡ true) × ((id_digits f == 0) ≡ false)
 
-raw_read : (word : ℕ) → word < 2 ^ 64 → raw_id_of (low_digits 16 word) ≡ Some (id_of_word word)
-raw_read word small = raw_word (low_digits 16 word) word (low_digits_size 16 word) (low_digits_onto 16 word (omega (arith, small)) small)
+has_room : (f : Format) (n : ℕ) → n < word_limit f → HasRoom f n
+has_room W64 n small = (omega (arith, small), refl, refl)
+has_room W32 n small = (omega (arith, small), refl, refl)
 
-local_word : (word : ℕ) → has_word (LocalThread word) ≡ true → (word < 2 ^ 64) × (id_of_word word ≡ LocalThread word)
-local_word word h =
-    let fronts = and_parts (is_word word && not (word == 0) && not (word == 2 ^ 64 - 64)) (word % 64 == 0) h in
-    let middle = and_parts (is_word word && not (word == 0)) (not (word == 2 ^ 64 - 64)) fronts.0 in
-    let parts = and_parts (is_word word) (not (word == 0)) middle.0 in
-    let low : word % 64 ≡ 0 = eqb-true (word % 64) 0 fronts.1 in
-    let not_any : (word == 2 ^ 64 - 1) ≡ false = ne_eqb word (2 ^ 64 - 1) (λ e. absurd (omega (arith, low, e))) in
-    (ltb-true word (2 ^ 64) parts.0, rw (not-true _ parts.1, not_any, not-true _ middle.1, fronts.1) refl)
+padded_read : (f : Format) (n : ℕ) → n < word_limit f → padded_of (low_digits (id_digits f) n) ≡ Some n
+padded_read f n small =
+    let room = has_room f n small in
+    rw (low_digits_size (id_digits f) n, room.1, room.2) (low_digits_onto (id_digits f) n room.0 (word_small f n small))
 
-pub id_read : (id : Id) → has_word id ≡ true → id_of (id_word id) ≡ Some id
+raw_read : (f : Format) (word : ℕ) → word < word_limit f → raw_id_of f (low_digits (id_digits f) word) ≡ Some (id_by f word)
+raw_read f word small =
+    let size : (length (low_digits (id_digits f) word) == id_digits f) ≡ true = eq-eqb _ (id_digits f) (low_digits_size (id_digits f) word) in
+    rw (size, padded_read f word small) (rw (lt-ltb word (word_limit f) small) refl)
+
+pub id_read : (f : Format) (id : Id) → has_word_in f id ≡ true → id_of f (id_word f id) ≡ Some id
 unfolding spelled_id_of id_of
-id_read NilThread h = refl
-id_read AnyThread h = refl
-id_read AnyLocalThread h = refl
-id_read (LocalThread word) h = let l = local_word word h in rw (raw_read word l.0) (ap Some l.1)
-id_read (GlobalThread t) h = spelled_by_numbers (decimal t.number) (codes ".") (decimal t.version) (digits_of_number t h) ∙ rw (thread_is_read t h) refl
+id_read f NilThread h = refl
+id_read f AnyThread h = refl
+id_read f AnyLocalThread h = refl
+id_read f (LocalThread word) h = let l = id_of_its_word f (LocalThread word) h in raw_read f word l.0 ∙ ap (λ (id : Id). Some id) l.1
+id_read f (GlobalThread t) h = spelled_by_numbers f (decimal t.number) (codes ".") (decimal t.version) (digits_of_number f t h) ∙ rw (thread_in_read f t h) refl
 
 digit_no_l : (c : ℕ) → digit_value c < 10 → eqb c 108 ≡ false
 digit_no_l c l = grind (arith, nat_tests)
@@ -121,14 +138,14 @@ numeral_no_last : (front dot rest : List ℕ) → IsNumeral 10 front → bytes_e
 numeral_no_last [] dot rest h = absurd (omega (arith, h.0))
 numeral_no_last (c ∷ cs) dot rest h = rw (digit_no_l c h.1.0) refl
 
-id_no_last : (id : Id) → has_word id ≡ true → bytes_eq (id_word id) (codes "last") ≡ false
-id_no_last NilThread h = refl
-id_no_last AnyThread h = refl
-id_no_last AnyLocalThread h = refl
-id_no_last (LocalThread word) h = refl
-id_no_last (GlobalThread t) h = numeral_no_last (decimal t.number) (codes ".") (decimal t.version) (digits_of_number t h)
+id_no_last : (f : Format) (id : Id) → has_word_in f id ≡ true → bytes_eq (id_word f id) (codes "last") ≡ false
+id_no_last f NilThread h = refl
+id_no_last f AnyThread h = refl
+id_no_last f AnyLocalThread h = refl
+id_no_last f (LocalThread word) h = refl
+id_no_last f (GlobalThread t) h = numeral_no_last (decimal t.number) (codes ".") (decimal t.version) (digits_of_number f t h)
 
-pub destination_read : (to : To) → has_destination to ≡ true → destination_of (to_word to) ≡ Ok to
+pub destination_read : (f : Format) (to : To) → has_destination f to ≡ true → destination_of f (to_word f to) ≡ Ok to
 unfolding destination_of
-destination_read (ToId id) h = rw (id_no_last id h, id_read id h) refl
-destination_read ToLast h = refl
+destination_read f (ToId id) h = rw (id_no_last f id h, id_read f id h) refl
+destination_read f ToLast h = refl

@@ -1,19 +1,19 @@
 -- Texts with their machines and faults, computed.
 use Rattle.std.specs.Prelude.{◌≡◌, ℕ, Bool, List, [], ◌∷◌, ◌++◌, map, length, filter, take, is_ok, Option, Some, None, Result, Ok, Err, codes, refl}
 use Rattle.std.specs.List.{flat_map, range_with_len}
-use Rattle.l4_model.specs.Words.{global_id, Id, GlobalThread, LocalThread, NilThread, AnyThread, AnyLocalThread, Period}
+use Rattle.l4_model.specs.Words.{W64, W32, global_id, Id, GlobalThread, LocalThread, NilThread, AnyThread, AnyLocalThread, Period}
 use Rattle.l4_model.specs.Machine.{Instr, Set, Copy, Add, Tag, Vs, Ipc, ToId, ToLast, Ask, CancelSend, CancelReceive, CancelBoth, Delete, Jump, OnErr, End, Declaration, Machine, machine_of, retargeting_machine_of}
 use Rattle.l4_script.specs.declared.text.fault.TextFault.{TextFault}
 use Rattle.l4_script.specs.declared.text.fault.TextFaultKind.{TextFaultKind}
 use Rattle.l4_script.specs.declared.text.fault.TextFaultKind.TheVariants.{BadLine, BadNumber, BadId, BadCpu, TypedItems, DoubleId, BadTarget}
 use Rattle.l4_script.specs.Faults.{fault_at}
 use Rattle.l4_script.specs.Judged.{Judged}
-use Rattle.l4_script.specs.Numbers.{number_of, number_from, period_number, time_from}
+use Rattle.l4_script.specs.Numbers.{number_of, number_from, word_from, period_number, time_from}
 use Rattle.l4_words.specs.Threads.{thread_of}
-use Rattle.l4_script.specs.Ids.{spelled_id_of, id_of}
+use Rattle.l4_script.specs.Ids.{thread_in, spelled_id_of, id_of}
 use Rattle.l4_script.specs.Lines.{line_of}
 use Rattle.l4_script.specs.Statements.{format_line, processors_line, processor_of, declaration_of, set_of, copy_of, add_of, tag_of, vs_of, destination_of, ipc_of, bits_of, exregs_of, delete_of, target_of, instruction_of, declare, extend}
-use Rattle.l4_script.specs.Texts.{thread_line, after_words, after_line, machine_of_text}
+use Rattle.l4_script.specs.Texts.{thread_line, after_words, after_line, machine_of_text, format_of_text}
 
 -- Words
 
@@ -79,8 +79,8 @@ ids =
     ∷ (codes "#00000000000000C0", None)
     ∷ []
 
-ids_read : map (λ row. id_of row.0) ids ≡ map (λ row. row.1) ids
-unfolding thread_of spelled_id_of id_of
+ids_read : map (λ row. id_of W64 row.0) ids ≡ map (λ row. row.1) ids
+unfolding thread_of thread_in spelled_id_of id_of
 ids_read = refl
 
 -- `never` is the time 0 and `zero` the time 0x400.
@@ -139,7 +139,7 @@ abbrev first_path : Machine
 first_path = machine_of 1 (thread 1 1 (Set 1 10 ∷ Tag 0x70001 ∷ send_to (GlobalThread (global_id 2 1)) ∷ []) ∷ thread 2 2 (receive_from_any ∷ []) ∷ [])
 
 first_path_read : machine_of_text first_path_text ≡ Ok first_path
-unfolding number_of number_from period_number time_from thread_of spelled_id_of id_of line_of format_line processors_line processor_of declaration_of set_of copy_of add_of tag_of vs_of destination_of ipc_of bits_of exregs_of delete_of target_of instruction_of declare extend thread_line after_words after_line
+unfolding number_of number_from word_from period_number time_from thread_of thread_in spelled_id_of id_of line_of format_line processors_line processor_of declaration_of set_of copy_of add_of tag_of vs_of destination_of ipc_of bits_of exregs_of delete_of target_of instruction_of declare extend thread_line after_words after_line
 first_path_read = refl
 
 first_path_size : length first_path_text ≡ 134
@@ -150,7 +150,7 @@ abbrev is_read : ℕ → Bool
 is_read size = is_ok (machine_of_text (take size first_path_text))
 
 beginnings_read : filter is_read (range_with_len 0 135) ≡ 15 ∷ 40 ∷ 49 ∷ 61 ∷ 85 ∷ 110 ∷ 134 ∷ []
-unfolding number_of number_from period_number time_from thread_of spelled_id_of id_of line_of format_line processors_line processor_of declaration_of set_of copy_of add_of tag_of vs_of destination_of ipc_of bits_of exregs_of delete_of target_of instruction_of declare extend thread_line after_words after_line
+unfolding number_of number_from word_from period_number time_from thread_of thread_in spelled_id_of id_of line_of format_line processors_line processor_of declaration_of set_of copy_of add_of tag_of vs_of destination_of ipc_of bits_of exregs_of delete_of target_of instruction_of declare extend thread_line after_words after_line
 beginnings_read = refl
 
 abbrev behind_headers : List (List ℕ) → List ℕ
@@ -167,8 +167,8 @@ instructions =
     ∷ (codes "set 0x3f 18446744073709551615", Set 63 0xffffffffffffffff)
     ∷ (codes "copy 1 0", Copy 1 0)
     ∷ (codes "copy 63 63", Copy 63 63)
-    ∷ (codes "add 1 1", Add 1 1)
-    ∷ (codes "add 63 0xffffffffffffffff", Add 63 0xffffffffffffffff)
+    ∷ (codes "add 1 1", Add W64 1 1)
+    ∷ (codes "add 63 0xffffffffffffffff", Add W64 63 0xffffffffffffffff)
     ∷ (codes "tag 0", Tag 0)
     ∷ (codes "tag 0x70001", Tag 0x70001)
     ∷ (codes "tag 0xfffffffffffff03f", Tag 0xfffffffffffff03f)
@@ -219,7 +219,7 @@ instructions =
     ∷ []
 
 instructions_read : map (λ row. machine_of_text (behind_thread (row.0 ∷ []))) instructions ≡ map (λ row. Ok (machine_of 1 (thread 1 1 (row.1 ∷ []) ∷ []))) instructions
-unfolding number_of number_from period_number time_from thread_of spelled_id_of id_of line_of format_line processors_line processor_of declaration_of set_of copy_of add_of tag_of vs_of destination_of ipc_of bits_of exregs_of delete_of target_of instruction_of declare extend thread_line after_words after_line
+unfolding number_of number_from word_from period_number time_from thread_of thread_in spelled_id_of id_of line_of format_line processors_line processor_of declaration_of set_of copy_of add_of tag_of vs_of destination_of ipc_of bits_of exregs_of delete_of target_of instruction_of declare extend thread_line after_words after_line
 instructions_read = refl
 
 -- A line that is all of a script, and its fault.
@@ -305,7 +305,7 @@ no_instructions =
     ∷ []
 
 no_instructions_read : map (λ row. machine_of_text (behind_thread (row.0 ∷ []))) no_instructions ≡ map (λ row. Err (fault_at 4 row.1)) no_instructions
-unfolding number_of number_from period_number time_from thread_of spelled_id_of id_of line_of format_line processors_line processor_of declaration_of set_of copy_of add_of tag_of vs_of destination_of ipc_of bits_of exregs_of delete_of target_of instruction_of declare extend thread_line after_words after_line
+unfolding number_of number_from word_from period_number time_from thread_of thread_in spelled_id_of id_of line_of format_line processors_line processor_of declaration_of set_of copy_of add_of tag_of vs_of destination_of ipc_of bits_of exregs_of delete_of target_of instruction_of declare extend thread_line after_words after_line
 no_instructions_read = refl
 
 -- A third line, and its fault.
@@ -334,7 +334,7 @@ no_threads =
     ∷ []
 
 no_threads_read : map (λ row. machine_of_text (behind_headers (row.0 ∷ []))) no_threads ≡ map (λ row. Err (fault_at 3 row.1)) no_threads
-unfolding number_of number_from period_number time_from thread_of spelled_id_of id_of line_of format_line processors_line processor_of declaration_of set_of copy_of add_of tag_of vs_of destination_of ipc_of bits_of exregs_of delete_of target_of instruction_of declare extend thread_line after_words after_line
+unfolding number_of number_from word_from period_number time_from thread_of thread_in spelled_id_of id_of line_of format_line processors_line processor_of declaration_of set_of copy_of add_of tag_of vs_of destination_of ipc_of bits_of exregs_of delete_of target_of instruction_of declare extend thread_line after_words after_line
 no_threads_read = refl
 
 -- Whole texts
@@ -363,12 +363,22 @@ texts =
     ∷ (text (codes "l4 2 64" ∷ codes "cpus 1" ∷ []), Ok (retargeting_machine_of 1 []))
     ∷ (text (codes "l4 0x02 0x40" ∷ codes "cpus 16" ∷ []), Ok (retargeting_machine_of 16 []))
     ∷ (text (codes "l4 2 64" ∷ []), Err (fault_at 2 BadLine))
+    ∷ (text (codes "l4 1 32" ∷ codes "cpus 1" ∷ []), no_thread)
+    ∷ (text (codes "l4 0x1 0x20" ∷ codes "cpus 1" ∷ []), no_thread)
+    ∷ (text (codes "l4 1 32" ∷ []), Err (fault_at 2 BadLine))
+    ∷ (text (codes "l4 2 32" ∷ codes "cpus 1" ∷ []), Ok (retargeting_machine_of 1 []))
+    ∷ (text (codes "l4 2 32" ∷ []), Err (fault_at 2 BadLine))
     ∷ (text (codes "l4 0 64" ∷ []), Err (fault_at 1 BadNumber))
     ∷ (text (codes "l4 3 64" ∷ []), Err (fault_at 1 BadNumber))
-    ∷ (text (codes "l4 1 32" ∷ []), Err (fault_at 1 BadNumber))
-    ∷ (text (codes "l4 2 32" ∷ []), Err (fault_at 1 BadNumber))
+    ∷ (text (codes "l4 0 32" ∷ []), Err (fault_at 1 BadNumber))
+    ∷ (text (codes "l4 3 32" ∷ []), Err (fault_at 1 BadNumber))
+    ∷ (text (codes "l4 1 33" ∷ []), Err (fault_at 1 BadNumber))
+    ∷ (text (codes "l4 1 16" ∷ []), Err (fault_at 1 BadNumber))
+    ∷ (text (codes "l4 2 33" ∷ []), Err (fault_at 1 BadNumber))
     ∷ (text (codes "l4 2 x" ∷ []), Err (fault_at 1 BadNumber))
+    ∷ (text (codes "l4 1 last" ∷ []), Err (fault_at 1 BadNumber))
     ∷ (text (codes "l4 64 2" ∷ []), Err (fault_at 1 BadNumber))
+    ∷ (text (codes "l4 32 1" ∷ []), Err (fault_at 1 BadNumber))
     ∷ (text (codes "l4 1" ∷ []), Err (fault_at 1 BadLine))
     ∷ (text (codes "l4 1 64 1" ∷ []), Err (fault_at 1 BadLine))
     ∷ (text (codes "cpus 1" ∷ []), Err (fault_at 1 BadLine))
@@ -411,5 +421,110 @@ texts =
     ∷ []
 
 texts_read : map (λ row. machine_of_text row.0) texts ≡ map (λ row. row.1) texts
-unfolding number_of number_from period_number time_from thread_of spelled_id_of id_of line_of format_line processors_line processor_of declaration_of set_of copy_of add_of tag_of vs_of destination_of ipc_of bits_of exregs_of delete_of target_of instruction_of declare extend thread_line after_words after_line
+unfolding number_of number_from word_from period_number time_from thread_of thread_in spelled_id_of id_of line_of format_line processors_line processor_of declaration_of set_of copy_of add_of tag_of vs_of destination_of ipc_of bits_of exregs_of delete_of target_of instruction_of declare extend thread_line after_words after_line
 texts_read = refl
+
+-- In 32 bits
+
+abbrev short_ids : List (List ℕ × Option Id)
+short_ids =
+    (codes "nil", Some NilThread)
+    ∷ (codes "any", Some AnyThread)
+    ∷ (codes "anylocal", Some AnyLocalThread)
+    ∷ (codes "0.1", Some (GlobalThread (global_id 0 1)))
+    ∷ (codes "262143.16382", Some (GlobalThread (global_id 262143 16382)))
+    ∷ (codes "#fffffffe", Some (GlobalThread (global_id 262143 16382)))
+    ∷ (codes "#00004001", Some t_1_1)
+    ∷ (codes "#00008041", Some t_2_65)
+    ∷ (codes "#00000000", Some NilThread)
+    ∷ (codes "#ffffffff", Some AnyThread)
+    ∷ (codes "#ffffffc0", Some AnyLocalThread)
+    ∷ (codes "#ffffff80", Some (LocalThread 0xffffff80))
+    ∷ (codes "#00000040", Some (LocalThread 64))
+    ∷ (codes "262143.16383", None)
+    ∷ (codes "262144.1", None)
+    ∷ (codes "1.16385", None)
+    ∷ (codes "1.16384", None)
+    ∷ (codes "1.64", None)
+    ∷ (codes "#0000000000004001", None)
+    ∷ (codes "#0004001", None)
+    ∷ (codes "#000004001", None)
+    ∷ (codes "#0000400A", None)
+    ∷ []
+
+short_ids_read : map (λ row. id_of W32 row.0) short_ids ≡ map (λ row. row.1) short_ids
+unfolding thread_of thread_in spelled_id_of id_of
+short_ids_read = refl
+
+abbrev behind_short_thread : List (List ℕ) → List ℕ
+behind_short_thread lines = text (codes "l4 1 32" ∷ codes "cpus 1" ∷ codes "thread 1.1 cpu 0 space 1" ∷ lines)
+
+abbrev short_instructions : List (List ℕ × Instr)
+short_instructions =
+    (codes "set 1 0xffffffff", Set 1 0xffffffff)
+    -- what counts is the value, and not the number of digits
+    ∷ (codes "set 1 0x00000000ffffffff", Set 1 0xffffffff)
+    ∷ (codes "set 1 4294967295", Set 1 0xffffffff)
+    ∷ (codes "add 1 2", Add W32 1 2)
+    ∷ (codes "add 63 0xffffffff", Add W32 63 0xffffffff)
+    ∷ (codes "tag 0xffff003f", Tag 0xffff003f)
+    ∷ (codes "ipc #00008001 nil never never", send_to t_2_1)
+    ∷ (codes "ipc nil #ffffffff never never", receive_from_any)
+    ∷ (codes "vs 262143.16382", Vs (GlobalThread (global_id 262143 16382)))
+    ∷ (codes "exregs #00008041 SR", Ask t_2_65 CancelBoth)
+    ∷ (codes "delete #00000040", Ask (LocalThread 64) Delete)
+    ∷ (codes "copy 1 0", Copy 1 0)
+    ∷ (codes "jump 0x0000000000000001", Jump 1)
+    ∷ []
+
+short_instructions_read : map (λ row. machine_of_text (behind_short_thread (row.0 ∷ []))) short_instructions ≡ map (λ row. Ok (machine_of 1 (thread 1 1 (row.1 ∷ []) ∷ []))) short_instructions
+unfolding number_of number_from word_from period_number time_from thread_of thread_in spelled_id_of id_of line_of format_line processors_line processor_of declaration_of set_of copy_of add_of tag_of vs_of destination_of ipc_of bits_of exregs_of delete_of target_of instruction_of declare extend thread_line after_words after_line
+short_instructions_read = refl
+
+abbrev no_short_instructions : List (List ℕ × TextFaultKind)
+no_short_instructions =
+    (codes "set 1 0x100000000", BadNumber)
+    ∷ (codes "set 1 18446744073709551616", BadNumber)
+    ∷ (codes "add 1 4294967296", BadNumber)
+    ∷ (codes "tag 0x100000000", BadNumber)
+    -- a word that is too wide is no number, whatever its typed items
+    ∷ (codes "tag 0x100000041", BadNumber)
+    ∷ (codes "tag 0x41", TypedItems)
+    ∷ (codes "vs 262143.16383", BadId)
+    ∷ (codes "vs 262144.1", BadId)
+    ∷ (codes "ipc 1.16385 nil never never", BadId)
+    ∷ (codes "ipc nil #0000000000004001 never never", BadId)
+    ∷ (codes "exregs 262143.16383 S", BadId)
+    ∷ (codes "delete #000000040", BadId)
+    -- a place and a processor are no words
+    ∷ (codes "jump 18446744073709551615", BadTarget)
+    ∷ (codes "jump 0x100000000", BadTarget)
+    ∷ (codes "thread 2.1 cpu 0x100000000 space 1", BadCpu)
+    ∷ (codes "thread 262144.1 cpu 0 space 1", BadId)
+    ∷ (codes "thread 262143.16383 cpu 0 space 1", BadId)
+    ∷ (codes "thread 2.1 cpu 0 space 4294967296", BadNumber)
+    ∷ []
+
+no_short_instructions_read : map (λ row. machine_of_text (behind_short_thread (row.0 ∷ []))) no_short_instructions ≡ map (λ row. Err (fault_at 4 row.1)) no_short_instructions
+unfolding number_of number_from word_from period_number time_from thread_of thread_in spelled_id_of id_of line_of format_line processors_line processor_of declaration_of set_of copy_of add_of tag_of vs_of destination_of ipc_of bits_of exregs_of delete_of target_of instruction_of declare extend thread_line after_words after_line
+no_short_instructions_read = refl
+
+-- The format is that of the first line that says something.
+formats_named :
+    (format_of_text first_path_text ≡ Some W64) × (format_of_text (behind_short_thread []) ≡ Some W32) × (format_of_text (text (codes "l4 2 32" ∷ [])) ≡ Some W32) × (format_of_text (text (codes "; a" ∷ [] ∷ codes "l4 0x1 0x20" ∷ [])) ≡ Some W32)
+    × (format_of_text (text (codes "l4 1 33" ∷ [])) ≡ None) × (format_of_text (text (codes "cpus 1" ∷ codes "l4 1 32" ∷ [])) ≡ None) × (format_of_text [] ≡ None)
+unfolding number_of line_of format_line
+formats_named = (refl, refl, refl, refl, refl, refl, refl)
+
+-- A sum that wraps, and an id by its word.
+short_path_read :
+    machine_of_text (behind_short_thread (codes "set 1 0xffffffff" ∷ codes "add 1 2" ∷ codes "tag 0x70001" ∷ codes "ipc #00008001 nil never never" ∷ codes "thread 2.1 cpu 0 space 2" ∷ codes "ipc nil any never never" ∷ []))
+    ≡ Ok (machine_of 1 (thread 1 1 (Set 1 0xffffffff ∷ Add W32 1 2 ∷ Tag 0x70001 ∷ send_to t_2_1 ∷ []) ∷ thread 2 2 (receive_from_any ∷ []) ∷ []))
+unfolding number_of number_from word_from period_number time_from thread_of thread_in spelled_id_of id_of line_of format_line processors_line processor_of declaration_of set_of copy_of add_of tag_of vs_of destination_of ipc_of bits_of exregs_of delete_of target_of instruction_of declare extend thread_line after_words after_line
+short_path_read = refl
+
+short_sum_of_profile_2_read :
+    machine_of_text (text (codes "l4 2 32" ∷ codes "cpus 1" ∷ codes "thread 1.1 cpu 0 space 1" ∷ codes "add 1 2" ∷ []))
+    ≡ Ok (retargeting_machine_of 1 (thread 1 1 (Add W32 1 2 ∷ []) ∷ []))
+unfolding number_of number_from word_from period_number time_from thread_of thread_in spelled_id_of id_of line_of format_line processors_line processor_of declaration_of set_of copy_of add_of tag_of vs_of destination_of ipc_of bits_of exregs_of delete_of target_of instruction_of declare extend thread_line after_words after_line
+short_sum_of_profile_2_read = refl

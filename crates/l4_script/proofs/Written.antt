@@ -1,5 +1,5 @@
 -- Lines that are written are read: their words, and what these say.
-use Rattle.std.proofs.Common.{◌≡◌, ℕ, zero, suc, ◌/◌, ◌%◌, ◌^◌, ◌-◌, ◌<◌, ◌≤◌, Bool, true, false, not, ◌&&◌, eqb, List, [], ◌∷◌, ◌++◌, length, get_or, cond, Some, None, Ok, refl, ap, ◌∙◌, arith}
+use Rattle.std.proofs.Common.{◌≡◌, ℕ, zero, suc, ◌/◌, ◌%◌, ◌^◌, ◌-◌, ◌<◌, ◌≤◌, Bool, true, false, not, ◌&&◌, eqb, List, [], ◌∷◌, ◌++◌, length, get_or, cond, Some, None, Ok, refl, ap, sym, ◌∙◌, arith}
 use Rattle.std.specs.Prelude.{◌==◌, nat_lt, nat_le, codes, decimal}
 use Rattle.std.specs.Char.{digit_value}
 use Rattle.std.specs.Fmt.{digit_glyph}
@@ -11,18 +11,19 @@ use Rattle.std.proofs.lemmas.List.Elements.{All-nil, All-cons}
 use Rattle.std.proofs.lemmas.List.Folds.{list_all-append}
 use Rattle.std.proofs.lemmas.List.Splits.{slice_split_none, slice_split_at}
 use Rattle.std.proofs.lemmas.Fmt.{decimal_is_IsNumeral}
-use Rattle.l4_model.specs.Words.{GlobalId, is_global, Id, NilThread, AnyThread, AnyLocalThread, LocalThread, GlobalThread, Period}
+use Rattle.l4_model.specs.Words.{Format, W64, W32, word_limit, is_word_in, same_format, GlobalId, is_global_in, has_word_in, Id, NilThread, AnyThread, AnyLocalThread, LocalThread, GlobalThread, Period}
 use Rattle.l4_model.specs.Machine.{To, ToId, ToLast, CancelSend, CancelReceive, CancelBoth, Delete, Instr, Set, Copy, Add, Tag, Vs, Ipc, Ask, Jump, OnErr, End, Declaration}
-use Rattle.l4_words.specs.Numbers.{is_word}
+use Rattle.l4_types.proofs.InFormats.{is_global_too}
 use Rattle.l4_words.specs.Threads.{thread_word}
 use Rattle.l4_words.specs.Words.{words_in}
-use Rattle.l4_words.proofs.Spelled.{fits, thread_is_read}
+use Rattle.l4_words.proofs.Spelled.{fits}
 use Rattle.l4_script.specs.Numbers.{number_of}
+use Rattle.l4_script.specs.Ids.{id_digits}
 use Rattle.l4_script.specs.Lines.{is_printable, has_empty_word, is_skipped, line_of}
-use Rattle.l4_script.specs.Statements.{format_line, processors_line, processor_of, declaration_of, set_of, copy_of, add_of, tag_of, vs_of, ipc_of, bits_of, exregs_of, delete_of, target_of, instruction_of}
-use Rattle.l4_script.specs.Texts.{Stage, Format, Processors, Threads, Reading, nothing_read, declared_in, extended_at, thread_line, after_words, after_line}
-use Rattle.l4_script.specs.Canonical.{low_digits, id_word, to_word, exponent_of, ticks_word, time_word, words_of_instruction, words_of_thread, words_of_format, is_register, has_word, has_destination, has_time, can_be_written, can_be_declared}
-use Rattle.l4_script.proofs.Spelled.{number_read, ranged_read, id_read, destination_read}
+use Rattle.l4_script.specs.Statements.{Heading, format_line, processors_line, processor_of, declaration_of, set_of, copy_of, add_of, tag_of, vs_of, ipc_of, bits_of, exregs_of, delete_of, target_of, instruction_of}
+use Rattle.l4_script.specs.Texts.{Stage, Start, Processors, Threads, Reading, nothing_read, declared_in, extended_at, thread_line, after_words, after_line}
+use Rattle.l4_script.specs.Canonical.{low_digits, id_word, to_word, exponent_of, ticks_word, time_word, words_of_instruction, words_of_thread, words_of_format, is_register, has_destination, has_time, can_be_written, can_be_declared}
+use Rattle.l4_script.proofs.Spelled.{number_read, ranged_read, word_small, word_read, thread_in_read, id_read, destination_read}
 use Rattle.l4_script.proofs.Times.{IsTimeOf, spelled_time, time_read}
 
 -- Each byte of a word is printable, and no space.
@@ -147,17 +148,20 @@ filled_front (x ∷ xs) ys p q =
     let parts = and_parts (nat_lt 0 (length (x ∷ xs))) (list_all is_visible (x ∷ xs)) p in
     and_from _ _ (lt-ltb 0 (length (x ∷ xs ++ ys)) (omega arith)) (list_all-append is_visible (x ∷ xs) ys ∙ and_from _ _ parts.1 q)
 
-thread_is_plain : (t : GlobalId) → is_global t ≡ true → is_plain (thread_word t) ≡ true
-thread_is_plain t h =
-    let f = fits t h in
-    filled_front (decimal t.number ++ codes ".") (decimal t.version) (filled_front (decimal t.number) (codes ".") (number_is_plain t.number f.number) refl) (number_is_visible t.version f.version)
+thread_is_plain : (f : Format) (t : GlobalId) → is_global_in f t ≡ true → is_plain (thread_word t) ≡ true
+thread_is_plain f t h =
+    let small = fits t (is_global_too f t h) in
+    filled_front (decimal t.number ++ codes ".") (decimal t.version) (filled_front (decimal t.number) (codes ".") (number_is_plain t.number small.number) refl) (number_is_visible t.version small.version)
 
-id_is_plain : (id : Id) → has_word id ≡ true → is_plain (id_word id) ≡ true
-id_is_plain NilThread h = refl
-id_is_plain AnyThread h = refl
-id_is_plain AnyLocalThread h = refl
-id_is_plain (LocalThread word) h = filled_front (codes "#") (low_digits 16 word) refl (low_digits_are_visible 16 word)
-id_is_plain (GlobalThread t) h = thread_is_plain t h
+id_is_plain : (f : Format) (id : Id) → has_word_in f id ≡ true → is_plain (id_word f id) ≡ true
+id_is_plain f NilThread h = refl
+id_is_plain f AnyThread h = refl
+id_is_plain f AnyLocalThread h = refl
+id_is_plain f (LocalThread word) h = filled_front (codes "#") (low_digits (id_digits f) word) refl (low_digits_are_visible (id_digits f) word)
+id_is_plain f (GlobalThread t) h = thread_is_plain f t h
+
+word_fits : (f : Format) (n : ℕ) → is_word_in f n ≡ true → n < 2 ^ 64
+word_fits f n h = word_small f n (ltb-true n (word_limit f) h)
 
 register_range : (n : ℕ) → is_register n ≡ true → (1 ≤ n) × (n ≤ 63) × (n < 2 ^ 64)
 register_range n h =
@@ -166,9 +170,9 @@ register_range n h =
     let upper = leb-true n 63 parts.1 in
     (lower, upper, omega (arith, upper))
 
-destination_is_plain : (to : To) → has_destination to ≡ true → is_plain (to_word to) ≡ true
-destination_is_plain (ToId id) h = id_is_plain id h
-destination_is_plain ToLast h = refl
+destination_is_plain : (f : Format) (to : To) → has_destination f to ≡ true → is_plain (to_word f to) ≡ true
+destination_is_plain f (ToId id) h = id_is_plain f id h
+destination_is_plain f ToLast h = refl
 
 time_is_plain : (p : Period) → has_time p ≡ true → is_plain (time_word p) ≡ true
 time_is_plain None h = refl
@@ -182,17 +186,17 @@ time_is_plain (Some ticks) h = by_test (eqb ticks 0) refl
     by_test false t = by_number (ticks_word ticks (exponent_of ticks)) (spelled_time ticks (eqb-false ticks 0 t) h)
 
 -- The operands of an ipc.
-record AreOperands (to : To) (from : Id) (send receive : Period) : Type 0 where
-  destination : has_destination to ≡ true
-  specifier : has_word from ≡ true
+record AreOperands (f : Format) (to : To) (from : Id) (send receive : Period) : Type 0 where
+  destination : has_destination f to ≡ true
+  specifier : has_word_in f from ≡ true
   send_time : has_time send ≡ true
   receive_time : has_time receive ≡ true
 
-operands : (size : ℕ) (to : To) (from : Id) (send receive : Period) → can_be_written size (Ipc to from send receive) ≡ true → AreOperands to from send receive
-operands size to from send receive h =
-    let all_3 = and_parts (has_destination to && has_word from && has_time send) (has_time receive) h in
-    let all_2 = and_parts (has_destination to && has_word from) (has_time send) all_3.0 in
-    let all_1 = and_parts (has_destination to) (has_word from) all_2.0 in
+operands : (f : Format) (size : ℕ) (to : To) (from : Id) (send receive : Period) → can_be_written f size (Ipc to from send receive) ≡ true → AreOperands f to from send receive
+operands f size to from send receive h =
+    let all_3 = and_parts (has_destination f to && has_word_in f from && has_time send) (has_time receive) h in
+    let all_2 = and_parts (has_destination f to && has_word_in f from) (has_time send) all_3.0 in
+    let all_1 = and_parts (has_destination f to) (has_word_in f from) all_2.0 in
     record { destination = all_1.0; specifier = all_1.1; send_time = all_2.1; receive_time = all_3.1 }
 
 one_number : (keyword : List ℕ) (n : ℕ) → not (get_or keyword 0 0 == 59) ≡ true → is_plain keyword ≡ true → n < 2 ^ 64 → are_line (keyword ∷ decimal n ∷ []) ≡ true
@@ -201,57 +205,64 @@ one_number keyword n begins plain small = and_from _ _ begins (and_from _ _ plai
 two_numbers : (keyword : List ℕ) (a b : ℕ) → not (get_or keyword 0 0 == 59) ≡ true → is_plain keyword ≡ true → a < 2 ^ 64 → b < 2 ^ 64 → are_line (keyword ∷ decimal a ∷ decimal b ∷ []) ≡ true
 two_numbers keyword a b begins plain small_a small_b = and_from _ _ begins (and_from _ _ plain (and_from _ _ (number_is_plain a small_a) (and_from _ _ (number_is_plain b small_b) refl)))
 
-pub instruction_is_line : (size : ℕ) (i : Instr) → size ≤ 1024 → can_be_written size i ≡ true → are_line (words_of_instruction i) ≡ true
-instruction_is_line size (Set a word) l h =
-    let parts = and_parts (is_register a) (is_word word) h in
-    two_numbers (codes "set") a word refl refl (register_range a parts.0).2 (ltb-true word (2 ^ 64) parts.1)
-instruction_is_line size (Copy a b) l h =
+pub instruction_is_line : (f : Format) (size : ℕ) (i : Instr) → size ≤ 1024 → can_be_written f size i ≡ true → are_line (words_of_instruction f i) ≡ true
+instruction_is_line f size (Set a word) l h =
+    let parts = and_parts (is_register a) (is_word_in f word) h in
+    two_numbers (codes "set") a word refl refl (register_range a parts.0).2 (word_fits f word parts.1)
+instruction_is_line f size (Copy a b) l h =
     let parts = and_parts (is_register a) (nat_le b 63) h in
     let upper = leb-true b 63 parts.1 in
     two_numbers (codes "copy") a b refl refl (register_range a parts.0).2 (omega (arith, upper))
-instruction_is_line size (Add a word) l h =
-    let parts = and_parts (is_register a) (is_word word) h in
-    two_numbers (codes "add") a word refl refl (register_range a parts.0).2 (ltb-true word (2 ^ 64) parts.1)
-instruction_is_line size (Tag word) l h = one_number (codes "tag") word refl refl (ltb-true word (2 ^ 64) (and_parts _ _ h).0)
-instruction_is_line size (Vs id) l h = and_from _ true (id_is_plain id h) refl
-instruction_is_line size (Ipc to from send receive) l h =
-    let o = operands size to from send receive h in
-    and_from _ _ (destination_is_plain to o.destination) (and_from _ _ (id_is_plain from o.specifier) (and_from _ _ (time_is_plain send o.send_time) (and_from _ true (time_is_plain receive o.receive_time) refl)))
-instruction_is_line size (Ask target CancelSend) l h = and_from _ true (id_is_plain target h) refl
-instruction_is_line size (Ask target CancelReceive) l h = and_from _ true (id_is_plain target h) refl
-instruction_is_line size (Ask target CancelBoth) l h = and_from _ true (id_is_plain target h) refl
-instruction_is_line size (Ask target Delete) l h = and_from _ true (id_is_plain target h) refl
-instruction_is_line size (Jump place) l h = let upper = leb-true place size h in one_number (codes "jump") place refl refl (omega (arith, upper, l))
-instruction_is_line size (OnErr place) l h = let upper = leb-true place size h in one_number (codes "onerr") place refl refl (omega (arith, upper, l))
-instruction_is_line size End l h = refl
+instruction_is_line f size (Add format a word) l h =
+    let parts = and_parts (is_register a) (is_word_in f word) (and_parts (same_format format f) (is_register a && is_word_in f word) h).1 in
+    two_numbers (codes "add") a word refl refl (register_range a parts.0).2 (word_fits f word parts.1)
+instruction_is_line f size (Tag word) l h = one_number (codes "tag") word refl refl (word_fits f word (and_parts _ _ h).0)
+instruction_is_line f size (Vs id) l h = and_from _ true (id_is_plain f id h) refl
+instruction_is_line f size (Ipc to from send receive) l h =
+    let o = operands f size to from send receive h in
+    and_from _ _ (destination_is_plain f to o.destination) (and_from _ _ (id_is_plain f from o.specifier) (and_from _ _ (time_is_plain send o.send_time) (and_from _ true (time_is_plain receive o.receive_time) refl)))
+instruction_is_line f size (Ask target CancelSend) l h = and_from _ true (id_is_plain f target h) refl
+instruction_is_line f size (Ask target CancelReceive) l h = and_from _ true (id_is_plain f target h) refl
+instruction_is_line f size (Ask target CancelBoth) l h = and_from _ true (id_is_plain f target h) refl
+instruction_is_line f size (Ask target Delete) l h = and_from _ true (id_is_plain f target h) refl
+instruction_is_line f size (Jump place) l h = let upper = leb-true place size h in one_number (codes "jump") place refl refl (omega (arith, upper, l))
+instruction_is_line f size (OnErr place) l h = let upper = leb-true place size h in one_number (codes "onerr") place refl refl (omega (arith, upper, l))
+instruction_is_line f size End l h = refl
 
 -- What a line says
 
-pub instruction_read : (n : ℕ) (r : Reading) (size : ℕ) (i : Instr) → 0 < length r.machine.threads → size ≤ 1024 → can_be_written size i ≡ true → thread_line n r (words_of_instruction i) ≡ extended_at n r i
+formats_are_one : (f g : Format) → same_format f g ≡ true → f ≡ g
+formats_are_one W64 W64 h = refl
+formats_are_one W32 W32 h = refl
+formats_are_one W64 W32 h = absurd cc
+formats_are_one W32 W64 h = absurd cc
+
+pub instruction_read : (n : ℕ) (r : Reading) (size : ℕ) (i : Instr) → 0 < length r.machine.threads → size ≤ 1024 → can_be_written r.format size i ≡ true → thread_line n r (words_of_instruction r.format i) ≡ extended_at n r i
 unfolding thread_line instruction_of set_of copy_of add_of tag_of vs_of ipc_of bits_of exregs_of delete_of target_of
 instruction_read n r size (Set a word) some l h =
-    let parts = and_parts (is_register a) (is_word word) h in
+    let parts = and_parts (is_register a) (is_word_in r.format word) h in
     let range = register_range a parts.0 in
-    rw (lt-ltb 0 (length r.machine.threads) some, ranged_read 1 63 a range.0 range.1 (omega arith), number_read word (ltb-true word (2 ^ 64) parts.1)) refl
+    rw (lt-ltb 0 (length r.machine.threads) some, ranged_read 1 63 a range.0 range.1 (omega arith), word_read r.format word parts.1) refl
 instruction_read n r size (Copy a b) some l h =
     let parts = and_parts (is_register a) (nat_le b 63) h in
     let range = register_range a parts.0 in
     rw (lt-ltb 0 (length r.machine.threads) some, ranged_read 1 63 a range.0 range.1 (omega arith), ranged_read 0 63 b (omega arith) (leb-true b 63 parts.1) (omega arith)) refl
-instruction_read n r size (Add a word) some l h =
-    let parts = and_parts (is_register a) (is_word word) h in
+instruction_read n r size (Add format a word) some l h =
+    let both = and_parts (same_format format r.format) (is_register a && is_word_in r.format word) h in
+    let parts = and_parts (is_register a) (is_word_in r.format word) both.1 in
     let range = register_range a parts.0 in
-    rw (lt-ltb 0 (length r.machine.threads) some, ranged_read 1 63 a range.0 range.1 (omega arith), number_read word (ltb-true word (2 ^ 64) parts.1)) refl
+    rw (lt-ltb 0 (length r.machine.threads) some, ranged_read 1 63 a range.0 range.1 (omega arith), word_read r.format word parts.1) (ap (λ (g : Format). extended_at n r (Add g a word)) (sym (formats_are_one format r.format both.0)))
 instruction_read n r size (Tag word) some l h =
     let parts = and_parts _ _ h in
-    rw (lt-ltb 0 (length r.machine.threads) some, number_read word (ltb-true word (2 ^ 64) parts.0), parts.1) refl
-instruction_read n r size (Vs id) some l h = rw (lt-ltb 0 (length r.machine.threads) some, id_read id h) refl
+    rw (lt-ltb 0 (length r.machine.threads) some, word_read r.format word parts.0, parts.1) refl
+instruction_read n r size (Vs id) some l h = rw (lt-ltb 0 (length r.machine.threads) some, id_read r.format id h) refl
 instruction_read n r size (Ipc to from send receive) some l h =
-    let o = operands size to from send receive h in
-    rw (lt-ltb 0 (length r.machine.threads) some, destination_read to o.destination, id_read from o.specifier, time_read send o.send_time, time_read receive o.receive_time) refl
-instruction_read n r size (Ask target CancelSend) some l h = rw (lt-ltb 0 (length r.machine.threads) some, id_read target h) refl
-instruction_read n r size (Ask target CancelReceive) some l h = rw (lt-ltb 0 (length r.machine.threads) some, id_read target h) refl
-instruction_read n r size (Ask target CancelBoth) some l h = rw (lt-ltb 0 (length r.machine.threads) some, id_read target h) refl
-instruction_read n r size (Ask target Delete) some l h = rw (lt-ltb 0 (length r.machine.threads) some, id_read target h) refl
+    let o = operands r.format size to from send receive h in
+    rw (lt-ltb 0 (length r.machine.threads) some, destination_read r.format to o.destination, id_read r.format from o.specifier, time_read send o.send_time, time_read receive o.receive_time) refl
+instruction_read n r size (Ask target CancelSend) some l h = rw (lt-ltb 0 (length r.machine.threads) some, id_read r.format target h) refl
+instruction_read n r size (Ask target CancelReceive) some l h = rw (lt-ltb 0 (length r.machine.threads) some, id_read r.format target h) refl
+instruction_read n r size (Ask target CancelBoth) some l h = rw (lt-ltb 0 (length r.machine.threads) some, id_read r.format target h) refl
+instruction_read n r size (Ask target Delete) some l h = rw (lt-ltb 0 (length r.machine.threads) some, id_read r.format target h) refl
 instruction_read n r size (Jump place) some l h =
     let upper = leb-true place size h in
     rw (lt-ltb 0 (length r.machine.threads) some, number_read place (omega (arith, upper, l))) refl
@@ -260,15 +271,15 @@ instruction_read n r size (OnErr place) some l h =
     rw (lt-ltb 0 (length r.machine.threads) some, number_read place (omega (arith, upper, l))) refl
 instruction_read n r size End some l h = rw (lt-ltb 0 (length r.machine.threads) some) refl
 
-pub record IsDeclarable (cpus : ℕ) (d : Declaration) : Type 0 where
-  pub global : is_global d.id ≡ true
+pub record IsDeclarable (f : Format) (cpus : ℕ) (d : Declaration) : Type 0 where
+  pub global : is_global_in f d.id ≡ true
   pub home : d.cpu < cpus
   pub space : d.space < 2 ^ 32
   pub room : length d.script ≤ 1024
-  pub script : list_all (can_be_written (length d.script)) d.script ≡ true
+  pub script : list_all (can_be_written f (length d.script)) d.script ≡ true
 
-pub declarable : (cpus : ℕ) (d : Declaration) → can_be_declared cpus d ≡ true → IsDeclarable cpus d
-declarable cpus d h =
+pub declarable : (f : Format) (cpus : ℕ) (d : Declaration) → can_be_declared f cpus d ≡ true → IsDeclarable f cpus d
+declarable f cpus d h =
     let all_4 = and_parts _ _ h in
     let all_3 = and_parts _ _ all_4.0 in
     let all_2 = and_parts _ _ all_3.0 in
@@ -281,36 +292,40 @@ declarable cpus d h =
       script = all_4.1;
     }
 
-pub thread_is_line : (cpus : ℕ) (d : Declaration) → cpus ≤ 16 → IsDeclarable cpus d → are_line (words_of_thread d) ≡ true
-thread_is_line cpus d limit h =
+pub thread_is_line : (f : Format) (cpus : ℕ) (d : Declaration) → cpus ≤ 16 → IsDeclarable f cpus d → are_line (words_of_thread d) ≡ true
+thread_is_line f cpus d limit h =
     let home = h.home in
     let space = h.space in
     let cpu = number_is_plain d.cpu (omega (arith, home, limit)) in
     let number = number_is_plain d.space (omega (arith, space)) in
-    and_from _ _ (thread_is_plain d.id h.global) (and_from _ _ cpu (and_from _ _ number refl))
+    and_from _ _ (thread_is_plain f d.id h.global) (and_from _ _ cpu (and_from _ _ number refl))
 
-pub thread_line_read : (n : ℕ) (r : Reading) (d : Declaration) → r.machine.cpus ≤ 16 → IsDeclarable r.machine.cpus d → thread_line n r (words_of_thread d) ≡ declared_in r (record d { script = [] })
+pub thread_line_read : (n : ℕ) (r : Reading) (d : Declaration) → r.machine.cpus ≤ 16 → IsDeclarable r.format r.machine.cpus d → thread_line n r (words_of_thread d) ≡ declared_in r (record d { script = [] })
 unfolding thread_line declaration_of processor_of
 thread_line_read n r d limit h =
     let home = h.home in
     let space = h.space in
     let below : nat_lt d.cpu r.machine.cpus ≡ true = lt-ltb d.cpu r.machine.cpus home in
-    rw (thread_is_read d.id h.global, number_read d.cpu (omega (arith, home, limit)), below, ranged_read 0 (2 ^ 32 - 1) d.space (omega arith) (omega (arith, space)) (omega arith)) refl
+    rw (thread_in_read r.format d.id h.global, number_read d.cpu (omega (arith, home, limit)), below, ranged_read 0 (2 ^ 32 - 1) d.space (omega arith) (omega (arith, space)) (omega arith)) refl
 
 -- The two first lines
 
-pub format_read : (retargeting : Bool) → after_words 1 Format (words_of_format retargeting) ≡ Ok (Processors retargeting)
+pub format_read : (f : Format) (retargeting : Bool) → after_words 1 Start (words_of_format f retargeting) ≡ Ok (Processors (record { retargeting = retargeting; format = f }))
 unfolding after_words format_line number_of
-format_read false = refl
-format_read true = refl
+format_read W64 false = refl
+format_read W64 true = refl
+format_read W32 false = refl
+format_read W32 true = refl
 
-pub format_is_line : (retargeting : Bool) → are_line (words_of_format retargeting) ≡ true
-format_is_line false = refl
-format_is_line true = refl
+pub format_is_line : (f : Format) (retargeting : Bool) → are_line (words_of_format f retargeting) ≡ true
+format_is_line W64 false = refl
+format_is_line W64 true = refl
+format_is_line W32 false = refl
+format_is_line W32 true = refl
 
-pub processors_read : (retargeting : Bool) (cpus : ℕ) → 1 ≤ cpus → cpus ≤ 16 → after_words 2 (Processors retargeting) (codes "cpus" ∷ decimal cpus ∷ []) ≡ Ok (Threads (nothing_read retargeting cpus))
+pub processors_read : (heading : Heading) (cpus : ℕ) → 1 ≤ cpus → cpus ≤ 16 → after_words 2 (Processors heading) (codes "cpus" ∷ decimal cpus ∷ []) ≡ Ok (Threads (nothing_read heading cpus))
 unfolding after_words processors_line
-processors_read retargeting cpus some limit = rw (ranged_read 1 16 cpus some limit (omega arith)) refl
+processors_read heading cpus some limit = rw (ranged_read 1 16 cpus some limit (omega arith)) refl
 
 pub processors_is_line : (cpus : ℕ) → cpus ≤ 16 → are_line (codes "cpus" ∷ decimal cpus ∷ []) ≡ true
 processors_is_line cpus limit = one_number (codes "cpus") cpus refl refl (omega (arith, limit))

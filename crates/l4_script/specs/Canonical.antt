@@ -1,16 +1,17 @@
--- A machine as one text of it: all numbers in decimal, ids by their names or numbers, periods by their least time, and no line or space
+-- A machine as one text of it in a format: all numbers in decimal, ids by their names or numbers, periods by their least time, and no line or space
 -- more than are needed.
-use Rattle.std.specs.Prelude.{ℕ, zero, suc, ◌≡◌, ◌≤◌, ◌+◌, ◌*◌, ◌/◌, ◌%◌, ◌^◌, ◌-◌, Bool, true, false, not, ◌&&◌, ◌==◌, nat_lt, nat_le, if◌then◌else◌, is_some, Ok, Option, Some, None, List, [], ◌∷◌, ◌++◌, length, map, flat_map, find, codes, decimal}
+use Rattle.std.specs.Prelude.{ℕ, zero, suc, ◌≡◌, ◌≤◌, ◌+◌, ◌*◌, ◌/◌, ◌%◌, ◌^◌, Bool, true, false, not, ◌&&◌, ◌==◌, nat_lt, nat_le, if◌then◌else◌, is_some, Ok, Option, Some, None, List, [], ◌∷◌, ◌++◌, length, map, flat_map, find, codes, decimal}
 use Rattle.std.specs.Fmt.{digit_glyph}
 use Rattle.std.specs.List.{list_all, list_any, range_with_len}
-use Rattle.l4_model.specs.Words.{is_global, last_register, Id, NilThread, AnyThread, AnyLocalThread, LocalThread, GlobalThread, Period}
+use Rattle.l4_model.specs.Words.{Format, W64, W32, is_word_in, same_format, is_global_in, has_word_in, last_register, Id, NilThread, AnyThread, AnyLocalThread, LocalThread, GlobalThread, Period}
 use Rattle.l4_model.specs.Machine.{Instr, Set, Copy, Add, Tag, Vs, Ipc, To, ToId, ToLast, Ask, CancelSend, CancelReceive, CancelBoth, Delete, Jump, OnErr, End, Declaration, Machine, most_processors, most_threads, most_instructions}
+use Rattle.l4_model.specs.Formats.{is_of_format}
 use Rattle.l4_core_model.specs.Runs.{IsMachine}
 use Rattle.l4_words.specs.Lines.{line_of_words}
-use Rattle.l4_words.specs.Numbers.{is_word}
 use Rattle.l4_words.specs.Threads.{thread_word}
+use Rattle.l4_script.specs.Ids.{id_digits}
 use Rattle.l4_script.specs.Machines.{has_number}
-use Rattle.l4_script.specs.Texts.{machine_of_text}
+use Rattle.l4_script.specs.Texts.{machine_of_text, format_of_text}
 
 -- Words
 
@@ -20,16 +21,16 @@ low_digits zero n = []
 low_digits (suc count) n = low_digits count (n / 16) ++ digit_glyph false (n % 16) ∷ []
 
 -- A local id has no other spelling than its word.
-abbrev pub id_word : Id → List ℕ
-id_word NilThread = codes "nil"
-id_word AnyThread = codes "any"
-id_word AnyLocalThread = codes "anylocal"
-id_word (LocalThread word) = codes "#" ++ low_digits 16 word
-id_word (GlobalThread t) = thread_word t
+abbrev pub id_word : Format → Id → List ℕ
+id_word f NilThread = codes "nil"
+id_word f AnyThread = codes "any"
+id_word f AnyLocalThread = codes "anylocal"
+id_word f (LocalThread word) = codes "#" ++ low_digits (id_digits f) word
+id_word f (GlobalThread t) = thread_word t
 
-abbrev pub to_word : To → List ℕ
-to_word (ToId id) = id_word id
-to_word ToLast = codes "last"
+abbrev pub to_word : Format → To → List ℕ
+to_word f (ToId id) = id_word f id
+to_word f ToLast = codes "last"
 
 -- These ticks are a mantissa of 10 bits times two to the power of the exponent.
 abbrev pub is_exponent : (ticks exponent : ℕ) → Bool
@@ -50,54 +51,52 @@ time_word (Some ticks) = if ticks == 0 then codes "zero" else ticks_word ticks (
 
 -- Lines, as the lists of their words
 
-abbrev pub words_of_instruction : Instr → List (List ℕ)
-words_of_instruction (Set a word) = codes "set" ∷ decimal a ∷ decimal word ∷ []
-words_of_instruction (Copy a b) = codes "copy" ∷ decimal a ∷ decimal b ∷ []
-words_of_instruction (Add a word) = codes "add" ∷ decimal a ∷ decimal word ∷ []
-words_of_instruction (Tag word) = codes "tag" ∷ decimal word ∷ []
-words_of_instruction (Vs id) = codes "vs" ∷ id_word id ∷ []
-words_of_instruction (Ipc to from send receive) = codes "ipc" ∷ to_word to ∷ id_word from ∷ time_word send ∷ time_word receive ∷ []
-words_of_instruction (Ask target CancelSend) = codes "exregs" ∷ id_word target ∷ codes "S" ∷ []
-words_of_instruction (Ask target CancelReceive) = codes "exregs" ∷ id_word target ∷ codes "R" ∷ []
-words_of_instruction (Ask target CancelBoth) = codes "exregs" ∷ id_word target ∷ codes "SR" ∷ []
-words_of_instruction (Ask target Delete) = codes "delete" ∷ id_word target ∷ []
-words_of_instruction (Jump place) = codes "jump" ∷ decimal place ∷ []
-words_of_instruction (OnErr place) = codes "onerr" ∷ decimal place ∷ []
-words_of_instruction End = codes "end" ∷ []
+abbrev pub words_of_instruction : Format → Instr → List (List ℕ)
+words_of_instruction f (Set a word) = codes "set" ∷ decimal a ∷ decimal word ∷ []
+words_of_instruction f (Copy a b) = codes "copy" ∷ decimal a ∷ decimal b ∷ []
+words_of_instruction f (Add format a word) = codes "add" ∷ decimal a ∷ decimal word ∷ []
+words_of_instruction f (Tag word) = codes "tag" ∷ decimal word ∷ []
+words_of_instruction f (Vs id) = codes "vs" ∷ id_word f id ∷ []
+words_of_instruction f (Ipc to from send receive) = codes "ipc" ∷ to_word f to ∷ id_word f from ∷ time_word send ∷ time_word receive ∷ []
+words_of_instruction f (Ask target CancelSend) = codes "exregs" ∷ id_word f target ∷ codes "S" ∷ []
+words_of_instruction f (Ask target CancelReceive) = codes "exregs" ∷ id_word f target ∷ codes "R" ∷ []
+words_of_instruction f (Ask target CancelBoth) = codes "exregs" ∷ id_word f target ∷ codes "SR" ∷ []
+words_of_instruction f (Ask target Delete) = codes "delete" ∷ id_word f target ∷ []
+words_of_instruction f (Jump place) = codes "jump" ∷ decimal place ∷ []
+words_of_instruction f (OnErr place) = codes "onerr" ∷ decimal place ∷ []
+words_of_instruction f End = codes "end" ∷ []
 
 abbrev pub words_of_thread : Declaration → List (List ℕ)
 words_of_thread d = codes "thread" ∷ thread_word d.id ∷ codes "cpu" ∷ decimal d.cpu ∷ codes "space" ∷ decimal d.space ∷ []
 
-abbrev pub lines_of_thread : Declaration → List (List (List ℕ))
-lines_of_thread d = words_of_thread d ∷ map words_of_instruction d.script
+abbrev pub lines_of_thread : Format → Declaration → List (List (List ℕ))
+lines_of_thread f d = words_of_thread d ∷ map (words_of_instruction f) d.script
 
 abbrev pub profile_word : (retargeting : Bool) → List ℕ
 profile_word false = codes "1"
 profile_word true = codes "2"
 
-abbrev pub words_of_format : (retargeting : Bool) → List (List ℕ)
-words_of_format retargeting = codes "l4" ∷ profile_word retargeting ∷ codes "64" ∷ []
+abbrev pub width_word : Format → List ℕ
+width_word W64 = codes "64"
+width_word W32 = codes "32"
 
-abbrev pub lines_of : Machine → List (List (List ℕ))
-lines_of m = words_of_format m.retargeting ∷ (codes "cpus" ∷ decimal m.cpus ∷ []) ∷ flat_map lines_of_thread m.threads
+abbrev pub words_of_format : Format → (retargeting : Bool) → List (List ℕ)
+words_of_format f retargeting = codes "l4" ∷ profile_word retargeting ∷ width_word f ∷ []
 
-abbrev pub canonical_text : Machine → List ℕ
-canonical_text m = flat_map line_of_words (lines_of m)
+abbrev pub lines_of : Format → Machine → List (List (List ℕ))
+lines_of f m = words_of_format f m.retargeting ∷ (codes "cpus" ∷ decimal m.cpus ∷ []) ∷ flat_map (lines_of_thread f) m.threads
 
--- Which machines a text can declare
+abbrev pub canonical_text : Format → Machine → List ℕ
+canonical_text f m = flat_map line_of_words (lines_of f m)
+
+-- Which machines a text of a format can declare. One whose sums are in 32 bits has no text in 64 bits, and the other way round.
 
 abbrev pub is_register : ℕ → Bool
 is_register n = nat_le 1 n && nat_le n last_register
 
--- An id that stands for a word.
-abbrev pub has_word : Id → Bool
-has_word (LocalThread word) = is_word word && not (word == 0) && not (word == 2 ^ 64 - 64) && word % 64 == 0
-has_word (GlobalThread t) = is_global t
-has_word id = true
-
-abbrev pub has_destination : To → Bool
-has_destination (ToId id) = has_word id
-has_destination ToLast = true
+abbrev pub has_destination : Format → To → Bool
+has_destination f (ToId id) = has_word_in f id
+has_destination f ToLast = true
 
 -- A period that some time means.
 abbrev pub has_time : Period → Bool
@@ -105,40 +104,44 @@ has_time None = true
 has_time (Some ticks) = is_some (exponent_of ticks)
 
 -- An instruction of a script of this size.
-abbrev pub can_be_written : (size : ℕ) → Instr → Bool
-can_be_written size (Set a word) = is_register a && is_word word
-can_be_written size (Copy a b) = is_register a && nat_le b last_register
-can_be_written size (Add a word) = is_register a && is_word word
-can_be_written size (Tag word) = is_word word && word / 2 ^ 6 % 64 == 0
-can_be_written size (Vs id) = has_word id
-can_be_written size (Ipc to from send receive) = has_destination to && has_word from && has_time send && has_time receive
-can_be_written size (Ask target what) = has_word target
-can_be_written size (Jump place) = nat_le place size
-can_be_written size (OnErr place) = nat_le place size
-can_be_written size End = true
+abbrev pub can_be_written : Format → (size : ℕ) → Instr → Bool
+can_be_written f size (Set a word) = is_register a && is_word_in f word
+can_be_written f size (Copy a b) = is_register a && nat_le b last_register
+can_be_written f size (Add format a word) = same_format format f && (is_register a && is_word_in f word)
+can_be_written f size (Tag word) = is_word_in f word && word / 2 ^ 6 % 64 == 0
+can_be_written f size (Vs id) = has_word_in f id
+can_be_written f size (Ipc to from send receive) = has_destination f to && has_word_in f from && has_time send && has_time receive
+can_be_written f size (Ask target what) = has_word_in f target
+can_be_written f size (Jump place) = nat_le place size
+can_be_written f size (OnErr place) = nat_le place size
+can_be_written f size End = true
 
 -- A thread of a machine of this number of processors.
-abbrev pub can_be_declared : (cpus : ℕ) → Declaration → Bool
-can_be_declared cpus d =
-    is_global d.id && nat_lt d.cpu cpus && nat_lt d.space (2 ^ 32) && nat_le (length d.script) most_instructions
-    && list_all (can_be_written (length d.script)) d.script
+abbrev pub can_be_declared : Format → (cpus : ℕ) → Declaration → Bool
+can_be_declared f cpus d =
+    is_global_in f d.id && nat_lt d.cpu cpus && nat_lt d.space (2 ^ 32) && nat_le (length d.script) most_instructions
+    && list_all (can_be_written f (length d.script)) d.script
 
 -- No thread number stands twice.
 abbrev pub are_apart : List Declaration → Bool
 are_apart [] = true
 are_apart (d ∷ ds) = not (list_any (has_number d.id.number) ds) && are_apart ds
 
-pub record HasText (m : Machine) : Type 0 where
+pub record HasText (f : Format) (m : Machine) : Type 0 where
   pub some : 1 ≤ m.cpus
   pub limit : m.cpus ≤ most_processors
   pub few : length m.threads ≤ most_threads
   pub apart : are_apart m.threads ≡ true
-  pub each : list_all (can_be_declared m.cpus) m.threads ≡ true
+  pub each : list_all (can_be_declared f m.cpus) m.threads ≡ true
 
--- A machine that has a canonical text is what is read of it, unless that text is too long.
+-- A machine that has a canonical text in a format is what is read of it, unless that text is too long.
 abbrev pub IsReadBack : Type 0
-IsReadBack = (m : Machine) → HasText m → length (canonical_text m) ≤ 0x100000 → machine_of_text (canonical_text m) ≡ Ok m
+IsReadBack = (f : Format) (m : Machine) → HasText f m → length (canonical_text f m) ≤ 0x100000 → machine_of_text (canonical_text f m) ≡ Ok m
 
--- Every machine that is read of a text, however it is spelled, has a canonical text.
+-- Every machine that is read of a text, however it is spelled, has a canonical text in the format that the text names.
 abbrev pub EachHasText : Type 0
-EachHasText = (text : List ℕ) (m : Machine) → machine_of_text text ≡ Ok m → IsMachine m × HasText m
+EachHasText = (text : List ℕ) (m : Machine) → machine_of_text text ≡ Ok m → IsMachine m × ((f : Format) × (format_of_text text ≡ Some f) × HasText f m)
+
+-- The scripts of a machine that has a text in a format write words of this format alone.
+abbrev pub WritesItsWords : Type 0
+WritesItsWords = (f : Format) (m : Machine) → HasText f m → is_of_format f m ≡ true

@@ -1,6 +1,7 @@
 pub mod Calls
 pub mod Canonical
 pub mod Faults
+pub mod Headings
 pub mod Ids
 pub mod Judged
 pub mod Lines

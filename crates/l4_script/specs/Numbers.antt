@@ -1,7 +1,7 @@
 -- Numbers as machine texts spell them.
-use Rattle.std.specs.Prelude.{ℕ, ◌&&◌, nat_le, if◌then◌else◌, Option, Ok, List, take, drop, codes}
+use Rattle.std.specs.Prelude.{ℕ, ◌&&◌, nat_le, nat_lt, if◌then◌else◌, Option, Ok, List, take, drop, codes}
 use Rattle.std.specs.Str.{bytes_eq}
-use Rattle.l4_model.specs.Words.{Period, period_of}
+use Rattle.l4_model.specs.Words.{Format, word_limit, Period, period_of}
 use Rattle.l4_words.specs.Numbers.{padded_of}
 use Rattle.l4_words.specs.Numbers as words
 use Rattle.l4_script.specs.declared.text.fault.TextFaultKind.TheVariants.{BadNumber}
@@ -16,6 +16,13 @@ unfoldable pub number_from : (low high : ℕ) → List ℕ → Judged ℕ
 number_from low high word = do
   value ← needs (number_of word) BadNumber
   must (nat_le low value && nat_le value high) BadNumber
+  Ok value
+
+-- A word of a format. How many digits it has does not matter.
+unfoldable pub word_from : Format → List ℕ → Judged ℕ
+word_from format word = do
+  value ← needs (number_of word) BadNumber
+  must (nat_lt value (word_limit format)) BadNumber
   Ok value
 
 -- A time as a number: its 15 bits.

@@ -1,5 +1,5 @@
 -- The instructions of a script as the model has them.
-use Rattle.l4_model.specs.Words.{word_of_tag}
+use Rattle.l4_model.specs.Words.{W64, W32, word_of_tag}
 use Rattle.l4_model.specs.Machine as model
 use Rattle.l4_types.specs.PeriodView.{period_of}
 use Rattle.l4_types.specs.StepView.{what_of}
@@ -19,7 +19,8 @@ ipc_of call = model.Ipc (to_of call.to) call.from (period_of call.send_period) (
 abbrev pub instr_of : Instr → model.Instr
 instr_of (instrs.Set register word) = model.Set register word
 instr_of (instrs.Copy register source) = model.Copy register source
-instr_of (instrs.Add register word) = model.Add register word
+instr_of (instrs.Add register word) = model.Add W64 register word
+instr_of (instrs.ShortAdd register word) = model.Add W32 register word
 instr_of (instrs.Tag tag) = model.Tag (word_of_tag tag)
 instr_of (instrs.Vs id) = model.Vs id
 instr_of (instrs.Ipc ipc) = ipc_of ipc

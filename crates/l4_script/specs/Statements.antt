@@ -2,43 +2,53 @@
 use Rattle.std.specs.Prelude.{ℕ, ◌/◌, ◌%◌, ◌^◌, ◌-◌, Bool, true, false, ◌&&◌, ◌==◌, not, nat_lt, if◌then◌else◌, Option, Some, None, Ok, Err, List, [], ◌∷◌, find, length, codes}
 use Rattle.std.specs.Option.{option_map}
 use Rattle.std.specs.Str.{bytes_eq}
-use Rattle.l4_model.specs.Words.{last_register}
+use Rattle.l4_model.specs.Words.{Format, W64, W32, last_register}
 use Rattle.l4_model.specs.Machine.{Instr, Set, Copy, Add, Tag, Vs, Ipc, To, ToId, ToLast, Ask, What, CancelSend, CancelReceive, CancelBoth, Delete, Jump, OnErr, End, Declaration, Machine, most_processors, most_threads, most_instructions}
 use Rattle.l4_script.specs.declared.text.fault.TextFaultKind.TheVariants.{BadLine, BadNumber, BadId, BadCpu, TypedItems, DoubleId, TooManyThreads, TooManyInstructions}
 use Rattle.l4_script.specs.Judged.{Judged, ◌>>=◌, ◌>>◌, must, needs}
-use Rattle.l4_script.specs.Numbers.{number_of, number_from, time_from}
-use Rattle.l4_words.specs.Threads.{thread_of}
+use Rattle.l4_script.specs.Numbers.{number_of, number_from, word_from, time_from}
 use Rattle.l4_words.specs.Words.{one, two, four, five}
-use Rattle.l4_script.specs.Ids.{id_of}
+use Rattle.l4_script.specs.Ids.{thread_in, id_of}
 use Rattle.l4_script.specs.Lines.{after}
 use Rattle.l4_script.specs.Machines.{is_taken, with_thread, last_thread, extended}
 
--- A first line: its profile, how many bits a word has, and whether its machine retargets.
+-- What a first line says: whether its machine retargets, and the format of its words.
+pub record Heading : Type 0 where
+  pub retargeting : Bool
+  pub format : Format
+
+-- A first line: its profile, how many bits a word has, and what these say.
 pub record FirstLine : Type 0 where
   pub profile : ℕ
   pub width : ℕ
-  pub retargeting : Bool
+  pub heading : Heading
+
+abbrev pub first_line : (profile width : ℕ) → (retargeting : Bool) → Format → FirstLine
+first_line profile width retargeting format =
+    record { profile = profile; width = width; heading = record { retargeting = retargeting; format = format } }
 
 abbrev pub first_lines : List FirstLine
 first_lines =
-    record { profile = 1; width = 64; retargeting = false }
-    ∷ record { profile = 2; width = 64; retargeting = true } ∷ []
+    first_line 1 64 false W64
+    ∷ first_line 1 32 false W32
+    ∷ first_line 2 64 true W64
+    ∷ first_line 2 32 true W32 ∷ []
 
 abbrev pub names : (profile width : ℕ) → FirstLine → Bool
 names profile width line = profile == line.profile && width == line.width
 
--- Whether the machine of these numbers retargets, where there is such a first line.
-abbrev pub retargeting_of : (profile width : ℕ) → Option Bool
-retargeting_of profile width = option_map (λ line. line.retargeting) (find (names profile width) first_lines)
+-- What these numbers say, where there is such a first line.
+abbrev pub heading_by : (profile width : ℕ) → Option Heading
+heading_by profile width = option_map (λ line. line.heading) (find (names profile width) first_lines)
 
--- `l4 1 64` and `l4 2 64`.
-unfoldable pub format_line : List (List ℕ) → Judged Bool
+-- `l4 1 64`, `l4 1 32`, `l4 2 64` and `l4 2 32`.
+unfoldable pub format_line : List (List ℕ) → Judged Heading
 format_line words = do
   operands ← after (codes "l4") words
   numbers ← needs (two operands) BadLine
   profile ← needs (number_of numbers.0) BadNumber
   width ← needs (number_of numbers.1) BadNumber
-  needs (retargeting_of profile width) BadNumber
+  needs (heading_by profile width) BadNumber
 
 -- `cpus N`.
 unfoldable pub processors_line : List (List ℕ) → Judged ℕ
@@ -55,21 +65,21 @@ processor_of cpus word = do
   Ok cpu
 
 -- `thread ID cpu P space S`, behind its first word.
-unfoldable pub declaration_of : (cpus : ℕ) → List (List ℕ) → Judged Declaration
-declaration_of cpus operands = do
+unfoldable pub declaration_of : Format → (cpus : ℕ) → List (List ℕ) → Judged Declaration
+declaration_of format cpus operands = do
   words ← needs (five operands) BadLine
   must (bytes_eq words.1 (codes "cpu") && bytes_eq words.3 (codes "space")) BadLine
-  id ← needs (thread_of words.0) BadId
+  id ← needs (thread_in format words.0) BadId
   cpu ← processor_of cpus words.2
   space ← number_from 0 (2 ^ 32 - 1) words.4
   Ok (record { id = id; cpu = cpu; space = space; script = [] })
 
 -- `set A W`, behind its first word.
-unfoldable pub set_of : List (List ℕ) → Judged Instr
-set_of operands = do
+unfoldable pub set_of : Format → List (List ℕ) → Judged Instr
+set_of format operands = do
   numbers ← needs (two operands) BadLine
   register ← number_from 1 last_register numbers.0
-  word ← needs (number_of numbers.1) BadNumber
+  word ← word_from format numbers.1
   Ok (Set register word)
 
 -- `copy A B`, behind its first word.
@@ -81,38 +91,38 @@ copy_of operands = do
   Ok (Copy register source)
 
 -- `add A W`, behind its first word.
-unfoldable pub add_of : List (List ℕ) → Judged Instr
-add_of operands = do
+unfoldable pub add_of : Format → List (List ℕ) → Judged Instr
+add_of format operands = do
   numbers ← needs (two operands) BadLine
   register ← number_from 1 last_register numbers.0
-  word ← needs (number_of numbers.1) BadNumber
-  Ok (Add register word)
+  word ← word_from format numbers.1
+  Ok (Add format register word)
 
 -- `tag W`, behind its first word: bits 6 to 11 are the number of typed words.
-unfoldable pub tag_of : List (List ℕ) → Judged Instr
-tag_of operands = do
+unfoldable pub tag_of : Format → List (List ℕ) → Judged Instr
+tag_of format operands = do
   number ← needs (one operands) BadLine
-  word ← needs (number_of number) BadNumber
+  word ← word_from format number
   must (word / 2 ^ 6 % 64 == 0) TypedItems
   Ok (Tag word)
 
 -- `vs ID`, behind its first word.
-unfoldable pub vs_of : List (List ℕ) → Judged Instr
-vs_of operands = do
+unfoldable pub vs_of : Format → List (List ℕ) → Judged Instr
+vs_of format operands = do
   word ← needs (one operands) BadLine
-  id ← needs (id_of word) BadId
+  id ← needs (id_of format word) BadId
   Ok (Vs id)
 
 -- Where an ipc sends to: an id, or `last`.
-unfoldable pub destination_of : List ℕ → Judged To
-destination_of word = if bytes_eq word (codes "last") then Ok ToLast else (needs (id_of word) BadId >>= λ id. Ok (ToId id))
+unfoldable pub destination_of : Format → List ℕ → Judged To
+destination_of format word = if bytes_eq word (codes "last") then Ok ToLast else (needs (id_of format word) BadId >>= λ id. Ok (ToId id))
 
 -- `ipc TO FROM STO RTO`, behind its first word.
-unfoldable pub ipc_of : List (List ℕ) → Judged Instr
-ipc_of operands = do
+unfoldable pub ipc_of : Format → List (List ℕ) → Judged Instr
+ipc_of format operands = do
   words ← needs (four operands) BadLine
-  to ← destination_of words.0
-  from ← needs (id_of words.1) BadId
+  to ← destination_of format words.0
+  from ← needs (id_of format words.1) BadId
   send ← time_from words.2
   receive ← time_from words.3
   Ok (Ipc to from send receive)
@@ -126,18 +136,18 @@ bits_of word =
     else None))
 
 -- `exregs ID S`, `exregs ID R` and `exregs ID SR`, behind the first word: the last one is a keyword.
-unfoldable pub exregs_of : List (List ℕ) → Judged Instr
-exregs_of operands = do
+unfoldable pub exregs_of : Format → List (List ℕ) → Judged Instr
+exregs_of format operands = do
   words ← needs (two operands) BadLine
   what ← needs (bits_of words.1) BadLine
-  target ← needs (id_of words.0) BadId
+  target ← needs (id_of format words.0) BadId
   Ok (Ask target what)
 
 -- `delete ID`, behind its first word.
-unfoldable pub delete_of : List (List ℕ) → Judged Instr
-delete_of operands = do
+unfoldable pub delete_of : Format → List (List ℕ) → Judged Instr
+delete_of format operands = do
   word ← needs (one operands) BadLine
-  target ← needs (id_of word) BadId
+  target ← needs (id_of format word) BadId
   Ok (Ask target Delete)
 
 -- `jump L` and `onerr L`, behind the first word: whether there is such a place shows at the end of the text.
@@ -152,16 +162,16 @@ end_of [] = Ok End
 end_of _ = Err BadLine
 
 -- An instruction by its first word.
-unfoldable pub instruction_of : (name : List ℕ) → (operands : List (List ℕ)) → Judged Instr
-instruction_of name operands =
-    if bytes_eq name (codes "set") then set_of operands
+unfoldable pub instruction_of : Format → (name : List ℕ) → (operands : List (List ℕ)) → Judged Instr
+instruction_of format name operands =
+    if bytes_eq name (codes "set") then set_of format operands
     else (if bytes_eq name (codes "copy") then copy_of operands
-    else (if bytes_eq name (codes "add") then add_of operands
-    else (if bytes_eq name (codes "tag") then tag_of operands
-    else (if bytes_eq name (codes "vs") then vs_of operands
-    else (if bytes_eq name (codes "ipc") then ipc_of operands
-    else (if bytes_eq name (codes "exregs") then exregs_of operands
-    else (if bytes_eq name (codes "delete") then delete_of operands
+    else (if bytes_eq name (codes "add") then add_of format operands
+    else (if bytes_eq name (codes "tag") then tag_of format operands
+    else (if bytes_eq name (codes "vs") then vs_of format operands
+    else (if bytes_eq name (codes "ipc") then ipc_of format operands
+    else (if bytes_eq name (codes "exregs") then exregs_of format operands
+    else (if bytes_eq name (codes "delete") then delete_of format operands
     else (if bytes_eq name (codes "jump") then (target_of operands >>= λ place. Ok (Jump place))
     else (if bytes_eq name (codes "onerr") then (target_of operands >>= λ place. Ok (OnErr place))
     else (if bytes_eq name (codes "end") then end_of operands

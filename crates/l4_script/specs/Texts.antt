@@ -1,6 +1,7 @@
 -- The machine that a text declares, or its first fault.
 use Rattle.std.specs.Prelude.{ℕ, ◌≡◌, ◌⊎◌, ◌+◌, Bool, ◌==◌, nat_lt, if◌then◌else◌, Option, Some, None, Result, Ok, Err, List, [], ◌∷◌, ◌++◌, length, find, codes}
 use Rattle.std.specs.Str.{bytes_eq}
+use Rattle.l4_model.specs.Words.{Format}
 use Rattle.l4_model.specs.Machine.{Instr, Jump, OnErr, Declaration, Machine}
 use Rattle.l4_core_model.specs.Local.{declared}
 use Rattle.l4_script.specs.declared.text.fault.TextFault.{TextFault}
@@ -10,7 +11,7 @@ use Rattle.l4_script.specs.Judged.{Judged, ◌>>=◌, ◌>>◌, must}
 use Rattle.l4_words.specs.Lines.{parts_of}
 use Rattle.l4_script.specs.Lines.{line_of}
 use Rattle.l4_script.specs.Machines.{last_place, machine_with}
-use Rattle.l4_script.specs.Statements.{format_line, processors_line, declaration_of, instruction_of, declare, extend}
+use Rattle.l4_script.specs.Statements.{Heading, format_line, processors_line, declaration_of, instruction_of, declare, extend}
 
 -- A line that names a place of its script: the number of the line, the place of its thread, and the place that it names.
 pub record Target : Type 0 where
@@ -18,15 +19,16 @@ pub record Target : Type 0 where
   pub thread : ℕ
   pub place : ℕ
 
--- The machine of the lines so far, and the places that they name.
+-- The format of the text, the machine of the lines so far, and the places that they name.
 pub record Reading : Type 0 where
+  pub format : Format
   pub machine : Machine
   pub targets : List Target
 
 -- What comes next in a text: the `l4` line, the `cpus` line, or the lines of threads.
 pub data Stage : Type 0 where
-  Format : Stage
-  Processors : (retargeting : Bool) → Stage
+  Start : Stage
+  Processors : Heading → Stage
   Threads : Reading → Stage
 
 abbrev pub target : (line thread place : ℕ) → List Target
@@ -38,8 +40,8 @@ targets_of line thread (OnErr place) = target line thread place
 targets_of line thread instr = []
 
 -- No thread was read.
-abbrev pub nothing_read : (retargeting : Bool) → (cpus : ℕ) → Reading
-nothing_read retargeting cpus = record { machine = machine_with retargeting cpus []; targets = [] }
+abbrev pub nothing_read : Heading → (cpus : ℕ) → Reading
+nothing_read heading cpus = record { format = heading.format; machine = machine_with heading.retargeting cpus []; targets = [] }
 
 -- One more thread, or one more instruction of the last thread.
 abbrev pub declared_in : Reading → Declaration → Judged Reading
@@ -56,17 +58,17 @@ unfoldable pub thread_line : (line : ℕ) → Reading → List (List ℕ) → Ju
 thread_line line r [] = Err BadLine
 thread_line line r (name ∷ operands) =
     if bytes_eq name (codes "thread") then (do
-      thread ← declaration_of r.machine.cpus operands
+      thread ← declaration_of r.format r.machine.cpus operands
       declared_in r thread)
     else (do
       must (nat_lt 0 (length r.machine.threads)) BadLine
-      instr ← instruction_of name operands
+      instr ← instruction_of r.format name operands
       extended_at line r instr)
 
 -- What comes next after a line of words.
 unfoldable pub after_words : (line : ℕ) → Stage → List (List ℕ) → Judged Stage
-after_words line Format words = format_line words >>= λ retargeting. Ok (Processors retargeting)
-after_words line (Processors retargeting) words = processors_line words >>= λ cpus. Ok (Threads (nothing_read retargeting cpus))
+after_words line Start words = format_line words >>= λ heading. Ok (Processors heading)
+after_words line (Processors heading) words = processors_line words >>= λ cpus. Ok (Threads (nothing_read heading cpus))
 after_words line (Threads r) words = thread_line line r words >>= λ after. Ok (Threads after)
 
 abbrev pub after_said : (line : ℕ) → Stage → Option (List (List ℕ)) → Judged Stage
@@ -103,7 +105,24 @@ read (part ∷ next ∷ parts) stage line = judged_at line (after_line line stag
 
 -- A text has at most 1,048,576 bytes.
 abbrev pub machine_of_text : List ℕ → Result Machine TextFault
-machine_of_text text = if nat_lt 0x100000 (length text) then Err (fault_at 0 TooLong) else read (parts_of text) Format 1
+machine_of_text text = if nat_lt 0x100000 (length text) then Err (fault_at 0 TooLong) else read (parts_of text) Start 1
+
+-- The format that the first line with words names.
+abbrev pub named_by : Judged Heading → Option Format
+named_by (Ok heading) = Some heading.format
+named_by (Err kind) = None
+
+abbrev pub format_from : Judged (Option (List (List ℕ))) → (behind : Option Format) → Option Format
+format_from (Ok None) behind = behind
+format_from (Ok (Some words)) behind = named_by (format_line words)
+format_from (Err kind) behind = None
+
+abbrev pub format_of_parts : (parts : List (List ℕ)) → Option Format
+format_of_parts [] = None
+format_of_parts (part ∷ parts) = format_from (line_of part) (format_of_parts parts)
+
+abbrev pub format_of_text : List ℕ → Option Format
+format_of_text text = format_of_parts (parts_of text)
 
 -- What was read of a text is what the definition gives, unless memory ran out.
 abbrev pub Reads : {X : Type 0} → Result X TextFault → Result X TextFault → Type 0

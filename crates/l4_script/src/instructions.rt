@@ -177,8 +177,10 @@ pub enum Instr {
     Set(Register, u64),
     /// The register becomes what the other one has.
     Copy(Register, Source),
-    /// The register becomes its sum with the word, modulo 2^64.
+    /// The register becomes its sum with the word, modulo 2^64: of a text of 64 bits.
     Add(Register, u64),
+    /// The same modulo 2^32: of a text of 32 bits.
+    ShortAdd(Register, u64),
     /// MR0 becomes the tag.
     Tag(MsgTag),
     /// The register that is VirtualSender and ActualSender becomes the id (manual: Thread Control Registers).

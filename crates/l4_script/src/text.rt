@@ -1,8 +1,8 @@
 //! Machine texts, and their reader.
 ghost use Rattle.std.specs.Prelude.{◌≡◌, ◌≤◌, length};
-ghost use Rattle.l4_script.specs.Canonical.{IsReadBack, EachHasText};
+ghost use Rattle.l4_script.specs.Canonical.{IsReadBack, EachHasText, WritesItsWords};
 ghost use Rattle.l4_words.specs.Lines.{parts_of};
-ghost use Rattle.l4_script.specs.Texts.{Format, Reads, read, machine_of_text};
+ghost use Rattle.l4_script.specs.Texts.{Start, Reads, read, machine_of_text};
 
 mod fault;
 mod ids;
@@ -39,9 +39,9 @@ impl Machine {
 /// The machine of a text that is not too long.
 fn read(alloc: Global, text: &[u8]) -> Result<Machine, TextFault>
     requires { length text.now ≤ 0x10_0000 }
-    ensures { Reads result (read (parts_of text.now) Format 1) }
+    ensures { Reads result (read (parts_of text.now) Start 1) }
 {
-    let mut stage = Stage::Format;
+    let mut stage = Stage::Start;
     let mut rest = text;
     let mut number = 1;
     'lines: while let Some((line, others)) = split_line(rest) {
@@ -55,9 +55,11 @@ fn read(alloc: Global, text: &[u8]) -> Result<Machine, TextFault>
     stage.ended(number)
 }
 
-/// A machine printed in the canonical spelling is read as itself: the text that has a line for each of its threads and instructions, with
-/// every number in decimal, declares that machine and no other. These are all machines that texts can declare.
+/// A machine printed in the canonical spelling of a format is read as itself: the text that has a line for each of its threads and
+/// instructions, with every number in decimal, declares that machine and no other. These are all machines that texts can declare,
+/// each in the format that its text names, and their scripts write words of that format alone.
 pub fn law_canonical_text()
     ensures read_back { IsReadBack }
     ensures each { EachHasText }
+    ensures words { WritesItsWords }
 {}

@@ -70,7 +70,7 @@ pub sends_phase : (m : Machine) (sender : GlobalId) (now : ℕ) (c : Context) (i
     act m sender now c instr ≡ Sends (record { to = s.0; message = s.1; period = s.2; since = now; receive = (phases_of (may_show m sender c.actual) sender c instr).receive })
 sends_phase m sender now c (Set a word) s h = cc
 sends_phase m sender now c (Copy a b) s h = cc
-sends_phase m sender now c (Add a word) s h = cc
+sends_phase m sender now c (Add format a word) s h = cc
 sends_phase m sender now c (Tag word) s h = cc
 sends_phase m sender now c (Vs id) s h = cc
 sends_phase m sender now c (Ipc to from send_period receive_period) s h =

@@ -1,10 +1,11 @@
 //! The part of a thread that its own instructions read and write.
 ghost use Rattle.std.specs.Prelude.{◌≡◌, ◌<◌, ◌^◌, ◌+◌, ◌%◌, IfSome, false, true, take, drop, length, List, [], ℕ};
 ghost use Rattle.std.specs.Option.{option_map};
-ghost use Rattle.l4_model.specs.Words.{word_of_tag, register_count};
+ghost use Rattle.l4_model.specs.Words.{word_of_tag, word_limit, register_count};
 ghost use Rattle.l4_model.specs.World.{opening_context};
 ghost use Rattle.l4_model.specs.Rules.{failed, sent, received, ordered, advanced, ran, register, with_register, destination, receive_phase};
 ghost use Rattle.l4_types.specs.Codes.{code_of};
+ghost use Rattle.l4_types.specs.FormatView.{format_of};
 ghost use Rattle.l4_types.specs.PeriodView.{period_of, IsTimely};
 ghost use Rattle.l4_script.specs.Scripts.{instr_of, ipc_of, to_of};
 ghost use Rattle.l4_thread.specs.Held.{message_of};
@@ -15,6 +16,7 @@ use crate::requests::{Begun, Request};
 use crate::sends::{Head, Words};
 use l4_script::instructions::{Instr, Ipc, Register, To};
 use l4_types::errors::IpcError;
+use l4_types::formats::Format;
 use l4_types::ids::{GlobalId, ThreadId};
 use l4_types::messages::Message;
 use l4_types::registers::Regs;
@@ -110,6 +112,14 @@ impl Thread {
         self.regs.words[usize::from(number)]
     }
 
+    // A message register becomes its sum with a word, as a format counts it.
+    fn add(&mut self, format: Format, to: Register, word: u64)
+        ensures { self.new ≡ record self.old { context = with_register to ((register self.old.context to + word) % word_limit (format_of format)) self.old.context } }
+    {
+        let sum = format.sum(self.register(to.number()), word);
+        self.set(to, sum);
+    }
+
     // It goes on at a place of the script.
     fn jump(&mut self, place: u64)
         ensures { self.new ≡ record self.old { context = record self.old.context { place = place } } }
@@ -127,10 +137,8 @@ impl Thread {
         match instr {
             Instr::Set(register, word) => self.set(*register, *word),
             Instr::Copy(register, source) => self.set(*register, self.register(source.number())),
-            Instr::Add(register, word) => {
-                let sum = self.register(register.number()).wrapping_add(*word);
-                self.set(*register, sum);
-            }
+            Instr::Add(register, word) => self.add(Format::W64, *register, *word),
+            Instr::ShortAdd(register, word) => self.add(Format::W32, *register, *word),
             Instr::Tag(tag) => self.regs.words[0] = tag.raw(),
             Instr::Vs(id) => self.regs.actual = *id,
             Instr::Ipc(_) => self.sent(),

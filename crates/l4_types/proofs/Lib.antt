@@ -1,2 +1,3 @@
+pub mod InFormats
 pub mod Products
 mod Values

@@ -1,6 +1,7 @@
 pub mod ClockTick
 pub mod Codes
 pub mod Flags
+pub mod FormatView
 pub mod Ids
 pub mod LetterView
 pub mod OwedView
@@ -8,4 +9,5 @@ pub mod PeriodView
 pub mod ReportView
 pub mod StepView
 pub mod TagLemmas
+pub mod TagView
 pub mod WordLemmas

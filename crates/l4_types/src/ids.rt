@@ -1,14 +1,26 @@
 //! Thread ids (manual: ThreadId).
-ghost use Rattle.std.specs.Prelude.{◌≡◌, ◌/◌, ◌%◌, ◌^◌, ◌↔◌, true, IsSome, IfSome};
-ghost use Rattle.l4_model.specs.Words.{GlobalThread, word_of, id_of_word, is_global, global_id};
+ghost use Rattle.std.specs.Prelude.{◌≡◌, ◌/◌, ◌%◌, ◌^◌, ◌↔◌, true, IsSome, IfSome, Some};
+ghost use Rattle.l4_model.specs.Words.{W32, GlobalThread, word_of, word_in, id_of_word, id_in, is_global, is_global_in, global_id};
 ghost use Rattle.l4_model.specs.Rules.{takes};
+ghost use Rattle.l4_types.specs.FormatView.{format_of};
 ghost use Rattle.l4_types.specs.Ids.{kind_of, global_of};
 
+use crate::formats::{Format, SHORT_WORDS};
 use std::marker::Model;
 
 const ANY: u64 = 0xffff_ffff_ffff_ffff;
 
 const ANY_LOCAL: u64 = 0xffff_ffff_ffff_ffc0;
+
+// The words of 32 bits for anythread and anylocalthread.
+const SHORT_ANY: u64 = 0xffff_ffff;
+
+const SHORT_ANY_LOCAL: u64 = 0xffff_ffc0;
+
+// Numbers and versions of global ids of 32 bits are below these.
+const SHORT_NUMBERS: u32 = 1 << 18;
+
+const SHORT_VERSIONS: u32 = 1 << 14;
 
 /// A thread id: nilthread, anythread, anylocalthread, a local id or a global one. It is one value, whatever the
 /// width of the word that stands for it.
@@ -100,6 +112,20 @@ impl GlobalId {
         self.version
     }
 
+    /// Whether a format has a word for it: in 32 bits the number has 18 bits and the version 14, and not all of these are ones.
+    pub const fn is_in(&self, format: Format) -> bool
+        ensures { result ≡ is_global_in (format_of format) self.now }
+    {
+        match format {
+            Format::W64 => true,
+            Format::W32 => {
+                let fits = self.number < SHORT_NUMBERS && self.version < SHORT_VERSIONS;
+                let is_any = self.number == SHORT_NUMBERS - 1 && self.version == SHORT_VERSIONS - 1;
+                fits && !is_any
+            }
+        }
+    }
+
     /// This id as a thread id.
     #[tactic(auto, using(crate::specs::WordLemmas::id_of_global))]
     pub fn id(&self) -> ThreadId
@@ -161,6 +187,84 @@ impl ThreadId {
         ensures when { IsSome result ↔ (is_global (global_id number version) ≡ true) }
     {
         GlobalId::new(number, version).map(|global| global.id())
+    }
+
+    /// The same of a format: None where it has no word for a global id of this number and version.
+    pub fn global_in(format: Format, number: u32, version: u32) -> Option<ThreadId>
+        ensures some { IfSome result (λ id. id ≡ GlobalThread (global_id number version)) }
+        ensures when { IsSome result ↔ (is_global_in (format_of format) (global_id number version) ≡ true) }
+    {
+        let global = GlobalId::new(number, version)?;
+        if global.is_in(format) {
+            Some(global.id())
+        } else {
+            None
+        }
+    }
+
+    /// The id that a word of a format stands for. None where it is no word of the format: of 32 bits, from 2^32 on.
+    pub fn from_raw_in(format: Format, raw: u64) -> Option<ThreadId>
+        ensures { result ≡ id_in (format_of format) raw }
+    {
+        match format {
+            Format::W64 => Some(ThreadId::from_raw(raw)),
+            Format::W32 => ThreadId::from_short(raw),
+        }
+    }
+
+    /// The word of a format that stands for this id. None where the format has none.
+    pub fn raw_in(&self, format: Format) -> Option<u64>
+        ensures value { result ≡ word_in (format_of format) self.now }
+        ensures back { IfSome result (λ word. id_in (format_of format) word ≡ Some self.now) }
+    {
+        match format {
+            Format::W64 => Some(self.raw()),
+            Format::W32 => self.short(),
+        }
+    }
+
+    // The id of a word of 32 bits.
+    fn from_short(raw: u64) -> Option<ThreadId>
+        ensures { result ≡ id_in W32 raw }
+    {
+        match raw {
+            SHORT_WORDS.. => None,
+            SHORT_ANY => Some(ThreadId::ANY),
+            SHORT_ANY_LOCAL => Some(ThreadId::ANY_LOCAL),
+            raw if raw % 64 == 0 => Some(ThreadId { raw }),
+            raw => {
+                let number = (raw >> 14) as u32;
+                let version = (raw & 0x3fff) as u32;
+                Some(GlobalId { number, version }.id())
+            }
+        }
+    }
+
+    // The word of 32 bits that stands for this id.
+    fn short(&self) -> Option<u64>
+        ensures { result ≡ word_in W32 self.now }
+    {
+        match self.raw {
+            0 => Some(0),
+            ANY => Some(SHORT_ANY),
+            ANY_LOCAL => Some(SHORT_ANY_LOCAL),
+            raw if raw % 64 == 0 => {
+                if raw < SHORT_WORDS && raw != SHORT_ANY_LOCAL {
+                    Some(raw)
+                } else {
+                    None
+                }
+            }
+            raw => {
+                let (number, version) = halves(raw);
+                let global = GlobalId { number, version };
+                if global.is_in(Format::W32) {
+                    Some(u64::from(number) << 14 | u64::from(version))
+                } else {
+                    None
+                }
+            }
+        }
     }
 
     /// What this id stands for.

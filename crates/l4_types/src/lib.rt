@@ -4,6 +4,7 @@
 #![tactic(auto)]
 
 pub mod errors;
+pub mod formats;
 pub mod ids;
 pub mod letters;
 pub mod messages;

@@ -1,13 +1,20 @@
 //! Message tags (manual: Messages and Message Registers, MsgTag).
-ghost use Rattle.std.specs.Prelude.{◌≡◌, ◌/◌, ◌%◌, ◌<◌, ◌==◌, ◌↔◌, false, IsSome, IfSome, IsOk, IfOk};
-ghost use Rattle.l4_model.specs.Words.{tag_of_word, word_of_tag, has_typed_words, label_limit, register_count};
+ghost use Rattle.std.specs.Prelude.{◌≡◌, ◌/◌, ◌%◌, ◌<◌, ◌==◌, ◌↔◌, false, IsSome, IfSome, IsOk, IfOk, IfErr};
+ghost use Rattle.l4_model.specs.Words.{tag_of_word, word_of_tag, has_typed_words, label_limit, label_limit_in, register_count};
 ghost use Rattle.l4_types.specs.Flags.{flags_of};
+ghost use Rattle.l4_types.specs.FormatView.{format_of};
+ghost use Rattle.l4_types.specs.TagView.{tag_in};
+ghost use Rattle.l4_types.specs.declared.tags.TagFault.TheVariants.{TypedItems as HasTypedItems};
 
+use crate::formats::Format;
 use crate::messages::MOST_WORDS;
 use std::marker::Model;
 
 /// The number of labels: each is below it.
 pub const LABELS: u64 = 1 << 48;
+
+// The number of labels in 32 bits.
+const SHORT_LABELS: u64 = 1 << 16;
 
 /// The content of message register 0: a label of 48 bits, four flags, and the number of untyped words, at most 63.
 /// There are no typed words.
@@ -41,6 +48,8 @@ impl Model for MsgTag {
 pub enum TagFault {
     /// The number of typed words is not 0.
     TypedItems,
+    /// It is no word of the format.
+    Wide,
 }
 
 impl MsgTag {
@@ -59,15 +68,38 @@ impl MsgTag {
         Some(MsgTag::of(label, false, propagate, untyped))
     }
 
+    /// The same of a format. None where the label is one of no word of the format: of 32 bits, from 2^16 on.
+    pub fn new_in(format: Format, label: u64, untyped: u8, propagate: bool) -> Option<MsgTag>
+        ensures some { IfSome result (λ tag. tag ≡ record { label = label; flags = flags_of false propagate; untyped = untyped }) }
+        ensures when { IsSome result ↔ ((label < label_limit_in (format_of format)) × (untyped < register_count)) }
+    {
+        match format {
+            Format::W32 if label >= SHORT_LABELS => None,
+            _ => MsgTag::new(label, untyped, propagate),
+        }
+    }
+
     /// The tag that a word is. `TypedItems` where bits 6 to 11 are not all zero.
     pub fn from_raw(raw: u64) -> Result<MsgTag, TagFault>
         ensures ok { IfOk result (λ tag. tag ≡ tag_of_word raw) }
         ensures when { IsOk result ↔ (has_typed_words raw ≡ false) }
+        ensures fault { IfErr result (λ fault. fault ≡ HasTypedItems) }
     {
         if (raw >> 6) & 0x3f != 0 {
             return Err(TagFault::TypedItems);
         }
         Ok(MsgTag { raw })
+    }
+
+    /// The tag that a word of a format is. `Wide` where it is no word of the format: of 32 bits, from 2^32 on. Else `TypedItems` where
+    /// bits 6 to 11 are not all zero.
+    pub fn from_raw_in(format: Format, raw: u64) -> Result<MsgTag, TagFault>
+        ensures { result ≡ tag_in (format_of format) raw }
+    {
+        if !format.has(raw) {
+            return Err(TagFault::Wide);
+        }
+        MsgTag::from_raw(raw)
     }
 
     /// The word of this tag.

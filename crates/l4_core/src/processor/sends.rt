@@ -67,6 +67,7 @@ impl Core<'_> {
     }
 
     // The message of a sender comes to a receiver, and the send is decided.
+    #[inline(always)]
     fn hand_over<S: Sink>(&mut self, receiver: usize, sender: usize, told: &mut Told<S>)
         requires receiver { IsReceiver self.old receiver }
         requires sender { IsSender self.old sender }

@@ -1,6 +1,6 @@
 -- Worked rows: what a message carries.
 use Rattle.std.specs.Prelude.{◌≡◌, Some, None, List, [], ◌∷◌, ◌++◌, map, replicate, refl}
-use Rattle.l4_model.specs.Words.{NilThread, AnyThread}
+use Rattle.l4_model.specs.Words.{W64, NilThread, AnyThread}
 use Rattle.l4_model.specs.Machine.{Machine, ToId, ToLast, Set, Add, Tag, Vs, Ipc, Jump, machine_of}
 use Rattle.l4_model.specs.Steps.{Step, Local, Begin, Queue, Deliver, Wait, SendNobody}
 use Rattle.l4_model.specs.History.{IsSending, IsReceiving, IsEnded}
@@ -168,7 +168,7 @@ whole_message_within_view = refl
 abbrev pub answer : Machine
 answer = machine_of 1 (
     declared 1 0 1 (Set 1 41 ∷ Tag 0x10001 ∷ Ipc (ToId (id 2)) (id 2) None None ∷ [])
-    ∷ declared 2 0 2 (receives ∷ Add 1 1 ∷ Ipc ToLast AnyThread None None ∷ Jump 1 ∷ []) ∷ [])
+    ∷ declared 2 0 2 (receives ∷ Add W64 1 1 ∷ Ipc ToLast AnyThread None None ∷ Jump 1 ∷ []) ∷ [])
 
 abbrev pub answer_trace : List Step
 answer_trace =

@@ -1,6 +1,6 @@
 -- Worked rows: what the instructions of a script do.
 use Rattle.std.specs.Prelude.{◌≡◌, Some, None, List, [], ◌∷◌, refl}
-use Rattle.l4_model.specs.Words.{NilThread, AnyThread}
+use Rattle.l4_model.specs.Words.{W64, W32, NilThread, AnyThread}
 use Rattle.l4_model.specs.Machine.{Machine, ToId, ToLast, CancelSend, CancelReceive, Delete, Set, Copy, Add, Tag, Vs, Ipc, Ask, Jump, OnErr, End, machine_of}
 use Rattle.l4_model.specs.Steps.{Step, Local, Begin, Queue, Deliver, Wait, SendNobody}
 use Rattle.l4_model.specs.History.{IsEnded}
@@ -8,7 +8,7 @@ use Rattle.l4_model.proofs.Rows.Writing.{thread, id, send, sends, receives, decl
 
 -- Sums wrap, jumps are taken, an order to nobody gives code 2, and at an `end` the thread has ended.
 abbrev pub scripted : Machine
-scripted = machine_of 1 (declared 1 0 1 (Set 1 18446744073709551615 ∷ Add 1 2 ∷ Copy 2 1 ∷ OnErr 5 ∷ Jump 6 ∷ Set 3 7 ∷ Ask (id 9) CancelSend ∷ OnErr 9 ∷ Set 4 7 ∷ End ∷ Set 5 7 ∷ []) ∷ [])
+scripted = machine_of 1 (declared 1 0 1 (Set 1 18446744073709551615 ∷ Add W64 1 2 ∷ Copy 2 1 ∷ OnErr 5 ∷ Jump 6 ∷ Set 3 7 ∷ Ask (id 9) CancelSend ∷ OnErr 9 ∷ Set 4 7 ∷ End ∷ Set 5 7 ∷ []) ∷ [])
 
 abbrev pub scripted_trace : List Step
 scripted_trace =
@@ -27,6 +27,39 @@ scripted_ending = refl
 scripted_view : reports scripted scripted_trace ≡ Some (
     report 1 IsEnded 2 NilThread NilThread (0 ∷ 0x1 ∷ 0x1 ∷ []) ∷ [])
 scripted_view = refl
+
+-- A sum in 32 bits wraps at their limit, and one in 64 bits goes on.
+abbrev pub short_sum : Machine
+short_sum = machine_of 1 (
+    declared 1 0 1 (Set 1 0xffffffff ∷ Add W32 1 2 ∷ Tag 0x70001 ∷ sends 2 ∷ [])
+    ∷ declared 2 0 2 (receives ∷ []) ∷ [])
+
+abbrev pub short_sum_trace : List Step
+short_sum_trace =
+    Local (thread 1)
+    ∷ Wait (thread 2)
+    ∷ Local (thread 1)
+    ∷ Local (thread 1)
+    ∷ Begin (send 1 1)
+    ∷ Queue (send 1 1)
+    ∷ Deliver (send 1 1) (thread 2) (thread 1) (thread 1) 0x70001 (0x1 ∷ [])
+    ∷ Local (thread 2)
+    ∷ Local (thread 1) ∷ []
+
+short_sum_ending : ends short_sum short_sum_trace ≡ quiet []
+short_sum_ending = refl
+
+short_sum_view : reports short_sum short_sum_trace ≡ Some (
+    report 1 IsEnded 0 NilThread NilThread (0 ∷ 0x1 ∷ [])
+    ∷ report 2 IsEnded 0 (id 1) (id 1) (0x70001 ∷ 0x1 ∷ []) ∷ [])
+short_sum_view = refl
+
+abbrev pub long_sum : Machine
+long_sum = machine_of 1 (declared 1 0 1 (Set 1 0xffffffff ∷ Add W64 1 2 ∷ []) ∷ [])
+
+long_sum_view : reports long_sum (Local (thread 1) ∷ Local (thread 1) ∷ Local (thread 1) ∷ []) ≡ Some (
+    report 1 IsEnded 0 NilThread NilThread (0 ∷ 0x100000001 ∷ []) ∷ [])
+long_sum_view = refl
 
 -- An ipc without phases ends well. `last` names nobody at the start.
 abbrev pub no_phases : Machine

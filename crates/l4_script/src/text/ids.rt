@@ -1,9 +1,11 @@
-//! Thread ids as machine texts spell them.
+//! Thread ids as machine texts of a format spell them.
 ghost use Rattle.std.specs.Prelude.{◌≡◌};
 ghost use Rattle.l4_model.specs.Words.{GlobalThread};
-ghost use Rattle.l4_script.specs.Ids.{raw_id_of, spelled_id_of, id_of};
+ghost use Rattle.l4_types.specs.FormatView.{format_of};
+ghost use Rattle.l4_script.specs.Ids.{id_digits, raw_id_of, thread_in, spelled_id_of, id_of};
 
-use l4_types::ids::ThreadId;
+use l4_types::formats::Format;
+use l4_types::ids::{GlobalId, ThreadId};
 use l4_words::numbers::padded_hexadecimal;
 use l4_words::threads::thread;
 
@@ -13,12 +15,35 @@ const ANY: &[u8] = b"any";
 
 const ANY_LOCAL: &[u8] = b"anylocal";
 
-/// The id whose word exactly 16 hexadecimal digits spell.
-fn raw_id(digits: &[u8]) -> Option<ThreadId>
-    ensures { result ≡ raw_id_of digits.now }
+/// How many hexadecimal digits the word of an id has.
+fn id_digits(format: Format) -> usize
+    ensures { result ≡ id_digits (format_of format) }
 {
-    if digits.len() == 16 {
-        padded_hexadecimal(digits).map(ThreadId::from_raw)
+    match format {
+        Format::W64 => 16,
+        Format::W32 => 8,
+    }
+}
+
+/// The id whose word exactly so many hexadecimal digits spell.
+fn raw_id(format: Format, digits: &[u8]) -> Option<ThreadId>
+    ensures { result ≡ raw_id_of (format_of format) digits.now }
+{
+    if digits.len() != id_digits(format) {
+        return None;
+    }
+    let word = padded_hexadecimal(digits)?;
+    ThreadId::from_raw_in(format, word)
+}
+
+/// The thread of a word `N.V`. None where the format has no word for it.
+#[tactic(auto, unfolding(crate::specs::Ids::thread_in))]
+pub(super) fn thread_in(format: Format, word: &[u8]) -> Option<GlobalId>
+    ensures { result ≡ thread_in (format_of format) word.now }
+{
+    let thread = thread(word)?;
+    if thread.is_in(format) {
+        Some(thread)
     } else {
         None
     }
@@ -26,19 +51,19 @@ fn raw_id(digits: &[u8]) -> Option<ThreadId>
 
 /// An id by its numbers: `#` and its word, or `N.V`.
 #[tactic(auto, unfolding(crate::specs::Ids::spelled_id_of))]
-fn spelled_id(word: &[u8]) -> Option<ThreadId>
-    ensures { result ≡ spelled_id_of word.now }
+fn spelled_id(format: Format, word: &[u8]) -> Option<ThreadId>
+    ensures { result ≡ spelled_id_of (format_of format) word.now }
 {
     match word.strip_prefix(b"#") {
-        Some(digits) => raw_id(digits),
-        None => thread(word).map(ThreadId::from),
+        Some(digits) => raw_id(format, digits),
+        None => thread_in(format, word).map(ThreadId::from),
     }
 }
 
 /// An id: `nil`, `any`, `anylocal`, or spelled by numbers.
 #[tactic(auto, unfolding(crate::specs::Ids::id_of))]
-pub(super) fn id(word: &[u8]) -> Option<ThreadId>
-    ensures { result ≡ id_of word.now }
+pub(super) fn id(format: Format, word: &[u8]) -> Option<ThreadId>
+    ensures { result ≡ id_of (format_of format) word.now }
 {
     if word == NIL {
         Some(ThreadId::NIL)
@@ -47,6 +72,6 @@ pub(super) fn id(word: &[u8]) -> Option<ThreadId>
     } else if word == ANY_LOCAL {
         Some(ThreadId::ANY_LOCAL)
     } else {
-        spelled_id(word)
+        spelled_id(format, word)
     }
 }

@@ -1,10 +1,12 @@
 //! Numbers as machine texts spell them.
 ghost use Rattle.std.specs.Prelude.{◌≡◌, ◌≤◌, IfOk};
+ghost use Rattle.l4_types.specs.FormatView.{format_of};
 ghost use Rattle.l4_types.specs.PeriodView.{period_of, IsTimely};
 ghost use Rattle.l4_script.specs.Judged.{Returns};
-ghost use Rattle.l4_script.specs.Numbers.{number_of, number_from, period_number, time_from};
+ghost use Rattle.l4_script.specs.Numbers.{number_of, number_from, word_from, period_number, time_from};
 
 use super::fault::TextFaultKind;
+use l4_types::formats::Format;
 use l4_types::times::{Period, time_of};
 use l4_words::numbers::{decimal, padded_hexadecimal};
 
@@ -26,6 +28,19 @@ pub(super) fn number_from(low: u64, high: u64, word: &[u8]) -> Result<u64, TextF
 {
     let value = number(word).ok_or(TextFaultKind::BadNumber)?;
     if low <= value && value <= high {
+        Ok(value)
+    } else {
+        Err(TextFaultKind::BadNumber)
+    }
+}
+
+/// A word of a format.
+#[tactic(auto, unfolding(crate::specs::Numbers::word_from))]
+pub(super) fn word_from(format: Format, word: &[u8]) -> Result<u64, TextFaultKind>
+    ensures { result ≡ word_from (format_of format) word.now }
+{
+    let value = number(word).ok_or(TextFaultKind::BadNumber)?;
+    if format.has(value) {
         Ok(value)
     } else {
         Err(TextFaultKind::BadNumber)

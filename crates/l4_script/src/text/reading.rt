@@ -2,6 +2,8 @@
 ghost use Rattle.std.specs.Prelude.{◌≡◌, ◌<◌, ◌≤◌, ◌∷◌, [], ◌++◌, find, length, Ok, OnErr, OnOk};
 ghost use Rattle.std.specs.Option.{option_copied};
 ghost use Rattle.l4_model.specs.Machine.{most_processors};
+ghost use Rattle.l4_types.specs.FormatView.{format_of};
+ghost use Rattle.l4_script.specs.Headings.{heading_of};
 ghost use Rattle.l4_script.specs.Judged.{Gives};
 ghost use Rattle.l4_script.specs.Scripts.{instr_of};
 ghost use Rattle.l4_script.specs.Statements.{declare, extend};
@@ -10,10 +12,11 @@ ghost use Rattle.l4_script.specs.Stages.{stage_of};
 
 use super::fault::{TextFault, TextFaultKind};
 use super::lines::words_of;
-use super::statements::{declaration, format_line, instruction, processors_line};
+use super::statements::{Heading, declaration, format_line, instruction, processors_line};
 use crate::instructions::Instr;
 use crate::machine::{Declaration, MOST_INSTRUCTIONS, MOST_THREADS, Machine};
 use l4_types::errors::NoMemory;
+use l4_types::formats::Format;
 use l4_words::words::Words;
 use std::alloc::Global;
 use std::marker::Model;
@@ -38,31 +41,30 @@ impl Model for Target {
     ghost inverse = { λ t. record { line = t.line; thread = t.thread; place = t.place } };
 }
 
-/// The machine of the lines so far, and the places that they name.
+/// The format of the text, the machine of the lines so far, and the places that they name.
 #[derive(Debug, Drop)]
 pub(super) struct Reading {
+    format: Format,
     machine: Machine,
     targets: Vec<Target>,
 }
 
 impl Model for Reading {
+    ghost use Rattle.l4_types.specs.FormatView.{format_of};
     ghost use Rattle.l4_script.specs.Texts.{Reading as ReadSoFar};
 
     ghost Value = { ReadSoFar };
 
-    ghost view = { λ r. record { machine = r.machine; targets = r.targets.items } };
+    ghost view = { λ r. record { format = format_of r.format; machine = r.machine; targets = r.targets.items } };
 }
 
 /// What comes next in a text.
 #[derive(Debug, Drop)]
 pub(super) enum Stage {
     /// The `l4` line.
-    Format,
-    /// The `cpus` line.
-    Processors {
-        /// Whether the machine retargets.
-        retargeting: bool,
-    },
+    Start,
+    /// The `cpus` line, behind such a first line.
+    Processors(Heading),
     /// The lines of threads, behind those that were read.
     Threads(Reading),
 }
@@ -124,13 +126,14 @@ fn first_missed<'a>(machine: &Machine, targets: &'a [Target]) -> Option<&'a Targ
 
 impl Reading {
     /// No thread was read, of a machine of so many processors.
-    fn new(alloc: Global, retargeting: bool, cpus: u8) -> Reading
+    fn new(alloc: Global, heading: Heading, cpus: u8) -> Reading
         requires some { 1 ≤ cpus }
         requires limit { cpus ≤ most_processors }
-        ensures { result ≡ nothing_read retargeting cpus }
+        ensures { result ≡ nothing_read (heading_of heading) cpus }
     {
         Reading {
-            machine: Machine::new(alloc, retargeting, cpus),
+            format: heading.format,
+            machine: Machine::new(alloc, heading.retargeting, cpus),
             targets: Vec::new(alloc),
         }
     }
@@ -141,6 +144,7 @@ impl Reading {
         ensures { Gives (λ r. r) result (declared_in self thread) }
     {
         Ok(Reading {
+            format: self.format,
             machine: declare(thread, self.machine)?,
             targets: self.targets,
         })
@@ -153,6 +157,7 @@ impl Reading {
     {
         let thread = self.machine.threads().len() - 1;
         let reading = Reading {
+            format: self.format,
             machine: extend(instr, self.machine)?,
             targets: self.targets,
         };
@@ -194,13 +199,13 @@ impl Reading {
     {
         let name = words.next().ok_or(TextFaultKind::BadLine)?;
         if name == THREAD {
-            let thread = declaration(alloc, self.machine.cpus(), words)?;
+            let thread = declaration(alloc, self.format, self.machine.cpus(), words)?;
             return self.declare(thread);
         }
         if self.machine.threads().is_empty() {
             return Err(TextFaultKind::BadLine);
         }
-        match instruction(name, words) {
+        match instruction(self.format, name, words) {
             Ok(instr) => self.extend(line, instr),
             Err(kind) => Err(kind),
         }
@@ -229,13 +234,13 @@ impl Stage {
         ensures { Gives stage_of result (after_words line (stage_of self) words.entry) }
     {
         match self {
-            Stage::Format => {
-                let retargeting = format_line(words)?;
-                Ok(Stage::Processors { retargeting })
+            Stage::Start => {
+                let heading = format_line(words)?;
+                Ok(Stage::Processors(heading))
             }
-            Stage::Processors { retargeting } => {
+            Stage::Processors(heading) => {
                 let cpus = processors_line(words)?;
-                Ok(Stage::Threads(Reading::new(alloc, retargeting, cpus)))
+                Ok(Stage::Threads(Reading::new(alloc, heading, cpus)))
             }
             Stage::Threads(reading) => {
                 Ok(Stage::Threads(reading.thread_line(line, alloc, words)?))
@@ -275,7 +280,7 @@ impl Stage {
     {
         match self {
             Stage::Threads(reading) => reading.unless_missed(),
-            Stage::Format | Stage::Processors { .. } => {
+            Stage::Start | Stage::Processors(_) => {
                 Err(TextFault::at(line, TextFaultKind::BadLine))
             }
         }

@@ -3,6 +3,7 @@ ghost use Rattle.std.specs.Prelude.{◌≡◌, ◌<◌, ◌≤◌, IfOk};
 ghost use Rattle.std.specs.Option.{option_map};
 ghost use Rattle.l4_model.specs.Words.{last_register};
 ghost use Rattle.l4_model.specs.Machine.{most_processors};
+ghost use Rattle.l4_types.specs.FormatView.{format_of};
 ghost use Rattle.l4_types.specs.StepView.{what_of};
 ghost use Rattle.l4_script.specs.declared.text.fault.TextFaultKind.TheVariants.{BadId, BadLine};
 ghost use Rattle.l4_words.specs.Words.{one};
@@ -10,19 +11,20 @@ ghost use Rattle.l4_script.specs.Ids.{id_of};
 ghost use Rattle.l4_script.specs.Judged.{Returns, needs};
 ghost use Rattle.l4_script.specs.Scripts.{instr_of, to_of};
 ghost use Rattle.l4_script.specs.Numbers.{number_from};
-ghost use Rattle.l4_script.specs.Statements.{retargeting_of, format_line, processors_line, processor_of, declaration_of, set_of, copy_of, add_of, tag_of, vs_of, destination_of, ipc_of, bits_of, exregs_of, delete_of, target_of, end_of, instruction_of};
+ghost use Rattle.l4_script.specs.Statements.{heading_by, format_line, processors_line, processor_of, declaration_of, set_of, copy_of, add_of, tag_of, vs_of, destination_of, ipc_of, bits_of, exregs_of, delete_of, target_of, end_of, instruction_of};
+ghost use Rattle.l4_script.specs.Headings.{heading_of};
 
 use super::fault::TextFaultKind;
-use super::ids::id;
+use super::ids::{id, thread_in};
 use super::lines::after;
-use super::numbers::{number, number_from, time};
+use super::numbers::{number, number_from, time, word_from};
 use crate::instructions::{Instr, Ipc, Register, Source, To};
 use crate::machine::Declaration;
+use l4_types::formats::Format;
 use l4_types::ids::ThreadId;
 use l4_types::registers::MESSAGE_REGISTERS;
 use l4_types::steps::{MOST_PROCESSORS, What};
-use l4_types::tags::MsgTag;
-use l4_words::threads::thread;
+use l4_types::tags::{MsgTag, TagFault};
 use l4_words::words::Words;
 use std::alloc::Global;
 
@@ -61,26 +63,41 @@ fn only<'a>(words: Words<'a>) -> Result<&'a [u8], TextFaultKind>
     words.one().ok_or(TextFaultKind::BadLine)
 }
 
-/// Whether the machine of a profile retargets. None where there is no such profile with words of so many bits.
-fn retargeting(profile: u64, width: u64) -> Option<bool>
-    ensures { result ≡ retargeting_of profile width }
-{
-    match (profile, width) {
-        (1, 64) => Some(false),
-        (2, 64) => Some(true),
-        _ => None,
-    }
+/// What a first line says.
+#[derive(Clone, Copy, Debug)]
+pub(super) struct Heading {
+    /// Whether the machine retargets.
+    pub(super) retargeting: bool,
+    /// The format of its words.
+    pub(super) format: Format,
 }
 
-/// The line `l4 1 64` or `l4 2 64`: whether the machine retargets.
+/// What a profile and the number of bits of a word say. None where there is no such first line.
+fn heading_by(profile: u64, width: u64) -> Option<Heading>
+    ensures { option_map heading_of result ≡ heading_by profile width }
+{
+    let (retargeting, format) = match (profile, width) {
+        (1, 64) => (false, Format::W64),
+        (1, 32) => (false, Format::W32),
+        (2, 64) => (true, Format::W64),
+        (2, 32) => (true, Format::W32),
+        _ => return None,
+    };
+    Some(Heading {
+        retargeting,
+        format,
+    })
+}
+
+/// The first line: `l4`, a profile and the number of bits of a word.
 #[tactic(auto, unfolding(crate::specs::Statements::format_line))]
-pub(super) fn format_line(words: Words<'_>) -> Result<bool, TextFaultKind>
-    ensures { result ≡ format_line words.entry }
+pub(super) fn format_line(words: Words<'_>) -> Result<Heading, TextFaultKind>
+    ensures { Returns heading_of result (format_line words.entry) }
 {
     let (profile, width) = after(b"l4", words)?.two().ok_or(TextFaultKind::BadLine)?;
     let profile = number(profile).ok_or(TextFaultKind::BadNumber)?;
     let width = number(width).ok_or(TextFaultKind::BadNumber)?;
-    retargeting(profile, width).ok_or(TextFaultKind::BadNumber)
+    heading_by(profile, width).ok_or(TextFaultKind::BadNumber)
 }
 
 /// The line `cpus N`.
@@ -113,10 +130,11 @@ fn processor(cpus: u8, word: &[u8]) -> Result<u8, TextFaultKind>
 #[tactic(auto, unfolding(crate::specs::Statements::declaration_of))]
 pub(super) fn declaration(
     alloc: Global,
+    format: Format,
     cpus: u8,
     operands: Words<'_>,
 ) -> Result<Declaration, TextFaultKind>
-    ensures value { result ≡ declaration_of cpus operands.entry }
+    ensures value { result ≡ declaration_of (format_of format) cpus operands.entry }
     ensures home { IfOk result (λ thread. thread.cpu < cpus) }
 {
     let (id, cpu_keyword, cpu, space_keyword, space) = operands
@@ -125,7 +143,7 @@ pub(super) fn declaration(
     if cpu_keyword != CPU || space_keyword != SPACE {
         return Err(TextFaultKind::BadLine);
     }
-    let id = thread(id).ok_or(TextFaultKind::BadId)?;
+    let id = thread_in(format, id).ok_or(TextFaultKind::BadId)?;
     let cpu = processor(cpus, cpu)?;
     let space = number_from(0, u64::from(u32::MAX), space)?;
     Ok(Declaration::new(alloc, id, cpu, space as u32))
@@ -147,12 +165,12 @@ fn source(word: &[u8]) -> Result<Source, TextFaultKind>
 
 /// What stands behind `set`.
 #[tactic(auto, unfolding(crate::specs::Statements::set_of))]
-fn set(operands: Words<'_>) -> Result<Instr, TextFaultKind>
-    ensures { Returns instr_of result (set_of operands.entry) }
+fn set(format: Format, operands: Words<'_>) -> Result<Instr, TextFaultKind>
+    ensures { Returns instr_of result (set_of (format_of format) operands.entry) }
 {
     let (first, second) = operands.two().ok_or(TextFaultKind::BadLine)?;
     let register = register(first)?;
-    let word = number(second).ok_or(TextFaultKind::BadNumber)?;
+    let word = word_from(format, second)?;
     Ok(Instr::Set(register, word))
 }
 
@@ -169,60 +187,64 @@ fn copy(operands: Words<'_>) -> Result<Instr, TextFaultKind>
 
 /// What stands behind `add`.
 #[tactic(auto, unfolding(crate::specs::Statements::add_of))]
-fn add(operands: Words<'_>) -> Result<Instr, TextFaultKind>
-    ensures { Returns instr_of result (add_of operands.entry) }
+fn add(format: Format, operands: Words<'_>) -> Result<Instr, TextFaultKind>
+    ensures { Returns instr_of result (add_of (format_of format) operands.entry) }
 {
     let (first, second) = operands.two().ok_or(TextFaultKind::BadLine)?;
     let register = register(first)?;
-    let word = number(second).ok_or(TextFaultKind::BadNumber)?;
-    Ok(Instr::Add(register, word))
-}
-
-/// What stands behind `tag`.
-#[tactic(auto, unfolding(crate::specs::Statements::tag_of))]
-fn tag(operands: Words<'_>) -> Result<Instr, TextFaultKind>
-    ensures { Returns instr_of result (tag_of operands.entry) }
-{
-    let word = number(only(operands)?).ok_or(TextFaultKind::BadNumber)?;
-    match MsgTag::from_raw(word) {
-        Ok(tag) => Ok(Instr::Tag(tag)),
-        Err(_) => Err(TextFaultKind::TypedItems),
+    let word = word_from(format, second)?;
+    match format {
+        Format::W64 => Ok(Instr::Add(register, word)),
+        Format::W32 => Ok(Instr::ShortAdd(register, word)),
     }
 }
 
-fn thread_id(word: &[u8]) -> Result<ThreadId, TextFaultKind>
-    ensures { result ≡ needs (id_of word.now) BadId }
+/// What stands behind `tag`.
+#[tactic(auto, unfolding(crate::specs::Statements::tag_of, crate::specs::Numbers::word_from))]
+fn tag(format: Format, operands: Words<'_>) -> Result<Instr, TextFaultKind>
+    ensures { Returns instr_of result (tag_of (format_of format) operands.entry) }
 {
-    id(word).ok_or(TextFaultKind::BadId)
+    let word = number(only(operands)?).ok_or(TextFaultKind::BadNumber)?;
+    match MsgTag::from_raw_in(format, word) {
+        Ok(tag) => Ok(Instr::Tag(tag)),
+        Err(TagFault::Wide) => Err(TextFaultKind::BadNumber),
+        Err(TagFault::TypedItems) => Err(TextFaultKind::TypedItems),
+    }
+}
+
+fn thread_id(format: Format, word: &[u8]) -> Result<ThreadId, TextFaultKind>
+    ensures { result ≡ needs (id_of (format_of format) word.now) BadId }
+{
+    id(format, word).ok_or(TextFaultKind::BadId)
 }
 
 /// What stands behind `vs`.
 #[tactic(auto, unfolding(crate::specs::Statements::vs_of))]
-fn vs(operands: Words<'_>) -> Result<Instr, TextFaultKind>
-    ensures { Returns instr_of result (vs_of operands.entry) }
+fn vs(format: Format, operands: Words<'_>) -> Result<Instr, TextFaultKind>
+    ensures { Returns instr_of result (vs_of (format_of format) operands.entry) }
 {
-    Ok(Instr::Vs(thread_id(only(operands)?)?))
+    Ok(Instr::Vs(thread_id(format, only(operands)?)?))
 }
 
 /// Where an ipc sends to: an id, or `last`.
 #[tactic(auto, unfolding(crate::specs::Statements::destination_of))]
-fn destination(word: &[u8]) -> Result<To, TextFaultKind>
-    ensures { Returns to_of result (destination_of word.now) }
+fn destination(format: Format, word: &[u8]) -> Result<To, TextFaultKind>
+    ensures { Returns to_of result (destination_of (format_of format) word.now) }
 {
     match word {
         b"last" => Ok(To::Last),
-        _ => Ok(To::Id(thread_id(word)?)),
+        _ => Ok(To::Id(thread_id(format, word)?)),
     }
 }
 
 /// What stands behind `ipc`.
 #[tactic(auto, unfolding(crate::specs::Statements::ipc_of))]
-fn ipc(operands: Words<'_>) -> Result<Instr, TextFaultKind>
-    ensures { Returns instr_of result (ipc_of operands.entry) }
+fn ipc(format: Format, operands: Words<'_>) -> Result<Instr, TextFaultKind>
+    ensures { Returns instr_of result (ipc_of (format_of format) operands.entry) }
 {
     let (to, from, send, receive) = operands.four().ok_or(TextFaultKind::BadLine)?;
-    let to = destination(to)?;
-    let from = thread_id(from)?;
+    let to = destination(format, to)?;
+    let from = thread_id(format, from)?;
     let send = time(send)?;
     let receive = time(receive)?;
     Ok(Instr::Ipc(Ipc::new(to, from, send, receive)))
@@ -243,20 +265,20 @@ fn bits(word: &[u8]) -> Option<What>
 
 /// What stands behind `exregs`.
 #[tactic(auto, unfolding(crate::specs::Statements::exregs_of))]
-fn exregs(operands: Words<'_>) -> Result<Instr, TextFaultKind>
-    ensures { Returns instr_of result (exregs_of operands.entry) }
+fn exregs(format: Format, operands: Words<'_>) -> Result<Instr, TextFaultKind>
+    ensures { Returns instr_of result (exregs_of (format_of format) operands.entry) }
 {
     let (target, bits_keyword) = operands.two().ok_or(TextFaultKind::BadLine)?;
     let what = bits(bits_keyword).ok_or(TextFaultKind::BadLine)?;
-    Ok(Instr::Order(thread_id(target)?, what))
+    Ok(Instr::Order(thread_id(format, target)?, what))
 }
 
 /// What stands behind `delete`.
 #[tactic(auto, unfolding(crate::specs::Statements::delete_of))]
-fn delete(operands: Words<'_>) -> Result<Instr, TextFaultKind>
-    ensures { Returns instr_of result (delete_of operands.entry) }
+fn delete(format: Format, operands: Words<'_>) -> Result<Instr, TextFaultKind>
+    ensures { Returns instr_of result (delete_of (format_of format) operands.entry) }
 {
-    let target = thread_id(only(operands)?)?;
+    let target = thread_id(format, only(operands)?)?;
     Ok(Instr::Order(target, What::Delete))
 }
 
@@ -280,25 +302,29 @@ fn end(mut operands: Words<'_>) -> Result<Instr, TextFaultKind>
 
 /// An instruction of this name.
 #[tactic(auto, unfolding(crate::specs::Statements::instruction_of))]
-pub(super) fn instruction(name: &[u8], operands: Words<'_>) -> Result<Instr, TextFaultKind>
-    ensures { Returns instr_of result (instruction_of name.now operands.entry) }
+pub(super) fn instruction(
+    format: Format,
+    name: &[u8],
+    operands: Words<'_>,
+) -> Result<Instr, TextFaultKind>
+    ensures { Returns instr_of result (instruction_of (format_of format) name.now operands.entry) }
 {
     if name == SET {
-        set(operands)
+        set(format, operands)
     } else if name == COPY {
         copy(operands)
     } else if name == ADD {
-        add(operands)
+        add(format, operands)
     } else if name == TAG {
-        tag(operands)
+        tag(format, operands)
     } else if name == VIRTUAL_SENDER {
-        vs(operands)
+        vs(format, operands)
     } else if name == IPC {
-        ipc(operands)
+        ipc(format, operands)
     } else if name == EXCHANGE_REGISTERS {
-        exregs(operands)
+        exregs(format, operands)
     } else if name == DELETE {
-        delete(operands)
+        delete(format, operands)
     } else if name == JUMP {
         Ok(Instr::Jump(target(operands)?))
     } else if name == ON_ERROR {

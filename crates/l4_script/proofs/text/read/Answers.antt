@@ -2,18 +2,18 @@ use Rattle.std.proofs.Common.{arith}
 use Rattle.std.proofs.lemmas.Result.{err_from_is_err_and}
 use Rattle.l4_words.specs.Lines.{parts_of}
 use Rattle.l4_script.specs.Stages.{stage_of}
-use Rattle.l4_script.specs.Texts.{Format, read}
+use Rattle.l4_script.specs.Texts.{Start, read}
 use Rattle.l4_script.proofs.ReadingLines.{goes_on, stops}
 use Rattle.l4_script.proofs.text.read.Goals as goal
 
 pub lines-preserved : goal.lines-preserved
 lines-preserved c =
     record {
-      whole = goes_on c.in-Some.line.now c.in-Some.others.now (parts_of c.lines.rest.now) (stage_of c.lines.stage) c.lines.number (read (parts_of c.args.text.now) Format 1) c.in-Some.ensures.parts c.lines.invariant.whole (stage_of c.in_ok-stage.stage) c.in_ok-stage.ensures;
+      whole = goes_on c.in-Some.line.now c.in-Some.others.now (parts_of c.lines.rest.now) (stage_of c.lines.stage) c.lines.number (read (parts_of c.args.text.now) Start 1) c.in-Some.ensures.parts c.lines.invariant.whole (stage_of c.in_ok-stage.stage) c.in_ok-stage.ensures;
       counted = omega (arith, c.lines.invariant.counted, c.in-Some.ensures.shorter);
     }
 
 pub returns-in_err-stage : goal.returns-in_err-stage
 returns-in_err-stage c =
     let p = err_from_is_err_and c.from_residual.result c.from_residual.ensures.1 in
-    rw (p.1, p.2) (stops c.in-Some.line.now c.in-Some.others.now (parts_of c.lines.rest.now) (stage_of c.lines.stage) c.lines.number (read (parts_of c.args.text.now) Format 1) c.in-Some.ensures.parts c.lines.invariant.whole c.in_err-stage.field-0.0 c.in_err-stage.ensures)
+    rw (p.1, p.2) (stops c.in-Some.line.now c.in-Some.others.now (parts_of c.lines.rest.now) (stage_of c.lines.stage) c.lines.number (read (parts_of c.args.text.now) Start 1) c.in-Some.ensures.parts c.lines.invariant.whole c.in_err-stage.field-0.0 c.in_err-stage.ensures)

@@ -5,7 +5,7 @@ use Rattle.std.specs.declared.io.ErrorKind.{ErrorKind}
 use Rattle.l4_model.specs.Machine.{Machine}
 use Rattle.l4_script.specs.Texts.{machine_of_text}
 use Rattle.l4_script.specs.declared.text.fault.TextFault.{TextFault}
-use Rattle.l4_jobs.specs.Jobs.{IsTold, IsTraceFault, IsFaultOf, IsJobFault, IsOpenedFault, IsDone, IsNotDone, IsUnread, TraceGives, file_of, trace_file_of}
+use Rattle.l4_jobs.specs.Jobs.{IsTold, IsTraceFault, IsFaultOf, IsJobFault, IsFaultBehind, IsOpenedFault, IsDone, IsNotDone, IsUnread, TraceGives, file_of, trace_file_of}
 use Rattle.l4_jobs.specs.Streams.{FileGives}
 use Rattle.l4_jobs.specs.declared.fault.Fault.{Fault}
 use Rattle.l4_jobs.specs.declared.job.Job.{Job}
@@ -65,24 +65,35 @@ pub done_more : (job : Job) (machine less more : Gives) (out : Takes) (keeps : T
 done_more job machine less more out keeps status h (text, told, lines, given, t, s, wrote, kept) =
     (text, told, lines, given, told_more job less more told h t, s, wrote, kept)
 
-pub not_done_more : {File : Type 0} (opens : List ℕ → Result File ErrorKind → Type 0) (gives : File → Gives) (job : Job) (machine less : Gives)
-    (out : Takes) (keeps : Type 0) (faults : Takes) → IsMore job less (TraceGives opens gives job) →
-    IsNotDone job machine less (IsJobFault job machine less) out keeps faults →
-    IsNotDone job machine (TraceGives opens gives job) (IsOpenedFault opens gives job machine) out keeps faults
-not_done_more opens gives job machine less out keeps faults h (inl (f, is, kept, reported)) =
-    inl (f, inl (job_fault_more job machine less _ f h is), kept, reported)
-not_done_more opens gives job machine less out keeps faults h (inr (text, told, lines, status, given, t, s, wrote, reported)) =
-    inr (text, told, lines, status, given, told_more job less _ told h t, s, wrote, reported)
+-- What was told of a trace is told of its file.
+told_on : (job : Job) (machine less more : Gives) (is_fault : Fault → Type 0) (out : Takes) (keeps : Type 0) (faults : Takes) → IsMore job less more →
+    ((f : Fault) → IsJobFault job machine less f → is_fault f) →
+    IsNotDone job machine less (IsJobFault job machine less) out keeps faults → IsNotDone job machine more is_fault out keeps faults
+told_on job machine less more is_fault out keeps faults h on (inl (f, is, kept, reported)) = inl (f, on f is, kept, reported)
+told_on job machine less more is_fault out keeps faults h on (inr (text, told, lines, status, given, t, s, wrote, reported)) =
+    inr (text, told, lines, status, given, told_more job less more told h t, s, wrote, reported)
 
--- The trace can't be opened, and the machine text can't.
+pub not_done_alone : {File : Type 0} (opens : List ℕ → Result File ErrorKind → Type 0) (gives : File → Gives) (job : Job) (machine less : Gives)
+    (out : Takes) (keeps : Type 0) (faults : Takes) → trace_file_of job ≡ None → IsNotDone job machine less (IsJobFault job machine less) out keeps faults →
+    IsNotDone job machine (TraceGives opens gives job) (IsFaultBehind opens gives (trace_file_of job) job machine) out keeps faults
+not_done_alone opens gives job machine less out keeps faults none =
+    told_on job machine less (TraceGives opens gives job) _ out keeps faults (no_trace job less _ none)
+    (λ f is. subst (λ o. IsFaultBehind opens gives o job machine f) (sym none) (job_fault_more job machine less (λ given. ⊥) f (no_trace job less _ none) is))
+
+pub not_done_opened : {File : Type 0} (opens : List ℕ → Result File ErrorKind → Type 0) (gives : File → Gives) (job : Job) (machine : Gives)
+    (name : List ℕ) (file : File) (out : Takes) (keeps : Type 0) (faults : Takes) → trace_file_of job ≡ Some name → opens name (Ok file) →
+    IsNotDone job machine (gives file) (IsJobFault job machine (gives file)) out keeps faults →
+    IsNotDone job machine (TraceGives opens gives job) (IsFaultBehind opens gives (trace_file_of job) job machine) out keeps faults
+not_done_opened opens gives job machine name file out keeps faults is o =
+    told_on job machine (gives file) (TraceGives opens gives job) _ out keeps faults (opened opens gives job name file is o)
+    (λ f faulty. subst (λ n. IsFaultBehind opens gives n job machine f) (sym is) (inr (file, o, faulty)))
+
+-- The trace can't be opened.
 pub trace_refused : {File : Type 0} (opens : List ℕ → Result File ErrorKind → Type 0) (gives : File → Gives) (job : Job) (machine : Gives) (name : List ℕ)
-    (kind : ErrorKind) (f : Fault) → trace_file_of job ≡ Some name → opens name (Err kind) → IsUnread name kind f → IsOpenedFault opens gives job machine f
+    (kind : ErrorKind) (f : Fault) → trace_file_of job ≡ Some name → opens name (Err kind) → IsUnread name kind f →
+    IsFaultBehind opens gives (trace_file_of job) job machine f
 trace_refused opens gives job machine name kind f is refused unread =
-    inr (subst (λ o. IsSomeAnd o (λ n. (kind : ErrorKind) × opens n (Err kind) × IsUnread n kind f)) (sym is) (kind, refused, unread))
-
-pub text_refused : {File : Type 0} (opens : List ℕ → Result File ErrorKind → Type 0) (gives : File → Gives) (job : Job) (kind : ErrorKind) (f : Fault) →
-    opens (file_of job) (Err kind) → IsUnread (file_of job) kind f → IsOpenedFault opens gives job (FileGives opens gives (file_of job)) f
-text_refused opens gives job kind f refused unread = inl (inr (inl (kind, inl refused, unread)))
+    subst (λ n. IsFaultBehind opens gives n job machine f) (sym is) (inl (kind, refused, unread))
 
 -- The machine text was opened.
 pub done_on_file : {File : Type 0} (opens : List ℕ → Result File ErrorKind → Type 0) (gives : File → Gives) (job : Job) (trace : Gives) (file : File)
@@ -93,14 +104,8 @@ done_on_file opens gives job trace file out keeps status o (text, told, lines, g
 
 pub not_done_on_file : {File : Type 0} (opens : List ℕ → Result File ErrorKind → Type 0) (gives : File → Gives) (job : Job) (trace : Gives) (file : File)
     (out : Takes) (keeps : Type 0) (faults : Takes) → opens (file_of job) (Ok file) →
-    IsNotDone job (gives file) trace (IsOpenedFault opens gives job (gives file)) out keeps faults →
-    IsNotDone job (FileGives opens gives (file_of job)) trace (IsOpenedFault opens gives job (FileGives opens gives (file_of job))) out keeps faults
-not_done_on_file opens gives job trace file out keeps faults o (inl (f, is, kept, reported)) = inl (f, by is, kept, reported)
-  where
-    by : IsOpenedFault opens gives job (gives file) f → IsOpenedFault opens gives job (FileGives opens gives (file_of job)) f
-    by (inl (inl none)) = inl (inl none)
-    by (inl (inr (inl (kind, failed, unread)))) = inl (inr (inl (kind, inr (file, o, failed), unread)))
-    by (inl (inr (inr (text, given, is)))) = inl (inr (inr (text, (file, o, given), is)))
-    by (inr refused) = inr refused
+    IsNotDone job (gives file) trace (IsFaultBehind opens gives (trace_file_of job) job (gives file)) out keeps faults →
+    IsNotDone job (FileGives opens gives (file_of job)) trace (IsOpenedFault opens gives job) out keeps faults
+not_done_on_file opens gives job trace file out keeps faults o (inl (f, is, kept, reported)) = inl (f, inr (file, o, is), kept, reported)
 not_done_on_file opens gives job trace file out keeps faults o (inr (text, told, lines, status, given, t, s, wrote, reported)) =
     inr (text, told, lines, status, (file, o, given), t, s, wrote, reported)

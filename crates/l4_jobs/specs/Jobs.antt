@@ -148,17 +148,25 @@ IsJobFault job machine trace f =
     ⊎ ((kind : ErrorKind) × machine (Err kind) × IsUnread (file_of job) kind f)
     ⊎ ((text : List ℕ) × machine (Ok text) × IsFaultOf job (machine_of_text text) trace f)
 
--- What reading the trace of a job that reads one may come to, and why a job on files prints nothing: the trace is opened before the machine text is
--- read.
+-- What reading the trace of a job that reads one may come to.
 abbrev pub TraceGives : {File : Type 0} → (opens : List ℕ → Result File ErrorKind → Type 0) → (gives : File → Result (List ℕ) ErrorKind → Type 0) →
     Job → Result (List ℕ) ErrorKind → Type 0
 TraceGives opens gives job trace = IsSomeAnd (trace_file_of job) (λ name. FileGives opens gives name trace)
 
+-- Why a job whose machine text was opened prints nothing: the trace of this name can't be opened, or it was opened too.
+abbrev pub IsFaultBehind : {File : Type 0} → (opens : List ℕ → Result File ErrorKind → Type 0) → (gives : File → Result (List ℕ) ErrorKind → Type 0) →
+    (trace : Option (List ℕ)) → Job → (machine : Result (List ℕ) ErrorKind → Type 0) → Fault → Type 0
+IsFaultBehind opens gives None job machine f = IsJobFault job machine (λ given. ⊥) f
+IsFaultBehind {File} opens gives (Some name) job machine f =
+    ((kind : ErrorKind) × opens name (Err kind) × IsUnread name kind f)
+    ⊎ ((file : File) × opens name (Ok file) × IsJobFault job machine (gives file) f)
+
+-- Why a job on files prints nothing. They are opened one by one, that of the machine text first, and nothing is read of them before.
 abbrev pub IsOpenedFault : {File : Type 0} → (opens : List ℕ → Result File ErrorKind → Type 0) → (gives : File → Result (List ℕ) ErrorKind → Type 0) →
-    Job → (machine : Result (List ℕ) ErrorKind → Type 0) → Fault → Type 0
-IsOpenedFault opens gives job machine f =
-    IsJobFault job machine (TraceGives opens gives job) f
-    ⊎ IsSomeAnd (trace_file_of job) (λ name. (kind : ErrorKind) × opens name (Err kind) × IsUnread name kind f)
+    Job → Fault → Type 0
+IsOpenedFault {File} opens gives job f =
+    ((kind : ErrorKind) × opens (file_of job) (Err kind) × IsUnread (file_of job) kind f)
+    ⊎ ((file : File) × opens (file_of job) (Ok file) × IsFaultBehind opens gives (trace_file_of job) job (gives file) f)
 
 -- The exit status of a run that ends at rest, and of one that does not.
 abbrev pub status_at_rest : Bool → ℕ

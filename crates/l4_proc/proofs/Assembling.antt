@@ -7,7 +7,7 @@ use Rattle.l4_core_model.specs.Local.{opening_local}
 use Rattle.l4_merge.specs.Pasts.{empty_past, HasWorked}
 use Rattle.l4_core.specs.Processor as cores
 use Rattle.l4_mail.specs.Fabrics.{AreFresh}
-use Rattle.l4_mail.specs.Ports.{place, HasWayTo, IsApart}
+use Rattle.l4_mail.specs.Ports.{place, kept_from, HasWayTo, IsApart}
 use Rattle.l4_mail.specs.declared.ports.Port.{Port}
 use Rattle.l4_proc.specs.declared.processor.Processor.{Processor}
 use Rattle.l4_proc.specs.Assembled.{IsOpening}
@@ -57,6 +57,9 @@ next_fresh n done rest port f =
     let at = seam done rest port in
     record { posted = f.posted (length done) port at; taken = f.taken (length done) port at }
 
+next_kept : (n : ℕ) (done rest : List Port) (port : Port) → AreFresh n (done ++ port ∷ rest) → (from : ℕ) → kept_from port from ≡ []
+next_kept n done rest port f = f.kept (length done) port (seam done rest port)
+
 pub one_more : (m : Machine) (ps : List Processor) (p : Processor) → ((cpu : ℕ) (q : Processor) → slice_get ps cpu ≡ Some q → IsOpening m cpu q) →
     IsOpening m (length ps) p →
     (cpu : ℕ) (q : Processor) → slice_get (ps ++ p ∷ []) cpu ≡ Some q → IsOpening m cpu q
@@ -64,8 +67,8 @@ one_more m ps p each last = pushed_at (IsOpening m) ps p each last
 
 opened : (m : Machine) (n k : ℕ) (p : Processor) (c : cores.Processor) → p.worker.core ≡ c → c ≡ record { machine = m; cpu = k; local = opening_local m k } → k ≡ n →
     HasWorked c.machine c.cpu (empty_past c.local) (past p) → p.worker.hand ≡ None → turns_of p ≡ 0 → p.worker.stop ≡ stop.Used → IsApart (place p.port) →
-    IsFreshPort p.port → events p.worker.log ≡ [] → IsOpening m n p
-opened m n k p c core is number worked hand turns used apart fresh none =
+    IsFreshPort p.port → ((from : ℕ) → kept_from p.port from ≡ []) → events p.worker.log ≡ [] → IsOpening m n p
+opened m n k p c core is number worked hand turns used apart fresh kept none =
     let at : c ≡ record { machine = m; cpu = n; local = opening_local m n } = is
     ∙ ap (λ (i : ℕ). record { machine = m; cpu = i; local = opening_local m i }) number in
     record {
@@ -76,6 +79,7 @@ opened m n k p c core is number worked hand turns used apart fresh none =
       events = none;
       posted = fresh.posted;
       taken = fresh.taken;
+      kept = kept;
       hand = hand;
       turns = turns;
       stop = used;
@@ -98,10 +102,11 @@ next_has m done rest all ps news port p c k h is more same core at number worked
     let number_is : k ≡ length ps = number ∙ next_number m.cpus done rest port fresh ∙ ap length (sym h.ports) ∙ length-map ps (λ (q : Processor). q.port) in
     let new = subst IsFreshPort (sym same) (next_fresh m.cpus done rest port fresh) in
     let apart = subst (λ (q : Port). IsApart (place q)) (sym same) (next_apart m.cpus done rest port fresh) in
+    let kept = subst (λ (q : Port). (from : ℕ) → kept_from q from ≡ []) (sym same) (next_kept m.cpus done rest port fresh) in
     record {
       fresh = subst (AreFresh m.cpus) (sym (append_assoc done (port ∷ []) rest)) fresh;
       ports = ap (map (λ (q : Processor). q.port)) more ∙ map-append (λ (q : Processor). q.port) ps (p ∷ [])
           ∙ ap (λ (ls : List Port). ls ++ p.port ∷ []) h.ports ∙ ap (λ (q : Port). done ++ q ∷ []) same;
-      each = λ cpu q e. one_more m ps p h.each (opened m (length ps) k p c core at number_is worked hand turns used apart new none) cpu q (ap (λ (ls : List Processor).
+      each = λ cpu q e. one_more m ps p h.each (opened m (length ps) k p c core at number_is worked hand turns used apart new kept none) cpu q (ap (λ (ls : List Processor).
           slice_get ls cpu) (sym more) ∙ e);
     }

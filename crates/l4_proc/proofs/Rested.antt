@@ -1,11 +1,12 @@
 -- Processors that are taken apart for a rest of their ports and put together again.
 use Rattle.std.proofs.Common.{◌≡◌, ℕ, zero, suc, ◌-◌, ◌<◌, ◌≤◌, Bool, true, false, ◌&&◌, ◌||◌, not, Option, Some, None, List, [], ◌∷◌, ◌++◌, map, length, take, refl, ap, ap₂, sym, ◌∙◌, subst, append_assoc, append-nil, arith, Vec, Global, get_or, set}
-use Rattle.std.specs.Prelude.{◌≢◌, ◌↔◌, is_some, nat_eq, nat_lt, slice_get, ◌==◌}
+use Rattle.std.specs.Prelude.{◌≢◌, ◌↔◌, IsTrue, is_some, nat_eq, nat_lt, slice_get, ◌==◌}
 use Rattle.std.specs.VecDeque.{deque_len}
 use Rattle.std.specs.declared.collections.VecDeque.{VecDeque}
 use Rattle.std.specs.List.{list_all, list_any, AllZip}
 use Rattle.std.proofs.lemmas.Bool.Decides.{nat_tests}
 use Rattle.std.proofs.lemmas.List.{length-append, length-map, map-append}
+use Rattle.std.proofs.lemmas.Option.{slice_get_within}
 use Rattle.std.proofs.Math.Seq.{map-set_same}
 use Rattle.l4_model.proofs.Chains.{get-map, some_is}
 use Rattle.l4_model.proofs.Places.{and_true}
@@ -326,6 +327,24 @@ keep_none_of ps all i j from to ne e f =
 pub nothing_listed : (ways : List (ℕ × ℕ × Vec Letter Global)) (ports : List Port) → map (λ (way : ℕ × ℕ × Vec Letter Global). (way.0, way.1, way.2.items)) ways ≡ under_way ports →
     list_all (λ (way : ℕ × ℕ × Vec Letter Global). is_empty way.2.items) ways ≡ list_all is_nothing (under_way ports)
 nothing_listed ways ports is = list_all_map (λ (way : ℕ × ℕ × Vec Letter Global). (way.0, way.1, way.2.items)) is_nothing ways ∙ ap (list_all is_nothing) is
+
+-- One alone has all handled where it has no letter in hand.
+pub alone_handled : (ps : List Processor) (any : Bool) → length ps ≡ 1 → any ≡ list_any (λ (p : Processor). is_some p.worker.hand) ps →
+    (IsTrue (not any) → HaveHandledAll ps) × (HaveHandledAll ps → IsTrue (not any))
+alone_handled ps any one is = (λ none. all (not_false any none), λ handled. ap not (is ∙ no_hand ps handled.hand))
+  where
+    not_false : (b : Bool) → IsTrue (not b) → b ≡ false
+    not_false true is = absurd cc
+    not_false false is = refl
+
+    first : (i : ℕ) (p : Processor) → slice_get ps i ≡ Some p → i ≡ 0
+    first i p at = let lt = slice_get_within ps i p at in omega (arith, lt, one)
+
+    all : any ≡ false → HaveHandledAll ps
+    all none = record {
+      hand = λ i p at. none_in_hand ps (sym is ∙ none) i p at;
+      kept = λ i j from to apart e f. absurd (apart (first i from e ∙ sym (first j to f)));
+    }
 
 -- What was found out tells whether all is handled.
 pub found : (ps : List Processor) (nothing held : Bool) → AreOneFabric (map port_of ps) → are_all (map port_of ps) ≡ true →

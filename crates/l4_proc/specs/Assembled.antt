@@ -3,13 +3,13 @@ use Rattle.std.specs.Prelude.{◌≡◌, ℕ, Some, None, List, [], length, map,
 use Rattle.l4_model.specs.Machine.{Machine}
 use Rattle.l4_core_model.specs.Local.{opening_local}
 use Rattle.l4_merge.specs.Pasts.{empty_past, HasWorked}
-use Rattle.l4_mail.specs.Ports.{place, posted_to, taken_from, AreOneFabric, IsApart}
+use Rattle.l4_mail.specs.Ports.{place, posted_to, taken_from, kept_from, AreOneFabric, IsApart}
 use Rattle.l4_proc.specs.Logs.{events}
 use Rattle.l4_proc.specs.declared.processor.Processor.{Processor}
 use Rattle.l4_proc.specs.Working.{past, turns_of}
 use Rattle.l4_proc.specs.declared.stops.Stop.TheVariants as stop
 
--- A processor that has done nothing.
+-- A processor that has done nothing, and that no letter has come to.
 pub record IsOpening (m : Machine) (cpu : ℕ) (p : Processor) : Type 0 where
   pub machine : p.worker.core.machine ≡ m
   pub number : p.worker.core.cpu ≡ cpu
@@ -18,6 +18,7 @@ pub record IsOpening (m : Machine) (cpu : ℕ) (p : Processor) : Type 0 where
   pub events : events p.worker.log ≡ []
   pub posted : (to : ℕ) → posted_to p.port to ≡ []
   pub taken : (from : ℕ) → taken_from p.port from ≡ []
+  pub kept : (from : ℕ) → kept_from p.port from ≡ []
   pub hand : p.worker.hand ≡ None
   pub turns : turns_of p ≡ 0
   pub stop : p.worker.stop ≡ stop.Used

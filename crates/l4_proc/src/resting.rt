@@ -1,5 +1,5 @@
 //! Processors that come to rest.
-ghost use Rattle.std.specs.Prelude.{◌≡◌, ◌↔◌, ◌≤◌, ◌&&◌, false, is_some, map, nat_eq, not, IfOk, IsErrOf, IsTrue, OnOk, vec_len};
+ghost use Rattle.std.specs.Prelude.{◌≡◌, ◌↔◌, ◌≤◌, ◌&&◌, false, true, is_some, map, nat_eq, not, IfOk, IsErrOf, IsTrue, OnOk, vec_len};
 ghost use Rattle.std.specs.Vec.{vec_capacity};
 ghost use Rattle.std.specs.List.{list_all, list_any, AllZip};
 ghost use Rattle.l4_core_model.specs.Runs.{is_empty};
@@ -127,6 +127,24 @@ pub fn rest(alloc: Global, processors: &mut Vec<Processor<'_>>) -> Result<bool, 
     if !are_all(processors) {
         return Err(RestFault::Numbers);
     }
+    // One processor has no way to itself, so nothing is under way.
+    if processors.len() == 1 {
+        return Ok(!any_in_hand(processors));
+    }
+    rest_several(alloc, processors)
+}
+
+// The same where they are all processors of their fabric.
+fn rest_several(alloc: Global, processors: &mut Vec<Processor<'_>>) -> Result<bool, RestFault>
+    requires one { AreOneFabric (map (λ p. p.port) processors.old.items) }
+    requires all { are_all (map (λ p. p.port) processors.old.items) ≡ true }
+    ensures numbers { IsErrOf result RestFault.Numbers ↔ (are_all (map (λ p. p.port) processors.old.items) ≡ false) }
+    ensures same { AreAsBefore processors.old.items processors.new.items }
+    ensures one { AreOneFabric (map (λ p. p.port) processors.new.items) }
+    ensures capacity { vec_capacity processors.new ≡ vec_capacity processors.old }
+    ensures whole { OnOk result (AreWhole (map (λ p. p.port) processors.new.items)) }
+    ensures all { IfOk result (λ all. IsTrue all ↔ HaveHandledAll processors.new.items) }
+{
     let mut ports = Vec::with_capacity(alloc, processors.len())?;
     let mut workers = Vec::with_capacity(alloc, processors.len())?;
     let room = Vec::with_capacity(alloc, processors.capacity())?;

@@ -113,15 +113,3 @@ pub fn write_words(words: &[u64], line: &mut [u8], end: usize) -> usize
     }
     at
 }
-
-/// Writes the first word of a line in front of a place of the line. Answers where it starts.
-pub fn write_keyword(keyword: &[u8], line: &mut [u8], end: usize) -> usize
-    requires room { length keyword.now ≤ end }
-    requires within { end ≤ length line.old }
-    ensures room { end ≤ result + length keyword.now }
-    ensures written { drop result line.new ≡ keyword.now ++ drop end line.old }
-{
-    let start = end - keyword.len();
-    line[start..end].copy_from_slice(keyword);
-    start
-}

@@ -1,0 +1,124 @@
+//! A message that is only looked at.
+ghost use Rattle.std.specs.Prelude.{◌≡◌, ◌<◌, length, false};
+ghost use Rattle.l4_model.specs.Words.{label_limit, register_count};
+ghost use Rattle.l4_types.specs.Flags.{flags_of};
+
+use crate::ids::GlobalId;
+use crate::messages::Message;
+use crate::tags::MsgTag;
+use arrayvec::ArrayVec;
+use std::marker::Model;
+
+/// A message whose words stay where they are: in a message, in a history, or in message registers 1 to u of its sender (manual: Messages
+/// and Message Registers).
+#[derive(Drop)]
+pub struct MessageRef<'a> {
+    label: u64,
+    propagated: bool,
+    words: &'a [u64],
+    shown: GlobalId,
+    actual: GlobalId,
+}
+
+impl<'a> Model for MessageRef<'a> {
+    ghost use Rattle.std.specs.Prelude.{◌<◌, length};
+    ghost use Rattle.l4_model.specs.Words.{label_limit, register_count};
+    ghost use Rattle.l4_model.specs.World.{Message as ModelMessage};
+
+    ghost Value = { ModelMessage };
+
+    ghost view = { λ m. record { label = m.label; words = m.words.now; propagated = m.propagated; shown = m.shown; actual = m.actual } };
+
+    ghost invariant = { λ m. (m.label < label_limit) × (length m.words.now < register_count) };
+}
+
+impl<'a> From<&'a Message> for MessageRef<'a> {
+    ghost from_gives = { λ message result. result ≡ message.now };
+
+    fn from(message: &'a Message) -> MessageRef<'a> {
+        MessageRef {
+            label: message.label(),
+            propagated: message.propagated(),
+            words: message.words(),
+            shown: message.shown(),
+            actual: message.actual(),
+        }
+    }
+}
+
+impl<'a> MessageRef<'a> {
+    /// A message of a label below 2^48 and at most 63 words. `shown` is the sender that its receiver is shown, `actual` the thread that
+    /// sends it.
+    pub fn new(
+        label: u64,
+        propagated: bool,
+        words: &'a [u64],
+        shown: GlobalId,
+        actual: GlobalId,
+    ) -> MessageRef<'a>
+        requires label { label < label_limit }
+        requires words { length words.now < register_count }
+        ensures { result ≡ record { label = label; words = words.now; propagated = propagated; shown = shown; actual = actual } }
+    {
+        MessageRef {
+            label,
+            propagated,
+            words,
+            shown,
+            actual,
+        }
+    }
+
+    /// The label, below 2^48.
+    pub fn label(&self) -> u64
+        ensures value { result ≡ self.now.label }
+        ensures fits { result < label_limit }
+    {
+        self.label
+    }
+
+    /// Whether the message is propagated.
+    pub fn propagated(&self) -> bool
+        ensures { result ≡ self.now.propagated }
+    {
+        self.propagated
+    }
+
+    /// The untyped words, at most 63.
+    pub fn words(&self) -> &'a [u64]
+        ensures value { result.now ≡ self.now.words }
+        ensures fits { length result.now < register_count }
+    {
+        self.words
+    }
+
+    /// The sender that the receiver is shown: with propagation the originator, else the actual sender.
+    pub fn shown(&self) -> GlobalId
+        ensures { result ≡ self.now.shown }
+    {
+        self.shown
+    }
+
+    /// The thread that sends.
+    pub fn actual(&self) -> GlobalId
+        ensures { result ≡ self.now.actual }
+    {
+        self.actual
+    }
+
+    /// The tag of the message: its label, its number of words, and whether it is propagated.
+    pub fn tag(&self) -> MsgTag
+        ensures { result ≡ record { label = self.now.label; flags = flags_of false self.now.propagated; untyped = length self.now.words } }
+    {
+        MsgTag::new(self.label, self.words.len() as u8, self.propagated).unwrap()
+    }
+
+    /// The message with words of its own.
+    pub fn to_message(&self) -> Message
+        ensures { result ≡ self.now }
+    {
+        let mut words = ArrayVec::new();
+        words.try_extend_from_slice(self.words).unwrap();
+        Message::new(self.label, self.propagated, words, self.shown, self.actual).unwrap()
+    }
+}

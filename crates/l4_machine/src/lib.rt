@@ -1,17 +1,17 @@
 //! Machines at work: runs by host threads, replays of a schedule, and the law of core runs.
 #![tactic(auto)]
 
-mod core_run;
 mod entries;
-mod events;
 mod gathering;
 mod homes;
+mod inbox;
 mod laws;
 mod logs;
 mod merging;
 mod outcome;
 mod run_history;
 mod runs;
+mod scheduler;
 mod schedules;
 mod searching;
 mod station;

@@ -1,23 +1,27 @@
 -- A message goes over from its sender to its receiver.
-use Rattle.std.proofs.Common.{◌≡◌, ℕ, zero, suc, Bool, true, map, Option, Some, List, [], ◌∷◌, refl, ap, sym, ◌∙◌}
-use Rattle.std.specs.Prelude.{slice_get, ◌==◌, ◌&&◌}
-use Rattle.std.specs.Str.{bytes_eq}
+use Rattle.std.proofs.Common.{◌≡◌, ℕ, zero, suc, map, Option, Some, None, List, [], ◌∷◌, refl, ap, sym, ◌∙◌}
+use Rattle.std.specs.Prelude.{slice_get}
 use Rattle.std.proofs.lemmas.Slice.Eq.{bytes_eq-Decides}
-use Rattle.l4_model.specs.Words.{same_id, GlobalId, Id, NilThread, AnyThread, AnyLocalThread, LocalThread, GlobalThread}
+use Rattle.l4_model.specs.Words.{GlobalId, Id, NilThread, AnyThread, AnyLocalThread, LocalThread, GlobalThread}
 use Rattle.l4_model.specs.Machine.{Machine, place_of}
-use Rattle.l4_model.specs.World.{Name, Thread, Send, Receive, Message, Owed, World, change, changed, unqueued, receive_now}
-use Rattle.l4_model.specs.Rules.{received_tag, is_cross, owed_by}
+use Rattle.l4_model.specs.World.{Name, Thread, Send, Message, Owed, World, change, changed, unqueued}
+use Rattle.l4_model.specs.Rules.{received_tag, owed_by}
 use Rattle.l4_model.specs.Effects.{receives, delivered}
-use Rattle.l4_model.specs.Conditions.{Found, Pending, found, found_by, undecided, receiver_of, first_accepted}
-use Rattle.l4_model.specs.Steps.{after_deliver, owing}
+use Rattle.l4_model.specs.Conditions.{Found, Pending, found, found_by, undecided, receiver_of}
+use Rattle.l4_model.specs.Steps.{owing}
+use Rattle.l4_model.proofs.Inversions.{deliver_taken}
 use Rattle.l4_model.proofs.Chains.{some_is, get-map, map-changed_same}
-use Rattle.l4_model.proofs.Places.{and_true, same_id_is, eqb_same, known, known_send, id_of, sender_found, receiver_there}
+use Rattle.l4_model.proofs.Places.{same_id_is, known, known_send, id_of, sender_found, receiver_there}
 use Rattle.l4_core_model.specs.Letters.{Delivered}
 use Rattle.l4_core_model.specs.Local.{after_decision}
 use Rattle.l4_history.specs.declared.step_ref.DeliveryRef.{DeliveryRef}
 use Rattle.l4_script.proofs.Finding.{declared_at}
 use Rattle.l4_audit.specs.Audited.{Audited, with_world}
-use Rattle.l4_audit.specs.Delivering.{is_delivery, taken_over, IsFound}
+use Rattle.l4_history.specs.Seen.{delivered as told}
+use Rattle.l4_audit.specs.Delivering.{taken_over, IsFound}
+use Rattle.l4_audit.specs.Reasons.{reason}
+use Rattle.l4_audit.specs.Taking.{IsTaken}
+use Rattle.l4_audit.proofs.Reasoning.{is_possible}
 use Rattle.l4_audit.proofs.Starting.{changes_at}
 
 -- Two changes that agree where some part of an element is as it is at a place.
@@ -47,42 +51,38 @@ receiver_is_found m w AnyLocalThread r is = cc
 receiver_is_found m w (LocalThread word) r is = cc
 receiver_is_found m w (GlobalThread t) r is = is_found m w t r is
 
-pub delivers_now : (m : Machine) (a x v : Audited) (d : DeliveryRef) (p : Pending) (r : Found) (receive : Receive) (o : Option Owed) → undecided m a.world d.name ≡ Some p → receiver_of m a.world p ≡ Some r →
-    receive_now r.now.phase ≡ Some receive → first_accepted m a.world r receive.from ≡ Some p.sender.at → is_delivery m d p r ≡ true →
-    x ≡ with_world a (taken_over p.sender.at r.at d p.sender.clock a.world) → o ≡ owed_by m d.name p.send.message d.receiver → v ≡ with_world x (owing o x.world) →
-    after_deliver m a.world d.name d.receiver d.message.shown d.message.actual (received_tag d.cross d.message) d.message.words ≡ Some v.world
-delivers_now m a x v d p r receive o is to receiving first tells ends owes more =
+-- The step is possible, so it is told as it was sent: a retarget is owed, and the message goes over.
+pub delivers_now : (a x b : Audited) (d : DeliveryRef) (p : Pending) (r : Found) (o : Option Owed) → undecided a.machine a.world d.name ≡ Some p → receiver_of a.machine a.world p ≡ Some r →
+    reason a.machine a.world (told d) ≡ None → o ≡ owed_by a.machine d.name p.send.message d.receiver → x ≡ with_world a (owing o a.world) →
+    b ≡ with_world x (taken_over p.sender.at r.at d p.sender.clock x.world) → IsTaken a (told d) b
+delivers_now a x b d p r o is to none owes more ends =
+    let m : Machine = a.machine in
     let w : World = a.world in
-    let s : ℕ = p.sender.at in
     let tag : ℕ = received_tag d.cross d.message in
-    let sent : ℕ = received_tag (is_cross m d.receiver p.send.message) p.send.message in
-    let by_words : Bool = bytes_eq d.message.words p.send.message.words in
-    let by_tag : Bool = tag == sent in
-    let by_actual : Bool = same_id d.message.actual p.send.message.actual in
-    let by_shown : Bool = same_id d.message.shown p.send.message.shown in
-    let by_receiver : Bool = same_id d.receiver r.declared.id in
-    let one = and_true (by_receiver && by_shown && by_actual && by_tag) by_words tells in
-    let two = and_true (by_receiver && by_shown && by_actual) by_tag one.0 in
-    let three = and_true (by_receiver && by_shown) by_actual two.0 in
-    let four = and_true by_receiver by_shown three.0 in
-    let shown : d.message.shown ≡ p.send.message.shown = same_id_is _ _ four.1 in
-    let actual : d.message.actual ≡ p.send.message.actual = same_id_is _ _ three.1 in
-    let words : d.message.words ≡ p.send.message.words = (bytes_eq-Decides d.message.words p.send.message.words).0 one.1 in
-    let here : (s == s) ≡ true = eqb_same s in
-    let chain : after_deliver m w d.name d.receiver d.message.shown d.message.actual tag d.message.words
-    ≡ Some (owing (owed_by m d.name p.send.message d.receiver) (change (change (unqueued w s) r.at (receives p.send.message tag)) s (delivered p.send p.sender.clock))) =
-    rw (is, to, receiving, first, here, four.0, four.1, three.1, two.1, one.1) refl in
-    let got : change (unqueued w s) r.at (receives d.message tag) ≡ change (unqueued w s) r.at (receives p.send.message tag) =
-    changes_at (unqueued w s) r.at (receives d.message tag) (receives p.send.message tag) r.now (receiver_there m w p.send.to r to) (same_receives d.message p.send.message tag r.now shown actual words) in
-    let u : World = change (unqueued w s) r.at (receives p.send.message tag) in
-    let known = known_send m w d.name p is in
-    let has : slice_get (map (λ (t : Thread). t.send) u.threads) s ≡ Some (Some p.send) =
-    ap (λ xs. slice_get xs s) (map-changed_same (λ (t : Thread). t.send) (receives p.send.message tag) (λ t. refl) w.threads r.at)
-    ∙ get-map (λ (t : Thread). t.send) w.threads s p.sender.now known.sender.now ∙ ap Some known.send in
-    let ended_so : change u s (after_decision Delivered p.sender.clock) ≡ change u s (delivered p.send p.sender.clock) =
+    let v = is_possible m w (told d) none in
+    let k = deliver_taken m w v.0 d.name d.receiver d.message.shown d.message.actual tag d.message.words v.1 in
+    let send : k.p ≡ p = some_is k.p p (sym k.is_undecided ∙ is) in
+    let receiver : k.r ≡ r = some_is k.r r (sym k.to ∙ ap (receiver_of m w) send ∙ to) in
+    let shown : d.message.shown ≡ k.p.send.message.shown = same_id_is _ _ k.same_shown in
+    let actual : d.message.actual ≡ k.p.send.message.actual = same_id_is _ _ k.same_actual in
+    let words : d.message.words ≡ k.p.send.message.words = (bytes_eq-Decides d.message.words k.p.send.message.words).0 k.same_words in
+    let s : ℕ = k.p.sender.at in
+    let now : ℕ = k.p.sender.clock in
+    let got : change (unqueued w s) k.r.at (receives d.message tag) ≡ change (unqueued w s) k.r.at (receives k.p.send.message tag) =
+    changes_at (unqueued w s) k.r.at (receives d.message tag) (receives k.p.send.message tag) k.r.now (receiver_there m w k.p.send.to k.r k.to) (same_receives d.message k.p.send.message tag k.r.now shown actual words) in
+    let u : World = change (unqueued w s) k.r.at (receives k.p.send.message tag) in
+    let known = known_send m w d.name k.p k.is_undecided in
+    let has : slice_get (map (λ (t : Thread). t.send) u.threads) s ≡ Some (Some k.p.send) =
+    ap (λ xs. slice_get xs s) (map-changed_same (λ (t : Thread). t.send) (receives k.p.send.message tag) (λ t. refl) w.threads k.r.at)
+    ∙ get-map (λ (t : Thread). t.send) w.threads s k.p.sender.now known.sender.now ∙ ap Some known.send in
+    let ended_so : change u s (after_decision Delivered now) ≡ change u s (delivered k.p.send now) =
     ap (λ ts. record u { threads = ts })
-    (changed_where (λ (t : Thread). t.send) (after_decision Delivered p.sender.clock) (delivered p.send p.sender.clock) u.threads s (Some p.send) has (λ t e. same_end p.send p.sender.clock t e)) in
-    let gone : x.world ≡ change u s (delivered p.send p.sender.clock) = ap (λ (y : Audited). y.world) ends ∙ ap (λ y. change y s (after_decision Delivered p.sender.clock)) got ∙ ended_so in
-    let final : v.world ≡ owing (owed_by m d.name p.send.message d.receiver) (change u s (delivered p.send p.sender.clock)) =
-    ap (λ (y : Audited). y.world) more ∙ ap (λ q. owing q x.world) owes ∙ ap (owing (owed_by m d.name p.send.message d.receiver)) gone in
-    chain ∙ ap Some (sym final)
+    (changed_where (λ (t : Thread). t.send) (after_decision Delivered now) (delivered k.p.send now) u.threads s (Some k.p.send) has (λ t e. same_end k.p.send now t e)) in
+    let over : taken_over s k.r.at d now w ≡ change u s (delivered k.p.send now) = ap (λ y. change y s (after_decision Delivered now)) got ∙ ended_so in
+    let owed : o ≡ owed_by m d.name k.p.send.message d.receiver = owes ∙ ap (λ (q : Pending). owed_by m d.name q.send.message d.receiver) (sym send) in
+    let here : taken_over p.sender.at r.at d p.sender.clock w ≡ taken_over s k.r.at d now w =
+    ap (λ (q : Pending). taken_over q.sender.at r.at d q.sender.clock w) (sym send) ∙ ap (λ (y : Found). taken_over s y.at d now w) (sym receiver) in
+    let final : b.world ≡ v.0 =
+    ap (λ (y : Audited). y.world) ends ∙ ap (λ (y : Audited). taken_over p.sender.at r.at d p.sender.clock y.world) more
+    ∙ ap (owing o) (here ∙ over) ∙ ap (λ q. owing q (change u s (delivered k.p.send now))) owed ∙ k.leads_to in
+    record { machine = ap (λ (y : Audited). y.machine) ends ∙ ap (λ (y : Audited). y.machine) more; possible = v.1 ∙ ap Some (sym final) }

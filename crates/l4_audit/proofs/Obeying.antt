@@ -8,7 +8,7 @@ use Rattle.l4_model.specs.Effects.{asked}
 use Rattle.l4_model.specs.Conditions.{Found, found}
 use Rattle.l4_model.proofs.Chains.{map-changed_same, get-map, some_is}
 use Rattle.l4_model.proofs.Places.{known, place_id}
-use Rattle.l4_audit.specs.Audited.{Audited, IsOf, IsPlaced}
+use Rattle.l4_audit.specs.Audited.{Audited, IsAsked, IsPlaced}
 
 asked_context : (what : What) (t : Thread) → (asked what t).context ≡ t.context
 asked_context CancelSend t = refl
@@ -21,17 +21,18 @@ of_part g P [] i y h p = cc
 of_part g P (x ∷ xs) zero y h p = rw (some_is (g x) y h) p
 of_part g P (x ∷ xs) (suc i) y h p = of_part g P xs i y h p
 
-pub room_to_obey : (m : Machine) (w : World) (id : GlobalId) (t : Found) (what : What) (target : ℕ) → IsPlaced m w → length t.declared.script ≤ 1024 → found m w id ≡ Some t → is_some t.now.order ≡ true →
-    IsSomeAnd (slice_get (changed (asked what) w.threads target) t.at) (λ x. x.context.place + 1 < 2 ^ 64)
-room_to_obey m w id t what target placed limit is has =
-    let k = known m w id t is in
+pub room_to_obey : (a : Audited) (id : GlobalId) (t : Found) (target : ℕ) (what : What) → IsPlaced a → found a.machine a.world id ≡ Some t → IsAsked a.machine t target what →
+    IsSomeAnd (slice_get (changed (asked what) a.world.threads target) t.at) (λ x. x.context.place + 1 < 2 ^ 64)
+room_to_obey a id t target what placed is asks =
+    let w : World = a.world in
+    let k = known a.machine w id t is in
     let now = k.now in
-    let lt = placed t.at t.declared t.now k.declared now has in
+    let lt = placed t.at t.declared t.now k.declared now (ap is_some asks.asked) in
+    let limit = asks.limit in
     let e : slice_get (map (λ (x : Thread). x.context) (changed (asked what) w.threads target)) t.at ≡ Some t.now.context =
     ap (λ cs. slice_get cs t.at) (map-changed_same (λ (x : Thread). x.context) (asked what) (asked_context what) w.threads target) ∙ get-map (λ (x : Thread). x.context) w.threads t.at t.now now in
-    of_part (λ (x : Thread). x.context) (λ (y : Context). y.place + 1 < 2 ^ 64) (changed (asked what) w.threads target) t.at t.now.context e (omega arith)
+    of_part (λ (x : Thread). x.context) (λ (y : Context). y.place + 1 < 2 ^ 64) (changed (asked what) w.threads target) t.at t.now.context e (omega (arith, lt, limit))
 
-pub target_within : (m : Machine) (a : Audited) (id : GlobalId) (target : ℕ) → IsOf m a → place_of m id ≡ Some target → target < length a.world.threads
-target_within m a id target of is =
-    let p = place_id m id target is (record { id = id; cpu = 0; space = 0; script = [] }) in
-    omega (arith, p.0, of.threads)
+pub target_within : (m : Machine) (t : Found) (target : ℕ) (what : What) → IsAsked m t target what → target < length m.threads
+target_within m t target what asks =
+    (place_id m asks.order.target target asks.place (record { id = asks.order.target; cpu = 0; space = 0; script = [] })).0

@@ -1,18 +1,14 @@
 -- Owed retargets of the program are those of the world.
-use Rattle.std.proofs.Common.{◌≡◌, ℕ, ◌<◌, Bool, true, false, cond, Option, Some, List, [], ◌∷◌, ◌++◌, ◌||◌, map, length, refl, ap, sym, ◌∙◌}
+use Rattle.std.proofs.Common.{◌≡◌, ℕ, Bool, true, false, cond, Option, Some, List, [], ◌∷◌, ◌++◌, ◌||◌, map, length, refl, ap, sym, ◌∙◌}
 use Rattle.std.specs.Prelude.{not, find, filter}
 use Rattle.std.specs.List.{list_any}
 use Rattle.std.specs.Option.{option_map}
 use Rattle.std.proofs.lemmas.List.{length-map, map_push}
-use Rattle.std.proofs.lemmas.Option.{slice_get_within}
 use Rattle.l4_model.specs.Words.{GlobalId, Id}
 use Rattle.l4_model.specs.Machine.{Machine}
 use Rattle.l4_model.specs.World as world
-use Rattle.l4_model.specs.World.{World, Name, change, others_owed, must_wait}
-use Rattle.l4_model.specs.Effects.{turns}
-use Rattle.l4_model.specs.Steps.{after_retarget, owing}
-use Rattle.l4_model.specs.Conditions.{Found, found}
-use Rattle.l4_model.proofs.Places.{known}
+use Rattle.l4_model.specs.World.{Name, others_owed, must_wait}
+use Rattle.l4_model.specs.Steps.{owing}
 use Rattle.l4_types.specs.declared.owed.Owed.{Owed}
 use Rattle.l4_types.specs.OwedView.{owed_of}
 use Rattle.l4_thread.specs.Parts.{Block}
@@ -45,25 +41,15 @@ others_are name (o ∷ os) = by (not (is_of_name name o)) (others_are name os)
     by true rest = ap (λ xs. owed_of o ∷ xs) rest
     by false rest = rest
 
-pub as_many_owed : (bs : List Block) (ws : List (List ℕ)) (cs : List ℕ) (os : List Owed) (a : Audited) → audited bs ws cs (map owed_of os) ≡ a → length os ≡ length a.world.owed
-as_many_owed bs ws cs os a is = sym (length-map os owed_of) ∙ ap (λ (b : Audited). length b.world.owed) is
+pub as_many_owed : (m : Machine) (bs : List Block) (ws : List (List ℕ)) (cs : List ℕ) (os : List Owed) (a : Audited) → audited m bs ws cs (map owed_of os) ≡ a → length os ≡ length a.world.owed
+as_many_owed m bs ws cs os a is = sym (length-map os owed_of) ∙ ap (λ (b : Audited). length b.world.owed) is
 
 -- What is done to them
 
-pub owes_more : (bs : List Block) (ws : List (List ℕ)) (cs : List ℕ) (os new : List Owed) (a : Audited) (q : Option Owed) (o : Owed) → q ≡ Some o → audited bs ws cs (map owed_of os) ≡ a → new ≡ os ++ o ∷ [] →
-    audited bs ws cs (map owed_of new) ≡ with_world a (owing (option_map owed_of q) a.world)
-owes_more bs ws cs os new a q o one is e = let pushed = map_push owed_of os o in rw (← is, e, one, pushed) refl
+pub owes_more : (m : Machine) (bs : List Block) (ws : List (List ℕ)) (cs : List ℕ) (os new : List Owed) (a : Audited) (q : Option Owed) (o : Owed) → q ≡ Some o → audited m bs ws cs (map owed_of os) ≡ a → new ≡ os ++ o ∷ [] →
+    audited m bs ws cs (map owed_of new) ≡ with_world a (owing (option_map owed_of q) a.world)
+owes_more m bs ws cs os new a q o one is e = let pushed = map_push owed_of os o in rw (← is, e, one, pushed) refl
 
-pub forgotten : (bs : List Block) (ws : List (List ℕ)) (cs : List ℕ) (os new : List Owed) (a : Audited) (name : Name) → audited bs ws cs (map owed_of os) ≡ a →
-    new ≡ filter (λ o. not (is_of_name name o)) os → audited bs ws cs (map owed_of new) ≡ with_world a (record a.world { owed = others_owed a.world.owed name })
-forgotten bs ws cs os new a name is e = let others = others_are name os in rw (← is, e, others) refl
-
--- One is done
-
-pub found_within : (m : Machine) (w : World) (id : GlobalId) (t : Found) → found m w id ≡ Some t → t.at < length w.threads
-found_within m w id t is = slice_get_within w.threads t.at t.now (known m w id t is).now
-
-pub retargets_now : (m : Machine) (a u v : Audited) (name : Name) (o : world.Owed) (t : Found) (place : ℕ) → world.owed_of a.world.owed name ≡ Some o → found m a.world o.originator ≡ Some t →
-    place ≡ t.at → u ≡ with_world a (record a.world { owed = others_owed a.world.owed name }) → v ≡ with_world u (change u.world place (turns o)) →
-    after_retarget m a.world name ≡ Some v.world
-retargets_now m a u v name o t place is there at forgot turned = rw (is, there, turned, forgot, at) refl
+pub forgotten : (m : Machine) (bs : List Block) (ws : List (List ℕ)) (cs : List ℕ) (os new : List Owed) (a : Audited) (name : Name) → audited m bs ws cs (map owed_of os) ≡ a →
+    new ≡ filter (λ o. not (is_of_name name o)) os → audited m bs ws cs (map owed_of new) ≡ with_world a (record a.world { owed = others_owed a.world.owed name })
+forgotten m bs ws cs os new a name is e = let others = others_are name os in rw (← is, e, others) refl

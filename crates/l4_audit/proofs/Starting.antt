@@ -1,5 +1,5 @@
 -- A thread begins the first phase of its Ipc.
-use Rattle.std.proofs.Common.{◌≡◌, ℕ, ◌<◌, ◌+◌, ◌^◌, zero, suc, length, get_or, set, map, Bool, true, false, Option, Some, List, [], ◌∷◌, refl, ap, sym, ◌∙◌, arith, subst}
+use Rattle.std.proofs.Common.{◌≡◌, ℕ, ◌<◌, ◌+◌, ◌^◌, zero, suc, length, get_or, set, map, Bool, true, false, Option, Some, None, List, [], ◌∷◌, refl, ap, sym, ◌∙◌, arith, subst}
 use Rattle.std.specs.Prelude.{slice_get, ◌==◌, IsSome, IsSomeAnd, slice_index_or, is_some, not}
 use Rattle.std.specs.Option.{option_map}
 use Rattle.std.proofs.lemmas.List.{length-map}
@@ -10,7 +10,9 @@ use Rattle.l4_model.specs.World.{Thread, Send, Receive, Owed, World, Name, chang
 use Rattle.l4_model.specs.Rules.{Act, RunsAlone, Sends, Receives, Orders, act, ipc_act, destination, receive_phase}
 use Rattle.l4_model.specs.Effects.{begins, waits}
 use Rattle.l4_model.specs.Conditions.{Found, found, act_of, instruction}
-use Rattle.l4_model.specs.Steps.{send_of, receive_of, after_begin, after_wait}
+use Rattle.l4_model.specs.Steps.{Begin, Wait, send_of, receive_of, after_begin, after_wait}
+use Rattle.l4_model.proofs.Inversions.{begin_taken, wait_taken}
+use Rattle.l4_core_model.specs.Plain.{Waiting}
 use Rattle.l4_model.proofs.Chains.{some_is}
 use Rattle.l4_model.proofs.Places.{known}
 use Rattle.l4_types.specs.Ids.{global_of}
@@ -19,8 +21,10 @@ use Rattle.l4_thread.specs.Ipcs.{may_show, starts}
 use Rattle.l4_thread.specs.Requests.{asks_to_send, is_end}
 use Rattle.l4_thread.proofs.Asking.{shown_is_global}
 use Rattle.l4_audit.specs.Phases.{is_nil}
-use Rattle.l4_audit.specs.Audited.{Audited, IsOf, with_world, id_at}
-use Rattle.l4_audit.specs.Starting.{starts_at, IsStarting, CanStart}
+use Rattle.l4_audit.specs.Audited.{Audited, IsOf, with_world}
+use Rattle.l4_audit.specs.Starting.{id_at, starts_at, starting, IsStarting, CanStart}
+use Rattle.l4_audit.specs.Reasons.{reason}
+use Rattle.l4_audit.proofs.Reasoning.{is_possible}
 use Rattle.l4_audit.proofs.Writing.{audited, written, is_within}
 
 id_there : (bs : List Block) (i : ℕ) (b : Block) (d : GlobalId) → i < length bs → b ≡ get_or bs i b → slice_index_or (map (λ (x : Block). x.id) bs) i d ≡ b.id
@@ -36,58 +40,70 @@ thread_there (x ∷ bs) (suc i) b lt at = thread_there bs i b (omega arith) at
 -- The block at a place where a thread can start.
 record StartsHere (m : Machine) (a : Audited) (place : ℕ) (i : Instr) (permitted : Bool) (old : Block) : Type 0 where
   within : place < length a.world.threads
-  id : id_at a place ≡ old.id
-  thread : IsStarting m (id_at a place) i permitted old.thread
+  id : id_at m place ≡ old.id
+  thread : IsStarting m (id_at m place) i permitted old.thread
 
-starts_here : (m : Machine) (bs : List Block) (ws : List (List ℕ)) (cs : List ℕ) (os : List Owed) (a : Audited) (place : ℕ) (i : Instr) (permitted : Bool) (old : Block) → audited bs ws cs os ≡ a →
-    CanStart m a place i permitted → old ≡ get_or bs place old → StartsHere m a place i permitted old
-starts_here m bs ws cs os a place i permitted old is can at =
-    let lt : place < length a.world.threads = is_within (IsStarting m (id_at a place) i permitted) a.world.threads place can in
+starts_here : (m : Machine) (bs : List Block) (lists : List (List Waiting)) (ws : List (List ℕ)) (cs : List ℕ) (os : List Owed) (a : Audited) (place : ℕ) (i : Instr) (permitted : Bool) (old : Block) → audited m bs ws cs os ≡ a →
+    IsOf m bs lists → CanStart a place i permitted → old ≡ get_or bs place old → StartsHere m a place i permitted old
+starts_here m bs lists ws cs os a place i permitted old is of can at =
+    let machine : a.machine ≡ m = ap (λ (x : Audited). x.machine) (sym is) in
+    let lt : place < length a.world.threads = is_within (IsStarting a.machine (id_at a.machine place) i permitted) a.world.threads place can in
     let size : length bs ≡ length a.world.threads = sym (length-map bs (λ (b : Block). b.thread)) ∙ ap (λ (x : Audited). length x.world.threads) is in
     let there : slice_get a.world.threads place ≡ Some old.thread = ap (λ (x : Audited). slice_get x.world.threads place) (sym is) ∙ thread_there bs place old (omega (arith, size)) at in
     record {
       within = lt;
-      id = ap (λ (x : Audited). id_at x place) (sym is) ∙ id_there bs place old (global_id 0 1) (omega (arith, size)) at;
-      thread = subst (λ o. IsSomeAnd o (IsStarting m (id_at a place) i permitted)) there can;
+      id = ap (λ ids. slice_index_or ids place (global_id 0 1)) (sym of.ids) ∙ id_there bs place old (global_id 0 1) (omega (arith, size)) at;
+      thread = subst (λ n. IsStarting n (id_at n place) i permitted old.thread) machine (subst (λ o. IsSomeAnd o (IsStarting a.machine (id_at a.machine place) i permitted)) there can);
     }
 
 -- An originator that may be shown is named by a global id.
-pub start_shown : (m : Machine) (bs : List Block) (ws : List (List ℕ)) (cs : List ℕ) (os : List Owed) (a : Audited) (place : ℕ) (i : Instr) (permitted : Bool) (old : Block) → audited bs ws cs os ≡ a →
-    CanStart m a place i permitted → old ≡ get_or bs place old → permitted ≡ true → IsSome (global_of old.thread.context.actual)
-start_shown m bs ws cs os a place i permitted old is can at shown =
-    let here = starts_here m bs ws cs os a place i permitted old is can at in
-    shown_is_global m (id_at a place) old.thread.context.actual (sym here.thread.shows ∙ shown)
+pub start_shown : (m : Machine) (bs : List Block) {lists : List (List Waiting)} (ws : List (List ℕ)) (cs : List ℕ) (os : List Owed) (a : Audited) (place : ℕ) (i : Instr) (permitted : Bool) (old : Block) → audited m bs ws cs os ≡ a →
+    IsOf m bs lists → CanStart a place i permitted → old ≡ get_or bs place old → permitted ≡ true → IsSome (global_of old.thread.context.actual)
+start_shown m bs {lists} ws cs os a place i permitted old is of can at shown =
+    let here = starts_here m bs lists ws cs os a place i permitted old is of can at in
+    shown_is_global m (id_at m place) old.thread.context.actual (sym here.thread.shows ∙ shown)
 
-pub started : (m : Machine) (bs : List Block) (ws : List (List ℕ)) (cs : List ℕ) (os : List Owed) (a : Audited) (place : ℕ) (i : Instr) (permitted : Bool) (now : ℕ) (old new : Block) → audited bs ws cs os ≡ a →
-    CanStart m a place i permitted → old ≡ get_or bs place old →
+-- What its block becomes.
+pub started_block : (m : Machine) (bs : List Block) {lists : List (List Waiting)} (ws : List (List ℕ)) (cs : List ℕ) (os : List Owed) (a : Audited) (place : ℕ) (i : Instr) (permitted : Bool) (now : ℕ) (old new : Block) → audited m bs ws cs os ≡ a →
+    IsOf m bs lists → CanStart a place i permitted → old ≡ get_or bs place old →
     ((n : Machine) → permitted ≡ may_show n old.id old.thread.context.actual → new ≡ record old { thread = starts (act n old.id now old.thread.context i) now old.thread }) →
-    audited (set bs place new) ws cs os ≡ with_world a (change a.world place (starts_at m (id_at a place) now i))
-started m bs ws cs os a place i permitted now old new is can at gives =
-    let here = starts_here m bs ws cs os a place i permitted old is can at in
+    new ≡ record old { thread = starts_at m (id_at m place) now i old.thread }
+started_block m bs {lists} ws cs os a place i permitted now old new is of can at gives =
+    let here = starts_here m bs lists ws cs os a place i permitted old is of can at in
     let shows : permitted ≡ may_show m old.id old.thread.context.actual = here.thread.shows ∙ ap (λ id. may_show m id old.thread.context.actual) here.id in
-    let e : new ≡ record old { thread = starts_at m (id_at a place) now i old.thread } =
-    gives m shows ∙ ap (λ id. record old { thread = starts (act m id now old.thread.context i) now old.thread }) (sym here.id) in
-    written bs ws cs os a place (starts_at m (id_at a place) now i) old new is here.within at e
+    gives m shows ∙ ap (λ id. record old { thread = starts (act m id now old.thread.context i) now old.thread }) (sym here.id)
+
+pub started : (m : Machine) (bs : List Block) {lists : List (List Waiting)} (ws : List (List ℕ)) (cs : List ℕ) (os : List Owed) (a : Audited) (place : ℕ) (i : Instr) (permitted : Bool) (now : ℕ) (old new : Block) → audited m bs ws cs os ≡ a →
+    IsOf m bs lists → CanStart a place i permitted → old ≡ get_or bs place old →
+    ((n : Machine) → permitted ≡ may_show n old.id old.thread.context.actual → new ≡ record old { thread = starts (act n old.id now old.thread.context i) now old.thread }) →
+    audited m (set bs place new) ws cs os ≡ with_world a (starting a place now i)
+started m bs {lists} ws cs os a place i permitted now old new is of can at gives =
+    let machine : a.machine ≡ m = ap (λ (x : Audited). x.machine) (sym is) in
+    let here = starts_here m bs lists ws cs os a place i permitted old is of can at in
+    let e = started_block m bs ws cs os a place i permitted now old new is of can at gives in
+    written m bs ws cs os a place (starts_at m (id_at m place) now i) old new is here.within at e
+    ∙ ap (λ n. with_world a (change a.world place (starts_at n (id_at n place) now i))) (sym machine)
 
 -- Of a thread that was found.
 
-pub id_found : (m : Machine) (a : Audited) (id : GlobalId) (t : Found) → IsOf m a → found m a.world id ≡ Some t → id_at a t.at ≡ t.declared.id
-id_found m a id t of is =
-    let k = known m a.world id t is in
-    let e : slice_get a.ids t.at ≡ Some t.declared.id = ap (λ ids. slice_get ids t.at) of.ids ∙ slice_get-map (λ (d : Declaration). d.id) m.threads t.at ∙ ap (option_map (λ (d : Declaration). d.id)) k.declared in
-    get_or_from_slice_get a.ids t.at t.declared.id (global_id 0 1) e
+pub id_found : (m : Machine) (w : World) (id : GlobalId) (t : Found) → found m w id ≡ Some t → id_at m t.at ≡ t.declared.id
+id_found m w id t is =
+    let k = known m w id t is in
+    let e : slice_get (map (λ (d : Declaration). d.id) m.threads) t.at ≡ Some t.declared.id = slice_get-map (λ (d : Declaration). d.id) m.threads t.at ∙ ap (option_map (λ (d : Declaration). d.id)) k.declared in
+    get_or_from_slice_get (map (λ (d : Declaration). d.id) m.threads) t.at t.declared.id (global_id 0 1) e
 
-pub can_start : (m : Machine) (a : Audited) (id : GlobalId) (t : Found) (i : Instr) (permitted : Bool) → IsOf m a → found m a.world id ≡ Some t →
-    (is_end i ≡ false → t.now.context.place < 1024) → (asks_to_send t.now.context i ≡ true → t.now.context.begun + 1 < 2 ^ 64) → permitted ≡ may_show m t.declared.id t.now.context.actual →
-    CanStart m a t.at i permitted
-can_start m a id t i permitted of is room count shows =
+pub can_start : (a : Audited) (id : GlobalId) (t : Found) (i : Instr) (permitted : Bool) → found a.machine a.world id ≡ Some t →
+    (is_end i ≡ false → t.now.context.place < 1024) → (asks_to_send t.now.context i ≡ true → t.now.context.begun + 1 < 2 ^ 64) → permitted ≡ may_show a.machine t.declared.id t.now.context.actual →
+    CanStart a t.at i permitted
+can_start a id t i permitted is room count shows =
+    let m : Machine = a.machine in
     let k = known m a.world id t is in
-    let here : IsStarting m (id_at a t.at) i permitted t.now = record {
+    let here : IsStarting m (id_at m t.at) i permitted t.now = record {
       room = λ e. let lt = room e in omega arith;
       count = count;
-      shows = shows ∙ ap (λ x. may_show m x t.now.context.actual) (sym (id_found m a id t of is));
+      shows = shows ∙ ap (λ x. may_show m x t.now.context.actual) (sym (id_found m a.world id t is));
     } in
-    subst (λ o. IsSomeAnd o (IsStarting m (id_at a t.at) i permitted)) (sym k.now) here
+    subst (λ o. IsSomeAnd o (IsStarting m (id_at m t.at) i permitted)) (sym k.now) here
 
 changed_at : {A : Type 0} (f g : A → A) (xs : List A) (i : ℕ) (x : A) → slice_get xs i ≡ Some x → f x ≡ g x → changed f xs i ≡ changed g xs i
 changed_at f g [] i x h e = refl
@@ -109,29 +125,42 @@ some_receive (Sends send) h = cc
 some_receive (Receives receive) h = (receive, refl, λ now t. refl)
 some_receive (Orders order) h = cc
 
-pub begins_now : (m : Machine) (a : Audited) (s : Name) (t : Found) (i : Instr) → IsOf m a → found m a.world s.thread ≡ Some t → is_ready t.now.phase ≡ true →
-    (s.k == t.now.context.begun + 1) ≡ true → is_some (send_of (act_of m t)) ≡ true → i ≡ instruction t →
-    after_begin m a.world s ≡ Some (change a.world t.at (starts_at m (id_at a t.at) t.clock i))
-begins_now m a s t i of is ready k has instr =
-    let sent = some_send (act_of m t) has in
-    let ids = id_found m a s.thread t of is in
-    let e : begins sent.0 t.now ≡ starts_at m (id_at a t.at) t.clock i t.now = sym (sent.2 t.clock t.now) ∙ rw (ids, instr) refl in
-    let chain : after_begin m a.world s ≡ Some (change a.world t.at (begins sent.0)) = rw (is, ready, k, sent.1) refl in
-    chain ∙ ap Some (changes_at a.world t.at (begins sent.0) (starts_at m (id_at a t.at) t.clock i) t.now (known m a.world s.thread t is).now e)
+-- A step that begins a phase is what its thread becomes.
 
-pub waits_now : (m : Machine) (a : Audited) (id : GlobalId) (t : Found) (i : Instr) → IsOf m a → found m a.world id ≡ Some t → is_ready t.now.phase ≡ true →
-    is_some (receive_of (act_of m t)) ≡ true → i ≡ instruction t →
-    after_wait m a.world id ≡ Some (change a.world t.at (starts_at m (id_at a t.at) t.clock i))
-waits_now m a id t i of is ready has instr =
-    let got = some_receive (act_of m t) has in
-    let ids = id_found m a id t of is in
-    let e : waits got.0 t.clock t.now ≡ starts_at m (id_at a t.at) t.clock i t.now = sym (got.2 t.clock t.now) ∙ rw (ids, instr) refl in
-    let chain : after_wait m a.world id ≡ Some (change a.world t.at (waits got.0 t.clock)) = rw (is, ready, got.1) refl in
-    chain ∙ ap Some (changes_at a.world t.at (waits got.0 t.clock) (starts_at m (id_at a t.at) t.clock i) t.now (known m a.world id t is).now e)
+pub begins_now : (a : Audited) (s : Name) (t : Found) (i : Instr) → found a.machine a.world s.thread ≡ Some t → reason a.machine a.world (Begin s) ≡ None → i ≡ instruction t →
+    after_begin a.machine a.world s ≡ Some (starting a t.at t.clock i)
+begins_now a s t i is none instr =
+    let m : Machine = a.machine in
+    let v = is_possible m a.world (Begin s) none in
+    let k = begin_taken m a.world v.0 s v.1 in
+    let same : k.t ≡ t = some_is k.t t (sym k.found ∙ is) in
+    let sent = some_send (act_of m k.t) (ap is_some k.sends) in
+    let send : sent.0 ≡ k.send = some_is sent.0 k.send (sym sent.1 ∙ k.sends) in
+    let ids : id_at m k.t.at ≡ k.t.declared.id = id_found m a.world s.thread k.t k.found in
+    let instr_k : i ≡ instruction k.t = instr ∙ ap instruction (sym same) in
+    let e : begins k.send k.t.now ≡ starts_at m (id_at m k.t.at) k.t.clock i k.t.now = ap (λ x. begins x k.t.now) (sym send) ∙ sym (sent.2 k.t.clock k.t.now) ∙ rw (ids, instr_k) refl in
+    let started_at : after_begin m a.world s ≡ Some (starting a k.t.at k.t.clock i) =
+    v.1 ∙ ap Some (sym k.leads_to ∙ changes_at a.world k.t.at (begins k.send) (starts_at m (id_at m k.t.at) k.t.clock i) k.t.now (known m a.world s.thread k.t k.found).now e) in
+    started_at ∙ ap (λ (x : Found). Some (starting a x.at x.clock i)) same
 
--- A receive phase alone counts no send.
-pub no_send : {P : Type 0} (m : Machine) (t : Found) (i : Instr) → i ≡ instruction t → is_some (receive_of (act_of m t)) ≡ true → asks_to_send t.now.context i ≡ true → P
-no_send m t i e has asks = by i (subst (λ j. is_some (receive_of (act m t.declared.id t.clock t.now.context j)) ≡ true) (sym e) has) asks
+pub waits_now : (a : Audited) (id : GlobalId) (t : Found) (i : Instr) → found a.machine a.world id ≡ Some t → reason a.machine a.world (Wait id) ≡ None → i ≡ instruction t →
+    after_wait a.machine a.world id ≡ Some (starting a t.at t.clock i)
+waits_now a id t i is none instr =
+    let m : Machine = a.machine in
+    let v = is_possible m a.world (Wait id) none in
+    let k = wait_taken m a.world v.0 id v.1 in
+    let same : k.t ≡ t = some_is k.t t (sym k.found ∙ is) in
+    let got = some_receive (act_of m k.t) (ap is_some k.receiving) in
+    let receive : got.0 ≡ k.receive = some_is got.0 k.receive (sym got.1 ∙ k.receiving) in
+    let ids : id_at m k.t.at ≡ k.t.declared.id = id_found m a.world id k.t k.found in
+    let instr_k : i ≡ instruction k.t = instr ∙ ap instruction (sym same) in
+    let e : waits k.receive k.t.clock k.t.now ≡ starts_at m (id_at m k.t.at) k.t.clock i k.t.now = ap (λ x. waits x k.t.clock k.t.now) (sym receive) ∙ sym (got.2 k.t.clock k.t.now) ∙ rw (ids, instr_k) refl in
+    let started_at : after_wait m a.world id ≡ Some (starting a k.t.at k.t.clock i) =
+    v.1 ∙ ap Some (sym k.leads_to ∙ changes_at a.world k.t.at (waits k.receive k.t.clock) (starts_at m (id_at m k.t.at) k.t.clock i) k.t.now (known m a.world id k.t k.found).now e) in
+    started_at ∙ ap (λ (x : Found). Some (starting a x.at x.clock i)) same
+
+no_send_at : {P : Type 0} (m : Machine) (t : Found) (i : Instr) → i ≡ instruction t → is_some (receive_of (act_of m t)) ≡ true → asks_to_send t.now.context i ≡ true → P
+no_send_at m t i e has asks = by i (subst (λ j. is_some (receive_of (act m t.declared.id t.clock t.now.context j)) ≡ true) (sym e) has) asks
   where
     by_id : {P : Type 0} (to : Id) (period : Period) (receive : Option Receive) → is_some (receive_of (ipc_act m t.declared.id t.clock t.now.context to period receive)) ≡ true → not (is_nil to) ≡ true → P
     by_id NilThread period receive h a = cc
@@ -151,3 +180,13 @@ no_send m t i e has asks = by i (subst (λ j. is_some (receive_of (act m t.decla
     by (Jump place) h a = cc
     by (OnErr place) h a = cc
     by End h a = cc
+
+-- A receive phase alone counts no send.
+pub no_send : {P : Type 0} (a : Audited) (id : GlobalId) (t : Found) (i : Instr) → i ≡ instruction t → found a.machine a.world id ≡ Some t → reason a.machine a.world (Wait id) ≡ None → asks_to_send t.now.context i ≡ true → P
+no_send a id t i e is none asks =
+    let m : Machine = a.machine in
+    let v = is_possible m a.world (Wait id) none in
+    let k = wait_taken m a.world v.0 id v.1 in
+    let same : k.t ≡ t = some_is k.t t (sym k.found ∙ is) in
+    let has : is_some (receive_of (act_of m t)) ≡ true = ap (λ x. is_some (receive_of (act_of m x))) (sym same) ∙ ap is_some k.receiving in
+    no_send_at m t i e has asks

@@ -24,9 +24,9 @@ all_late : (v : ℕ) (cs : List ℕ) → map (λ c. v) cs ≡ replicate (length 
 all_late v [] = refl
 all_late v (c ∷ cs) = ap (λ xs. v ∷ xs) (all_late v cs)
 
-pub stopped : (bs : List Block) (ws : List (List ℕ)) (cs new : List ℕ) (os : List Owed) (a : Audited) → audited bs ws cs os ≡ a → new ≡ replicate (length cs) (2 ^ 62 - 1) →
-    audited bs ws new os ≡ with_world a (late a.world)
-stopped bs ws cs new os a is e = rw (← is, e) (ap (λ xs. audited bs ws xs os) (sym (all_late (2 ^ 62 - 1) cs)))
+pub stopped : (m : Machine) (bs : List Block) (ws : List (List ℕ)) (cs new : List ℕ) (os : List Owed) (a : Audited) → audited m bs ws cs os ≡ a → new ≡ replicate (length cs) (2 ^ 62 - 1) →
+    audited m bs ws new os ≡ with_world a (late a.world)
+stopped m bs ws cs new os a is e = rw (← is, e) (ap (λ xs. audited m bs ws xs os) (sym (all_late (2 ^ 62 - 1) cs)))
 
 -- Tests
 

@@ -1,13 +1,13 @@
--- What an auditor knows of a machine.
-use Rattle.std.specs.Prelude.{ℕ, ◌≡◌, ◌<◌, is_some, Bool, true, false, Option, Some, None, List, map, length, slice_get, slice_index_or}
-use Rattle.l4_model.specs.Words.{GlobalId, global_id}
-use Rattle.l4_model.specs.Machine.{Machine, Declaration}
-use Rattle.l4_model.specs.World.{World, Thread}
+-- What an auditor knows: a machine, and its world.
+use Rattle.std.specs.Prelude.{ℕ, ◌≡◌, ◌<◌, ◌≤◌, is_some, true, Some, List, map, length, slice_get}
+use Rattle.l4_model.specs.Machine.{Machine, Declaration, What, place_of, most_instructions}
+use Rattle.l4_model.specs.World.{World, Thread, Asked}
+use Rattle.l4_model.specs.Conditions.{Found}
 use Rattle.l4_core_model.specs.Plain.{Waiting}
+use Rattle.l4_thread.specs.Parts.{Block}
 
--- The ids of the threads, and the world.
 pub record Audited : Type 0 where
-  pub ids : List GlobalId
+  pub machine : Machine
   pub world : World
 
 abbrev pub with_world : Audited → World → Audited
@@ -17,23 +17,21 @@ with_world a w = record a { world = w }
 abbrev pub senders_of : List (List Waiting) → List (List ℕ)
 senders_of lists = map (map (λ w. w.block)) lists
 
--- The threads are those of a machine, and each has a list.
-pub record IsOf (m : Machine) (a : Audited) : Type 0 where
-  pub ids : a.ids ≡ map (λ d. d.id) m.threads
-  pub threads : length a.world.threads ≡ length m.threads
-  pub lists : length a.world.waiting ≡ length m.threads
+-- The threads are those of the machine, and each has a list.
+pub record IsOf (m : Machine) (blocks : List Block) (lists : List (List Waiting)) : Type 0 where
+  pub ids : map (λ (b : Block). b.id) blocks ≡ map (λ (d : Declaration). d.id) m.threads
+  pub counted : length lists ≡ length m.threads
 
 -- A thread that waits until what it asked for is done stands at an instruction of its script.
-abbrev pub IsPlaced : Machine → World → Type 0
-IsPlaced m w =
-    (i : ℕ) (d : Declaration) (t : Thread) → slice_get m.threads i ≡ Some d → slice_get w.threads i ≡ Some t → is_some t.order ≡ true →
-    t.context.place < length d.script
+abbrev pub IsPlaced : Audited → Type 0
+IsPlaced a =
+    (i : ℕ) (d : Declaration) (t : Thread) → slice_get a.machine.threads i ≡ Some d → slice_get a.world.threads i ≡ Some t →
+    is_some t.order ≡ true → t.context.place < length d.script
 
--- A step was possible and this is the world after it, or it was not.
-abbrev pub Makes : Bool → Option World → World → Type 0
-Makes true o w = o ≡ Some w
-Makes false o w = o ≡ None
-
--- The id of the thread at a place. Past the end it is 0.1, nobody's.
-abbrev pub id_at : Audited → ℕ → GlobalId
-id_at a place = slice_index_or a.ids place (global_id 0 1)
+-- A thread asked for this of the thread at a place, and it stands at an instruction of a script.
+pub record IsAsked (m : Machine) (t : Found) (target : ℕ) (what : What) : Type 0 where
+  pub order : Asked
+  pub asked : t.now.order ≡ Some order
+  pub place : place_of m order.target ≡ Some target
+  pub what_is : order.what ≡ what
+  pub limit : length t.declared.script ≤ most_instructions

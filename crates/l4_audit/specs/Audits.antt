@@ -1,9 +1,9 @@
 -- What an audit tells of a trace.
-use Rattle.std.specs.Prelude.{◌≡◌, ◌↔◌, Bool, true, false, Some, List, map}
+use Rattle.std.specs.Prelude.{ℕ, ◌≡◌, ◌+◌, ◌↔◌, Bool, true, false, Some, List, map, filter_map}
 use Rattle.l4_model.specs.Machine.{Machine}
 use Rattle.l4_model.specs.World.{World}
 use Rattle.l4_model.specs.Steps.{Step}
-use Rattle.l4_model.specs.History.{reached, IsFirstFault, view, waiting}
+use Rattle.l4_model.specs.History.{reached, begun_name, IsFirstFault, view, waiting}
 use Rattle.l4_model.specs.Still.{IsStill}
 use Rattle.l4_types.specs.declared.reports.Ending.{Ending}
 use Rattle.l4_types.specs.declared.reports.Ending.TheVariants.{Quiet, Spent}
@@ -11,7 +11,9 @@ use Rattle.l4_types.specs.ReportView.{report_of_view}
 use Rattle.l4_audit.specs.declared.audit.Audit.{Audit}
 use Rattle.l4_audit.specs.declared.audit.AuditFault.{AuditFault}
 use Rattle.l4_audit.specs.declared.audit.AuditFault.TheVariants.{NoMemory, Refused}
-use Rattle.l4_audit.specs.Audited.{Audited}
+use Rattle.l4_audit.specs.declared.reasons.StepFault.{StepFault}
+use Rattle.l4_audit.specs.declared.reasons.StepFault.TheVariants.{NoMemory as Wanting, Refused as Refuses}
+use Rattle.l4_audit.specs.Auditing.{Auditing}
 
 abbrev pub is_quiet : Ending → Bool
 is_quiet Quiet = true
@@ -30,7 +32,13 @@ abbrev pub Blames : Machine → List Step → AuditFault → Type 0
 Blames m h NoMemory = Unit {0}
 Blames m h (Refused place) = IsFirstFault m h place
 
--- The world that the steps reach, and the ids of the machine's threads.
-pub record IsReached (m : Machine) (h : List Step) (a : Audited) : Type 0 where
-  pub ids : a.ids ≡ map (λ d. d.id) m.threads
-  pub reached_by : reached m h ≡ Some a.world
+-- The fault of a step, the one after so many.
+abbrev pub fault_at : (taken : ℕ) → StepFault → AuditFault
+fault_at taken Wanting = NoMemory
+fault_at taken (Refuses reason) = Refused (taken + 1)
+
+-- The audit that passed these steps.
+pub record IsReached (m : Machine) (h : List Step) (a : Auditing) : Type 0 where
+  pub machine : a.at.machine ≡ m
+  pub reached_by : reached m h ≡ Some a.at.world
+  pub begun : a.begun ≡ filter_map begun_name h

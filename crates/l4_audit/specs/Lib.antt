@@ -1,7 +1,11 @@
 pub mod Audited
+pub mod Auditing
 pub mod Audits
 pub mod Delivering
 pub mod Owing
 pub mod Phases
+pub mod Possible
+pub mod Reasons
 pub mod Starting
 pub mod Stillness
+pub mod Taking

@@ -1,12 +1,12 @@
 -- Where a thread can begin the first phase of its Ipc.
-use Rattle.std.specs.Prelude.{ℕ, ◌≡◌, ◌+◌, ◌^◌, ◌<◌, Bool, true, false, IsSomeAnd, slice_get}
-use Rattle.l4_model.specs.Words.{GlobalId}
-use Rattle.l4_model.specs.Machine.{Machine, Instr}
-use Rattle.l4_model.specs.World.{Thread}
+use Rattle.std.specs.Prelude.{ℕ, ◌≡◌, ◌+◌, ◌^◌, ◌<◌, Bool, true, false, IsSomeAnd, slice_get, slice_index_or, map}
+use Rattle.l4_model.specs.Words.{GlobalId, global_id}
+use Rattle.l4_model.specs.Machine.{Machine, Declaration, Instr}
+use Rattle.l4_model.specs.World.{Thread, World, change}
 use Rattle.l4_model.specs.Rules.{act}
 use Rattle.l4_thread.specs.Ipcs.{may_show, starts}
 use Rattle.l4_thread.specs.Requests.{asks_to_send, is_end}
-use Rattle.l4_audit.specs.Audited.{Audited, id_at}
+use Rattle.l4_audit.specs.Audited.{Audited}
 
 abbrev pub starts_at : Machine → (id : GlobalId) → (now : ℕ) → Instr → Thread → Thread
 starts_at m id now i t = starts (act m id now t.context i) now t
@@ -17,5 +17,12 @@ pub record IsStarting (m : Machine) (id : GlobalId) (i : Instr) (permitted : Boo
   pub count : asks_to_send t.context i ≡ true → t.context.begun + 1 < 2 ^ 64
   pub shows : permitted ≡ may_show m id t.context.actual
 
-abbrev pub CanStart : Machine → Audited → (place : ℕ) → Instr → (permitted : Bool) → Type 0
-CanStart m a place i permitted = IsSomeAnd (slice_get a.world.threads place) (IsStarting m (id_at a place) i permitted)
+-- The id of the thread at a place. Past the end it is 0.1, nobody's.
+abbrev pub id_at : Machine → ℕ → GlobalId
+id_at m place = slice_index_or (map (λ (d : Declaration). d.id) m.threads) place (global_id 0 1)
+
+abbrev pub CanStart : Audited → (place : ℕ) → Instr → (permitted : Bool) → Type 0
+CanStart a place i permitted = IsSomeAnd (slice_get a.world.threads place) (IsStarting a.machine (id_at a.machine place) i permitted)
+
+abbrev pub starting : Audited → (place now : ℕ) → Instr → World
+starting a place now i = change a.world place (starts_at a.machine (id_at a.machine place) now i)

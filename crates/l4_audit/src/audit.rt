@@ -1,12 +1,10 @@
 //! The audit of a trace.
-ghost use Rattle.std.specs.Prelude.{◌≡◌, IfOk, IfErr, map};
+ghost use Rattle.std.specs.Prelude.{◌≡◌, ◌+◌, ◌<◌, ◌^◌, IfOk, IfErr, map};
 ghost use Rattle.l4_types.specs.StepView.{step_of};
-ghost use Rattle.l4_audit.specs.Audits.{Passes, Blames, IsReached, is_quiet};
-ghost use Rattle.l4_audit.specs.Audited.{IsOf};
-ghost use Rattle.l4_audit.specs.Stillness.{is_still_now};
-ghost use Rattle.l4_model.specs.Still.{late};
+ghost use Rattle.l4_audit.specs.Audits.{Passes, Blames, IsReached, fault_at};
 
-use crate::world::World;
+use crate::auditor::Auditor;
+use crate::reasons::StepFault;
 use l4_history::history::History;
 use l4_script::machine::Machine;
 use l4_types::errors::NoMemory;
@@ -49,6 +47,19 @@ impl From<NoMemory> for AuditFault {
     }
 }
 
+impl AuditFault {
+    // The fault of a step, the one after so many.
+    fn at(taken: usize, fault: StepFault) -> AuditFault
+        requires { taken + 1 < 2 ^ 64 }
+        ensures { result ≡ fault_at taken fault }
+    {
+        match fault {
+            StepFault::NoMemory => AuditFault::NoMemory,
+            StepFault::Refused(_) => AuditFault::Refused { place: taken + 1 },
+        }
+    }
+}
+
 /// Audits a trace. `Refused` exactly where its steps are no history of the machine, memory aside.
 pub fn check(alloc: Global, machine: &Machine, steps: &[Step]) -> Result<Audit, AuditFault>
     ensures passed { IfOk result (λ audit. Passes machine.now (map step_of steps.now) audit) }
@@ -70,10 +81,10 @@ pub fn check_history(
     ensures passed { IfOk result (λ audit. Passes machine.now history.now.steps audit) }
     ensures refused { IfErr result (λ fault. Blames machine.now history.now.steps fault) }
 {
-    let world = replayed(alloc, machine, history)?;
-    let threads = world.threads(alloc, machine)?;
-    let waiting = world.waiting(alloc, machine, history)?;
-    let ending = ending(machine, world)?;
+    let auditor = audited(alloc, machine, history)?;
+    let threads = auditor.threads(alloc)?;
+    let waiting = auditor.waiting(alloc)?;
+    let ending = auditor.ending()?;
     Ok(Audit {
         ending,
         threads,
@@ -81,31 +92,22 @@ pub fn check_history(
     })
 }
 
-// The world that the steps reach.
-fn replayed(alloc: Global, machine: &Machine, history: &History) -> Result<World, AuditFault>
+// The audit behind all steps.
+fn audited<'m>(
+    alloc: Global,
+    machine: &'m Machine,
+    history: &History,
+) -> Result<Auditor<'m>, AuditFault>
     ensures reached { IfOk result (λ a. IsReached machine.now history.now.steps a) }
     ensures refused { IfErr result (λ fault. Blames machine.now history.now.steps fault) }
 {
-    let mut world = World::new(alloc, machine)?;
+    let mut auditor = Auditor::new(alloc, machine)?;
     for place in 0..history.len() {
         let step = history.step(place);
-        if !world.take(machine, &step)? {
-            return Err(AuditFault::Refused { place: place + 1 });
+        match auditor.step(&step) {
+            Ok(()) => {}
+            Err(fault) => return Err(AuditFault::at(place, fault)),
         }
     }
-    Ok(world)
-}
-
-// Whether nothing but clocks can go on in a world.
-fn ending(machine: &Machine, world: World) -> Result<Ending, NoMemory>
-    requires { IsOf machine.now world }
-    ensures { IfOk result (λ ending. is_quiet ending ≡ is_still_now machine.now (late world.world)) }
-{
-    let mut world = world;
-    world.stop_clocks()?;
-    if world.is_still(machine) {
-        Ok(Ending::Quiet)
-    } else {
-        Ok(Ending::Spent)
-    }
+    Ok(auditor)
 }

@@ -9,6 +9,7 @@ ghost use Rattle.l4_model.specs.Steps.{runs_alone, send_of, receive_of, order_of
 ghost use Rattle.l4_types.specs.StepView.{what_of};
 ghost use Rattle.l4_audit.specs.Delivering.{IsFound};
 ghost use Rattle.l4_audit.specs.Phases.{has_phase};
+ghost use Rattle.l4_audit.specs.Reasons.{state_in};
 ghost use Rattle.l4_script.specs.Scripts.{instr_of, to_of};
 ghost use Rattle.l4_thread.specs.Ipcs.{may_show};
 ghost use Rattle.l4_thread.specs.Requests.{is_end};
@@ -20,6 +21,7 @@ use l4_thread::orders::Asked;
 use l4_thread::sends::{Receive, SendRef};
 use l4_thread::tcb::Tcb;
 use l4_types::ids::{GlobalId, Kind, ThreadId};
+use l4_types::reports::State;
 use l4_types::steps::What;
 use std::marker::Model;
 
@@ -75,6 +77,13 @@ impl<'a> Found<'a> {
             return Some(self.declared.cpu());
         }
         cpu_of(machine, id)
+    }
+
+    /// What it is about.
+    pub fn state(&self) -> State
+        ensures { result ≡ state_in self.now.now.phase }
+    {
+        self.tcb.state()
     }
 
     /// Whether it can run its next instruction.

@@ -2,6 +2,8 @@
 #![tactic(auto)]
 
 pub mod audit;
+pub mod auditor;
 mod found;
 mod periods;
+pub mod reasons;
 mod world;

@@ -6,6 +6,7 @@ mod deliveries;
 mod effects;
 mod looks;
 mod opening;
+mod possible;
 mod receives;
 mod retargets;
 mod sends;
@@ -23,30 +24,38 @@ use l4_types::steps::Name;
 use std::marker::Model;
 use tcb_arena::Arena;
 
-/// All threads in order of declaration, for each the senders that wait at it by their places, the clocks of the processors, and the owed
-/// retargets in order of delivery. Of the lists only those of the waiting senders are used.
+/// A machine, and its threads in order of declaration, for each the senders that wait at it by their places, the clocks of the processors,
+/// and the owed retargets in order of delivery. Of the lists only those of the waiting senders are used.
 #[derive(Drop)]
-pub struct World {
+pub struct World<'m> {
+    machine: &'m Machine,
     threads: Vec<Tcb>,
     lists: Arena,
     clocks: Vec<u64>,
     owed: Vec<Owed>,
 }
 
-impl Model for World {
+impl<'m> Model for World<'m> {
     ghost use Rattle.std.specs.Prelude.{map};
     ghost use Rattle.l4_types.specs.OwedView.{owed_of};
-    ghost use Rattle.l4_audit.specs.Audited.{Audited, senders_of};
+    ghost use Rattle.l4_audit.specs.Audited.{Audited, IsOf, senders_of};
 
     ghost Value = { Audited };
 
     ghost view = { λ w. record {
-      ids = map (λ b. b.id) w.threads.items;
-      world = record { threads = map (λ b. b.thread) w.threads.items; waiting = senders_of w.lists.waiting; clocks = w.clocks.items; owed = map owed_of w.owed.items };
+      machine = w.machine.now;
+      world = record {
+        threads = map (λ b. b.thread) w.threads.items;
+        waiting = senders_of w.lists.waiting;
+        clocks = w.clocks.items;
+        owed = map owed_of w.owed.items;
+      };
     } };
+
+    ghost invariant = { λ w. IsOf w.machine.now w.threads.items w.lists.waiting };
 }
 
-impl World {
+impl<'m> World<'m> {
     // The clock of a processor, in ticks.
     fn clock(&self, cpu: u8) -> u64
         ensures { result ≡ slice_index self.now.world.clocks cpu }
@@ -55,10 +64,11 @@ impl World {
     }
 
     /// The thread at a place of the order of declaration.
-    pub fn found_at<'a>(&'a self, machine: &'a Machine, place: usize) -> Option<Found<'a>>
-        ensures { result ≡ found_at machine.now self.now.world place }
+    #[inline(always)]
+    pub fn found_at(&self, place: usize) -> Option<Found<'_>>
+        ensures { result ≡ found_at self.now.machine self.now.world place }
     {
-        let declared = machine.threads().get(place)?;
+        let declared = self.machine.threads().get(place)?;
         let tcb = self.threads.get(place)?;
         Some(Found {
             place,
@@ -69,24 +79,25 @@ impl World {
     }
 
     /// A declared thread.
-    pub fn found<'a>(&'a self, machine: &'a Machine, id: GlobalId) -> Option<Found<'a>>
-        ensures { result ≡ found machine.now self.now.world id }
+    #[inline(always)]
+    pub fn found(&self, id: GlobalId) -> Option<Found<'_>>
+        ensures { result ≡ found self.now.machine self.now.world id }
     {
-        self.found_at(machine, machine.place_of(id)?)
+        self.found_at(self.machine.place_of(id)?)
     }
 
     /// The thread that an id names, where it names a declared one.
-    pub fn found_by<'a>(&'a self, machine: &'a Machine, id: ThreadId) -> Option<Found<'a>>
-        ensures { result ≡ found_by machine.now self.now.world id }
+    pub fn found_by(&self, id: ThreadId) -> Option<Found<'_>>
+        ensures { result ≡ found_by self.now.machine self.now.world id }
     {
-        self.found(machine, id.as_global()?)
+        self.found(id.as_global()?)
     }
 
     /// A send that was begun and is not decided.
-    pub fn undecided<'a>(&'a self, machine: &'a Machine, name: Name) -> Option<Pending<'a>>
-        ensures { result ≡ undecided machine.now self.now.world name }
+    pub fn undecided(&self, name: Name) -> Option<Pending<'_>>
+        ensures { result ≡ undecided self.now.machine self.now.world name }
     {
-        let sender = self.found(machine, name.thread())?;
+        let sender = self.found(name.thread())?;
         if sender.tcb.thread().begun() != name.k() {
             return None;
         }
@@ -95,13 +106,9 @@ impl World {
     }
 
     /// The thread that a send goes to.
-    pub fn receiver_of<'a>(
-        &'a self,
-        machine: &'a Machine,
-        pending: &Pending<'a>,
-    ) -> Option<Found<'a>>
-        ensures { result ≡ receiver_of machine.now self.now.world pending.now }
+    pub fn receiver_of(&self, pending: &Pending) -> Option<Found<'_>>
+        ensures { result ≡ receiver_of self.now.machine self.now.world pending.now }
     {
-        self.found_by(machine, pending.send.to())
+        self.found_by(pending.send.to())
     }
 }

@@ -1,27 +1,30 @@
 //! The step that delivers a send.
-ghost use Rattle.std.specs.Prelude.{◌≡◌, ◌<◌, IfOk, length, not};
+ghost use Rattle.std.specs.Prelude.{◌≡◌, ◌<◌, Some, IfOk, IfErr, OnOk, OnErr, length, not};
 ghost use Rattle.std.specs.Option.{option_map};
+ghost use Rattle.std.specs.Result.{result_err};
 ghost use Rattle.l4_model.specs.Machine.{same_cpu};
+ghost use Rattle.l4_model.specs.Conditions.{undecided, receiver_of};
 ghost use Rattle.l4_model.specs.Rules.{owed_by};
-ghost use Rattle.l4_model.specs.Steps.{next};
 ghost use Rattle.l4_types.specs.OwedView.{owed_of};
 ghost use Rattle.l4_history.specs.Seen.{delivered};
-ghost use Rattle.l4_audit.specs.Audited.{IsOf, Makes, with_world};
-ghost use Rattle.l4_audit.specs.Delivering.{is_delivery, taken_over, IsFound};
+ghost use Rattle.l4_audit.specs.Audited.{with_world};
+ghost use Rattle.l4_audit.specs.Delivering.{of_telling, taken_over, IsFound};
+ghost use Rattle.l4_audit.specs.Reasons.{first_false, reason};
+ghost use Rattle.l4_audit.specs.Taking.{Judged};
 
 use crate::found::{Found, Pending};
+use crate::reasons::{Reason, StepFault, need, test};
 use crate::world::World;
 use l4_history::step_ref::DeliveryRef;
 use l4_script::machine::Machine;
 use l4_thread::sends::SendRef;
-use l4_types::errors::NoMemory;
 use l4_types::ids::GlobalId;
 use l4_types::letters::Decision;
 use l4_types::owed::Owed;
 use l4_types::steps::Name;
 
 // Whether two threads are of different processors, or not declared. They may be those of a send and its receiver, which were found already.
-fn is_cross(
+pub(crate) fn is_cross(
     machine: &Machine,
     pending: &Pending,
     receiver: &Found,
@@ -39,20 +42,30 @@ fn is_cross(
     }
 }
 
-// Whether a delivery tells this send to this receiver: the senders, the tag and the words.
-fn tells(delivery: &DeliveryRef<'_>, machine: &Machine, pending: &Pending, receiver: &Found) -> bool
+// That a delivery tells this send to this receiver: the senders, the tag and the words.
+fn tells(
+    delivery: &DeliveryRef<'_>,
+    machine: &Machine,
+    pending: &Pending,
+    receiver: &Found,
+) -> Result<(), Reason>
     requires sender { IsFound machine.now pending.now.sender }
     requires receiver { IsFound machine.now receiver.now }
-    ensures { result ≡ is_delivery machine.now delivery.now pending.now receiver.now }
+    ensures { result_err result ≡ first_false (of_telling machine.now delivery.now pending.now receiver.now) }
 {
     let sent = pending.send().message();
-    let cross = is_cross(machine, pending, receiver, sent.actual(), delivery.receiver);
-    let tag = sent.tag().received(cross, sent.propagated());
-    delivery.receiver == receiver.id()
-        && delivery.message.shown() == sent.shown()
-        && delivery.message.actual() == sent.actual()
-        && delivery.tag().raw() == tag.raw()
-        && delivery.message.words() == sent.words()
+    let id = receiver.id();
+    test(delivery.receiver == id, Reason::OtherReceiver(id))?;
+    let (shown, actual) = (sent.shown(), sent.actual());
+    test(delivery.message.shown() == shown, Reason::OtherShown(shown))?;
+    test(
+        delivery.message.actual() == actual,
+        Reason::OtherSender(actual),
+    )?;
+    let cross = is_cross(machine, pending, receiver, actual, delivery.receiver);
+    let tag = sent.tag().received(cross, sent.propagated()).raw();
+    test(delivery.tag().raw() == tag, Reason::OtherTag(tag))?;
+    test(delivery.message.words() == sent.words(), Reason::OtherWords)
 }
 
 // The retarget that the delivery of a send leaves owed.
@@ -72,56 +85,53 @@ fn owed_by(machine: &Machine, name: Name, send: &SendRef<'_>, receiver: GlobalId
     }
 }
 
-impl World {
-    /// A receiver takes the message of the first waiting sender that it accepts, and the sender goes on. A retarget may be owed. Where memory
-    /// for it is refused, nothing may be said of the world any more.
-    pub fn deliver(
-        &mut self,
-        machine: &Machine,
+impl World<'_> {
+    /// The send that may be delivered, and its receiver.
+    pub fn may_deliver(
+        &self,
         delivery: &DeliveryRef<'_>,
-    ) -> Result<bool, NoMemory>
-        requires { IsOf machine.now self.old }
-        ensures step { IfOk result (λ possible. Makes possible (next machine.now self.old.world (delivered delivery.now)) self.new.world) }
-        ensures ids { self.new.ids ≡ self.old.ids }
+    ) -> Result<(Pending<'_>, Found<'_>), Reason>
+        ensures send { IfOk result (λ x. undecided self.now.machine self.now.world delivery.now.name ≡ Some x.0) }
+        ensures receiver { IfOk result (λ x. receiver_of self.now.machine self.now.world x.0 ≡ Some x.1) }
+        ensures reason { result_err result ≡ reason self.now.machine self.now.world (delivered delivery.now) }
     {
-        let Some(pending) = self.undecided(machine, delivery.name) else {
-            return Ok(false);
-        };
-        let Some(receiver) = self.receiver_of(machine, &pending) else {
-            return Ok(false);
-        };
-        let Some(receive) = receiver.receiving() else {
-            return Ok(false);
-        };
-        let Some(first) = self.first_accepted(machine, &receiver, receive.from()) else {
-            return Ok(false);
-        };
+        let pending = need(self.undecided(delivery.name), Reason::NotUndecided)?;
+        let to = pending.send().to();
+        let receiver = need(self.receiver_of(&pending), Reason::NoReceiver(to))?;
+        let receive = need(receiver.receiving(), Reason::NotReceiving(receiver.state()))?;
+        let first = need(
+            self.first_accepted(&receiver, receive.from()),
+            Reason::AcceptsNone,
+        )?;
+        self.is_first(first, pending.sender().place())?;
+        tells(delivery, self.machine, &pending, &receiver)?;
+        Ok((pending, receiver))
+    }
+
+    /// A receiver takes the message of the first waiting sender that it accepts, and the sender goes on. A retarget may be owed.
+    pub fn deliver(&mut self, delivery: &DeliveryRef<'_>) -> Result<(), StepFault>
+        ensures { Judged self.old (delivered delivery.now) result self.new }
+    {
+        let (pending, receiver) = self.may_deliver(delivery)?;
+        let owed = owed_by(
+            self.machine,
+            delivery.name,
+            pending.send(),
+            delivery.receiver,
+        );
         let (sender, clock) = pending.sender_now();
-        if first != sender || !tells(delivery, machine, &pending, &receiver) {
-            return Ok(false);
-        }
         let place = receiver.place();
-        let owed = owed_by(machine, delivery.name, pending.send(), delivery.receiver);
-        self.take_over(machine, sender, place, delivery, clock);
         self.owe(owed)?;
-        Ok(true)
+        self.take_over(sender, place, delivery, clock);
+        Ok(())
     }
 
     // A message goes over from its sender to its receiver.
-    fn take_over(
-        &mut self,
-        machine: &Machine,
-        sender: usize,
-        receiver: usize,
-        delivery: &DeliveryRef<'_>,
-        now: u64,
-    )
-        requires of { IsOf machine.now self.old }
+    fn take_over(&mut self, sender: usize, receiver: usize, delivery: &DeliveryRef<'_>, now: u64)
         requires sender { sender < length self.old.world.threads }
         requires receiver { receiver < length self.old.world.threads }
         ensures { self.new ≡ with_world self.old (taken_over sender receiver delivery.now now self.old.world) }
     {
-        let _ = machine;
         self.unqueue(sender);
         self.receive(receiver, delivery);
         self.end_send(sender, Decision::Delivered, now);

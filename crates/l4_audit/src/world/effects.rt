@@ -1,5 +1,5 @@
 //! What a step does to the threads and lists of a world.
-ghost use Rattle.std.specs.Prelude.{◌≡◌, ◌<◌, ◌^◌, ◌+◌, IsSomeAnd, false, length, slice_get};
+ghost use Rattle.std.specs.Prelude.{◌≡◌, ◌<◌, ◌^◌, ◌+◌, IsSomeAnd, false, length, slice_get, slice_set};
 ghost use Rattle.l4_model.specs.Rules.{received_tag};
 ghost use Rattle.l4_model.specs.World.{change, is_queued, queued, unqueued};
 ghost use Rattle.l4_model.specs.Effects.{runs, fails, receives, decided, orders, asked, obeyed};
@@ -9,21 +9,20 @@ ghost use Rattle.l4_types.specs.LetterView.{decision_of};
 ghost use Rattle.l4_types.specs.StepView.{what_of};
 ghost use Rattle.l4_script.specs.Scripts.{instr_of};
 ghost use Rattle.l4_thread.specs.Requests.{is_end};
-ghost use Rattle.l4_audit.specs.Audited.{with_world, id_at};
-ghost use Rattle.l4_audit.specs.Starting.{CanStart, starts_at};
+ghost use Rattle.l4_audit.specs.Audited.{with_world};
+ghost use Rattle.l4_audit.specs.Starting.{CanStart, starting};
 
 use crate::world::World;
 use l4_history::step_ref::DeliveryRef;
 use l4_script::instructions::Instr;
-use l4_script::machine::Machine;
 use l4_thread::orders::Asked;
 use l4_types::errors::IpcError;
 use l4_types::ids::GlobalId;
 use l4_types::letters::Decision;
-use l4_types::steps::What;
+use l4_types::steps::{Tick, What};
 use tcb_arena::Waiting;
 
-impl World {
+impl World<'_> {
     /// A thread runs an instruction that concerns nobody else, or its script ends.
     pub fn run(&mut self, place: usize, instr: &Instr)
         requires { IsSomeAnd (slice_get self.old.world.threads place) (λ t. is_end (instr_of instr.now) ≡ false → t.context.place + 1 < 2 ^ 64) }
@@ -33,16 +32,9 @@ impl World {
     }
 
     /// A thread begins the first phase of its Ipc, at this clock of its processor.
-    pub fn start(
-        &mut self,
-        machine: &Machine,
-        place: usize,
-        instr: &Instr,
-        permitted: bool,
-        now: u64,
-    )
-        requires { CanStart machine.now self.old place (instr_of instr.now) permitted }
-        ensures { self.new ≡ with_world self.old (change self.old.world place (starts_at machine.now (id_at self.old place) now (instr_of instr.now))) }
+    pub fn start(&mut self, place: usize, instr: &Instr, permitted: bool, now: u64)
+        requires { CanStart self.old place (instr_of instr.now) permitted }
+        ensures { self.new ≡ with_world self.old (starting self.old place now (instr_of instr.now)) }
     {
         self.threads[place].ipc(instr, permitted, now);
     }
@@ -95,7 +87,7 @@ impl World {
 
     /// A thread is asked for a cancellation, or it is deleted.
     pub fn ask(&mut self, place: usize, what: What)
-        requires { place < length self.old.world.threads }
+        requires { place < length self.old.machine.threads }
         ensures { self.new ≡ with_world self.old (change self.old.world place (asked (what_of what))) }
     {
         self.threads[place].ask(what);
@@ -111,8 +103,8 @@ impl World {
 
     /// A sender, which stands in no list, arrives at a receiver.
     pub fn queue(&mut self, receiver: usize, sender: usize)
-        requires receiver { receiver < length self.old.world.waiting }
-        requires sender { sender < length self.old.world.waiting }
+        requires receiver { receiver < length self.old.world.threads }
+        requires sender { sender < length self.old.world.threads }
         requires free { is_queued self.old.world.waiting sender ≡ false }
         ensures { self.new ≡ with_world self.old (queued self.old.world receiver sender) }
     {
@@ -127,9 +119,17 @@ impl World {
 
     /// A sender leaves the list that it stands in, if it stands in one.
     pub fn unqueue(&mut self, sender: usize)
-        requires { sender < length self.old.world.waiting }
+        requires { sender < length self.old.world.threads }
         ensures { self.new ≡ with_world self.old (unqueued self.old.world sender) }
     {
         self.lists.unqueue_send(sender);
+    }
+
+    /// The clock of a processor goes on.
+    pub fn set_clock(&mut self, tick: Tick)
+        requires { tick.cpu < length self.old.world.clocks }
+        ensures { self.new ≡ with_world self.old (record self.old.world { clocks = slice_set self.old.world.clocks tick.cpu tick.clock }) }
+    {
+        self.clocks[usize::from(tick.cpu())] = tick.clock();
     }
 }

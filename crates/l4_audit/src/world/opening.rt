@@ -9,12 +9,13 @@ use l4_types::errors::NoMemory;
 use std::alloc::Global;
 use tcb_arena::Arena;
 
-impl World {
+impl<'m> World<'m> {
     /// The world of a machine before its first step.
-    pub fn new(alloc: Global, machine: &Machine) -> Result<World, NoMemory>
-        ensures { IfOk result (λ a. a ≡ record { ids = map (λ d. d.id) machine.now.threads; world = opening machine.now }) }
+    pub fn new(alloc: Global, machine: &'m Machine) -> Result<World<'m>, NoMemory>
+        ensures { IfOk result (λ a. a ≡ record { machine = machine.now; world = opening machine.now }) }
     {
         Ok(World {
+            machine,
             threads: blocks(alloc, machine)?,
             lists: Arena::new(alloc, machine.threads().len())?,
             clocks: clocks(alloc, machine)?,

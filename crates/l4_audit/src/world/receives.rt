@@ -1,97 +1,114 @@
 //! The steps that end a receive phase without a message, and those of orders.
-ghost use Rattle.std.specs.Prelude.{◌≡◌, ◌<◌, ◌+◌, ◌^◌, IsSomeAnd, slice_get};
-ghost use Rattle.l4_model.specs.Steps.{next, ReceiveTimeout, ReceiveNobody, ReceiveCancel, Obey};
-ghost use Rattle.l4_audit.specs.Audited.{IsOf, IsPlaced, Makes};
+ghost use Rattle.std.specs.Prelude.{◌≡◌, Some, IfOk};
+ghost use Rattle.std.specs.Result.{result_err};
+ghost use Rattle.l4_model.specs.Conditions.{found};
+ghost use Rattle.l4_model.specs.Steps.{ReceiveTimeout, ReceiveNobody, ReceiveCancel, Obey};
+ghost use Rattle.l4_types.specs.StepView.{what_of};
+ghost use Rattle.l4_audit.specs.Audited.{IsAsked, IsPlaced};
+ghost use Rattle.l4_audit.specs.Reasons.{reason};
+ghost use Rattle.l4_audit.specs.Taking.{Judged};
 
+use crate::found::Found;
+use crate::reasons::{Reason, StepFault, need, test};
 use crate::world::World;
-use l4_script::machine::Machine;
 use l4_types::errors::IpcError;
 use l4_types::ids::GlobalId;
+use l4_types::steps::What;
 
-impl World {
-    /// A receive phase is over since its time is.
-    pub fn receive_timeout(&mut self, machine: &Machine, id: GlobalId) -> bool
-        requires { IsOf machine.now self.old }
-        ensures step { Makes result (next machine.now self.old.world (ReceiveTimeout id)) self.new.world }
-        ensures ids { self.new.ids ≡ self.old.ids }
+impl World<'_> {
+    /// The thread whose receive phase may time out.
+    pub fn may_receive_timeout(&self, id: GlobalId) -> Result<Found<'_>, Reason>
+        ensures thread { IfOk result (λ t. found self.now.machine self.now.world id ≡ Some t) }
+        ensures reason { result_err result ≡ reason self.now.machine self.now.world (ReceiveTimeout id) }
     {
-        let Some(thread) = self.found(machine, id) else {
-            return false;
-        };
-        let Some(receive) = thread.receiving() else {
-            return false;
-        };
-        if !thread.receive_passed()
-            || self
-                .first_accepted(machine, &thread, receive.from())
-                .is_some()
-        {
-            return false;
-        }
+        let thread = need(self.found(id), Reason::Undeclared)?;
+        let receive = need(thread.receiving(), Reason::NotReceiving(thread.state()))?;
+        test(
+            thread.receive_passed(),
+            Reason::ReceiveNotPassed(thread.clock()),
+        )?;
+        self.accepts_none(&thread, receive.from())?;
+        Ok(thread)
+    }
+
+    /// A receive phase is over since its time is.
+    pub fn receive_timeout(&mut self, id: GlobalId) -> Result<(), StepFault>
+        ensures { Judged self.old (ReceiveTimeout id) result self.new }
+    {
+        let thread = self.may_receive_timeout(id)?;
         let place = thread.place();
         self.fail(place, IpcError::ReceiveTimeout);
-        true
+        Ok(())
+    }
+
+    /// The thread whose receive phase may be refused since nobody is there.
+    pub fn may_receive_nobody(&self, id: GlobalId) -> Result<Found<'_>, Reason>
+        ensures thread { IfOk result (λ t. found self.now.machine self.now.world id ≡ Some t) }
+        ensures reason { result_err result ≡ reason self.now.machine self.now.world (ReceiveNobody id) }
+    {
+        let thread = need(self.found(id), Reason::Undeclared)?;
+        let receive = need(thread.receiving(), Reason::NotReceiving(thread.state()))?;
+        let from = receive.from();
+        test(self.is_nobody(from), Reason::HasPartner(from))?;
+        self.accepts_none(&thread, from)?;
+        Ok(thread)
     }
 
     /// A receive phase is closed for an id that nobody has.
-    pub fn receive_nobody(&mut self, machine: &Machine, id: GlobalId) -> bool
-        requires { IsOf machine.now self.old }
-        ensures step { Makes result (next machine.now self.old.world (ReceiveNobody id)) self.new.world }
-        ensures ids { self.new.ids ≡ self.old.ids }
+    pub fn receive_nobody(&mut self, id: GlobalId) -> Result<(), StepFault>
+        ensures { Judged self.old (ReceiveNobody id) result self.new }
     {
-        let Some(thread) = self.found(machine, id) else {
-            return false;
-        };
-        let Some(receive) = thread.receiving() else {
-            return false;
-        };
-        if !self.is_nobody(machine, receive.from())
-            || self
-                .first_accepted(machine, &thread, receive.from())
-                .is_some()
-        {
-            return false;
-        }
+        let thread = self.may_receive_nobody(id)?;
         let place = thread.place();
         self.fail(place, IpcError::ReceiveNobody);
-        true
+        Ok(())
+    }
+
+    /// The thread whose receive phase may be cancelled.
+    pub fn may_receive_cancel(&self, id: GlobalId) -> Result<Found<'_>, Reason>
+        ensures thread { IfOk result (λ t. found self.now.machine self.now.world id ≡ Some t) }
+        ensures reason { result_err result ≡ reason self.now.machine self.now.world (ReceiveCancel id) }
+    {
+        let thread = need(self.found(id), Reason::Undeclared)?;
+        need(thread.receiving(), Reason::NotReceiving(thread.state()))?;
+        test(thread.is_receive_cancelled(), Reason::ReceiveNotCancelled)?;
+        Ok(thread)
     }
 
     /// A receive phase is cancelled.
-    pub fn receive_cancel(&mut self, machine: &Machine, id: GlobalId) -> bool
-        ensures step { Makes result (next machine.now self.old.world (ReceiveCancel id)) self.new.world }
-        ensures ids { self.new.ids ≡ self.old.ids }
+    pub fn receive_cancel(&mut self, id: GlobalId) -> Result<(), StepFault>
+        ensures { Judged self.old (ReceiveCancel id) result self.new }
     {
-        let Some(thread) = self.found(machine, id) else {
-            return false;
-        };
-        if thread.receiving().is_none() || !thread.is_receive_cancelled() {
-            return false;
-        }
+        let thread = self.may_receive_cancel(id)?;
         let place = thread.place();
         self.fail(place, IpcError::ReceiveCancelled);
-        true
+        Ok(())
+    }
+
+    /// The thread whose order may be done, the place of its target, and what is to be done.
+    pub fn may_obey(&self, caller: GlobalId) -> Result<(Found<'_>, usize, What), Reason>
+        ensures thread { IfOk result (λ x. found self.now.machine self.now.world caller ≡ Some x.0) }
+        ensures order { IfOk result (λ x. IsAsked self.now.machine x.0 x.1 (what_of x.2)) }
+        ensures reason { result_err result ≡ reason self.now.machine self.now.world (Obey caller) }
+    {
+        let thread = need(self.found(caller), Reason::Undeclared)?;
+        let order = need(thread.asked(), Reason::AskedNothing)?;
+        let target = need(
+            self.machine.place_of(order.target()),
+            Reason::TargetUndeclared(order.target()),
+        )?;
+        Ok((thread, target, order.what()))
     }
 
     /// What a thread asked for is done.
-    pub fn obey_order(&mut self, machine: &Machine, caller: GlobalId) -> bool
-        requires of { IsOf machine.now self.old }
-        requires placed { IsPlaced machine.now self.old.world }
-        ensures step { Makes result (next machine.now self.old.world (Obey caller)) self.new.world }
-        ensures ids { self.new.ids ≡ self.old.ids }
+    pub fn obey_order(&mut self, caller: GlobalId) -> Result<(), StepFault>
+        requires { IsPlaced self.old }
+        ensures { Judged self.old (Obey caller) result self.new }
     {
-        let Some(thread) = self.found(machine, caller) else {
-            return false;
-        };
-        let Some(order) = thread.asked() else {
-            return false;
-        };
-        let Some(target) = machine.place_of(order.target()) else {
-            return false;
-        };
+        let (thread, target, what) = self.may_obey(caller)?;
         let place = thread.place();
-        self.ask(target, order.what());
+        self.ask(target, what);
         self.obey(place);
-        true
+        Ok(())
     }
 }

@@ -1,17 +1,22 @@
 //! Owed retargets: the guard of a send, and the step that does one.
-ghost use Rattle.std.specs.Prelude.{◌≡◌, ◌<◌, OnOk, find, length};
+ghost use Rattle.std.specs.Prelude.{◌≡◌, ◌<◌, Some, IfOk, OnOk, OnErr, find, length};
 ghost use Rattle.std.specs.List.{list_any};
 ghost use Rattle.std.specs.Option.{option_copied, option_map};
+ghost use Rattle.std.specs.Result.{result_err};
 ghost use Rattle.l4_model.specs.World.{change, owed_of as owed_named, others_owed, must_wait};
 ghost use Rattle.l4_model.specs.Effects.{turns};
-ghost use Rattle.l4_model.specs.Steps.{next, owing, Retarget};
+ghost use Rattle.l4_model.specs.Conditions.{found};
+ghost use Rattle.l4_model.specs.Steps.{owing, Retarget};
 ghost use Rattle.l4_types.specs.OwedView.{owed_of};
-ghost use Rattle.l4_audit.specs.Audited.{Makes, with_world};
+ghost use Rattle.l4_audit.specs.Audited.{with_world};
+ghost use Rattle.l4_audit.specs.Reasons.{reason};
+ghost use Rattle.l4_audit.specs.Taking.{Judged};
 ghost use Rattle.l4_audit.specs.Owing.{is_of_name, holds_up};
 ghost use Rattle.l4_audit.specs.Stillness.{owes_nothing};
 
+use crate::found::Found;
+use crate::reasons::{Reason, StepFault, need};
 use crate::world::World;
-use l4_script::machine::Machine;
 use l4_thread::sends::is_id_of;
 use l4_types::errors::NoMemory;
 use l4_types::ids::{GlobalId, ThreadId};
@@ -32,7 +37,7 @@ fn is_held_up(owed: &[Owed], sender: GlobalId, to: ThreadId) -> bool
     owed.iter().any(|owed| sender == owed.new_partner && is_id_of(to, owed.originator))
 }
 
-impl World {
+impl World<'_> {
     /// Whether no retarget is owed.
     pub fn owes_nothing(&self) -> bool
         ensures { result ≡ owes_nothing self.now.world }
@@ -57,7 +62,7 @@ impl World {
     /// One more retarget is owed, or none.
     pub fn owe(&mut self, owed: Option<Owed>) -> Result<(), NoMemory>
         ensures ok { OnOk result (self.new ≡ with_world self.old (owing (option_map owed_of owed) self.old.world)) }
-        ensures ids { self.new.ids ≡ self.old.ids }
+        ensures err { OnErr result (self.new ≡ self.old) }
     {
         let Some(owed) = owed else {
             return Ok(());
@@ -81,20 +86,28 @@ impl World {
         self.threads[place].turn_to(owed.old_partner, owed.new_partner);
     }
 
-    /// The originator of a delivered send turns to the thread that received it, and no longer owes it.
-    pub fn retarget(&mut self, machine: &Machine, name: Name) -> bool
-        ensures step { Makes result (next machine.now self.old.world (Retarget name)) self.new.world }
-        ensures ids { self.new.ids ≡ self.old.ids }
+    /// The retarget that may be done, and its originator.
+    pub fn may_retarget(&self, name: Name) -> Result<(Owed, Found<'_>), Reason>
+        ensures owed { IfOk result (λ x. owed_named self.now.world.owed name ≡ Some (owed_of x.0)) }
+        ensures originator { IfOk result (λ x. found self.now.machine self.now.world x.0.originator ≡ Some x.1) }
+        ensures reason { result_err result ≡ reason self.now.machine self.now.world (Retarget name) }
     {
-        let Some(owed) = self.owed_named(name) else {
-            return false;
-        };
-        let Some(originator) = self.found(machine, owed.originator) else {
-            return false;
-        };
+        let owed = need(self.owed_named(name), Reason::NotOwed)?;
+        let originator = need(
+            self.found(owed.originator),
+            Reason::OriginatorUndeclared(owed.originator),
+        )?;
+        Ok((owed, originator))
+    }
+
+    /// The originator of a delivered send turns to the thread that received it, and no longer owes it.
+    pub fn retarget(&mut self, name: Name) -> Result<(), StepFault>
+        ensures { Judged self.old (Retarget name) result self.new }
+    {
+        let (owed, originator) = self.may_retarget(name)?;
         let place = originator.place();
         self.forget(name);
         self.turn(place, &owed);
-        true
+        Ok(())
     }
 }

@@ -1,122 +1,152 @@
 //! The steps that queue or decide a send.
-ghost use Rattle.std.specs.Prelude.{◌≡◌, ◌<◌, length};
+ghost use Rattle.std.specs.Prelude.{◌≡◌, ◌<◌, Some, IfOk, length};
+ghost use Rattle.std.specs.Result.{result_err};
 ghost use Rattle.l4_model.specs.World.{change, unqueued};
-ghost use Rattle.l4_model.specs.Steps.{next, Queue, SendTimeout, SendNobody, SendCancel, Drop as Drops};
+ghost use Rattle.l4_model.specs.Conditions.{undecided, receiver_of};
+ghost use Rattle.l4_model.specs.Steps.{Queue, SendTimeout, SendNobody, SendCancel, Drop as Drops};
 ghost use Rattle.l4_core_model.specs.Local.{after_decision};
 ghost use Rattle.l4_types.specs.LetterView.{decision_of};
 ghost use Rattle.l4_types.specs.declared.letters.Decision.TheVariants.{Refused};
-ghost use Rattle.l4_audit.specs.Audited.{IsOf, Makes, with_world};
+ghost use Rattle.l4_audit.specs.Audited.{with_world};
+ghost use Rattle.l4_audit.specs.Reasons.{reason};
+ghost use Rattle.l4_audit.specs.Taking.{Judged};
 
+use crate::found::{Found, Pending};
+use crate::reasons::{Reason, StepFault, need, test};
 use crate::world::World;
-use l4_script::machine::Machine;
 use l4_types::letters::{Decision, Refusal};
 use l4_types::steps::Name;
 
-impl World {
-    /// An undecided send is appended to the list of its destination. Not while that one owes it to turn to the sender.
-    pub fn queue_send(&mut self, machine: &Machine, name: Name) -> bool
-        requires { IsOf machine.now self.old }
-        ensures step { Makes result (next machine.now self.old.world (Queue name)) self.new.world }
-        ensures ids { self.new.ids ≡ self.old.ids }
+impl World<'_> {
+    /// The send that may be queued, and its receiver.
+    pub fn may_queue(&self, name: Name) -> Result<(Pending<'_>, Found<'_>), Reason>
+        ensures send { IfOk result (λ x. undecided self.now.machine self.now.world name ≡ Some x.0) }
+        ensures receiver { IfOk result (λ x. receiver_of self.now.machine self.now.world x.0 ≡ Some x.1) }
+        ensures reason { result_err result ≡ reason self.now.machine self.now.world (Queue name) }
     {
-        let Some(pending) = self.undecided(machine, name) else {
-            return false;
-        };
-        let Some(receiver) = self.receiver_of(machine, &pending) else {
-            return false;
-        };
-        if receiver.is_deleted()
-            || self.is_waiting(machine, &pending)
-            || self.must_wait(name.thread(), pending.send().to())
-        {
-            return false;
-        }
+        let pending = need(self.undecided(name), Reason::NotUndecided)?;
+        let to = pending.send().to();
+        let receiver = need(self.receiver_of(&pending), Reason::NoReceiver(to))?;
+        test(
+            !receiver.is_deleted(),
+            Reason::ReceiverDeleted(receiver.id()),
+        )?;
+        test(!self.is_waiting(&pending), Reason::Waiting)?;
+        test(!self.must_wait(name.thread(), to), Reason::MustWait(to))?;
+        Ok((pending, receiver))
+    }
+
+    /// An undecided send is appended to the list of its destination. Not while that one owes it to turn to the sender.
+    pub fn queue_send(&mut self, name: Name) -> Result<(), StepFault>
+        ensures { Judged self.old (Queue name) result self.new }
+    {
+        let (pending, receiver) = self.may_queue(name)?;
         let (place, sender) = (receiver.place(), pending.sender().place());
         self.queue(place, sender);
-        true
+        Ok(())
     }
 
     // A send is decided without a delivery.
-    fn refuse(&mut self, machine: &Machine, sender: usize, refusal: Refusal, now: u64)
-        requires of { IsOf machine.now self.old }
-        requires within { sender < length self.old.world.threads }
+    fn refuse(&mut self, sender: usize, refusal: Refusal, now: u64)
+        requires { sender < length self.old.world.threads }
         ensures { self.new ≡ with_world self.old (change (unqueued self.old.world sender) sender (after_decision (decision_of (Refused refusal)) now)) }
     {
-        let _ = machine;
         self.unqueue(sender);
         self.end_send(sender, Decision::Refused(refusal), now);
     }
 
-    /// A send is refused since its time is over. Not while it must wait.
-    pub fn send_timeout(&mut self, machine: &Machine, name: Name) -> bool
-        requires { IsOf machine.now self.old }
-        ensures step { Makes result (next machine.now self.old.world (SendTimeout name)) self.new.world }
-        ensures ids { self.new.ids ≡ self.old.ids }
+    /// The send that may time out. Not while it must wait.
+    pub fn may_send_timeout(&self, name: Name) -> Result<Pending<'_>, Reason>
+        ensures send { IfOk result (λ p. undecided self.now.machine self.now.world name ≡ Some p) }
+        ensures reason { result_err result ≡ reason self.now.machine self.now.world (SendTimeout name) }
     {
-        let Some(pending) = self.undecided(machine, name) else {
-            return false;
-        };
-        if !self.is_timed_out(machine, &pending) {
-            return false;
-        }
-        if self.must_wait(name.thread(), pending.send().to()) {
-            return false;
-        }
-        let (sender, clock) = pending.sender_now();
-        self.refuse(machine, sender, Refusal::TimedOut, clock);
-        true
+        let pending = need(self.undecided(name), Reason::NotUndecided)?;
+        let clock = pending.sender().clock();
+        test(self.is_timed_out(&pending), Reason::NotTimedOut(clock))?;
+        let to = pending.send().to();
+        test(!self.must_wait(name.thread(), to), Reason::MustWait(to))?;
+        Ok(pending)
     }
 
-    /// A send is refused since nobody is there. Not while it must wait.
-    pub fn send_nobody(&mut self, machine: &Machine, name: Name) -> bool
-        requires { IsOf machine.now self.old }
-        ensures step { Makes result (next machine.now self.old.world (SendNobody name)) self.new.world }
-        ensures ids { self.new.ids ≡ self.old.ids }
+    /// A send is refused since its time is over.
+    pub fn send_timeout(&mut self, name: Name) -> Result<(), StepFault>
+        ensures { Judged self.old (SendTimeout name) result self.new }
     {
-        let Some(pending) = self.undecided(machine, name) else {
-            return false;
-        };
-        let to = pending.send().to();
-        if !self.is_no_destination(machine, to) || self.must_wait(name.thread(), to) {
-            return false;
-        }
+        let pending = self.may_send_timeout(name)?;
         let (sender, clock) = pending.sender_now();
-        self.refuse(machine, sender, Refusal::Nobody, clock);
-        true
+        self.refuse(sender, Refusal::TimedOut, clock);
+        Ok(())
+    }
+
+    /// The send that may be refused since nobody is there. Not while it must wait.
+    pub fn may_send_nobody(&self, name: Name) -> Result<Pending<'_>, Reason>
+        ensures send { IfOk result (λ p. undecided self.now.machine self.now.world name ≡ Some p) }
+        ensures reason { result_err result ≡ reason self.now.machine self.now.world (SendNobody name) }
+    {
+        let pending = need(self.undecided(name), Reason::NotUndecided)?;
+        let to = pending.send().to();
+        test(self.is_no_destination(to), Reason::HasDestination(to))?;
+        test(!self.must_wait(name.thread(), to), Reason::MustWait(to))?;
+        Ok(pending)
+    }
+
+    /// A send is refused since nobody is there.
+    pub fn send_nobody(&mut self, name: Name) -> Result<(), StepFault>
+        ensures { Judged self.old (SendNobody name) result self.new }
+    {
+        let pending = self.may_send_nobody(name)?;
+        let (sender, clock) = pending.sender_now();
+        self.refuse(sender, Refusal::Nobody, clock);
+        Ok(())
+    }
+
+    /// The send that may be cancelled.
+    pub fn may_send_cancel(&self, name: Name) -> Result<Pending<'_>, Reason>
+        ensures send { IfOk result (λ p. undecided self.now.machine self.now.world name ≡ Some p) }
+        ensures reason { result_err result ≡ reason self.now.machine self.now.world (SendCancel name) }
+    {
+        let pending = need(self.undecided(name), Reason::NotUndecided)?;
+        test(self.is_waiting(&pending), Reason::NotWaiting)?;
+        test(
+            pending.sender().is_send_cancelled(),
+            Reason::SendNotCancelled,
+        )?;
+        Ok(pending)
     }
 
     /// A send is cancelled.
-    pub fn send_cancel(&mut self, machine: &Machine, name: Name) -> bool
-        requires { IsOf machine.now self.old }
-        ensures step { Makes result (next machine.now self.old.world (SendCancel name)) self.new.world }
-        ensures ids { self.new.ids ≡ self.old.ids }
+    pub fn send_cancel(&mut self, name: Name) -> Result<(), StepFault>
+        ensures { Judged self.old (SendCancel name) result self.new }
     {
-        let Some(pending) = self.undecided(machine, name) else {
-            return false;
-        };
-        if !pending.sender().is_send_cancelled() || !self.is_waiting(machine, &pending) {
-            return false;
-        }
+        let pending = self.may_send_cancel(name)?;
         let (sender, clock) = pending.sender_now();
-        self.refuse(machine, sender, Refusal::Cancelled, clock);
-        true
+        self.refuse(sender, Refusal::Cancelled, clock);
+        Ok(())
+    }
+
+    /// The send of a deleted thread that may be dropped.
+    pub fn may_drop(&self, name: Name) -> Result<Pending<'_>, Reason>
+        ensures send { IfOk result (λ p. undecided self.now.machine self.now.world name ≡ Some p) }
+        ensures reason { result_err result ≡ reason self.now.machine self.now.world (Drops name) }
+    {
+        let pending = need(self.undecided(name), Reason::NotUndecided)?;
+        test(self.is_waiting(&pending), Reason::NotWaiting)?;
+        let state = pending.sender().state();
+        test(
+            pending.sender().is_deleted(),
+            Reason::SenderNotDeleted(state),
+        )?;
+        Ok(pending)
     }
 
     /// The waiting send of a deleted thread is dropped.
-    pub fn drop_deleted(&mut self, machine: &Machine, name: Name) -> bool
-        requires { IsOf machine.now self.old }
-        ensures step { Makes result (next machine.now self.old.world (Drops name)) self.new.world }
-        ensures ids { self.new.ids ≡ self.old.ids }
+    pub fn drop_deleted(&mut self, name: Name) -> Result<(), StepFault>
+        ensures { Judged self.old (Drops name) result self.new }
     {
-        let Some(pending) = self.undecided(machine, name) else {
-            return false;
-        };
-        if !pending.sender().is_deleted() || !self.is_waiting(machine, &pending) {
-            return false;
-        }
-        let (sender, _clock) = pending.sender_now();
+        let pending = self.may_drop(name)?;
+        let sender = pending.sender().place();
         self.unqueue(sender);
         self.drop_send(sender);
-        true
+        Ok(())
     }
 }

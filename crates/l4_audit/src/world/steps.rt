@@ -1,105 +1,134 @@
 //! The steps of a thread's own instructions, and of the clocks.
-ghost use Rattle.std.specs.Prelude.{◌≡◌};
-ghost use Rattle.l4_model.specs.Steps.{next, Local, Begin, Wait, Order, Tick as Ticks};
+ghost use Rattle.std.specs.Prelude.{◌≡◌, ◌<◌, ◌+◌, ◌^◌, Some, IfOk};
+ghost use Rattle.std.specs.Result.{result_err};
+ghost use Rattle.l4_model.specs.Conditions.{found, act_of};
+ghost use Rattle.l4_model.specs.Steps.{Local, Begin, Wait, Order, Tick as Ticks, order_of};
 ghost use Rattle.l4_types.specs.StepView.{what_of};
-ghost use Rattle.l4_audit.specs.Audited.{IsOf, Makes};
+ghost use Rattle.l4_audit.specs.Reasons.{reason};
+ghost use Rattle.l4_audit.specs.Taking.{Judged};
 
+use crate::found::Found;
+use crate::reasons::{Reason, StepFault, need, test};
 use crate::world::World;
-use l4_script::machine::Machine;
+use l4_thread::orders::Asked;
 use l4_types::ids::GlobalId;
 use l4_types::steps::{Name, Tick, What};
 
-impl World {
-    /// A thread runs an instruction that concerns nobody else, or ends.
-    pub fn local(&mut self, machine: &Machine, id: GlobalId) -> bool
-        ensures step { Makes result (next machine.now self.old.world (Local id)) self.new.world }
-        ensures ids { self.new.ids ≡ self.old.ids }
+impl World<'_> {
+    /// The thread that may run an instruction that concerns nobody else, or end.
+    pub fn may_run(&self, id: GlobalId) -> Result<Found<'_>, Reason>
+        ensures thread { IfOk result (λ t. found self.now.machine self.now.world id ≡ Some t) }
+        ensures reason { result_err result ≡ reason self.now.machine self.now.world (Local id) }
     {
-        let Some(thread) = self.found(machine, id) else {
-            return false;
-        };
-        if !thread.is_ready() || !thread.runs_alone(machine) {
-            return false;
-        }
+        let thread = need(self.found(id), Reason::Undeclared)?;
+        test(thread.is_ready(), Reason::NotReady(thread.state()))?;
+        test(thread.runs_alone(self.machine), Reason::NotLocal)?;
+        Ok(thread)
+    }
+
+    /// A thread runs an instruction that concerns nobody else, or ends.
+    pub fn local(&mut self, id: GlobalId) -> Result<(), StepFault>
+        ensures { Judged self.old (Local id) result self.new }
+    {
+        let thread = self.may_run(id)?;
         let (place, instr) = (thread.place(), thread.instruction());
         self.run(place, &instr);
-        true
+        Ok(())
+    }
+
+    /// The thread that may begin this send.
+    pub fn may_begin(&self, name: Name) -> Result<Found<'_>, Reason>
+        ensures thread { IfOk result (λ t. found self.now.machine self.now.world name.thread ≡ Some t) }
+        ensures room { IfOk result (λ t. t.now.context.begun + 1 < 2 ^ 64) }
+        ensures reason { result_err result ≡ reason self.now.machine self.now.world (Begin name) }
+    {
+        let thread = need(self.found(name.thread()), Reason::Undeclared)?;
+        test(thread.is_ready(), Reason::NotReady(thread.state()))?;
+        let begun = thread.begun();
+        test(name.k() - 1 == begun, Reason::NotNext(begun))?;
+        test(thread.sends(), Reason::NoSendPhase)?;
+        Ok(thread)
     }
 
     /// A thread begins its next send.
-    pub fn begin(&mut self, machine: &Machine, name: Name) -> bool
-        requires { IsOf machine.now self.old }
-        ensures step { Makes result (next machine.now self.old.world (Begin name)) self.new.world }
-        ensures ids { self.new.ids ≡ self.old.ids }
+    pub fn begin(&mut self, name: Name) -> Result<(), StepFault>
+        ensures { Judged self.old (Begin name) result self.new }
     {
-        let Some(thread) = self.found(machine, name.thread()) else {
-            return false;
-        };
-        if !thread.is_ready() || thread.begun() != name.k() - 1 || !thread.sends() {
-            return false;
-        }
+        let thread = self.may_begin(name)?;
+        let permitted = thread.may_show(self.machine);
         let (place, instr, clock) = (thread.place(), thread.instruction(), thread.clock());
-        let permitted = thread.may_show(machine);
-        self.start(machine, place, &instr, permitted, clock);
-        true
+        self.start(place, &instr, permitted, clock);
+        Ok(())
+    }
+
+    /// The thread that may begin a receive phase without a send phase.
+    pub fn may_wait(&self, id: GlobalId) -> Result<Found<'_>, Reason>
+        ensures thread { IfOk result (λ t. found self.now.machine self.now.world id ≡ Some t) }
+        ensures reason { result_err result ≡ reason self.now.machine self.now.world (Wait id) }
+    {
+        let thread = need(self.found(id), Reason::Undeclared)?;
+        test(thread.is_ready(), Reason::NotReady(thread.state()))?;
+        test(thread.receives(), Reason::NoReceivePhase)?;
+        Ok(thread)
     }
 
     /// A thread begins a receive phase without a send phase.
-    pub fn wait(&mut self, machine: &Machine, id: GlobalId) -> bool
-        requires { IsOf machine.now self.old }
-        ensures step { Makes result (next machine.now self.old.world (Wait id)) self.new.world }
-        ensures ids { self.new.ids ≡ self.old.ids }
+    pub fn wait(&mut self, id: GlobalId) -> Result<(), StepFault>
+        ensures { Judged self.old (Wait id) result self.new }
     {
-        let Some(thread) = self.found(machine, id) else {
-            return false;
-        };
-        if !thread.is_ready() || !thread.receives() {
-            return false;
-        }
+        let thread = self.may_wait(id)?;
+        let permitted = thread.may_show(self.machine);
         let (place, instr, clock) = (thread.place(), thread.instruction(), thread.clock());
-        let permitted = thread.may_show(machine);
-        self.start(machine, place, &instr, permitted, clock);
-        true
+        self.start(place, &instr, permitted, clock);
+        Ok(())
     }
 
-    /// A thread asks another for a cancellation or its deletion.
-    pub fn order(
-        &mut self,
-        machine: &Machine,
+    /// The thread that may ask this of another, and what it asks.
+    pub fn may_order(
+        &self,
         caller: GlobalId,
         target: GlobalId,
         what: What,
-    ) -> bool
-        ensures step { Makes result (next machine.now self.old.world (Order caller target (what_of what))) self.new.world }
-        ensures ids { self.new.ids ≡ self.old.ids }
+    ) -> Result<(Found<'_>, Asked), Reason>
+        ensures thread { IfOk result (λ x. found self.now.machine self.now.world caller ≡ Some x.0) }
+        ensures order { IfOk result (λ x. order_of (act_of self.now.machine x.0) ≡ Some x.1) }
+        ensures reason { result_err result ≡ reason self.now.machine self.now.world (Order caller target (what_of what)) }
     {
-        let Some(thread) = self.found(machine, caller) else {
-            return false;
-        };
-        if !thread.is_ready() {
-            return false;
-        }
-        let Some(order) = thread.order(machine) else {
-            return false;
-        };
-        if order.target() != target || order.what() != what {
-            return false;
-        }
+        let thread = need(self.found(caller), Reason::Undeclared)?;
+        test(thread.is_ready(), Reason::NotReady(thread.state()))?;
+        let order = need(thread.order(self.machine), Reason::NoOrder)?;
+        test(
+            target == order.target() && what == order.what(),
+            Reason::OtherOrder(order),
+        )?;
+        Ok((thread, order))
+    }
+
+    /// A thread asks another for a cancellation or its deletion.
+    pub fn order(&mut self, caller: GlobalId, target: GlobalId, what: What) -> Result<(), StepFault>
+        ensures { Judged self.old (Order caller target (what_of what)) result self.new }
+    {
+        let (thread, order) = self.may_order(caller, target, what)?;
         let place = thread.place();
         self.give_order(place, order);
-        true
+        Ok(())
+    }
+
+    /// Whether the clock of a processor may go on so far.
+    pub fn may_tick(&self, tick: Tick) -> Result<(), Reason>
+        ensures reason { result_err result ≡ reason self.now.machine self.now.world (Ticks tick.cpu tick.clock) }
+    {
+        let cpu = usize::from(tick.cpu());
+        let now = need(self.clocks.get(cpu).copied(), Reason::NoProcessor)?;
+        test(now < tick.clock(), Reason::ClockAt(now))
     }
 
     /// The clock of a processor goes on.
-    pub fn tick(&mut self, machine: &Machine, tick: Tick) -> bool
-        ensures step { Makes result (next machine.now self.old.world (Ticks tick.cpu tick.clock)) self.new.world }
-        ensures ids { self.new.ids ≡ self.old.ids }
+    pub fn tick(&mut self, tick: Tick) -> Result<(), StepFault>
+        ensures { Judged self.old (Ticks tick.cpu tick.clock) result self.new }
     {
-        let cpu = usize::from(tick.cpu());
-        if cpu >= self.clocks.len() || self.clocks[cpu] >= tick.clock() {
-            return false;
-        }
-        self.clocks[cpu] = tick.clock();
-        true
+        self.may_tick(tick)?;
+        self.set_clock(tick);
+        Ok(())
     }
 }

@@ -4,7 +4,7 @@ ghost use Rattle.std.specs.List.{list_all};
 ghost use Rattle.l4_model.specs.World.{receive_now};
 ghost use Rattle.l4_model.specs.Conditions.{receiver_of};
 ghost use Rattle.l4_model.specs.Still.{late, is_still_thread};
-ghost use Rattle.l4_audit.specs.Audited.{IsOf, with_world};
+ghost use Rattle.l4_audit.specs.Audited.{with_world};
 ghost use Rattle.l4_audit.specs.Stillness.{is_still_now, is_still_found, may_obey, may_stop, is_taken, may_arrive, may_decide, may_send};
 
 use crate::found::{Found, Pending};
@@ -14,7 +14,7 @@ use l4_types::errors::NoMemory;
 use l4_types::ids::GlobalId;
 use l4_types::steps::CLOCKS;
 
-impl World {
+impl World<'_> {
     /// All clocks go on to their last value.
     pub fn stop_clocks(&mut self) -> Result<(), NoMemory>
         ensures { OnOk result (self.new ≡ with_world self.old (late self.old.world)) }
@@ -26,21 +26,19 @@ impl World {
     }
 
     /// Whether no retarget is owed, and no thread can be in for a step but by a tick, with the clocks as they are.
-    pub fn is_still(&self, machine: &Machine) -> bool
-        requires { IsOf machine.now self.now }
-        ensures { result ≡ is_still_now machine.now self.now.world }
+    pub fn is_still(&self) -> bool
+        ensures { result ≡ is_still_now self.now.machine self.now.world }
     {
-        self.owes_nothing() && self.are_still(machine)
+        self.owes_nothing() && self.are_still()
     }
 
     // Whether no thread can be in for a step but by a tick, where no retarget is owed.
-    fn are_still(&self, machine: &Machine) -> bool
-        requires of { IsOf machine.now self.now }
-        requires owed { self.now.world.owed ≡ [] }
-        ensures { result ≡ list_all (λ d. is_still_thread machine.now self.now.world d.id) machine.now.threads }
+    fn are_still(&self) -> bool
+        requires { self.now.world.owed ≡ [] }
+        ensures { result ≡ list_all (λ d. is_still_thread self.now.machine self.now.world d.id) self.now.machine.threads }
     {
-        for declared in machine.threads() {
-            if !self.is_still_thread(machine, declared.id()) {
+        for declared in self.machine.threads() {
+            if !self.is_still_thread(declared.id()) {
                 return false;
             }
         }
@@ -48,95 +46,85 @@ impl World {
     }
 
     // Whether a thread can be in for no step but by a tick, where no retarget is owed.
-    fn is_still_thread(&self, machine: &Machine, id: GlobalId) -> bool
-        requires of { IsOf machine.now self.now }
-        requires owed { self.now.world.owed ≡ [] }
-        ensures { result ≡ is_still_thread machine.now self.now.world id }
+    fn is_still_thread(&self, id: GlobalId) -> bool
+        requires { self.now.world.owed ≡ [] }
+        ensures { result ≡ is_still_thread self.now.machine self.now.world id }
     {
-        let Some(thread) = self.found(machine, id) else {
+        let Some(thread) = self.found(id) else {
             return true;
         };
-        self.is_still_found(machine, &thread)
+        self.is_still_found(&thread)
     }
 
     // Whether a thread that was found can be in for no step but by a tick.
-    fn is_still_found<'a>(&'a self, machine: &'a Machine, thread: &Found<'a>) -> bool
-        requires of { IsOf machine.now self.now }
-        requires there { slice_get self.now.world.threads thread.now.at ≡ Some thread.now.now }
-        ensures { result ≡ is_still_found machine.now self.now.world thread.now }
+    fn is_still_found(&self, thread: &Found) -> bool
+        requires { slice_get self.now.world.threads thread.now.at ≡ Some thread.now.now }
+        ensures { result ≡ is_still_found self.now.machine self.now.world thread.now }
     {
         let may_go_on = thread.is_ready()
-            || may_obey(machine, thread)
-            || self.may_stop(machine, thread)
-            || self.may_send(machine, thread);
+            || may_obey(self.machine, thread)
+            || self.may_stop(thread)
+            || self.may_send(thread);
         !may_go_on
     }
 
     // Whether the receive phase of a thread can end without a message.
-    fn may_stop(&self, machine: &Machine, thread: &Found) -> bool
-        requires of { IsOf machine.now self.now }
-        requires there { slice_get self.now.world.threads thread.now.at ≡ Some thread.now.now }
-        ensures { result ≡ may_stop machine.now self.now.world thread.now (receive_now thread.now.now.phase) }
+    fn may_stop(&self, thread: &Found) -> bool
+        requires { slice_get self.now.world.threads thread.now.at ≡ Some thread.now.now }
+        ensures { result ≡ may_stop self.now.machine self.now.world thread.now (receive_now thread.now.now.phase) }
     {
         let Some(receive) = thread.receiving() else {
             return false;
         };
         thread.is_receive_cancelled()
-            || ((thread.receive_passed() || self.is_nobody(machine, receive.from()))
-                && self
-                    .first_accepted(machine, thread, receive.from())
-                    .is_none())
+            || ((thread.receive_passed() || self.is_nobody(receive.from()))
+                && self.first_accepted(thread, receive.from()).is_none())
     }
 
     // Whether the undecided send of a thread can be queued or decided.
-    fn may_send<'a>(&'a self, machine: &'a Machine, thread: &Found<'a>) -> bool
-        requires of { IsOf machine.now self.now }
-        requires there { slice_get self.now.world.threads thread.now.at ≡ Some thread.now.now }
-        ensures { result ≡ may_send machine.now self.now.world thread.now thread.now.now.send }
+    fn may_send(&self, thread: &Found) -> bool
+        requires { slice_get self.now.world.threads thread.now.at ≡ Some thread.now.now }
+        ensures { result ≡ may_send self.now.machine self.now.world thread.now thread.now.now.send }
     {
         match thread.pending() {
-            Some(pending) => self.may_decide(machine, &pending),
+            Some(pending) => self.may_decide(&pending),
             None => false,
         }
     }
 
     // Whether an undecided send can be queued or decided.
-    fn may_decide<'a>(&'a self, machine: &'a Machine, pending: &Pending<'a>) -> bool
-        requires of { IsOf machine.now self.now }
-        requires sender { slice_get self.now.world.threads pending.now.sender.at ≡ Some pending.now.sender.now }
-        ensures { result ≡ may_decide machine.now self.now.world pending.now }
+    fn may_decide(&self, pending: &Pending) -> bool
+        requires { slice_get self.now.world.threads pending.now.sender.at ≡ Some pending.now.sender.now }
+        ensures { result ≡ may_decide self.now.machine self.now.world pending.now }
     {
         let sender = pending.sender();
-        self.is_timed_out(machine, pending)
-            || self.is_no_destination(machine, pending.send().to())
-            || (self.is_waiting(machine, pending)
-                && (sender.is_send_cancelled() || sender.is_deleted()))
-            || self.may_arrive(machine, pending)
+        self.is_timed_out(pending)
+            || self.is_no_destination(pending.send().to())
+            || (self.is_waiting(pending) && (sender.is_send_cancelled() || sender.is_deleted()))
+            || self.may_arrive(pending)
     }
 
     // Whether an undecided send can be queued or delivered.
-    fn may_arrive<'a>(&'a self, machine: &'a Machine, pending: &Pending<'a>) -> bool
-        requires of { IsOf machine.now self.now }
-        requires sender { slice_get self.now.world.threads pending.now.sender.at ≡ Some pending.now.sender.now }
-        ensures { result ≡ may_arrive machine.now self.now.world pending.now (receiver_of machine.now self.now.world pending.now) }
+    fn may_arrive(&self, pending: &Pending) -> bool
+        requires { slice_get self.now.world.threads pending.now.sender.at ≡ Some pending.now.sender.now }
+        ensures { result ≡ may_arrive self.now.machine self.now.world pending.now (receiver_of self.now.machine self.now.world pending.now) }
     {
-        let Some(receiver) = self.receiver_of(machine, pending) else {
+        let Some(receiver) = self.receiver_of(pending) else {
             return false;
         };
-        (!receiver.is_deleted() && !self.is_waiting(machine, pending))
-            || self.is_taken(machine, &receiver, pending.sender().place())
+        (!receiver.is_deleted() && !self.is_waiting(pending))
+            || self.is_taken(&receiver, pending.sender().place())
     }
 
     // Whether a sender is the first that a receiver accepts.
-    fn is_taken(&self, machine: &Machine, receiver: &Found, sender: usize) -> bool
-        requires of { IsOf machine.now self.now }
-        requires there { slice_get self.now.world.threads receiver.now.at ≡ Some receiver.now.now }
-        ensures { result ≡ is_taken machine.now self.now.world receiver.now sender (receive_now receiver.now.now.phase) }
+    fn is_taken(&self, receiver: &Found, sender: usize) -> bool
+        requires { slice_get self.now.world.threads receiver.now.at ≡ Some receiver.now.now }
+        ensures { result ≡ is_taken self.now.machine self.now.world receiver.now sender (receive_now receiver.now.now.phase) }
     {
         let Some(receive) = receiver.receiving() else {
             return false;
         };
-        match self.first_accepted(machine, receiver, receive.from()) {
+        match self.first_accepted(receiver, receive.from()) {
             Some(first) => first == sender,
             None => false,
         }

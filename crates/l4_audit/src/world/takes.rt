@@ -1,44 +1,69 @@
 //! One step after another.
-ghost use Rattle.std.specs.Prelude.{◌≡◌, IfOk};
-ghost use Rattle.l4_model.specs.Steps.{next};
+ghost use Rattle.std.specs.Prelude.{◌≡◌};
 ghost use Rattle.l4_history.specs.Seen.{seen};
-ghost use Rattle.l4_audit.specs.Audited.{IsOf, IsPlaced, Makes};
+ghost use Rattle.l4_audit.specs.Audited.{IsPlaced};
+ghost use Rattle.l4_audit.specs.Reasons.{reason};
+ghost use Rattle.l4_audit.specs.Taking.{Judged};
 
+use crate::reasons::{Reason, StepFault};
 use crate::world::World;
 use l4_history::step_ref::StepRef;
-use l4_script::machine::Machine;
-use l4_types::errors::NoMemory;
 
-impl World {
-    /// A step is taken, where it is possible. Else false, and nothing may be said of the world any more. It takes memory where a delivery
-    /// leaves a retarget owed.
-    pub fn take(&mut self, machine: &Machine, step: &StepRef<'_>) -> Result<bool, NoMemory>
-        requires of { IsOf machine.now self.old }
-        requires placed { IsPlaced machine.now self.old.world }
-        ensures step { IfOk result (λ possible. Makes possible (next machine.now self.old.world (seen step.now)) self.new.world) }
-        ensures ids { self.new.ids ≡ self.old.ids }
+impl World<'_> {
+    /// A step is taken, where it is possible. Else nothing changes. It takes memory where a delivery leaves a retarget owed.
+    pub fn take(&mut self, step: &StepRef<'_>) -> Result<(), StepFault>
+        requires { IsPlaced self.old }
+        ensures { Judged self.old (seen step.now) result self.new }
     {
         match step {
-            StepRef::Local(id) => Ok(self.local(machine, *id)),
-            StepRef::Begin(name) => Ok(self.begin(machine, *name)),
-            StepRef::Queue(name) => Ok(self.queue_send(machine, *name)),
-            StepRef::Deliver(delivery) => self.deliver(machine, delivery),
-            StepRef::Wait(id) => Ok(self.wait(machine, *id)),
-            StepRef::SendTimeout(name) => Ok(self.send_timeout(machine, *name)),
-            StepRef::ReceiveTimeout(id) => Ok(self.receive_timeout(machine, *id)),
-            StepRef::SendNobody(name) => Ok(self.send_nobody(machine, *name)),
-            StepRef::ReceiveNobody(id) => Ok(self.receive_nobody(machine, *id)),
-            StepRef::SendCancel(name) => Ok(self.send_cancel(machine, *name)),
-            StepRef::ReceiveCancel(id) => Ok(self.receive_cancel(machine, *id)),
-            StepRef::Drop(name) => Ok(self.drop_deleted(machine, *name)),
+            StepRef::Local(id) => self.local(*id),
+            StepRef::Begin(name) => self.begin(*name),
+            StepRef::Queue(name) => self.queue_send(*name),
+            StepRef::Deliver(delivery) => self.deliver(delivery),
+            StepRef::Wait(id) => self.wait(*id),
+            StepRef::SendTimeout(name) => self.send_timeout(*name),
+            StepRef::ReceiveTimeout(id) => self.receive_timeout(*id),
+            StepRef::SendNobody(name) => self.send_nobody(*name),
+            StepRef::ReceiveNobody(id) => self.receive_nobody(*id),
+            StepRef::SendCancel(name) => self.send_cancel(*name),
+            StepRef::ReceiveCancel(id) => self.receive_cancel(*id),
+            StepRef::Drop(name) => self.drop_deleted(*name),
             StepRef::Order {
                 caller,
                 target,
                 what,
-            } => Ok(self.order(machine, *caller, *target, *what)),
-            StepRef::Obey(caller) => Ok(self.obey_order(machine, *caller)),
-            StepRef::Tick(tick) => Ok(self.tick(machine, *tick)),
-            StepRef::Retarget(name) => Ok(self.retarget(machine, *name)),
+            } => self.order(*caller, *target, *what),
+            StepRef::Obey(caller) => self.obey_order(*caller),
+            StepRef::Tick(tick) => self.tick(*tick),
+            StepRef::Retarget(name) => self.retarget(*name),
+        }
+    }
+
+    /// Why a step is not possible: the first condition of its rule that is false. None where it is possible.
+    pub fn reason(&self, step: &StepRef<'_>) -> Option<Reason>
+        ensures { result ≡ reason self.now.machine self.now.world (seen step.now) }
+    {
+        match step {
+            StepRef::Local(id) => self.may_run(*id).err(),
+            StepRef::Begin(name) => self.may_begin(*name).err(),
+            StepRef::Queue(name) => self.may_queue(*name).err(),
+            StepRef::Deliver(delivery) => self.may_deliver(delivery).err(),
+            StepRef::Wait(id) => self.may_wait(*id).err(),
+            StepRef::SendTimeout(name) => self.may_send_timeout(*name).err(),
+            StepRef::ReceiveTimeout(id) => self.may_receive_timeout(*id).err(),
+            StepRef::SendNobody(name) => self.may_send_nobody(*name).err(),
+            StepRef::ReceiveNobody(id) => self.may_receive_nobody(*id).err(),
+            StepRef::SendCancel(name) => self.may_send_cancel(*name).err(),
+            StepRef::ReceiveCancel(id) => self.may_receive_cancel(*id).err(),
+            StepRef::Drop(name) => self.may_drop(*name).err(),
+            StepRef::Order {
+                caller,
+                target,
+                what,
+            } => self.may_order(*caller, *target, *what).err(),
+            StepRef::Obey(caller) => self.may_obey(*caller).err(),
+            StepRef::Tick(tick) => self.may_tick(*tick).err(),
+            StepRef::Retarget(name) => self.may_retarget(*name).err(),
         }
     }
 }

@@ -6,5 +6,5 @@ use Rattle.l4_audit.proofs.world.World.are_still.Given as goal
 
 abbrev pub invariant-loop-declared : goal.invariant-loop-declared
 invariant-loop-declared l =
-    list_all (λ (d : Declaration). is_still_thread l.machine l.self.world d.id) l.machine.threads
-    ≡ list_all (λ (d : Declaration). is_still_thread l.machine l.self.world d.id) (drop l.declared-index l.declared-items)
+    list_all (λ (d : Declaration). is_still_thread l.self.machine l.self.world d.id) l.self.machine.threads
+    ≡ list_all (λ (d : Declaration). is_still_thread l.self.machine l.self.world d.id) (drop l.declared-index l.declared-items)

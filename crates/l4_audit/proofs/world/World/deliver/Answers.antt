@@ -1,26 +1,25 @@
-use Rattle.std.proofs.Common.{◌≡◌, ap, sym, ◌∙◌, true, arith, Some, refl}
-use Rattle.std.proofs.lemmas.Grind.{common_steps}
-use Rattle.l4_model.specs.Conditions.{first_accepted}
-use Rattle.l4_audit.specs.Delivering.{is_delivery}
-use Rattle.l4_audit.proofs.Delivering.{delivers_now, sender_is_found, receiver_is_found}
+use Rattle.std.proofs.Common.{ap, sym, ◌∙◌, refl}
+use Rattle.std.specs.Result.{result_err}
+use Rattle.l4_model.specs.Rules.{owed_by}
+use Rattle.l4_audit.specs.Audited.{Audited}
+use Rattle.l4_audit.proofs.Delivering.{delivers_now}
+use Rattle.l4_audit.proofs.Places.{receiver_within, sender_within}
 use Rattle.l4_audit.proofs.world.World.deliver.Goals as goal
 
-pub tells-requires-clause-sender : goal.tells-requires-clause-sender
-tells-requires-clause-sender c = sender_is_found c.args.machine.now c.args.self.now.world c.args.delivery.now.name c.in-Some.pending (sym c.in-Some.ensures)
-
-pub tells-requires-clause-receiver : goal.tells-requires-clause-receiver
-tells-requires-clause-receiver c = receiver_is_found c.args.machine.now c.args.self.now.world c.in-Some.pending.send.to c.in-Some-receiver_of.receiver (sym c.in-Some-receiver_of.ensures)
-
-pub returns-clause-step : goal.returns-clause-step
-returns-clause-step c =
-    let m = c.args.machine.now in
+pub take_over-requires-clause-sender : goal.take_over-requires-clause-sender
+take_over-requires-clause-sender c =
     let a = c.args.self.now in
-    let d = c.args.delivery.now in
-    let p = c.in-Some.pending in
-    let r = c.in-Some-receiver_of.receiver in
-    let receive = c.in-Some-receiving.receive in
-    let first : first_accepted m a.world r receive.from ≡ Some p.sender.at =
-    rw (← c.from.ensures) (sym c.in-Some-first_accepted.ensures) ∙ ap Some (c.if-first-sender.false ∙ ap (λ x. x.0) c.sender_now-sender.ensures) in
-    let tells : is_delivery m d p r ≡ true = grind (arith, common_steps) in
-    delivers_now m a c.take_over.new.self c.owe.new.self d p r receive _ (sym c.in-Some.ensures) (sym c.in-Some-receiver_of.ensures) (sym c.in-Some-receiving.ensures) first tells
-    (c.take_over.ensures ∙ rw (c.place-place.ensures, c.sender_now-sender.ensures) refl) (c.owed_by-owed.ensures ∙ rw c.send.ensures refl) c.in_ok-owe.ensures.ok
+    rw (c.in_ok-owe.ensures.ok, ap (λ x. x.0) c.sender_now-sender.ensures) (sender_within a.machine a.world c.args.delivery.now.name _ c.in_ok-pending.ensures.send)
+
+pub take_over-requires-clause-receiver : goal.take_over-requires-clause-receiver
+take_over-requires-clause-receiver c =
+    let a = c.args.self.now in
+    rw (c.in_ok-owe.ensures.ok, c.place-place.ensures) (receiver_within a.machine a.world _ _ c.in_ok-pending.ensures.receiver)
+
+pub returns : goal.returns
+returns c =
+    let a = c.args.self.now in
+    let none = sym c.may_deliver.ensures.reason ∙ ap result_err c.in_ok-pending.was in
+    delivers_now a c.owe.new.self _ c.args.delivery.now _ _ _ c.in_ok-pending.ensures.send c.in_ok-pending.ensures.receiver none
+    (c.owed_by-owed.ensures ∙ ap (λ (x : Audited). owed_by x.machine c.args.delivery.now.name c.send.result.now.message c.args.delivery.now.receiver) c.self.view_is ∙ rw c.send.ensures refl) c.in_ok-owe.ensures.ok
+    (c.take_over.ensures ∙ rw (c.place-place.ensures, c.sender_now-sender.ensures) refl)

@@ -10,4 +10,4 @@ pub returns : goal.returns
 returns c =
     let i = c.self.inside in
     let others = filter_same _ (λ o. not (is_of_name c.args.name o)) _ (λ x b q k. search (rules, tests)) _ _ c.retain.ensures.filtered in
-    forgotten i.threads.items (senders_of i.lists.waiting) i.clocks.items i.owed.items _ c.args.self.now c.args.name c.self.view_is others
+    forgotten i.machine.now i.threads.items (senders_of i.lists.waiting) i.clocks.items i.owed.items _ c.args.self.now c.args.name c.self.view_is others

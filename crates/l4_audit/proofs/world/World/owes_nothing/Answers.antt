@@ -8,4 +8,4 @@ pub returns : goal.returns
 returns c =
     let i = c.self.inside in
     c.is_empty.ensures
-    ∙ ap (λ n. n == 0) (ap length c.as_slice.ensures.value ∙ as_many_owed i.threads.items (senders_of i.lists.waiting) i.clocks.items i.owed.items c.args.self.now c.self.view_is)
+    ∙ ap (λ n. n == 0) (ap length c.as_slice.ensures.value ∙ as_many_owed i.machine.now i.threads.items (senders_of i.lists.waiting) i.clocks.items i.owed.items c.args.self.now c.self.view_is)

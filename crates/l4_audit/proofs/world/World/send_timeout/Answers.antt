@@ -1,15 +1,21 @@
-use Rattle.std.proofs.Common.{◌≡◌, ap, sym, true, false, arith}
-use Rattle.std.proofs.lemmas.Grind.{common_steps}
-use Rattle.l4_model.specs.Conditions.{is_timed_out}
-use Rattle.l4_model.specs.World.{must_wait}
-use Rattle.l4_audit.proofs.Deciding.{times_out_now}
+use Rattle.std.proofs.Common.{ap, sym, ◌∙◌}
+use Rattle.std.specs.Result.{result_err}
+use Rattle.l4_model.specs.World.{change, unqueued}
+use Rattle.l4_model.specs.Effects.{refused}
+use Rattle.l4_audit.specs.Audited.{with_world}
+use Rattle.l4_audit.proofs.Taking.{times_out}
+use Rattle.l4_audit.proofs.Places.{sender_within}
 use Rattle.l4_audit.proofs.world.World.send_timeout.Goals as goal
 
-pub returns-clause-step : goal.returns-clause-step
-returns-clause-step c =
-    let m = c.args.machine.now in
+pub refuse-requires : goal.refuse-requires
+refuse-requires c =
     let a = c.args.self.now in
-    let p = c.in-Some.pending in
-    let late : is_timed_out m a.world p ≡ true = grind (arith, common_steps) in
-    let free : must_wait a.world.owed c.args.name.thread p.send.to ≡ false = grind (arith, common_steps) in
-    times_out_now m a c.refuse.new.self c.args.name p _ (sym c.in-Some.ensures) late free (ap (λ x. x.0) c.sender_now-sender.ensures) c.refuse.ensures
+    rw (ap (λ x. x.0) c.sender_now-sender.ensures) (sender_within a.machine a.world c.args.name c.in_ok-pending.pending c.in_ok-pending.ensures.send)
+
+pub returns : goal.returns
+returns c =
+    let a = c.args.self.now in
+    let none = sym c.may_send_timeout.ensures.reason ∙ ap result_err c.in_ok-pending.was in
+    let p = c.in_ok-pending.pending in
+    times_out a _ c.args.name p c.in_ok-pending.ensures.send none
+    (c.refuse.ensures ∙ ap (λ x. with_world a (change (unqueued a.world x) x (refused 2))) (ap (λ x. x.0) c.sender_now-sender.ensures))

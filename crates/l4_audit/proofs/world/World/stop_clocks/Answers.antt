@@ -9,4 +9,4 @@ returns c =
     let i = c.self.inside in
     let items = c.in_ok-resize.ensures.items in
     let empty = c.clear.ensures.items in
-    stopped i.threads.items (senders_of i.lists.waiting) i.clocks.items c.resize.new.self.items _ c.args.self.now c.self.view_is (grind (arith, common_steps))
+    stopped i.machine.now i.threads.items (senders_of i.lists.waiting) i.clocks.items c.resize.new.self.items _ c.args.self.now c.self.view_is (grind (arith, common_steps))

@@ -1,11 +1,7 @@
 use Rattle.l4_model.specs.Rules.{received_tag}
 use Rattle.l4_model.specs.Effects.{receives}
 use Rattle.l4_model.proofs.Chains.{length-changed}
-use Rattle.l4_audit.proofs.Lists.{has_list_below}
 use Rattle.l4_audit.proofs.world.World.take_over.Goals as goal
-
-pub unqueue-requires : goal.unqueue-requires
-unqueue-requires c = has_list_below c.args.machine.now c.args.self.now c.args.sender c.requires.of c.requires.sender
 
 pub end_send-requires : goal.end_send-requires
 end_send-requires c =

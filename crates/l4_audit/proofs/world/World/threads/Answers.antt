@@ -12,4 +12,4 @@ returns c =
     let items = c.deref-tcb-items.result.now in
     c.loop-tcb.invariant
     ∙ ap (map (λ (b : Block). report_of b.id b.thread)) (take_whole items c.loop-tcb.tcb-index (omega arith) ∙ c.deref-tcb-items.ensures.value)
-    ∙ reports-all c.args.machine.now i.threads.items (senders_of i.lists.waiting) i.clocks.items _ c.args.self.now c.self.view_is c.requires
+    ∙ reports-all i.machine.now i.threads.items (senders_of i.lists.waiting) i.clocks.items _ c.args.self.now c.self.view_is c.self.invariant

@@ -1,12 +1,18 @@
+use Rattle.std.proofs.Common.{ap}
 use Rattle.l4_model.specs.Effects.{turns}
 use Rattle.l4_types.specs.OwedView.{owed_of}
+use Rattle.l4_thread.specs.Parts.{Block}
 use Rattle.l4_audit.specs.Audited.{senders_of}
-use Rattle.l4_audit.proofs.Writing.{written}
+use Rattle.l4_audit.proofs.Writing.{written, still_of}
 use Rattle.l4_audit.proofs.world.World.turn.Goals as goal
+
+pub invariant_of-self : goal.invariant_of-self
+invariant_of-self c =
+    let s = c.self.inside in
+    still_of s.machine.now s.threads.items s.lists.waiting c.args.place _ _ c.self.invariant c.index_mut.ensures.value (ap (λ (b : Block). b.id) (c.turn_to.ensures c.args.owed.now.send c.args.owed.now.originator))
 
 pub returns : goal.returns
 returns c =
     let s = c.self.inside in
-    let o = c.args.owed.now in
-    written s.threads.items (senders_of s.lists.waiting) s.clocks.items _ c.args.self.now c.args.place (turns (owed_of o)) _ _ c.self.view_is
-    c.requires c.index_mut.ensures.value (c.turn_to.ensures o.send o.originator)
+    written s.machine.now s.threads.items (senders_of s.lists.waiting) s.clocks.items _ c.args.self.now c.args.place (turns (owed_of c.args.owed.now)) _ _ c.self.view_is
+    c.requires c.index_mut.ensures.value (c.turn_to.ensures c.args.owed.now.send c.args.owed.now.originator)

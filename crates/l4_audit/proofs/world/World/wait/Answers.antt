@@ -1,31 +1,25 @@
-use Rattle.std.proofs.Common.{◌≡◌, ap, sym, ◌∙◌, arith, true, Some, refl}
-use Rattle.std.proofs.lemmas.Grind.{common_steps}
-use Rattle.std.specs.Prelude.{is_some}
-use Rattle.l4_model.specs.World.{is_ready}
-use Rattle.l4_model.specs.Conditions.{found, act_of}
-use Rattle.l4_model.specs.Steps.{receive_of}
+use Rattle.std.proofs.Common.{ap, sym, ◌∙◌}
+use Rattle.std.specs.Result.{result_err}
 use Rattle.l4_script.specs.Scripts.{instr_of}
-use Rattle.l4_audit.specs.Audited.{Audited}
-use Rattle.l4_audit.proofs.Starting.{can_start, waits_now, no_send}
+use Rattle.l4_thread.specs.Ipcs.{may_show}
+use Rattle.l4_audit.specs.Audited.{Audited, with_world}
+use Rattle.l4_audit.specs.Starting.{starting}
+use Rattle.l4_audit.proofs.Taking.{waits_on}
+use Rattle.l4_audit.proofs.Starting.{can_start, no_send}
 use Rattle.l4_audit.proofs.world.World.wait.Goals as goal
 
 pub start-requires : goal.start-requires
 start-requires c =
-    let m = c.args.machine.now in
     let a = c.args.self.now in
-    let t = c.in-Some.thread in
-    let is : found m a.world c.args.id ≡ Some t = sym c.in-Some.ensures in
-    let has : is_some (receive_of (act_of m t)) ≡ true = sym (c.if-not-receives.ensures m) in
+    let none = sym c.may_wait.ensures.reason ∙ ap result_err c.in_ok-thread.was in
     rw c.place-place.ensures
-    (can_start m a c.args.id t (instr_of c.instruction-instr.result) c.may_show-permitted.result c.requires is c.instruction-instr.ensures.within (no_send m t _ c.instruction-instr.ensures.value has) c.may_show-permitted.ensures)
+    (can_start a c.args.id c.in_ok-thread.thread (instr_of c.instruction-instr.result) c.may_show-permitted.result c.in_ok-thread.ensures.thread c.instruction-instr.ensures.within
+    (no_send a c.args.id c.in_ok-thread.thread _ c.instruction-instr.ensures.value c.in_ok-thread.ensures.thread none) (c.may_show-permitted.ensures ∙ ap (λ (x : Audited). may_show x.machine c.in_ok-thread.thread.declared.id c.in_ok-thread.thread.now.context.actual) c.self.view_is))
 
-pub returns-clause-step : goal.returns-clause-step
-returns-clause-step c =
-    let m = c.args.machine.now in
+pub returns : goal.returns
+returns c =
     let a = c.args.self.now in
-    let t = c.in-Some.thread in
-    let is : found m a.world c.args.id ≡ Some t = sym c.in-Some.ensures in
-    let ready : is_ready t.now.phase ≡ true = grind (arith, common_steps) in
-    let has : is_some (receive_of (act_of m t)) ≡ true = sym (c.if-not-receives.ensures m) in
-    waits_now m a c.args.id t (instr_of c.instruction-instr.result) c.requires is ready has c.instruction-instr.ensures.value
-    ∙ ap Some (sym (ap (λ (x : Audited). x.world) c.start.ensures ∙ rw (c.place-place.ensures, c.clock-clock.ensures) refl))
+    let none = sym c.may_wait.ensures.reason ∙ ap result_err c.in_ok-thread.was in
+    let i = instr_of c.instruction-instr.result in
+    waits_on a _ c.args.id c.in_ok-thread.thread i c.in_ok-thread.ensures.thread none c.instruction-instr.ensures.value
+    (c.start.ensures ∙ ap (λ x. with_world a (starting a x c.clock-clock.result i)) c.place-place.ensures ∙ ap (λ x. with_world a (starting a c.in_ok-thread.thread.at x i)) c.clock-clock.ensures)

@@ -1,7 +1,7 @@
-use Rattle.std.proofs.Common.{◌≡◌, ◌++◌}
+use Rattle.std.proofs.Common.{◌≡◌, take}
 use Rattle.std.specs.Prelude.{filter_map}
-use Rattle.l4_model.specs.History.{waiting, waiting_name}
+use Rattle.l4_audit.specs.Auditing.{waiting_send}
 use Rattle.l4_audit.proofs.world.World.waiting.Given as goal
 
-abbrev pub invariant-loop-step : goal.invariant-loop-step
-invariant-loop-step l = l.sends.items ++ filter_map (waiting_name l.machine l.self.world) l.step-iterator ≡ waiting l.machine l.self.world l.history.steps
+abbrev pub invariant-loop-name : goal.invariant-loop-name
+invariant-loop-name l = l.sends.items ≡ filter_map (waiting_send l.self.machine l.self.world) (take l.name-index l.begun)

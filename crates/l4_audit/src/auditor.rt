@@ -1,0 +1,146 @@
+//! An audit that is under way.
+ghost use Rattle.std.specs.Prelude.{◌≡◌, ◌↔◌, ◌++◌, ◌∷◌, [], Some, true, IfOk, OnOk, OnErr, map, filter_map};
+ghost use Rattle.l4_model.specs.History.{begun_name, view};
+ghost use Rattle.l4_model.specs.Still.{IsStill, late};
+ghost use Rattle.l4_types.specs.ReportView.{report_of_view};
+ghost use Rattle.l4_types.specs.StepView.{step_of};
+ghost use Rattle.l4_history.specs.Seen.{seen};
+ghost use Rattle.l4_audit.specs.Auditing.{Judges, begins, waiting_send};
+ghost use Rattle.l4_audit.specs.Audits.{is_quiet};
+ghost use Rattle.l4_audit.specs.Possible.{possible};
+ghost use Rattle.l4_audit.specs.Reasons.{reason};
+ghost use Rattle.l4_audit.specs.Stillness.{is_still_now};
+
+use crate::reasons::{Reason, StepFault};
+use crate::world::World;
+use l4_history::step_ref::StepRef;
+use l4_script::machine::Machine;
+use l4_types::errors::NoMemory;
+use l4_types::ids::ThreadId;
+use l4_types::reports::{Ending, ThreadView};
+use l4_types::steps::{Name, Step};
+use std::alloc::Global;
+use std::marker::Model;
+
+/// Judges the steps of a machine as they are given. No history is kept: a step costs memory only where it begins a send, for its name, and where a
+/// delivery leaves a retarget owed.
+#[derive(Drop)]
+pub struct Auditor<'m> {
+    world: World<'m>,
+    // The names of the sends that were begun, in order.
+    begun: Vec<Name>,
+}
+
+impl<'m> Model for Auditor<'m> {
+    ghost use Rattle.l4_audit.specs.Auditing.{Auditing, IsUnderWay};
+
+    ghost Value = { Auditing };
+
+    ghost view = { λ a. record { at = a.world; begun = a.begun.items } };
+
+    ghost invariant = { λ a. IsUnderWay a.world a.begun.items };
+}
+
+impl<'m> Auditor<'m> {
+    /// An audit before the first step of a machine.
+    pub fn new(alloc: Global, machine: &'m Machine) -> Result<Auditor<'m>, NoMemory>
+        ensures { IfOk result (λ auditor. auditor ≡ begins machine.now) }
+    {
+        let world = World::new(alloc, machine)?;
+        let begun = Vec::new(alloc);
+        Ok(Auditor { world, begun })
+    }
+
+    /// Judges the next step. Where it is not possible, or memory is refused, nothing changes: what the auditor tells is of the world before it.
+    pub fn step(&mut self, step: &StepRef<'_>) -> Result<(), StepFault>
+        ensures { Judges self.old (seen step.now) result self.new }
+    {
+        match begun_name(step) {
+            Some(name) => self.begin(name, step),
+            None => self.world.take(step),
+        }
+    }
+
+    // Judges the next step, which begins this send.
+    fn begin(&mut self, name: Name, step: &StepRef<'_>) -> Result<(), StepFault>
+        requires { begun_name (seen step.now) ≡ Some name }
+        ensures { Judges self.old (seen step.now) result self.new }
+    {
+        let begun = self.begun.len();
+        keep(&mut self.begun, name)?;
+        match self.world.take(step) {
+            Ok(()) => Ok(()),
+            Err(fault) => {
+                self.begun.truncate(begun);
+                Err(fault)
+            }
+        }
+    }
+
+    /// Why a step is not possible here: the first condition of its rule that is false. None where it is possible.
+    pub fn reason(&self, step: &StepRef<'_>) -> Option<Reason>
+        ensures { result ≡ reason self.now.at.machine self.now.at.world (seen step.now) }
+    {
+        self.world.reason(step)
+    }
+
+    /// Every step but ticks that is possible here, in order of declaration of threads, then of the table of steps.
+    pub fn possible(&self, alloc: Global) -> Result<Vec<Step>, NoMemory>
+        ensures { IfOk result (λ steps. map step_of steps.items ≡ possible self.now.at.machine self.now.at.world) }
+    {
+        self.world.possible(alloc)
+    }
+
+    /// The report of each thread here, in order of declaration.
+    pub fn threads(&self, alloc: Global) -> Result<Vec<ThreadView>, NoMemory>
+        ensures { IfOk result (λ views. map report_of_view views.items ≡ view self.now.at.machine self.now.at.world) }
+    {
+        self.world.threads(alloc)
+    }
+
+    /// The sends that are undecided here, in order of beginning, each with its destination.
+    pub fn waiting(&self, alloc: Global) -> Result<Vec<(Name, ThreadId)>, NoMemory>
+        ensures { IfOk result (λ sends. sends.items ≡ filter_map (waiting_send self.now.at.machine self.now.at.world) self.now.begun) }
+    {
+        self.world.waiting(alloc, self.begun.as_slice())
+    }
+
+    /// How the audit ends: `Quiet` where no step but a tick is possible, now or after any ticks.
+    pub fn ending(self) -> Result<Ending, NoMemory>
+        ensures { IfOk result (λ ending. (is_quiet ending ≡ true) ↔ IsStill self.entry.at.machine self.entry.at.world) }
+    {
+        ending(self.world)
+    }
+}
+
+// One more name is kept.
+fn keep(names: &mut Vec<Name>, name: Name) -> Result<(), NoMemory>
+    ensures ok { OnOk result (names.new.items ≡ names.old.items ++ name ∷ []) }
+    ensures err { OnErr result (names.new.items ≡ names.old.items) }
+{
+    names.push(name)?;
+    Ok(())
+}
+
+// The send that a step begins.
+fn begun_name(step: &StepRef<'_>) -> Option<Name>
+    ensures { result ≡ begun_name (seen step.now) }
+{
+    match step {
+        StepRef::Begin(name) => Some(*name),
+        _ => None,
+    }
+}
+
+// Whether nothing but clocks can go on in a world.
+fn ending(world: World) -> Result<Ending, NoMemory>
+    ensures { IfOk result (λ ending. is_quiet ending ≡ is_still_now world.entry.machine (late world.entry.world)) }
+{
+    let mut world = world;
+    world.stop_clocks()?;
+    if world.is_still() {
+        Ok(Ending::Quiet)
+    } else {
+        Ok(Ending::Spent)
+    }
+}

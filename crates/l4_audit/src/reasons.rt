@@ -1,0 +1,148 @@
+//! Why a step is not possible.
+ghost use Rattle.std.specs.Prelude.{◌≡◌, Some, None, true, false, IfOk, IfErr};
+ghost use Rattle.l4_model.specs.Machine.{Machine};
+ghost use Rattle.l4_model.specs.World.{World};
+ghost use Rattle.l4_model.specs.Steps.{Step};
+ghost use Rattle.l4_audit.specs.Reasons.{TellsWhy};
+
+use l4_thread::orders::Asked;
+use l4_types::errors::NoMemory;
+use l4_types::ids::{GlobalId, ThreadId};
+use l4_types::reports::State;
+
+/// The condition of a step's rule that is false, with what the world has in its place.
+#[derive(Clone, Copy, PartialEq, Eq, Debug)]
+pub enum Reason {
+    /// The thread is not declared.
+    Undeclared,
+    /// The thread is not ready, but in this state.
+    NotReady(State),
+    /// The thread's instruction is a phase of an Ipc, or asks for something of another thread.
+    NotLocal,
+    /// The thread began so many sends, and the next one has another number.
+    NotNext(u64),
+    /// The thread's instruction begins no send phase.
+    NoSendPhase,
+    /// The thread's instruction begins no receive phase, or a send phase before it.
+    NoReceivePhase,
+    /// The thread's instruction asks for nothing of another thread.
+    NoOrder,
+    /// The thread's instruction asks for this.
+    OtherOrder(Asked),
+    /// No send of this name is undecided.
+    NotUndecided,
+    /// The destination of the send names no declared thread.
+    NoReceiver(ThreadId),
+    /// The thread that the send goes to was deleted.
+    ReceiverDeleted(GlobalId),
+    /// The send waits in a list already.
+    Waiting,
+    /// The send waits in no list.
+    NotWaiting,
+    /// The destination owes it to turn to the sender first.
+    MustWait(ThreadId),
+    /// The thread is in no receive phase, but in this state.
+    NotReceiving(State),
+    /// No send that the receiver accepts waits in its list.
+    AcceptsNone,
+    /// The first send in its list that the receiver accepts is of this thread.
+    NotFirst(GlobalId),
+    /// The send goes to this thread.
+    OtherReceiver(GlobalId),
+    /// The message shows this sender.
+    OtherShown(GlobalId),
+    /// The message was sent by this thread.
+    OtherSender(GlobalId),
+    /// The receiver gets this tag.
+    OtherTag(u64),
+    /// The message has other words.
+    OtherWords,
+    /// The send may not time out at this clock of its sender's processor.
+    NotTimedOut(u64),
+    /// The destination of the send is somebody.
+    HasDestination(ThreadId),
+    /// No cancellation of the send was asked for.
+    SendNotCancelled,
+    /// The sender was not deleted, but is in this state.
+    SenderNotDeleted(State),
+    /// The receive phase may not time out at this clock of its processor.
+    ReceiveNotPassed(u64),
+    /// The receive phase is not closed for somebody who is not there, but has this specifier.
+    HasPartner(ThreadId),
+    /// A send that the receive phase accepts waits, of this thread.
+    AcceptsFirst(GlobalId),
+    /// No cancellation of the receive phase was asked for.
+    ReceiveNotCancelled,
+    /// The thread asked for nothing that is not done.
+    AskedNothing,
+    /// What the thread asked for is asked of this one, which is not declared.
+    TargetUndeclared(GlobalId),
+    /// The machine has no such processor.
+    NoProcessor,
+    /// The clock of the processor is there already.
+    ClockAt(u64),
+    /// No clock goes so far.
+    PastClocks,
+    /// No retarget of this name is owed.
+    NotOwed,
+    /// The originator that is to turn is not declared.
+    OriginatorUndeclared(GlobalId),
+}
+
+/// Why a step was not taken.
+#[derive(Clone, Copy, PartialEq, Eq, Debug)]
+pub enum StepFault {
+    /// Memory was refused.
+    NoMemory,
+    /// It is not possible.
+    Refused(Reason),
+}
+
+impl From<NoMemory> for StepFault {
+    ghost use Rattle.std.specs.Prelude.{◌≡◌};
+    ghost use Rattle.l4_audit.specs.declared.reasons.StepFault.TheVariants.{NoMemory as Wanting};
+
+    ghost from_gives = { λ error fault. fault ≡ Wanting };
+
+    fn from(_error: NoMemory) -> StepFault {
+        StepFault::NoMemory
+    }
+}
+
+impl From<Reason> for StepFault {
+    ghost use Rattle.std.specs.Prelude.{◌≡◌};
+    ghost use Rattle.l4_audit.specs.declared.reasons.StepFault.TheVariants.{Refused};
+
+    ghost from_gives = { λ reason fault. fault ≡ Refused reason };
+
+    fn from(reason: Reason) -> StepFault {
+        StepFault::Refused(reason)
+    }
+}
+
+/// A reason is told exactly where a step is not possible. It is a condition of the step's rule that is false there, and the first such one in
+/// the order of the rule.
+pub fn law_reasons()
+    ensures { (m : Machine) (w : World) (step : Step) → TellsWhy m w step }
+{}
+
+/// A value that a rule needs.
+#[inline(always)]
+pub(crate) fn need<T>(value: Option<T>, reason: Reason) -> Result<T, Reason>
+    ensures ok { IfOk result (λ there. value ≡ Some there) }
+    ensures err { IfErr result (λ told. (value ≡ None) × (told ≡ reason)) }
+{
+    match value {
+        Some(there) => Ok(there),
+        None => Err(reason),
+    }
+}
+
+/// A test of a rule.
+#[inline(always)]
+pub(crate) fn test(holds: bool, reason: Reason) -> Result<(), Reason>
+    ensures ok { IfOk result (λ _. holds ≡ true) }
+    ensures err { IfErr result (λ told. (holds ≡ false) × (told ≡ reason)) }
+{
+    if holds { Ok(()) } else { Err(reason) }
+}

@@ -15,7 +15,7 @@ use Rattle.l4_model.proofs.Chains.{some_is}
 use Rattle.l4_model.proofs.Places.{known}
 use Rattle.l4_types.specs.Ids.{global_of}
 use Rattle.l4_thread.specs.Parts.{Block}
-use Rattle.l4_thread.specs.Ipcs.{may_show, starts}
+use Rattle.l4_thread.specs.Ipcs.{IsPermission, may_show, starts}
 use Rattle.l4_thread.specs.Requests.{asks_to_send, is_end}
 use Rattle.l4_thread.proofs.Asking.{shown_is_global}
 use Rattle.l4_audit.specs.Phases.{is_nil}
@@ -60,13 +60,13 @@ start_shown m bs ws cs os a place i permitted old is can at shown =
 
 pub started : (m : Machine) (bs : List Block) (ws : List (List ℕ)) (cs : List ℕ) (os : List Owed) (a : Audited) (place : ℕ) (i : Instr) (permitted : Bool) (now : ℕ) (old new : Block) → audited bs ws cs os ≡ a →
     CanStart m a place i permitted → old ≡ get_or bs place old →
-    ((n : Machine) → permitted ≡ may_show n old.id old.thread.context.actual → new ≡ record old { thread = starts (act n old.id now old.thread.context i) now old.thread }) →
+    ((n : Machine) → IsPermission permitted n old.id old.thread.context → new ≡ record old { thread = starts (act n old.id now old.thread.context i) now old.thread }) →
     audited (set bs place new) ws cs os ≡ with_world a (change a.world place (starts_at m (id_at a place) now i))
 started m bs ws cs os a place i permitted now old new is can at gives =
     let here = starts_here m bs ws cs os a place i permitted old is can at in
     let shows : permitted ≡ may_show m old.id old.thread.context.actual = here.thread.shows ∙ ap (λ id. may_show m id old.thread.context.actual) here.id in
     let e : new ≡ record old { thread = starts_at m (id_at a place) now i old.thread } =
-    gives m shows ∙ ap (λ id. record old { thread = starts (act m id now old.thread.context i) now old.thread }) (sym here.id) in
+    gives m (λ asks. shows) ∙ ap (λ id. record old { thread = starts (act m id now old.thread.context i) now old.thread }) (sym here.id) in
     written bs ws cs os a place (starts_at m (id_at a place) now i) old new is here.within at e
 
 -- Of a thread that was found.

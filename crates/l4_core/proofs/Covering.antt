@@ -1,6 +1,6 @@
 -- The places that may have a duty stay covered.
 use Rattle.std.proofs.Common.{◌≡◌, ℕ, zero, suc, ◌+◌, ◌<◌, Bool, true, false, cond, ◌&&◌, ◌||◌, not, Option, Some, None, List, [], ◌∷◌, ◌++◌, map, filter, length, refl, sym, ap, ◌∙◌, subst, inl, inr, ◌⊎◌}
-use Rattle.std.specs.Prelude.{◌==◌, find, slice_index_or}
+use Rattle.std.specs.Prelude.{◌==◌, find, is_some, slice_index_or}
 use Rattle.std.specs.Option.{option_map}
 use Rattle.std.specs.List.{list_any}
 use Rattle.std.proofs.lemmas.Bool.{and_parts, or_parts, eqb-true, cases_eq, ne_eqb, eq-eqb}
@@ -18,7 +18,7 @@ use Rattle.l4_core_model.specs.Turns.{Duty, CancelsOwn, clock_is, has_told}
 use Rattle.l4_core_model.proofs.Fit.{get_other, get_cases}
 use Rattle.l4_core.specs.Places.{has, count}
 use Rattle.l4_core.specs.Settled.{IsOwn}
-use Rattle.l4_core.specs.Covered.{after_retarget, duty_at, names_nobody, untold_of, or_tell, deleted_duty, or_close, or_refuse, receive_duty, living_duty, duty_of_thread, Covers}
+use Rattle.l4_core.specs.Covered.{after_retarget, duty_at, names_nobody, untold_of, or_tell, deleted_duty, or_close, or_refuse, receive_duty, living_duty, duty_of_thread, Covers, CoversOthers}
 use Rattle.l4_core.proofs.PlaceSets.{count_less}
 use Rattle.l4_core.proofs.Zeros.{apart_in, is_somewhere, find-filter, get-map, get_apart, send_same}
 use Rattle.l4_core.proofs.Settling.{or_cases}
@@ -100,25 +100,61 @@ covers-stamped d m cpu l s c = covers-same d m cpu (record l { stamp = s }) l (�
 pub covers-relisted : (d : List ℕ) (m : Machine) (cpu : ℕ) (l : Local) (k : Plain) → k.waiting ≡ l.lists.waiting → Covers d m cpu l → Covers d m cpu (record l { lists = k })
 covers-relisted d m cpu l k e c = covers-same d m cpu (record l { lists = k }) l (λ i. refl) e refl refl c
 
--- A thread changes, and its place is in where it is of this processor. It is deleted before and after, or neither.
-pub covers-changed : (d : List ℕ) (m : Machine) (cpu : ℕ) (l : Local) (i : ℕ) (f : Thread → Thread) → Covers d m cpu l → i < length l.threads → (is_own m cpu i ≡ true → has d i ≡ true) →
-    is_deleted (f (thread l i)).phase ≡ is_deleted (thread l i).phase → (plain.is_queued l.lists i ≡ false) ⊎ ((f (thread l i)).send ≡ (thread l i).send) → Covers d m cpu (changes i f l)
-covers-changed d m cpu l i f c lt there alive kept = record { within = c.within; others = others }
+-- A thread changes. It is deleted before and after, or neither: the other places stay covered.
+pub others-changed : (d : List ℕ) (m : Machine) (cpu : ℕ) (l : Local) (i : ℕ) (f : Thread → Thread) → Covers d m cpu l → i < length l.threads →
+    is_deleted (f (thread l i)).phase ≡ is_deleted (thread l i).phase → (plain.is_queued l.lists i ≡ false) ⊎ ((f (thread l i)).send ≡ (thread l i).send) → CoversOthers i d m cpu (changes i f l)
+others-changed d m cpu l i f c lt alive kept = record { within = c.within; others = others }
   where
     deleted : (o : ℕ) → is_deleted (thread (changes i f l) o).phase ≡ is_deleted (thread l o).phase
     deleted o = get_cases (λ t. is_deleted t.phase ≡ is_deleted (thread l o).phase) f l.threads i o lt (λ same. alive ∙ ap (λ k. is_deleted (thread l k).phase) same) (λ ne. refl)
 
-    others : (o : ℕ) → IsOwn m cpu o → has d o ≡ false → duty_at m cpu (changes i f l) o ≡ None
-    others o own h =
-        let ne : i ≡ o → ⊥ = λ same. apart_in d i o (there (subst (λ k. is_own m cpu k ≡ true) (sym same) own.own)) h same in
+    others : (o : ℕ) → IsOwn m cpu o → (i ≡ o → ⊥) → has d o ≡ false → duty_at m cpu (changes i f l) o ≡ None
+    others o own ne h =
         let at : thread (changes i f l) o ≡ thread l o = get_other f l.threads i o ne in
         same_duty m cpu (changes i f l) l o (nobody_as m (changes i f l) l deleted) at refl refl refl refl
         (refusable_same m (changes i f l) l o (plain.list_of l.lists o) at (λ w stands. send_same i w.block f l lt kept (is_somewhere (λ (v : plain.Waiting). w.block == v.block) l.lists.waiting o stands)))
         ∙ c.others o own h
 
-pub covers-comes : (d : List ℕ) (m : Machine) (cpu : ℕ) (l : Local) (i : ℕ) (f : Thread → Thread) → Covers d m cpu l → i < length l.threads → (is_own m cpu i ≡ true → has d i ≡ true) →
-    is_deleted (f (thread l i)).phase ≡ is_deleted (thread l i).phase → (plain.is_queued l.lists i ≡ false) ⊎ ((f (thread l i)).send ≡ (thread l i).send) → Covers d m cpu (comes_to i f l)
-covers-comes d m cpu l i f c lt there alive kept = covers-relisted d m cpu (changes i f l) (comes_to i f l).lists refl (covers-changed d m cpu l i f c lt there alive kept)
+-- The ready and the armed ones are of no matter.
+pub others-comes : (d : List ℕ) (m : Machine) (cpu : ℕ) (l : Local) (i : ℕ) (f : Thread → Thread) → Covers d m cpu l → i < length l.threads →
+    is_deleted (f (thread l i)).phase ≡ is_deleted (thread l i).phase → (plain.is_queued l.lists i ≡ false) ⊎ ((f (thread l i)).send ≡ (thread l i).send) → CoversOthers i d m cpu (comes_to i f l)
+others-comes d m cpu l i f c lt alive kept =
+    let changed_one = others-changed d m cpu l i f c lt alive kept in
+    record { within = c.within; others = λ o own ne h. changed_one.others o own ne h }
+
+-- Its place is in where it is of this processor.
+pub covers-changed : (d : List ℕ) (m : Machine) (cpu : ℕ) (l : Local) (i : ℕ) (f : Thread → Thread) → Covers d m cpu l → i < length l.threads → (is_own m cpu i ≡ true → has d i ≡ true) →
+    is_deleted (f (thread l i)).phase ≡ is_deleted (thread l i).phase → (plain.is_queued l.lists i ≡ false) ⊎ ((f (thread l i)).send ≡ (thread l i).send) → Covers d m cpu (changes i f l)
+covers-changed d m cpu l i f c lt there alive kept =
+    let changed_one = others-changed d m cpu l i f c lt alive kept in
+    record {
+      within = c.within;
+      others = λ o own h. changed_one.others o own (λ same. apart_in d i o (there (subst (λ k. is_own m cpu k ≡ true) (sym same) own.own)) h same) h;
+    }
+
+-- The place itself is put in, or it has no duty.
+pub covers-noted : (d e : List ℕ) (m : Machine) (cpu : ℕ) (l : Local) (i : ℕ) → CoversOthers i d m cpu l → IsOwn m cpu i → ((o : ℕ) → has e o ≡ (has d o || o == i)) → Covers e m cpu l
+covers-noted d e m cpu l i c own puts = record {
+  within = λ o h. by o (or_cases (has d o) (o == i) (sym (puts o) ∙ h));
+  others = λ o o_own h.
+      let parts = or_parts (has d o) (o == i) (sym (puts o) ∙ h) in
+      c.others o o_own (λ same. let there = eq-eqb o i (sym same) in let wrong : true ≡ false = sym there ∙ parts.1 in cc) parts.0;
+}
+  where
+    by : (o : ℕ) → (has d o ≡ true) ⊎ ((o == i) ≡ true) → IsOwn m cpu o
+    by o (inl g) = c.within o g
+    by o (inr g) = let same = eqb-true o i g in subst (λ k. IsOwn m cpu k) (sym same) own
+
+pub covers-unnoted : (d : List ℕ) (m : Machine) (cpu : ℕ) (l : Local) (i : ℕ) → CoversOthers i d m cpu l → is_some (duty_at m cpu l i) ≡ false → Covers d m cpu l
+covers-unnoted d m cpu l i c idle = record { within = c.within; others = λ o own h. by o own h (cases_eq o i) }
+  where
+    none : (o : Option Duty) → is_some o ≡ false → o ≡ None
+    none None e = refl
+    none (Some duty) e = cc
+
+    by : (o : ℕ) → IsOwn m cpu o → has d o ≡ false → (o ≡ i) ⊎ (o ≡ i → ⊥) → duty_at m cpu l o ≡ None
+    by o own h (inl same) = subst (λ k. duty_at m cpu l k ≡ None) (sym same) (none (duty_at m cpu l i) idle)
+    by o own h (inr apart) = c.others o own (λ same. apart (sym same)) h
 
 -- A processor is told of a deletion.
 pub covers-told : (d : List ℕ) (m : Machine) (cpu : ℕ) (l : Local) (to i : ℕ) → has d i ≡ true → Covers d m cpu l → Covers d m cpu (has_told to i l)

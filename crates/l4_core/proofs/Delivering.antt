@@ -1,5 +1,6 @@
 -- A message is handed over.
-use Rattle.std.proofs.Common.{◌≡◌, ℕ, true, not, is_some, Option, Some, None, refl, ap, sym, ◌∙◌, subst}
+use Rattle.std.proofs.Common.{◌≡◌, ℕ, true, false, not, is_some, Option, Some, None, refl, ap, sym, ◌∙◌, subst}
+use Rattle.std.specs.Prelude.{unwrap_or}
 use Rattle.std.specs.Option.{option_map}
 use Rattle.l4_model.specs.World.{Message, Send, Thread, receive_now}
 use Rattle.l4_model.specs.Rules.{received_tag, is_cross}
@@ -11,7 +12,8 @@ use Rattle.l4_core_model.specs.Acts.{Work, decides_send}
 use Rattle.l4_core_model.proofs.Fit.{get_other}
 use Rattle.l4_history.specs.declared.step_ref.DeliveryRef.{DeliveryRef}
 use Rattle.l4_history.specs.Seen.{delivered}
-use Rattle.l4_core.specs.Changing.{receives_from}
+use Rattle.l4_thread.specs.Messages.{outgoing}
+use Rattle.l4_thread.specs.Requests.{message_if}
 use Rattle.l4_core.specs.Parts.{AreCore}
 use Rattle.l4_core.specs.Processor.{Processor, with_local}
 use Rattle.l4_core.specs.Tellings.{Told, with_step}
@@ -39,12 +41,13 @@ handed_is p r i send x has = ap (λ o. hands_send p.machine p.cpu r i o x) has
 
 pub hand_over_does : (p q u : Processor) (r i : ℕ) (before middle after : Told) (d : DeliveryRef) (tag : ℕ) → AreCore p → IsReceiver p r → IsSender p i →
     d.name ≡ last_name p.machine p.local i → d.receiver ≡ (declared p.machine r).id → option_map (λ (s : Send). s.message) (thread p.local i).send ≡ Some d.message → d.message.actual ≡ (declared p.machine i).id → d.cross ≡ not (is_own p.machine p.cpu i) →
-    tag ≡ received_tag d.cross d.message → middle ≡ with_step (delivered d) before → q ≡ with_local p (comes_to r (receives_from (thread p.local i).send tag) p.local) → Does (decides_send q.machine q.cpu Delivered i) q u middle after →
+    tag ≡ received_tag d.cross d.message → middle ≡ with_step (delivered d) before → q ≡ with_local p (comes_to r (receives (outgoing (declared p.machine i).id (thread p.local i)) tag) p.local) → Does (decides_send q.machine q.cpu Delivered i) q u middle after →
     Does (hands_over p.machine p.cpu r i) p u before after
 hand_over_does p q u r i before middle after d tag core receiver sender named to carries from crossing tagged tells passed doing =
     let s = message_in (thread p.local i).send d.message carries in
     let is : q ≡ with_local p (comes_to r (receives d.message tag) p.local) =
-    passed ∙ ap (λ o. with_local p (comes_to r (receives_from o tag) p.local)) s.1 ∙ ap (λ (n : Message). with_local p (comes_to r (receives n tag) p.local)) s.2 in
+    passed ∙ ap (λ (o : Option Send). with_local p (comes_to r (receives (unwrap_or (option_map (λ (send : Send). send.message) o) (message_if false (declared p.machine i).id (thread p.local i).context)) tag) p.local)) s.1
+    ∙ ap (λ (n : Message). with_local p (comes_to r (receives n tag) p.local)) s.2 in
     let crossed : is_cross p.machine (declared p.machine r).id d.message ≡ d.cross = crosses p.machine p.cpu r i d.message core.machine receiver.own sender.within from ∙ sym crossing in
     let tag_is : received_tag (is_cross p.machine (declared p.machine r).id d.message) d.message ≡ tag = ap (λ b. received_tag b d.message) crossed ∙ sym tagged in
     let whole : hands_over p.machine p.cpu r i (work p.local before) ≡ hands_message p.machine p.cpu r i d.message tag (work p.local before) =

@@ -16,10 +16,11 @@ use Rattle.l4_core_model.specs.Letters.{Result, Delivered, Refused, TimedOut, No
 use Rattle.l4_core_model.specs.Local.{Local, declared, is_own, thread, after_decision, was_delivered, was_dropped, stand_in, stands_in, is_gone_now}
 use Rattle.l4_core_model.specs.Mail.{is_ordering}
 use Rattle.l4_thread.specs.Changes.{change_of}
+use Rattle.l4_thread.specs.Ipcs.{passes}
 use Rattle.l4_thread.specs.declared.changes.Change.{Change}
 use Rattle.l4_thread.specs.declared.changes.Change.TheVariants.{Run, Fail, EndSend, GiveOrder, Obey}
 use Rattle.tcb_arena.specs.Blocks.{is_ready as is_ready_in}
-use Rattle.l4_core.specs.Changing.{asks_for_life, ends_send, forgets_order, receives_from, IsFitting}
+use Rattle.l4_core.specs.Changing.{asks_for_life, ends_send, forgets_order, IsFitting}
 use Rattle.l4_core.specs.Settled.{IsSent, MaySend, IsOwn, IsSettled}
 use Rattle.l4_core.proofs.Settling.{Fits}
 
@@ -141,10 +142,6 @@ keeps-waits receive now t e = record { sends = inl refl; begun = refl; dead = sy
 
 pub keeps-receives : (message : Message) (tag : ℕ) (t : Thread) → is_deleted t.phase ≡ false → Keeps t (receives message tag t)
 keeps-receives message tag t e = record { sends = inl refl; begun = refl; dead = sym e }
-
-pub keeps-receives_from : (o : Option Send) (tag : ℕ) (t : Thread) → is_deleted t.phase ≡ false → Keeps t (receives_from o tag t)
-keeps-receives_from None tag t e = record { sends = inl refl; begun = refl; dead = refl }
-keeps-receives_from (Some send) tag t e = keeps-receives send.message tag t e
 
 pub keeps-orders : (order : Asked) (t : Thread) → is_deleted t.phase ≡ false → Keeps t (orders order t)
 keeps-orders order t e = record { sends = inl refl; begun = refl; dead = sym e }
@@ -367,6 +364,34 @@ fits-begins m cpu l i send s own unready unqueued from count = record {
   sending = λ mine e. tt;
   ready = λ q. let wrong : true ≡ false = sym q ∙ unready in cc;
 }
+
+-- Its send is taken at once.
+pub fits-passes : (m : Machine) (cpu : ℕ) (l : Local) (i : ℕ) (receive : Option Receive) (now : ℕ) → IsSettled m cpu l → IsOwn m cpu i → is_ready_in l.lists i ≡ false → plain.is_queued l.lists i ≡ false → (thread l i).context.begun < l.stamp →
+    Fits m cpu l i (passes receive now (thread l i))
+fits-passes m cpu l i None now s own unready unqueued count = record {
+  within = own.within;
+  sent = tt;
+  begun = λ mine. omega arith;
+  ordering = λ mine e. cc;
+  sends = λ q. let wrong : true ≡ false = sym q ∙ unqueued in cc;
+  here = λ q. let wrong : true ≡ false = sym q ∙ unqueued in cc;
+  sending = λ mine e. cc;
+  ready = λ q. let wrong : true ≡ false = sym q ∙ unready in cc;
+}
+fits-passes m cpu l i (Some receive) now s own unready unqueued count = record {
+  within = own.within;
+  sent = tt;
+  begun = λ mine. omega arith;
+  ordering = λ mine e. cc;
+  sends = λ q. let wrong : true ≡ false = sym q ∙ unqueued in cc;
+  here = λ q. let wrong : true ≡ false = sym q ∙ unqueued in cc;
+  sending = λ mine e. cc;
+  ready = λ q. let wrong : true ≡ false = sym q ∙ unready in cc;
+}
+
+pub passes_alive : (receive : Option Receive) (now : ℕ) (t : Thread) → is_deleted (passes receive now t).phase ≡ false
+passes_alive None now t = refl
+passes_alive (Some receive) now t = refl
 
 -- A thread is asked for something.
 

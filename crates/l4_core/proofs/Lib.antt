@@ -9,6 +9,7 @@ mod Deciding
 mod Delivering
 mod Dues
 mod Elsewhere
+mod FastPath
 mod Fitting
 mod Going
 mod Handling

@@ -1,15 +1,15 @@
 -- A message goes from block to block.
-use Rattle.std.proofs.Common.{◌≡◌, ℕ, zero, suc, ◌<◌, true, is_some, Option, Some, List, [], ◌∷◌, ◌++◌, length, get_or, set, refl, ap, sym, ◌∙◌, arith, length-append}
+use Rattle.std.proofs.Common.{◌≡◌, ℕ, zero, suc, ◌<◌, Option, List, [], ◌∷◌, ◌++◌, length, get_or, set, refl, ap, sym, ◌∙◌, arith, length-append}
 use Rattle.std.proofs.Math.Seq.{set-append_left}
 use Rattle.l4_model.specs.Machine.{Machine}
-use Rattle.l4_model.specs.World.{Send, Thread, Owed, opening_thread}
+use Rattle.l4_model.specs.World.{Message, Owed, opening_thread}
 use Rattle.l4_model.specs.Effects.{receives}
-use Rattle.l4_core_model.specs.Local.{Local, declared, thread}
+use Rattle.l4_core_model.specs.Local.{declared, thread}
 use Rattle.l4_core_model.specs.Plain.{Plain}
+use Rattle.l4_thread.specs.Messages.{outgoing}
 use Rattle.l4_thread.specs.Parts.{Block}
-use Rattle.l4_core.specs.Changing.{receives_from}
 use Rattle.l4_core.specs.Parts.{local_of, passed, IsKept}
-use Rattle.l4_core.proofs.Sending.{has_send}
+use Rattle.l4_core.proofs.Starting.{block_id}
 use Rattle.l4_core.proofs.Writing.{block_thread, length-threads}
 
 at_front : (xs ys : List Block) (i : ℕ) (x d : Block) → i < length xs → x ≡ get_or xs i x → x ≡ get_or (xs ++ ys) i d
@@ -52,25 +52,23 @@ there_is (b ∷ bs) zero d lt = refl
 there_is (b ∷ bs) (suc i) d lt = there_is bs i d (omega arith)
 
 -- A block has received the message that another thread sends.
-pub record IsPassed (l : Local) (bs news : List Block) (r i tag : ℕ) : Type 0 where
-  pub send : Send
-  pub has : (thread l i).send ≡ Some send
+pub record IsPassed (bs news : List Block) (r : ℕ) (message : Message) (tag : ℕ) : Type 0 where
   pub old : Block
   pub at : old ≡ get_or bs r old
-  pub is : news ≡ set bs r (record { id = old.id; thread = receives send.message tag old.thread })
+  pub is : news ≡ set bs r (record { id = old.id; thread = receives message tag old.thread })
 
 pub passed_is : (m : Machine) (cpu : ℕ) (bs : List Block) (s : Plain) (told : List ℕ) (owed : List (Option Owed)) (clock stamp r i tag : ℕ) (was news : List Block) → IsKept m cpu bs s told owed clock stamp → r < length m.threads → i < length m.threads →
-    is_some (thread (local_of bs s told owed clock stamp) i).send ≡ true → was ≡ bs → ((d : Block) → news ≡ set was r (passed tag (get_or was i d) (get_or was r d))) → IsPassed (local_of bs s told owed clock stamp) bs news r i tag
-passed_is m cpu bs s told owed clock stamp r i tag was news k receiver sender sends blocks is =
+    was ≡ bs → ((d : Block) → news ≡ set was r (passed tag (get_or was i d) (get_or was r d))) → IsPassed bs news r (outgoing (declared m i).id (thread (local_of bs s told owed clock stamp) i)) tag
+passed_is m cpu bs s told owed clock stamp r i tag was news k receiver sender blocks is =
     let d : Block = record { id = (declared m r).id; thread = opening_thread } in
     let size : length bs ≡ length m.threads = sym (length-threads bs) ∙ k.core.settled.threads in
-    let some = has_send (thread (local_of bs s told owed clock stamp) i).send sends in
-    let same : (get_or bs i d).thread.send ≡ Some some.0 =
-    ap (λ (t : Thread). t.send) (block_thread m cpu bs s told owed clock stamp i (get_or bs i d) k sender (there_is bs i d (omega (arith, size, sender)))) ∙ some.1 in
+    let at : get_or bs i d ≡ get_or bs i (get_or bs i d) = there_is bs i d (omega (arith, size, sender)) in
+    let same : outgoing (get_or bs i d).id (get_or bs i d).thread ≡ outgoing (declared m i).id (thread (local_of bs s told owed clock stamp) i) =
+    ap (λ g. outgoing g (get_or bs i d).thread) (block_id m cpu bs s told owed clock stamp i (get_or bs i d) k sender at)
+    ∙ ap (outgoing (declared m i).id) (block_thread m cpu bs s told owed clock stamp i (get_or bs i d) k sender at) in
     record {
-      send = some.0;
-      has = some.1;
       old = get_or bs r d;
       at = there_is bs r d (omega (arith, size, receiver));
-      is = is d ∙ ap (λ zs. set zs r (passed tag (get_or zs i d) (get_or zs r d))) blocks ∙ ap (λ o. set bs r (record { id = (get_or bs r d).id; thread = receives_from o tag (get_or bs r d).thread })) same;
+      is = is d ∙ ap (λ zs. set zs r (passed tag (get_or zs i d) (get_or zs r d))) blocks
+          ∙ ap (λ message. set bs r (record { id = (get_or bs r d).id; thread = receives message tag (get_or bs r d).thread })) same;
     }

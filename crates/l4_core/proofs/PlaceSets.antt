@@ -232,24 +232,3 @@ count_less new old (suc n) p sub lt out was = at (cases_eq p n) (λ within. coun
     at : (p ≡ n) ⊎ (p ≡ n → ⊥) → (p < n → count new n < count old n) → count new (suc n) < count old (suc n)
     at (inl e) rest = taken (has new n) (has old n) _ _ (ap (has new) (sym e) ∙ out) (ap (has old) (sym e) ∙ was) (count_le new old n sub)
     at (inr e) rest = step_lt (has new n) (has old n) _ _ (sub n) (rest (below p n lt e))
-
--- All places below a number are put in, one after another.
-
-or_assoc : (a b c : Bool) → ((a || b) || c) ≡ (a || (b || c))
-or_assoc true b c = refl
-or_assoc false b c = refl
-
-lt_next : (o n : ℕ) → (nat_lt o n || o == n) ≡ nat_lt o (n + 1)
-lt_next o n = by (cases_lt o n) (cases_eq o n)
-  where
-    by : (o < n) ⊎ (n ≤ o) → (o ≡ n) ⊎ (o ≡ n → ⊥) → (nat_lt o n || o == n) ≡ nat_lt o (n + 1)
-    by (inl lt) q = let a = lt-ltb o n lt in let b = lt-ltb o (n + 1) (omega arith) in rw (a, b)
-    by (inr le) (inl same) = let a = le-ltb o n le in let b = lt-ltb o (n + 1) (omega arith) in let c = eq-eqb o n same in rw (a, b) c
-    by (inr le) (inr ne) = let a = le-ltb o n le in let b = le-ltb o (n + 1) (omega (arith, le, ne)) in let c = ne_eqb o n ne in rw (a, b) c
-
-pub fill-none : (words : List ℕ) (other : ℕ) → has words other ≡ (has words other || nat_lt other 0)
-fill-none words other = let e = le-ltb other 0 (omega arith) in sym (ap (λ b. has words other || b) e ∙ false_keeps (has words other))
-
-pub fill-more : (first before after : List ℕ) (place : ℕ) → ((o : ℕ) → has before o ≡ (has first o || nat_lt o place)) → ((o : ℕ) → has after o ≡ (has before o || o == place)) → (other : ℕ) → has after other ≡ (has first other || nat_lt other (place + 1))
-fill-more first before after place was puts other =
-    puts other ∙ ap (λ b. b || other == place) (was other) ∙ or_assoc (has first other) (nat_lt other place) (other == place) ∙ ap (λ b. has first other || b) (lt_next other place)

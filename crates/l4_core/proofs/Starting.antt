@@ -5,7 +5,7 @@ use Rattle.l4_model.specs.Words.{GlobalId, Id, NilThread, AnyThread, AnyLocalThr
 use Rattle.l4_model.specs.Machine as model
 use Rattle.l4_model.specs.Machine.{Declaration, Machine, Instr}
 use Rattle.l4_model.specs.World.{Context, Receive, Send, Thread, Owed, Ready, changed, is_deleted}
-use Rattle.l4_model.specs.Rules.{Act, RunsAlone, Sends, Receives, Orders, act, ask_act, destination, receive_phase, is_admitted}
+use Rattle.l4_model.specs.Rules.{Act, RunsAlone, Sends, Receives, Orders, act, ask_act, destination, originator, receive_phase, is_admitted}
 use Rattle.l4_model.specs.Conditions.{act_of, instruction}
 use Rattle.l4_model.specs.Effects.{begins, waits}
 use Rattle.l4_core_model.specs.Plain.{Plain}
@@ -16,8 +16,8 @@ use Rattle.l4_core_model.specs.Local.{Local, declared, undeclared, thread, held,
 use Rattle.l4_thread.specs.Parts.{Block}
 use Rattle.l4_thread.specs.declared.phases.Began.{Began}
 use Rattle.l4_thread.specs.declared.phases.Began.TheVariants.{Nothing}
-use Rattle.l4_thread.specs.Ipcs.{may_show, starts, began_of}
-use Rattle.l4_thread.proofs.Asking.{shown_is_global}
+use Rattle.l4_thread.specs.Ipcs.{IsPermission, starts, began_of}
+use Rattle.l4_thread.proofs.Asking.{shows_if, shown_originator}
 use Rattle.l4_core.specs.Processor.{Processor, with_local}
 use Rattle.l4_core.specs.Parts.{ids_of, local_of, IsKept}
 use Rattle.l4_core.specs.Settled.{MaySend}
@@ -73,19 +73,19 @@ fits-starts m cpu l i (Orders order) now f g h = h
 abbrev here : Machine → (cpu : ℕ) → List Block → Plain → (told : List ℕ) → (owed : List (Option Owed)) → (clock stamp : ℕ) → Processor
 here m cpu bs s told owed clock stamp = record { machine = m; cpu = cpu; local = local_of bs s told owed clock stamp }
 
-shows : (m : Machine) (cpu : ℕ) (bs : List Block) (s : Plain) (told : List ℕ) (owed : List (Option Owed)) (clock stamp i : ℕ) (old : Block) (permitted : Bool) (p : Processor) → here m cpu bs s told owed clock stamp ≡ p → IsKept m cpu bs s told owed clock stamp → i < length m.threads → old ≡ get_or bs i old →
-    permitted ≡ may_show p.machine (declared p.machine i).id (thread p.local i).context.actual → permitted ≡ may_show m old.id old.thread.context.actual
-shows m cpu bs s told owed clock stamp i old permitted p view k lt at e =
-    e ∙ ap (λ (q : Processor). may_show q.machine (declared q.machine i).id (thread q.local i).context.actual) (sym view)
-    ∙ ap (λ g. may_show m g (thread (local_of bs s told owed clock stamp) i).context.actual) (sym (block_id m cpu bs s told owed clock stamp i old k lt at))
-    ∙ ap (λ (t : Thread). may_show m old.id t.context.actual) (sym (block_thread m cpu bs s told owed clock stamp i old k lt at))
+shown : (m : Machine) (cpu : ℕ) (bs : List Block) (s : Plain) (told : List ℕ) (owed : List (Option Owed)) (clock stamp i : ℕ) (old : Block) (shows : Bool) (p : Processor) → here m cpu bs s told owed clock stamp ≡ p → IsKept m cpu bs s told owed clock stamp → i < length m.threads → old ≡ get_or bs i old →
+    shows ≡ is_some (originator p.machine (declared p.machine i).id (thread p.local i).context) → shows ≡ is_some (originator m old.id old.thread.context)
+shown m cpu bs s told owed clock stamp i old shows p view k lt at e =
+    e ∙ ap (λ (q : Processor). is_some (originator q.machine (declared q.machine i).id (thread q.local i).context)) (sym view)
+    ∙ ap (λ g. is_some (originator m g (thread (local_of bs s told owed clock stamp) i).context)) (sym (block_id m cpu bs s told owed clock stamp i old k lt at))
+    ∙ ap (λ (t : Thread). is_some (originator m old.id t.context)) (sym (block_thread m cpu bs s told owed clock stamp i old k lt at))
 
 -- An originator that may be shown is named by a global id.
-pub start_shown : (m : Machine) (cpu : ℕ) (bs : List Block) (s : Plain) (told : List ℕ) (owed : List (Option Owed)) (clock stamp i : ℕ) (old : Block) (permitted : Bool) (p : Processor) → here m cpu bs s told owed clock stamp ≡ p → IsKept m cpu bs s told owed clock stamp → i < length p.machine.threads → old ≡ get_or bs i old →
-    permitted ≡ may_show p.machine (declared p.machine i).id (thread p.local i).context.actual → permitted ≡ true → IsSome (global_of old.thread.context.actual)
-start_shown m cpu bs s told owed clock stamp i old permitted p view k within at e is =
+pub start_shown : (m : Machine) (cpu : ℕ) (bs : List Block) (s : Plain) (told : List ℕ) (owed : List (Option Owed)) (clock stamp i : ℕ) (old : Block) (shows : Bool) (p : Processor) → here m cpu bs s told owed clock stamp ≡ p → IsKept m cpu bs s told owed clock stamp → i < length p.machine.threads → old ≡ get_or bs i old →
+    shows ≡ is_some (originator p.machine (declared p.machine i).id (thread p.local i).context) → shows ≡ true → IsSome (global_of old.thread.context.actual)
+start_shown m cpu bs s told owed clock stamp i old shows p view k within at e is =
     let lt : i < length m.threads = subst (λ (q : Processor). i < length q.machine.threads) (sym view) within in
-    shown_is_global m old.id old.thread.context.actual (sym (shows m cpu bs s told owed clock stamp i old permitted p view k lt at e) ∙ is)
+    shown_originator m old.id old.thread.context (sym (shown m cpu bs s told owed clock stamp i old shows p view k lt at e) ∙ is)
 
 same_act : (m : Machine) (cpu : ℕ) (bs : List Block) (s : Plain) (told : List ℕ) (owed : List (Option Owed)) (clock stamp i : ℕ) (instr : Instr) (old : Block) (p : Processor) → here m cpu bs s told owed clock stamp ≡ p → IsKept m cpu bs s told owed clock stamp → i < length m.threads → old ≡ get_or bs i old →
     instr ≡ instruction (held p.machine p.local i) → act m old.id clock old.thread.context instr ≡ act_of m (held m (local_of bs s told owed clock stamp) i)
@@ -94,36 +94,36 @@ same_act m cpu bs s told owed clock stamp i instr old p view k lt at is =
     ∙ ap (λ g. act m g clock old.thread.context (instruction (held m (local_of bs s told owed clock stamp) i))) (block_id m cpu bs s told owed clock stamp i old k lt at)
     ∙ ap (λ (t : Thread). act m (declared m i).id clock t.context (instruction (held m (local_of bs s told owed clock stamp) i))) (block_thread m cpu bs s told owed clock stamp i old k lt at)
 
-pub start_began : (m : Machine) (cpu : ℕ) (bs : List Block) (s : Plain) (told : List ℕ) (owed : List (Option Owed)) (clock stamp i : ℕ) (instr : Instr) (old : Block) (permitted : Bool) (began : Began) (p : Processor) → here m cpu bs s told owed clock stamp ≡ p → IsKept m cpu bs s told owed clock stamp → i < length p.machine.threads → old ≡ get_or bs i old →
-    instr ≡ instruction (held p.machine p.local i) → permitted ≡ may_show p.machine (declared p.machine i).id (thread p.local i).context.actual →
-    ((n : Machine) → permitted ≡ may_show n old.id old.thread.context.actual → began ≡ began_of (act n old.id clock old.thread.context instr)) → began ≡ began_of (act_of p.machine (held p.machine p.local i))
-start_began m cpu bs s told owed clock stamp i instr old permitted began p view k within at is e f =
+pub start_began : (m : Machine) (cpu : ℕ) (bs : List Block) (s : Plain) (told : List ℕ) (owed : List (Option Owed)) (clock stamp i : ℕ) (instr : Instr) (old : Block) (shows : Bool) (began : Began) (p : Processor) → here m cpu bs s told owed clock stamp ≡ p → IsKept m cpu bs s told owed clock stamp → i < length p.machine.threads → old ≡ get_or bs i old →
+    instr ≡ instruction (held p.machine p.local i) → shows ≡ is_some (originator p.machine (declared p.machine i).id (thread p.local i).context) →
+    ((n : Machine) → IsPermission shows n old.id old.thread.context → began ≡ began_of (act n old.id clock old.thread.context instr)) → began ≡ began_of (act_of p.machine (held p.machine p.local i))
+start_began m cpu bs s told owed clock stamp i instr old shows began p view k within at is e f =
     let lt : i < length m.threads = subst (λ (q : Processor). i < length q.machine.threads) (sym view) within in
-    f m (shows m cpu bs s told owed clock stamp i old permitted p view k lt at e) ∙ ap began_of (same_act m cpu bs s told owed clock stamp i instr old p view k lt at is) ∙ ap (λ (q : Processor). began_of (act_of q.machine (held q.machine q.local i))) view
+    f m (shows_if m old.id old.thread.context shows (shown m cpu bs s told owed clock stamp i old shows p view k lt at e)) ∙ ap began_of (same_act m cpu bs s told owed clock stamp i instr old p view k lt at is) ∙ ap (λ (q : Processor). began_of (act_of q.machine (held q.machine q.local i))) view
 
 -- The block that is written.
-block_is : (m : Machine) (cpu : ℕ) (bs : List Block) (s : Plain) (told : List ℕ) (owed : List (Option Owed)) (clock stamp i : ℕ) (instr : Instr) (old new : Block) (permitted : Bool) (p : Processor) → here m cpu bs s told owed clock stamp ≡ p → IsKept m cpu bs s told owed clock stamp → i < length m.threads → old ≡ get_or bs i old →
-    instr ≡ instruction (held p.machine p.local i) → permitted ≡ may_show p.machine (declared p.machine i).id (thread p.local i).context.actual →
-    ((n : Machine) → permitted ≡ may_show n old.id old.thread.context.actual → new ≡ record old { thread = starts (act n old.id clock old.thread.context instr) clock old.thread }) →
+block_is : (m : Machine) (cpu : ℕ) (bs : List Block) (s : Plain) (told : List ℕ) (owed : List (Option Owed)) (clock stamp i : ℕ) (instr : Instr) (old new : Block) (shows : Bool) (p : Processor) → here m cpu bs s told owed clock stamp ≡ p → IsKept m cpu bs s told owed clock stamp → i < length m.threads → old ≡ get_or bs i old →
+    instr ≡ instruction (held p.machine p.local i) → shows ≡ is_some (originator p.machine (declared p.machine i).id (thread p.local i).context) →
+    ((n : Machine) → IsPermission shows n old.id old.thread.context → new ≡ record old { thread = starts (act n old.id clock old.thread.context instr) clock old.thread }) →
     new ≡ record { id = old.id; thread = starts (act_of m (held m (local_of bs s told owed clock stamp) i)) clock old.thread }
-block_is m cpu bs s told owed clock stamp i instr old new permitted p view k lt at is e f =
-    f m (shows m cpu bs s told owed clock stamp i old permitted p view k lt at e) ∙ ap (λ (a : Act). record old { thread = starts a clock old.thread }) (same_act m cpu bs s told owed clock stamp i instr old p view k lt at is)
+block_is m cpu bs s told owed clock stamp i instr old new shows p view k lt at is e f =
+    f m (shows_if m old.id old.thread.context shows (shown m cpu bs s told owed clock stamp i old shows p view k lt at e)) ∙ ap (λ (a : Act). record old { thread = starts a clock old.thread }) (same_act m cpu bs s told owed clock stamp i instr old p view k lt at is)
 
-pub start_is : (m : Machine) (cpu : ℕ) (bs : List Block) (s : Plain) (told : List ℕ) (owed : List (Option Owed)) (clock stamp i : ℕ) (instr : Instr) (old new : Block) (permitted : Bool) (p : Processor) → here m cpu bs s told owed clock stamp ≡ p → IsKept m cpu bs s told owed clock stamp → i < length p.machine.threads → old ≡ get_or bs i old →
-    instr ≡ instruction (held p.machine p.local i) → permitted ≡ may_show p.machine (declared p.machine i).id (thread p.local i).context.actual →
-    ((n : Machine) → permitted ≡ may_show n old.id old.thread.context.actual → new ≡ record old { thread = starts (act n old.id clock old.thread.context instr) clock old.thread }) →
+pub start_is : (m : Machine) (cpu : ℕ) (bs : List Block) (s : Plain) (told : List ℕ) (owed : List (Option Owed)) (clock stamp i : ℕ) (instr : Instr) (old new : Block) (shows : Bool) (p : Processor) → here m cpu bs s told owed clock stamp ≡ p → IsKept m cpu bs s told owed clock stamp → i < length p.machine.threads → old ≡ get_or bs i old →
+    instr ≡ instruction (held p.machine p.local i) → shows ≡ is_some (originator p.machine (declared p.machine i).id (thread p.local i).context) →
+    ((n : Machine) → IsPermission shows n old.id old.thread.context → new ≡ record old { thread = starts (act n old.id clock old.thread.context instr) clock old.thread }) →
     here m cpu (set bs i new) s told owed clock stamp ≡ with_local p (changes i (starts (act_of p.machine (held p.machine p.local i)) p.local.clock) p.local)
-start_is m cpu bs s told owed clock stamp i instr old new permitted p view k within at is e f =
+start_is m cpu bs s told owed clock stamp i instr old new shows p view k within at is e f =
     let lt : i < length m.threads = subst (λ (q : Processor). i < length q.machine.threads) (sym view) within in
     let a : Act = act_of m (held m (local_of bs s told owed clock stamp) i) in
-    change-written m cpu bs s told owed clock stamp i (starts a clock) old new (here m cpu bs s told owed clock stamp) k lt at (block_is m cpu bs s told owed clock stamp i instr old new permitted p view k lt at is e f) refl
+    change-written m cpu bs s told owed clock stamp i (starts a clock) old new (here m cpu bs s told owed clock stamp) k lt at (block_is m cpu bs s told owed clock stamp i instr old new shows p view k lt at is e f) refl
     ∙ ap (λ (q : Processor). with_local q (changes i (starts (act_of q.machine (held q.machine q.local i)) q.local.clock) q.local)) view
 
-pub start_kept : (m : Machine) (cpu : ℕ) (bs : List Block) (s : Plain) (told : List ℕ) (owed : List (Option Owed)) (clock stamp i : ℕ) (instr : Instr) (old new : Block) (permitted : Bool) (p : Processor) → here m cpu bs s told owed clock stamp ≡ p → IsKept m cpu bs s told owed clock stamp → IsAtHand p i →
+pub start_kept : (m : Machine) (cpu : ℕ) (bs : List Block) (s : Plain) (told : List ℕ) (owed : List (Option Owed)) (clock stamp i : ℕ) (instr : Instr) (old new : Block) (shows : Bool) (p : Processor) → here m cpu bs s told owed clock stamp ≡ p → IsKept m cpu bs s told owed clock stamp → IsAtHand p i →
     (thread p.local i).context.begun < p.local.stamp → instr ≡ instruction (held p.machine p.local i) → old ≡ get_or bs i old →
-    permitted ≡ may_show p.machine (declared p.machine i).id (thread p.local i).context.actual →
-    ((n : Machine) → permitted ≡ may_show n old.id old.thread.context.actual → new ≡ record old { thread = starts (act n old.id clock old.thread.context instr) clock old.thread }) → IsKept m cpu (set bs i new) s told owed clock stamp
-start_kept m cpu bs s told owed clock stamp i instr old new permitted p view k hand count is at e f =
+    shows ≡ is_some (originator p.machine (declared p.machine i).id (thread p.local i).context) →
+    ((n : Machine) → IsPermission shows n old.id old.thread.context → new ≡ record old { thread = starts (act n old.id clock old.thread.context instr) clock old.thread }) → IsKept m cpu (set bs i new) s told owed clock stamp
+start_kept m cpu bs s told owed clock stamp i instr old new shows p view k hand count is at e f =
     let mine = subst (λ (q : Processor). IsAtHand q i) (sym view) hand in
     let l : Local = local_of bs s told owed clock stamp in
     let settled = k.core.settled in
@@ -138,7 +138,7 @@ start_kept m cpu bs s told owed clock stamp i instr old new permitted p view k h
     fits-starts m cpu l i a clock
     (λ send sends. fits-begins m cpu l i send settled mine.own mine.unready un_queued (own_act m (declared m i).id clock (thread l i).context (instruction (held m l i)) send sends) counted)
     (λ receive. fits-keeps m cpu l i (waits receive clock (thread l i)) settled mine.own mine.unready un_queued (λ e. absurd (none_sends e)) (λ e. cc) (keeps-waits receive clock (thread l i) alive)) same in
-    kept-changed m cpu bs s told owed clock stamp i (starts a clock) old new k at (block_is m cpu bs s told owed clock stamp i instr old new permitted p view k mine.own.within at is e f) fits
+    kept-changed m cpu bs s told owed clock stamp i (starts a clock) old new k at (block_is m cpu bs s told owed clock stamp i instr old new shows p view k mine.own.within at is e f) fits
 
 -- A phase begins.
 

@@ -1,7 +1,6 @@
 -- When something can happen to a thread.
-use Rattle.std.specs.Prelude.{Option, Some, None, ◌≡◌, ℕ, ◌+◌, ◌<◌, ◌^◌, Bool, true, false, is_some}
-use Rattle.l4_model.specs.World.{Send, Thread, is_deleted}
-use Rattle.l4_model.specs.Effects.{receives}
+use Rattle.std.specs.Prelude.{None, ◌≡◌, ℕ, ◌+◌, ◌<◌, ◌^◌, Bool, true, false, is_some}
+use Rattle.l4_model.specs.World.{Thread, is_deleted}
 use Rattle.l4_thread.specs.Changes.{may_advance}
 use Rattle.l4_thread.specs.declared.changes.Change.{Change}
 use Rattle.l4_thread.specs.declared.changes.Change.TheVariants.{Run, EndSend, GiveOrder}
@@ -27,11 +26,6 @@ pub record IsFitting (change : Change) (t : Thread) : Type 0 where
   pub idle : ends_send change ≡ false → is_some t.send ≡ true → is_deleted t.phase ≡ true
   pub room : may_advance change ≡ true → t.context.place + 1 < 2 ^ 64
   pub next : comes_back change ≡ true → t.context.place + 1 < 2 ^ 64
-
--- It receives the message of a send, with this tag.
-abbrev pub receives_from : Option Send → (tag : ℕ) → Thread → Thread
-receives_from None tag t = t
-receives_from (Some send) tag t = receives send.message tag t
 
 -- What it asked for is no longer awaited.
 abbrev pub forgets_order : Thread → Thread

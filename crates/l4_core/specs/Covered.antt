@@ -29,6 +29,11 @@ pub record Covers (duties : List ℕ) (m : Machine) (cpu : ℕ) (l : Local) : Ty
   pub within : (place : ℕ) → has duties place ≡ true → IsOwn m cpu place
   pub others : (place : ℕ) → IsOwn m cpu place → has duties place ≡ false → duty_at m cpu l place ≡ None
 
+-- The same of all places but this one.
+pub record CoversOthers (place : ℕ) (duties : List ℕ) (m : Machine) (cpu : ℕ) (l : Local) : Type 0 where
+  pub within : (other : ℕ) → has duties other ≡ true → IsOwn m cpu other
+  pub others : (other : ℕ) → IsOwn m cpu other → (place ≡ other → ⊥) → has duties other ≡ false → duty_at m cpu l other ≡ None
+
 abbrev pub CoversZeros : (zeros : List ℕ) → Local → Type 0
 CoversZeros zeros l = (place : ℕ) → has zeros place ≡ false → first_zero l (list_of l.lists place) ≡ None
 

@@ -2,6 +2,7 @@ pub mod Asking
 pub mod Changing
 pub mod Choosing
 pub mod Covered
+pub mod FastPath
 pub mod Opening
 pub mod Parts
 pub mod Places

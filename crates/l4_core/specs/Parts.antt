@@ -5,13 +5,14 @@ use Rattle.l4_model.specs.Words.{GlobalId}
 use Rattle.l4_model.specs.Machine.{Machine, most_threads}
 use Rattle.l4_model.specs.World as world
 use Rattle.l4_model.specs.World.{Thread}
+use Rattle.l4_model.specs.Effects.{receives}
 use Rattle.l4_core_model.specs.Plain.{Plain}
 use Rattle.l4_core_model.specs.Local.{Local}
 use Rattle.l4_core_model.specs.Runs.{IsMachine}
+use Rattle.l4_thread.specs.Messages.{outgoing}
 use Rattle.l4_thread.specs.Parts.{Block}
 use Rattle.l4_types.specs.declared.owed.Owed.{Owed}
 use Rattle.l4_types.specs.OwedView.{owed_of}
-use Rattle.l4_core.specs.Changing.{receives_from}
 use Rattle.l4_core.specs.Processor.{Processor}
 use Rattle.l4_core.specs.Settled.{IsSettled}
 
@@ -30,9 +31,9 @@ kept_of m owed = if m.retargeting then map (option_map owed_of) owed else map (�
 abbrev pub local_of : List Block → Plain → (told : List ℕ) → (owed : List (Option world.Owed)) → (clock stamp : ℕ) → Local
 local_of blocks lists told owed clock stamp = record { threads = threads_of blocks; lists = lists; told = told; owed = owed; clock = clock; stamp = stamp }
 
--- What the message of one block's send makes of another block, which receives it with this tag.
+-- What the message of one block makes of another block, which receives it with this tag.
 abbrev pub passed : (tag : ℕ) → (sender receiver : Block) → Block
-passed tag sender receiver = record receiver { thread = receives_from sender.thread.send tag receiver.thread }
+passed tag sender receiver = record receiver { thread = receives (outgoing sender.id sender.thread) tag receiver.thread }
 
 -- A processor of a machine, in a settled state.
 pub record IsCore (m : Machine) (cpu : ℕ) (l : Local) : Type 0 where

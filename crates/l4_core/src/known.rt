@@ -1,5 +1,5 @@
 //! What one processor knows: its threads, their lists, its clock, and of other processors' threads what it was told.
-ghost use Rattle.std.specs.Prelude.{◌≡◌, ◌<◌, ◌≤◌, ◌+◌, None, Some, length, false, is_some, map, replicate, IfOk, IfSome, slice_get};
+ghost use Rattle.std.specs.Prelude.{◌≡◌, ◌<◌, ◌≤◌, ◌+◌, None, Some, length, false, is_some, map, replicate, IfOk, IfSome, slice_get, slice_index_or};
 ghost use Rattle.std.specs.Option.{option_map};
 ghost use Rattle.l4_model.specs.Machine.{place_of, is_place, same_space, most_processors, most_threads, most_instructions};
 ghost use Rattle.l4_model.specs.World.{Send, is_deleted, opening_thread, receive_now};
@@ -38,6 +38,7 @@ use tcb_arena::{Arena, Waiting};
 
 pub(crate) mod duties;
 mod effects;
+mod fast_path;
 mod retargets;
 mod settling;
 pub(crate) mod tasks;
@@ -209,13 +210,29 @@ impl<'m> Known<'m> {
     }
 
     /// What is known of a thread.
-    fn tcb(&self, place: usize) -> &Tcb
+    pub(crate) fn tcb(&self, place: usize) -> &Tcb
         requires { place < length self.now.machine.threads }
         ensures thread { result.now.thread ≡ thread self.now.local place }
         ensures id { result.now.id ≡ (declared self.now.machine place).id }
     {
         let _ = &self.machine;
         &self.threads[place]
+    }
+
+    /// The lists of the threads.
+    pub(crate) fn lists(&self) -> &Arena
+        ensures { result.now ≡ self.now.local.lists }
+    {
+        &self.lists
+    }
+
+    /// The first processor that may not yet know of a thread's deletion.
+    pub(crate) fn notified_up_to(&self, place: usize) -> u8
+        requires { place < length self.now.machine.threads }
+        ensures { result ≡ slice_index_or self.now.local.told place 0 }
+    {
+        let _ = &self.machine;
+        self.told[place]
     }
 
     /// The report of a thread, as far as it is known here.

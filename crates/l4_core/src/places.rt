@@ -1,5 +1,5 @@
 //! Sets of places of threads.
-ghost use Rattle.std.specs.Prelude.{◌≡◌, ◌<◌, ◌≤◌, ℕ, false, ◌&&◌, ◌||◌, ◌==◌, not, nat_lt, MatchOption};
+ghost use Rattle.std.specs.Prelude.{◌≡◌, ◌<◌, ℕ, false, ◌&&◌, ◌||◌, ◌==◌, not, MatchOption};
 ghost use Rattle.l4_model.specs.Machine.{most_threads};
 ghost use Rattle.l4_core.specs.Places.{has, IsFirst, IsLowest};
 
@@ -50,16 +50,6 @@ impl Places {
         let row = place / WIDTH;
         self.words[row] |= 1 << (place % WIDTH);
         self.filled |= 1 << row;
-    }
-
-    /// Puts all places below a number in.
-    pub fn fill(&mut self, count: usize)
-        requires { count ≤ most_threads }
-        ensures { (other : ℕ) → has self.new other ≡ (has self.old other || nat_lt other count) }
-    {
-        for place in 0..count {
-            self.insert(place);
-        }
     }
 
     /// The same set again.

@@ -1,9 +1,10 @@
 //! One processor: its turns and its clock.
-ghost use Rattle.std.specs.Prelude.{◌≡◌, ◌+◌, ◌<◌, IfOk, IfSome, is_some, length, slice_get, true, ℕ, ◌||◌, ◌==◌};
+ghost use Rattle.std.specs.Prelude.{◌≡◌, ◌+◌, ◌<◌, IfOk, IfSome, is_some, length, slice_get, slice_index_or, true, ℕ, ◌||◌, ◌==◌};
 ghost use Rattle.std.specs.Option.{option_map};
 ghost use Rattle.l4_model.specs.Words.{clock_limit, period_limit};
 ghost use Rattle.l4_model.specs.History.{report_of};
-ghost use Rattle.l4_core_model.specs.Local.{declared, is_own, opening_local, thread};
+ghost use Rattle.l4_core_model.specs.Local.{declared, is_own, opening_local, owed_beside, thread};
+ghost use Rattle.l4_types.specs.OwedView.{owed_of};
 ghost use Rattle.l4_core_model.specs.Plain.{due_block};
 ghost use Rattle.l4_core_model.specs.Runs.{IsMachine};
 ghost use Rattle.l4_core_model.specs.Turns.{advance, can_stamp, choice, is_busy, next_stamp};
@@ -11,7 +12,7 @@ ghost use Rattle.l4_types.specs.ReportView.{report_of_view};
 ghost use Rattle.l4_core.specs.Choosing.{choice_of, IsFound, IsPossible};
 ghost use Rattle.l4_core.specs.Processor.{with_local};
 ghost use Rattle.l4_core.specs.Tellings.{IsOpen};
-ghost use Rattle.l4_core.specs.Covered.{Covers, CoversZeros, is_zero_send};
+ghost use Rattle.l4_core.specs.Covered.{Covers, CoversOthers, CoversZeros, is_zero_send};
 ghost use Rattle.l4_core.specs.Parts.{AreCore};
 ghost use Rattle.l4_core.specs.Places.{has};
 ghost use Rattle.l4_core.specs.Turning.{IsOwnOf, IsTurn};
@@ -22,15 +23,19 @@ use crate::places::Places;
 use crate::told::Told;
 use l4_history::sink::Sink;
 use l4_script::machine::Machine;
+use l4_thread::tcb::Tcb;
 use l4_types::errors::NoMemory;
 use l4_types::ids::ThreadId;
+use l4_types::owed::Owed;
 use l4_types::reports::ThreadView;
 use std::alloc::Global;
 use std::marker::Model;
+use tcb_arena::Arena;
 
 mod clock;
 mod effects;
 mod events;
+mod fast_path;
 mod handling;
 mod instructions;
 mod retargets;
@@ -176,6 +181,45 @@ impl<'m> Core<'m> {
         self.known.send_of(place).map(|send| send.to())
     }
 
+    /// The last stamp.
+    pub fn stamp(&self) -> u64
+        ensures { result ≡ self.now.local.stamp }
+    {
+        self.known.stamp()
+    }
+
+    /// All that is known of the thread at this place.
+    pub fn block(&self, place: usize) -> &Tcb
+        requires { place < length self.now.machine.threads }
+        ensures thread { result.now.thread ≡ thread self.now.local place }
+        ensures id { result.now.id ≡ (declared self.now.machine place).id }
+    {
+        self.known.tcb(place)
+    }
+
+    /// The lists of the threads: the sends that wait at each, the ready threads of this processor, and the deadlines of those that are armed.
+    pub fn lists(&self) -> &Arena
+        ensures { result.now ≡ self.now.local.lists }
+    {
+        self.known.lists()
+    }
+
+    /// The first processor that may not yet know of the deletion of the thread at this place. All below it but this one were told.
+    pub fn notified_up_to(&self, place: usize) -> u8
+        requires { place < length self.now.machine.threads }
+        ensures { result ≡ slice_index_or self.now.local.told place 0 }
+    {
+        self.known.notified_up_to(place)
+    }
+
+    /// The retarget that is kept beside the thread at this place. At a machine of profile 1 there is none.
+    pub fn owed(&self, place: usize) -> Option<Owed>
+        requires { place < length self.now.machine.threads }
+        ensures { option_map owed_of result ≡ owed_beside self.now.local place }
+    {
+        self.known.owed(place)
+    }
+
     // An event begins. `letter_stamp` is that of the letter that it handles, 0 where there is none. Answers its stamp.
     fn open(&mut self, letter_stamp: u64) -> u64
         requires { can_stamp self.old.local letter_stamp ≡ true }
@@ -240,6 +284,19 @@ fn note(known: &Known, duties: &mut Places, place: usize)
 {
     let _few = known.len();
     duties.insert(place);
+}
+
+// What happened to a thread of this processor may be a reason for a duty of it. The other places with a duty are in.
+fn note_duty(known: &Known, duties: &mut Places, zeros: &Places, place: usize)
+    requires own { IsOwnOf known.now place }
+    requires others { CoversOthers place duties.old known.now.machine known.now.cpu known.now.local }
+    requires zeros { CoversZeros zeros.now known.now.local }
+    ensures { Covers duties.new known.now.machine known.now.cpu known.now.local }
+{
+    let _few = known.len();
+    if known.may_have_duty(place, zeros.contains(place)) {
+        note(known, duties, place);
+    }
 }
 
 // A place may have a duty now, where it is one of a thread of this processor.

@@ -1,5 +1,5 @@
 -- An Ipc of one thread, told whether it may show its originator, is that of the machine.
-use Rattle.std.proofs.Common.{ℕ, List, ◌≡◌, Bool, true, false, refl}
+use Rattle.std.proofs.Common.{ℕ, List, ◌≡◌, ◌∙◌, Bool, true, false, refl}
 use Rattle.std.specs.Prelude.{◌/◌, ◌%◌, ◌^◌, ◌==◌, ◌&&◌, if◌then◌else◌, IsSome, Option, Some, None, is_some}
 use Rattle.l4_model.specs.Words.{Period, GlobalId, Id, NilThread, AnyThread, AnyLocalThread, LocalThread, GlobalThread}
 use Rattle.l4_model.specs.Machine.{Machine, same_space, Instr, Set, Copy, Add, Tag, Vs, Ipc, Ask, Jump, OnErr, End}
@@ -7,8 +7,32 @@ use Rattle.l4_model.specs.World.{Context, Message, Receive, Thread, Sending}
 use Rattle.l4_model.specs.Rules.{register, permitted, originator, message_of, destination, receive_phase, ipc_act, act, request, Sends}
 use Rattle.l4_types.specs.Ids.{global_of}
 use Rattle.l4_thread.specs.Held.{Held, sent_of}
-use Rattle.l4_thread.specs.Ipcs.{may_show, starts}
-use Rattle.l4_thread.specs.Requests.{originator_if, message_if, Phases, send_phase, phases_of, phases_begun, counted}
+use Rattle.l4_thread.specs.Ipcs.{IsPermission, may_show, starts}
+use Rattle.l4_thread.specs.Requests.{propagates, originator_if, message_if, Phases, send_phase, phases_of, phases_begun, counted}
+
+-- Whether a thread may show its originator matters only where it asks for propagation.
+originator_as : (permitted shown asks : Bool) (o : Option GlobalId) → (asks ≡ true → permitted ≡ shown) →
+    (if permitted && asks then o else None) ≡ (if shown && asks then o else None)
+originator_as permitted shown true o e = let same = e refl in rw same refl
+originator_as true true false o e = refl
+originator_as true false false o e = refl
+originator_as false true false o e = refl
+originator_as false false false o e = refl
+
+phases_as : (m : Machine) (sender : GlobalId) (c : Context) (permitted : Bool) (instr : Instr) → IsPermission permitted m sender c →
+    phases_of permitted sender c instr ≡ phases_of (may_show m sender c.actual) sender c instr
+phases_as m sender c permitted (Ipc to from send_period receive_period) e =
+    let o = originator_as permitted (may_show m sender c.actual) (propagates c) (global_of c.actual) e in
+    rw o refl
+phases_as m sender c permitted (Set a word) e = refl
+phases_as m sender c permitted (Copy a b) e = refl
+phases_as m sender c permitted (Add format a word) e = refl
+phases_as m sender c permitted (Tag word) e = refl
+phases_as m sender c permitted (Vs id) e = refl
+phases_as m sender c permitted (Ask target what) e = refl
+phases_as m sender c permitted (Jump place) e = refl
+phases_as m sender c permitted (OnErr place) e = refl
+phases_as m sender c permitted End e = refl
 
 shown_if : (space asks : Bool) (t : GlobalId) →
     (if is_some (if space then Some t else None) && asks then Some t else None) ≡ (if asks then (if space then Some t else None) else None)
@@ -39,6 +63,21 @@ shown_is_global m sender AnyThread shown = cc
 shown_is_global m sender AnyLocalThread shown = cc
 shown_is_global m sender (LocalThread word) shown = cc
 shown_is_global m sender (GlobalThread t) shown = refl
+
+-- A send that shows an originator asks for propagation, and may show it.
+pub shows_if : (m : Machine) (sender : GlobalId) (c : Context) (shows : Bool) → shows ≡ is_some (originator m sender c) → IsPermission shows m sender c
+shows_if m sender c shows = by (propagates c)
+  where
+    by : (asks : Bool) → shows ≡ is_some (if asks then permitted m sender c.actual else None) → asks ≡ true → shows ≡ may_show m sender c.actual
+    by true e h = e
+    by false e h = cc
+
+pub shown_originator : (m : Machine) (sender : GlobalId) (c : Context) → is_some (originator m sender c) ≡ true → IsSome (global_of c.actual)
+shown_originator m sender c = by (propagates c)
+  where
+    by : (asks : Bool) → is_some (if asks then permitted m sender c.actual else None) ≡ true → IsSome (global_of c.actual)
+    by true e = shown_is_global m sender c.actual e
+    by false e = cc
 
 pub message_is : (m : Machine) (sender : GlobalId) (c : Context) → message_if (may_show m sender c.actual) sender c ≡ message_of m sender c
 message_is m sender c = rw (originator_is m sender c)
@@ -94,17 +133,17 @@ begins_counted c p s h = rw h refl
 
 -- A thread that begins a send, by what its Ipc asks for.
 pub starts_send : (m : Machine) (sender : GlobalId) (now : ℕ) (t : Thread) (instr : Instr) (asks : Bool) (p : Phases) (s : Id × Message × Period) →
-    asks ≡ may_show m sender t.context.actual → p ≡ phases_of asks sender t.context instr → p.send ≡ Some s →
+    IsPermission asks m sender t.context → p ≡ phases_of asks sender t.context instr → p.send ≡ Some s →
     record t { context = phases_begun p t.context; phase = Sending; send = Some (record { to = s.0; message = s.1; period = s.2; since = now; receive = p.receive }) }
     ≡ starts (act m sender now t.context instr) now t
 starts_send m sender now t instr asks p s a e h =
-    let e2 : p ≡ phases_of (may_show m sender t.context.actual) sender t.context instr = rw (← a) e in
+    let e2 : p ≡ phases_of (may_show m sender t.context.actual) sender t.context instr = e ∙ phases_as m sender t.context asks instr a in
     let h2 : (phases_of (may_show m sender t.context.actual) sender t.context instr).send ≡ Some s = rw (← e2) h in
     rw (begins_counted t.context p s h, sends_phase m sender now t.context instr s h2) (rw e2 refl)
 
 -- The same where the words of the message stay in the registers.
 pub starts_held : (m : Machine) (sender : GlobalId) (now : ℕ) (t : Thread) (instr : Instr) (asks : Bool) (p : Phases) (s : Id × Message × Period) (x : Context) (apart : List ℕ) (h : Held) →
-    asks ≡ may_show m sender t.context.actual → p ≡ phases_of asks sender t.context instr → p.send ≡ Some s → x ≡ phases_begun p t.context →
+    IsPermission asks m sender t.context → p ≡ phases_of asks sender t.context instr → p.send ≡ Some s → x ≡ phases_begun p t.context →
     sent_of apart t.context.words h ≡ record { to = s.0; message = s.1; period = s.2; since = now; receive = p.receive } →
     record t { context = x; phase = Sending; send = Some (sent_of apart x.words h) } ≡ starts (act m sender now t.context instr) now t
 starts_held m sender now t instr asks p s x apart h a e k begun held =

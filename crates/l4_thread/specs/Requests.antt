@@ -12,9 +12,13 @@ use Rattle.l4_thread.specs.Held.{Headed, message_of}
 use Rattle.l4_thread.specs.declared.requests.Begun.{Begun}
 use Rattle.l4_thread.specs.declared.requests.Request.{Request}
 
+-- A send of this context asks for propagation (manual: MsgTag, `p`).
+abbrev pub propagates : Context → Bool
+propagates c = (register c 0 / 2 ^ 12) % 2 == 1
+
 -- The originator of a propagated send (manual: Ipc, VirtualSender).
 abbrev pub originator_if : (permitted : Bool) → Context → Option GlobalId
-originator_if permitted c = if permitted && ((register c 0 / 2 ^ 12) % 2 == 1) then global_of c.actual else None
+originator_if permitted c = if permitted && propagates c then global_of c.actual else None
 
 -- The message of a send that begins now.
 abbrev pub message_if : (permitted : Bool) → (sender : GlobalId) → Context → Message

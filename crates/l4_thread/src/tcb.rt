@@ -7,6 +7,7 @@ ghost use Rattle.l4_core_model.specs.Local.{armed_period, period_of_send};
 ghost use Rattle.l4_core_model.specs.Mail.{is_ordering};
 ghost use Rattle.l4_types.specs.PeriodView.{period_of, IsTimely};
 ghost use Rattle.l4_types.specs.ReportView.{report_of_view, state_of_view};
+ghost use Rattle.l4_thread.specs.Messages.{outgoing};
 ghost use Rattle.l4_thread.specs.PhaseView.{since_of};
 
 mod effects;
@@ -16,6 +17,7 @@ use crate::phases::Phase;
 use crate::sends::{Receive, Send, SendRef, Words};
 use crate::thread::Thread;
 use arrayvec::ArrayVec;
+use l4_history::message_ref::MessageRef;
 use l4_types::ids::GlobalId;
 use l4_types::messages::MOST_WORDS;
 use l4_types::reports::{State, ThreadView};
@@ -144,6 +146,16 @@ impl Tcb {
             Words::Apart => self.apart.as_slice(),
         };
         Some(SendRef::new(send, words))
+    }
+
+    /// The message that it sends: that of its undecided send, else that of a send that it begins now and that shows no originator.
+    pub fn outgoing(&self) -> MessageRef<'_>
+        ensures { result ≡ outgoing self.now.id self.now.thread }
+    {
+        match self.send() {
+            Some(send) => send.message(),
+            None => self.thread.ordinary_message(),
+        }
     }
 
     /// What it asked of another thread, and is not done yet.

@@ -10,10 +10,11 @@ ghost use Rattle.l4_types.specs.PeriodView.{period_of, IsTimely};
 ghost use Rattle.l4_script.specs.Scripts.{instr_of, ipc_of, to_of};
 ghost use Rattle.l4_thread.specs.Held.{message_of};
 ghost use Rattle.l4_thread.specs.Messages.{unlabelled};
-ghost use Rattle.l4_thread.specs.Requests.{originator_if, message_if, phases_of, phases_from, phases_held, phases_begun, receive_from, counted, AreTimely, AreTimelyHeld, asks_to_send, is_end};
+ghost use Rattle.l4_thread.specs.Requests.{originator_if, message_if, propagates, phases_of, phases_from, phases_held, phases_begun, receive_from, counted, AreTimely, AreTimelyHeld, asks_to_send, is_end};
 
 use crate::requests::{Begun, Request};
 use crate::sends::{Head, Words};
+use l4_history::message_ref::MessageRef;
 use l4_script::instructions::{Instr, Ipc, Register, To};
 use l4_types::errors::IpcError;
 use l4_types::formats::Format;
@@ -80,6 +81,13 @@ impl Thread {
         ensures { result ≡ self.now.context.begun }
     {
         self.begun
+    }
+
+    /// Whether a send of it asks for propagation: bit 12 of message register 0 (manual: MsgTag, `p`).
+    pub fn propagates(&self) -> bool
+        ensures { result ≡ propagates self.now.context }
+    {
+        MsgTag::propagates_in(self.regs.words[0])
     }
 
     /// It has begun so many sends: it stands for a thread of another processor.
@@ -275,8 +283,8 @@ impl Thread {
         }
     }
 
-    // One more send was begun.
-    fn count(&mut self)
+    /// One more send was begun.
+    pub(crate) fn count(&mut self)
         requires room { self.old.context.place + 1 < 2 ^ 64 }
         requires count { self.old.context.begun + 1 < 2 ^ 64 }
         ensures { self.new ≡ record self.old { context = counted self.old.context } }
@@ -285,8 +293,8 @@ impl Thread {
         self.begun += 1;
     }
 
-    // The destination of an Ipc.
-    fn destination(&self, to: To) -> ThreadId
+    /// The destination of an Ipc.
+    pub fn destination(&self, to: To) -> ThreadId
         ensures { result ≡ destination self.now.context (to_of to) }
     {
         match to {
@@ -300,7 +308,7 @@ impl Thread {
     fn originator(&self, permitted: bool) -> Option<GlobalId>
         ensures { result ≡ originator_if permitted self.now.context }
     {
-        if permitted && MsgTag::propagates_in(self.regs.words[0]) {
+        if permitted && self.propagates() {
             self.regs.actual.as_global()
         } else {
             None
@@ -314,6 +322,15 @@ impl Thread {
         ensures fits { length result.now < register_count }
     {
         &self.regs.words[1..usize::from(count) + 1]
+    }
+
+    /// The message of a send that it begins now and that shows no originator.
+    pub fn ordinary_message(&self) -> MessageRef<'_>
+        ensures { result ≡ message_if false self.now.id self.now.context }
+    {
+        let mr0 = self.regs.words[0];
+        let words = self.words(MsgTag::untyped_in(mr0));
+        MessageRef::new(MsgTag::label_in(mr0), false, words, self.id, self.id)
     }
 
     // A send phase with its message.
@@ -353,8 +370,8 @@ impl Thread {
     }
 }
 
-// The receive phase of an Ipc, unless its specifier is nilthread.
-fn receive_phase(ipc: &Ipc) -> Option<(ThreadId, Period)>
+/// The receive phase of an Ipc, unless its specifier is nilthread.
+pub(crate) fn receive_phase(ipc: &Ipc) -> Option<(ThreadId, Period)>
     ensures value { option_map receive_from result ≡ receive_phase ipc.now.from (period_of ipc.now.receive_period) }
     ensures timely { IfSome result (λ r. IsTimely r.1) }
 {

@@ -1,5 +1,5 @@
 //! The duties of a processor: what it has to do before it goes on with an instruction.
-ghost use Rattle.std.specs.Prelude.{◌≡◌, ◌<◌, true, false, None, Some, find, length, slice_index_or};
+ghost use Rattle.std.specs.Prelude.{◌≡◌, ◌<◌, ◌||◌, is_some, true, false, None, Some, find, length, slice_index_or};
 ghost use Rattle.std.specs.Option.{option_map};
 ghost use Rattle.l4_model.specs.World.{is_deleted, receive_now};
 ghost use Rattle.l4_model.specs.Conditions.{may_still_accept, call_accepts, is_elsewhere};
@@ -208,6 +208,22 @@ impl Known<'_> {
         } else {
             self.living_duty(place, may_have_zero)
         }
+    }
+
+    /// Whether a thread of this processor has a duty, or a send of timeout zero may wait at it, as `may_have_zero` says.
+    pub(crate) fn may_have_duty(&self, place: usize, may_have_zero: bool) -> bool
+        requires own { IsOwnOf self.now place }
+        requires zeros { may_have_zero ≡ false → first_zero self.now.local (list_of self.now.local.lists place) ≡ None }
+        ensures { result ≡ (may_have_zero || is_some (duty_at self.now.machine self.now.cpu self.now.local place)) }
+    {
+        let _ = &self.machine;
+        if may_have_zero {
+            return true;
+        }
+        if self.tcb(place).is_ready() {
+            return self.keeps_owed(place);
+        }
+        self.duty_at(place, false).is_some()
     }
 }
 

@@ -1,20 +1,22 @@
 //! What an event does to one thread and to the lists.
-ghost use Rattle.std.specs.Prelude.{◌≡◌, ◌≢◌, ◌<◌, ◌≤◌, ◌+◌, ◌^◌, Some, None, IsSome, true, false, length, slice_get, get_or, set, is_none, ℕ};
+ghost use Rattle.std.specs.Prelude.{◌≡◌, ◌≢◌, ◌<◌, ◌≤◌, ◌+◌, ◌^◌, Some, None, IsSome, true, false, length, slice_get, get_or, set, is_none, is_some, ℕ};
 ghost use Rattle.l4_model.specs.Words.{word_of_tag, clock_limit};
 ghost use Rattle.l4_model.specs.Machine.{Delete as DeleteThread};
 ghost use Rattle.l4_model.specs.Conditions.{act_of, instruction};
-ghost use Rattle.l4_model.specs.Effects.{decided};
+ghost use Rattle.l4_model.specs.Effects.{decided, receives};
+ghost use Rattle.l4_model.specs.Rules.{originator};
 ghost use Rattle.l4_types.specs.StepView.{what_of};
 ghost use Rattle.l4_script.specs.Scripts.{instr_of};
 ghost use Rattle.l4_thread.specs.Changes.{change_of, may_advance};
 ghost use Rattle.l4_thread.specs.Requests.{is_end};
-ghost use Rattle.l4_thread.specs.Ipcs.{began_of, may_show, starts};
+ghost use Rattle.l4_thread.specs.Ipcs.{began_of, starts};
 ghost use Rattle.l4_core_model.specs.Plain.{is_queued, queued, unqueued, popped, popped_due, dropped, due_block};
 ghost use Rattle.l4_core_model.specs.Local.{thread, declared, held, is_own, changes, comes_to, relists, stands_in, stand_in, is_gone_now};
 ghost use Rattle.l4_core_model.specs.Acts.{asks};
 ghost use Rattle.l4_core_model.specs.Turns.{clock_is, has_told};
 ghost use Rattle.tcb_arena.specs.Blocks.{is_ready as is_ready_in};
-ghost use Rattle.l4_core.specs.Changing.{forgets_order, receives_from, IsFitting};
+ghost use Rattle.l4_core.specs.Changing.{forgets_order, IsFitting};
+ghost use Rattle.l4_thread.specs.Messages.{outgoing};
 ghost use Rattle.l4_thread.specs.Parts.{Block};
 ghost use Rattle.l4_core.specs.Parts.{passed};
 ghost use Rattle.l4_core.specs.Processor.{with_local};
@@ -62,8 +64,10 @@ impl Known<'_> {
     /// A thread receives the message that another one sends, with this tag. Its words go from block to block, and nowhere else.
     pub(crate) fn receive_from(&mut self, receiver: usize, sender: usize, tag: MsgTag)
         requires receiver { IsReceiver self.old receiver }
-        requires sender { IsSender self.old sender }
-        ensures { self.new ≡ with_local self.old (comes_to receiver (receives_from (thread self.old.local sender).send (word_of_tag tag)) self.old.local) }
+        requires sender { sender < length self.old.machine.threads }
+        requires apart { receiver ≢ sender }
+        ensures { self.new ≡ with_local self.old (comes_to receiver
+            (receives (outgoing (declared self.old.machine sender).id (thread self.old.local sender)) (word_of_tag tag)) self.old.local) }
     {
         pass_message(self.threads.as_mut_slice(), receiver, sender, tag);
         self.settle(receiver);
@@ -98,17 +102,19 @@ impl Known<'_> {
         ensures state { self.new ≡ with_local self.old
             (changes place (starts (act_of self.old.machine (held self.old.machine self.old.local place)) self.old.local.clock) self.old.local) }
     {
-        let permitted = self.may_show_originator(place);
-        self.threads[place].ipc(instr, permitted, self.clock)
+        let shows = self.shows_originator(place);
+        self.threads[place].ipc(instr, shows, self.clock)
     }
 
-    // Whether a thread may show the originator that its VirtualSender names.
-    fn may_show_originator(&self, place: usize) -> bool
+    // Whether a send of a thread shows the originator that its VirtualSender names. Whether it may is looked up only where the thread asks
+    // for propagation.
+    fn shows_originator(&self, place: usize) -> bool
         requires { place < length self.now.machine.threads }
-        ensures { result ≡ may_show self.now.machine (declared self.now.machine place).id (thread self.now.local place).context.actual }
+        ensures { result ≡ is_some (originator self.now.machine (declared self.now.machine place).id
+            (thread self.now.local place).context) }
     {
-        let originator = self.tcb(place).thread().regs().actual;
-        self.machine.may_show(self.id(place), originator)
+        let thread = self.tcb(place).thread();
+        thread.propagates() && self.machine.may_show(self.id(place), thread.regs().actual)
     }
 
     /// A thread of this processor is asked for a cancellation, or it is deleted.
@@ -257,11 +263,9 @@ fn pass_message(blocks: &mut [Tcb], receiver: usize, sender: usize, tag: MsgTag)
     }
 }
 
-// A thread receives the message of another one's send, with this tag.
+// A thread receives the message that another one sends, with this tag.
 fn receive_from(receiver: &mut Tcb, sender: &Tcb, tag: MsgTag)
     ensures { receiver.new ≡ passed (word_of_tag tag) sender.now receiver.old }
 {
-    if let Some(send) = sender.send() {
-        receiver.receive(&send.message(), tag);
-    }
+    receiver.receive(&sender.outgoing(), tag);
 }

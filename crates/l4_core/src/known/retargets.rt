@@ -34,6 +34,18 @@ impl Known<'_> {
         })
     }
 
+    /// The retarget that is kept beside a thread.
+    pub(crate) fn owed(&self, place: usize) -> Option<Owed>
+        requires { place < length self.now.machine.threads }
+        ensures { option_map owed_of result ≡ owed_beside self.now.local place }
+    {
+        if self.machine.retargets() {
+            self.owed[place]
+        } else {
+            None
+        }
+    }
+
     /// Whether a retarget is kept beside a thread.
     pub(crate) fn keeps_owed(&self, place: usize) -> bool
         requires { place < length self.now.machine.threads }

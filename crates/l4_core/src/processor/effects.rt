@@ -1,30 +1,33 @@
 //! What an event does to one thread and to the lists, with the places noted that may have a duty now.
-ghost use Rattle.std.specs.Prelude.{◌≡◌, ◌<◌, ◌+◌, ◌^◌, None, Some, IsSome, false, true, length, slice_get, is_none, ℕ};
+ghost use Rattle.std.specs.Prelude.{◌≡◌, ◌≢◌, ◌<◌, ◌+◌, ◌^◌, None, Some, IsSome, false, true, length, slice_get, is_none, ℕ};
 ghost use Rattle.std.specs.Option.{option_map};
 ghost use Rattle.l4_model.specs.Words.{word_of_tag};
 ghost use Rattle.l4_model.specs.Conditions.{act_of, instruction};
-ghost use Rattle.l4_model.specs.Effects.{decided, turns};
+ghost use Rattle.l4_model.specs.Effects.{decided, receives, turns};
+ghost use Rattle.l4_model.specs.Rules.{receive_phase};
 ghost use Rattle.l4_types.specs.OwedView.{owed_of};
+ghost use Rattle.l4_types.specs.PeriodView.{period_of};
 ghost use Rattle.l4_types.specs.StepView.{what_of};
 ghost use Rattle.l4_script.specs.Scripts.{instr_of};
 ghost use Rattle.l4_thread.specs.Changes.{change_of};
 ghost use Rattle.l4_thread.specs.Requests.{is_end};
-ghost use Rattle.l4_thread.specs.Ipcs.{began_of};
+ghost use Rattle.l4_thread.specs.Ipcs.{began_of, passes};
+ghost use Rattle.l4_thread.specs.Messages.{outgoing};
 ghost use Rattle.l4_core_model.specs.Plain.{is_queued, queued, unqueued, popped, popped_due, due_block};
 ghost use Rattle.l4_core.specs.Settling.{settles};
 ghost use Rattle.l4_core_model.specs.Local.{declared, thread, held, changes, comes_to, keeps_beside, owed_beside, relists, is_gone_now, is_own, stand_in, stands_in};
 ghost use Rattle.l4_core_model.specs.Acts.{asks};
 ghost use Rattle.l4_core_model.specs.Turns.{has_told};
 ghost use Rattle.tcb_arena.specs.Blocks.{is_ready as is_ready_in};
-ghost use Rattle.l4_core.specs.Changing.{forgets_order, receives_from, IsFitting};
+ghost use Rattle.l4_core.specs.Changing.{forgets_order, IsFitting};
 ghost use Rattle.l4_core.specs.Covered.{is_zero_send};
 ghost use Rattle.l4_core.specs.Processor.{with_local};
 ghost use Rattle.l4_core.specs.Tasks.{IsForeign};
 ghost use Rattle.l4_core.specs.Turning.{begun_by, IsAtHand, IsFree, IsNotSplit, IsOwnOf, IsReceiver, IsSender};
 
-use crate::processor::{Core, note, note_all, note_own, note_zero};
+use crate::processor::{Core, note, note_all, note_duty, note_own, note_zero};
 use l4_history::message_ref::MessageRef;
-use l4_script::instructions::Instr;
+use l4_script::instructions::{Instr, Ipc};
 use l4_thread::changes::Change;
 use l4_thread::phases::Began;
 use l4_types::ids::GlobalId;
@@ -40,18 +43,22 @@ impl Core<'_> {
         requires fits { IsFitting change.now (thread self.old.local place) }
         ensures { self.new ≡ with_local self.old (comes_to place (change_of change.now self.old.local.clock) self.old.local) }
     {
-        note(&self.known, &mut self.duties, place);
+        let _few = self.known.len();
         self.known.come_to(place, change);
+        note_duty(&self.known, &mut self.duties, &self.zeros, place);
     }
 
     /// A thread receives the message that another one sends, with this tag.
     pub(super) fn receive_from(&mut self, place: usize, sender: usize, tag: MsgTag)
         requires receiver { IsReceiver self.old place }
-        requires sender { IsSender self.old sender }
-        ensures { self.new ≡ with_local self.old (comes_to place (receives_from (thread self.old.local sender).send (word_of_tag tag)) self.old.local) }
+        requires sender { sender < length self.old.machine.threads }
+        requires apart { place ≢ sender }
+        ensures { self.new ≡ with_local self.old (comes_to place
+            (receives (outgoing (declared self.old.machine sender).id (thread self.old.local sender)) (word_of_tag tag)) self.old.local) }
     {
-        note(&self.known, &mut self.duties, place);
+        let _few = self.known.len();
         self.known.receive_from(place, sender, tag);
+        note_duty(&self.known, &mut self.duties, &self.zeros, place);
     }
 
     /// A thread begins the first phase of an Ipc, where it has one.
@@ -63,8 +70,23 @@ impl Core<'_> {
         ensures began { result ≡ began_of (act_of self.old.machine (held self.old.machine self.old.local place)) }
         ensures state { self.new ≡ with_local self.old (begun_by (act_of self.old.machine (held self.old.machine self.old.local place)) place self.old.local) }
     {
-        note(&self.known, &mut self.duties, place);
-        self.known.begin(place, instr)
+        let _few = self.known.len();
+        let began = self.known.begin(place, instr);
+        note_duty(&self.known, &mut self.duties, &self.zeros, place);
+        began
+    }
+
+    /// The send of an Ipc was taken at once, and its thread comes to its next phase.
+    pub(super) fn pass(&mut self, place: usize, ipc: &Ipc)
+        requires hand { IsAtHand self.old place }
+        requires room { (thread self.old.local place).context.place + 1 < 2 ^ 64 }
+        requires count { (thread self.old.local place).context.begun < self.old.local.stamp }
+        ensures { self.new ≡ with_local self.old (comes_to place
+            (passes (receive_phase ipc.now.from (period_of ipc.now.receive_period)) self.old.local.clock) self.old.local) }
+    {
+        let _few = self.known.len();
+        self.known.pass(place, ipc);
+        note_duty(&self.known, &mut self.duties, &self.zeros, place);
     }
 
     /// A send is put at the end of the list of its receiver.

@@ -73,7 +73,10 @@ impl Core<'_> {
     {
         let instr = self.known.instruction(place);
         match &instr {
-            Instr::Ipc(_) => self.ipc(place, &instr, told),
+            Instr::Ipc(ipc) => match self.known.fast_receiver(place, ipc) {
+                Some(receiver) => self.send_fast(receiver, place, ipc, told),
+                None => self.ipc(place, &instr, told),
+            },
             Instr::Order(target, what) => self.order(place, &instr, *target, *what, told),
             _ => self.run(place, &instr, told),
         }

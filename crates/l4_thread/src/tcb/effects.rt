@@ -4,7 +4,7 @@ ghost use Rattle.std.specs.Option.{option_map};
 ghost use Rattle.l4_model.specs.Words.{GlobalId as ModelGlobalId, word_of_tag, register_count};
 ghost use Rattle.l4_model.specs.Machine.{Machine};
 ghost use Rattle.l4_model.specs.World.{Name};
-ghost use Rattle.l4_model.specs.Rules.{act};
+ghost use Rattle.l4_model.specs.Rules.{act, receive_phase};
 ghost use Rattle.l4_model.specs.Effects.{runs, fails, receives, refused, decided, delivered, goes_on, asked, asked_send, asked_receive, has_receive_phase, orders, obeyed, turns};
 ghost use Rattle.l4_core_model.specs.Local.{after_decision, is_gone_now, stand_in, stands_in, was_delivered, was_dropped};
 ghost use Rattle.l4_types.specs.Codes.{code_of};
@@ -15,7 +15,7 @@ ghost use Rattle.l4_types.specs.LetterView.{decision_of};
 ghost use Rattle.l4_script.specs.Scripts.{instr_of};
 ghost use Rattle.l4_thread.specs.Changes.{change_of, may_advance};
 ghost use Rattle.l4_thread.specs.Held.{sent_of};
-ghost use Rattle.l4_thread.specs.Ipcs.{may_show, starts, began_of};
+ghost use Rattle.l4_thread.specs.Ipcs.{IsPermission, began_of, passes, starts};
 ghost use Rattle.l4_thread.specs.Messages.{unlabelled};
 ghost use Rattle.l4_thread.specs.Partners.{owed_between, send_turned_from};
 ghost use Rattle.l4_thread.specs.Requests.{asks_to_send, is_end, receive_from};
@@ -25,10 +25,10 @@ use crate::orders::Asked;
 use crate::phases::{Began, Phase};
 use crate::sends::{Head, Receive, Send, Words};
 use crate::tcb::Tcb;
-use crate::thread::Thread;
+use crate::thread::{Thread, receive_phase};
 use arrayvec::ArrayVec;
 use l4_history::message_ref::MessageRef;
-use l4_script::instructions::Instr;
+use l4_script::instructions::{Instr, Ipc};
 use l4_types::errors::IpcError;
 use l4_types::ids::{GlobalId, ThreadId};
 use l4_types::letters::{Decision, Refusal};
@@ -95,15 +95,15 @@ impl Tcb {
     }
 
     /// Begins the first phase of an Ipc, at this clock of its processor in ticks, and tells which one. `permitted` says whether the
-    /// thread may show the originator that its VirtualSender names, so only of a global id. Of no phase, and of other instructions, nothing
-    /// changes.
+    /// thread may show the originator that its VirtualSender names, so only of a global id. It matters only where the thread asks for
+    /// propagation. Of no phase, and of other instructions, nothing changes.
     pub fn ipc(&mut self, instr: &Instr, permitted: bool, now: u64) -> Began
         requires room { is_end (instr_of instr.now) ≡ false → self.old.thread.context.place + 1 < 2 ^ 64 }
         requires count { asks_to_send self.old.thread.context (instr_of instr.now) ≡ true → self.old.thread.context.begun + 1 < 2 ^ 64 }
         requires shown { permitted ≡ true → IsSome (global_of self.old.thread.context.actual) }
-        ensures thread { (m : Machine) → permitted ≡ may_show m self.old.id self.old.thread.context.actual →
+        ensures thread { (m : Machine) → IsPermission permitted m self.old.id self.old.thread.context →
             self.new ≡ record self.old { thread = starts (act m self.old.id now self.old.thread.context (instr_of instr.now)) now self.old.thread } }
-        ensures began { (m : Machine) → permitted ≡ may_show m self.old.id self.old.thread.context.actual →
+        ensures began { (m : Machine) → IsPermission permitted m self.old.id self.old.thread.context →
             result ≡ began_of (act m self.old.id now self.old.thread.context (instr_of instr.now)) }
     {
         let request = self.thread.begin_phases(instr, permitted);
@@ -120,6 +120,20 @@ impl Tcb {
             }
             None => Began::Nothing,
         }
+    }
+
+    /// The fast path: the send of this Ipc begins, and its receiver takes it at once. Nothing of the send is kept, and the Ipc goes on as
+    /// after a delivery, at this clock of its processor in ticks.
+    pub fn pass(&mut self, ipc: &Ipc, now: u64)
+        requires room { self.old.thread.context.place + 1 < 2 ^ 64 }
+        requires count { self.old.thread.context.begun + 1 < 2 ^ 64 }
+        ensures { self.new ≡ record self.old {
+          thread = passes (receive_phase ipc.now.from (period_of ipc.now.receive_period)) now self.old.thread;
+        } }
+    {
+        let receive = receive_of(receive_phase(ipc));
+        self.thread.count();
+        self.go_on(receive, now);
     }
 
     /// Its Ipc has failed. A deleted thread stays as it is.

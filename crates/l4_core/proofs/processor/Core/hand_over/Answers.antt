@@ -3,14 +3,18 @@ use Rattle.std.specs.Option.{option_map}
 use Rattle.l4_model.specs.Words.{word_of_tag}
 use Rattle.l4_model.specs.World.{Send}
 use Rattle.l4_core_model.specs.Local.{is_own, last_name, declared, thread}
-use Rattle.l4_core.specs.Changing.{receives_from}
+use Rattle.l4_model.specs.Effects.{receives}
+use Rattle.l4_thread.specs.Messages.{outgoing}
 use Rattle.l4_core.specs.Parts.{AreCore}
 use Rattle.l4_core.specs.Processor.{Processor}
-use Rattle.l4_core.proofs.Delivering.{still_sends, hand_over_does}
+use Rattle.l4_core.proofs.Delivering.{apart, still_sends, hand_over_does}
 use Rattle.l4_core.proofs.processor.Core.hand_over.Goals as goal
 
+pub receive_from-requires-clause-apart : goal.receive_from-requires-clause-apart
+receive_from-requires-clause-apart g c = λ same. apart c.args.self.now c.args.receiver c.args.sender (subst AreCore c.self.view_is c.is_own.ensures.core) c.requires.receiver c.requires.sender same
+
 pub end_send-requires-clause-sender : goal.end_send-requires-clause-sender
-end_send-requires-clause-sender g c = still_sends c.args.self.now c.receive_from.new.self c.args.receiver c.args.sender (receives_from (thread c.args.self.now.local c.args.sender).send (word_of_tag c.tag-tag.result)) (subst AreCore c.self.view_is c.is_own.ensures.core) c.requires.receiver c.requires.sender c.receive_from.ensures
+end_send-requires-clause-sender g c = still_sends c.args.self.now c.receive_from.new.self c.args.receiver c.args.sender (receives (outgoing (declared c.args.self.now.machine c.args.sender).id (thread c.args.self.now.local c.args.sender)) (word_of_tag c.tag-tag.result)) (subst AreCore c.self.view_is c.is_own.ensures.core) c.requires.receiver c.requires.sender c.receive_from.ensures
 
 pub returns-clause-does : goal.returns-clause-does
 returns-clause-does g c =

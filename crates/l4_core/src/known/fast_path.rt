@@ -1,0 +1,93 @@
+//! The fast path: a send that its receiver takes at once.
+ghost use Rattle.std.specs.Prelude.{◌≡◌, ◌<◌, ◌+◌, ◌^◌, IfSome, false, length};
+ghost use Rattle.l4_model.specs.World.{receive_now};
+ghost use Rattle.l4_model.specs.Rules.{destination, receive_phase};
+ghost use Rattle.l4_types.specs.PeriodView.{period_of};
+ghost use Rattle.l4_script.specs.Scripts.{to_of};
+ghost use Rattle.l4_core_model.specs.Local.{comes_to, declared, destination_place, thread};
+ghost use Rattle.l4_thread.specs.Ipcs.{passes};
+ghost use Rattle.l4_thread.specs.Messages.{outgoing};
+ghost use Rattle.l4_core.specs.FastPath.{fast_receiver, next_name, takes_at_once};
+ghost use Rattle.l4_core.specs.Processor.{with_local};
+ghost use Rattle.l4_core.specs.Turning.{IsAtHand, IsOwnOf};
+
+use crate::known::Known;
+use l4_history::message_ref::MessageRef;
+use l4_script::instructions::Ipc;
+use l4_types::ids::ThreadId;
+use l4_types::steps::Name;
+
+impl Known<'_> {
+    /// The receiver that takes at once what the Ipc of a thread sends now: a thread of this processor that waits, and accepts the sender
+    /// before all that wait at it. A send that asks for propagation is none of those.
+    pub(crate) fn fast_receiver(&self, place: usize, ipc: &Ipc) -> Option<usize>
+        requires { place < length self.now.machine.threads }
+        ensures value { result ≡ fast_receiver self.now.machine self.now.cpu self.now.local place
+            (destination (thread self.now.local place).context (to_of ipc.now.to)) }
+        ensures own { IfSome result (λ receiver. IsOwnOf self.now receiver) }
+    {
+        if self.tcb(place).thread().propagates() {
+            return None;
+        }
+        let to = self.tcb(place).thread().destination(ipc.to());
+        let receiver = self.named(to)?;
+        if self.is_own(receiver) && self.takes_at_once(receiver, place) {
+            Some(receiver)
+        } else {
+            None
+        }
+    }
+
+    // The place of the thread that an id names.
+    fn named(&self, id: ThreadId) -> Option<usize>
+        ensures value { result ≡ destination_place self.now.machine id }
+        ensures within { IfSome result (λ place. place < length self.now.machine.threads) }
+    {
+        self.place_of(id.as_global()?)
+    }
+
+    // Whether a thread waits, and accepts an ordinary message of another one before those that wait at it.
+    fn takes_at_once(&self, receiver: usize, sender: usize) -> bool
+        requires receiver { receiver < length self.now.machine.threads }
+        requires sender { sender < length self.now.machine.threads }
+        ensures { result ≡ takes_at_once self.now.machine self.now.local receiver sender
+            (receive_now (thread self.now.local receiver).phase) }
+    {
+        let Some(receive) = self.receiving(receiver) else {
+            return false;
+        };
+        let from = receive.from();
+        from.takes(self.id(sender), self.share_space(sender, receiver))
+            && self.lists.first_accepted(receiver, &from).is_none()
+    }
+
+    /// The next send that a thread begins.
+    pub(crate) fn next_name(&self, place: usize) -> Name
+        requires within { place < length self.now.machine.threads }
+        requires count { (thread self.now.local place).context.begun < self.now.local.stamp }
+        ensures { result ≡ next_name self.now.machine self.now.local place }
+    {
+        let _stamp = self.stamp();
+        Name::new(self.id(place), self.begun(place) + 1).unwrap()
+    }
+
+    /// The message that a thread sends: that of its undecided send, else that of a send that it begins now and that shows no originator.
+    pub(crate) fn outgoing(&self, sender: usize) -> MessageRef<'_>
+        requires { sender < length self.now.machine.threads }
+        ensures { result ≡ outgoing (declared self.now.machine sender).id (thread self.now.local sender) }
+    {
+        self.tcb(sender).outgoing()
+    }
+
+    /// The send of an Ipc was taken at once, and its thread comes to its next phase.
+    pub(crate) fn pass(&mut self, place: usize, ipc: &Ipc)
+        requires hand { IsAtHand self.old place }
+        requires room { (thread self.old.local place).context.place + 1 < 2 ^ 64 }
+        requires count { (thread self.old.local place).context.begun < self.old.local.stamp }
+        ensures { self.new ≡ with_local self.old (comes_to place
+            (passes (receive_phase ipc.now.from (period_of ipc.now.receive_period)) self.old.local.clock) self.old.local) }
+    {
+        self.threads[place].pass(ipc, self.clock);
+        self.settle(place);
+    }
+}

@@ -1,0 +1,54 @@
+//! The fast path: a send that its receiver takes at once goes from register to register.
+ghost use Rattle.std.specs.Prelude.{◌≡◌, ◌<◌, ◌≤◌, Some};
+ghost use Rattle.l4_model.specs.Machine.{most_instructions};
+ghost use Rattle.l4_model.specs.Conditions.{act_of, instruction};
+ghost use Rattle.l4_model.specs.Rules.{destination};
+ghost use Rattle.l4_script.specs.Scripts.{ipc_of, to_of};
+ghost use Rattle.l4_core_model.specs.Local.{thread, held};
+ghost use Rattle.l4_core_model.specs.Acts.{acts};
+ghost use Rattle.l4_core.specs.FastPath.{fast_receiver};
+ghost use Rattle.l4_core.specs.Turning.{Does, IsAtHand, IsOwnOf};
+
+use crate::processor::Core;
+use crate::told::Told;
+use l4_history::sink::Sink;
+use l4_history::step_ref::{DeliveryRef, StepRef};
+use l4_script::instructions::Ipc;
+
+impl Core<'_> {
+    /// A thread makes an Ipc whose send its receiver takes at once. The send is begun, queued and delivered in one go: it stands in no list,
+    /// and nothing of it is kept.
+    pub(super) fn send_fast<S: Sink>(
+        &mut self,
+        receiver: usize,
+        sender: usize,
+        ipc: &Ipc,
+        told: &mut Told<S>,
+    )
+        requires receiver { IsOwnOf self.old receiver }
+        requires hand { IsAtHand self.old sender }
+        requires instr { ipc_of ipc.now ≡ instruction (held self.old.machine self.old.local sender) }
+        requires within { (thread self.old.local sender).context.place < most_instructions }
+        requires count { (thread self.old.local sender).context.begun < self.old.local.stamp }
+        requires fast { fast_receiver self.old.machine self.old.cpu self.old.local sender
+            (destination (thread self.old.local sender).context (to_of ipc.now.to)) ≡ Some receiver }
+        requires room { 3 ≤ told.old.room }
+        ensures { Does (acts self.old.machine self.old.cpu sender (act_of self.old.machine (held self.old.machine self.old.local sender)))
+            self.old self.new told.old told.new }
+    {
+        let _few = self.known.len();
+        let name = self.known.next_name(sender);
+        let delivery = DeliveryRef {
+            name,
+            receiver: self.known.id(receiver),
+            message: self.known.outgoing(sender),
+            cross: false,
+        };
+        let tag = delivery.tag();
+        told.tell(StepRef::Begin(name));
+        told.tell(StepRef::Queue(name));
+        told.tell(StepRef::Deliver(delivery));
+        self.receive_from(receiver, sender, tag);
+        self.pass(sender, ipc);
+    }
+}

@@ -14,7 +14,7 @@ use Rattle.l4_model.proofs.Chains.{some_is, get-map, map-changed_same}
 use Rattle.l4_model.proofs.Places.{and_true, same_id_is, eqb_same, known, known_send, id_of, sender_found, receiver_there}
 use Rattle.l4_core_model.specs.Letters.{Delivered}
 use Rattle.l4_core_model.specs.Local.{after_decision}
-use Rattle.l4_history.specs.declared.step_ref.DeliveryRef.{DeliveryRef}
+use Rattle.l4_types.specs.declared.step_ref.DeliveryRef.{DeliveryRef}
 use Rattle.l4_script.proofs.Finding.{declared_at}
 use Rattle.l4_audit.specs.Audited.{Audited, with_world}
 use Rattle.l4_audit.specs.Delivering.{is_delivery, taken_over, IsFound}

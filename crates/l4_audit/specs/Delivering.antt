@@ -9,7 +9,7 @@ use Rattle.l4_model.specs.Effects.{receives}
 use Rattle.l4_model.specs.Conditions.{Found, Pending}
 use Rattle.l4_core_model.specs.Letters.{Delivered}
 use Rattle.l4_core_model.specs.Local.{after_decision}
-use Rattle.l4_history.specs.declared.step_ref.DeliveryRef.{DeliveryRef}
+use Rattle.l4_types.specs.declared.step_ref.DeliveryRef.{DeliveryRef}
 
 -- A thread that was found by its id has what is declared of this id.
 abbrev pub IsFound : Machine → Found → Type 0

@@ -9,8 +9,8 @@ use Rattle.l4_core_model.specs.Letters.{Delivered}
 use Rattle.l4_core_model.specs.Local.{declared, is_own, last_name, thread, comes_to}
 use Rattle.l4_core_model.specs.Acts.{Work, decides_send}
 use Rattle.l4_core_model.proofs.Fit.{get_other}
-use Rattle.l4_history.specs.declared.step_ref.DeliveryRef.{DeliveryRef}
-use Rattle.l4_history.specs.Seen.{delivered}
+use Rattle.l4_types.specs.declared.step_ref.DeliveryRef.{DeliveryRef}
+use Rattle.l4_types.specs.StepView.{delivered}
 use Rattle.l4_core.specs.Changing.{receives_from}
 use Rattle.l4_core.specs.Parts.{AreCore}
 use Rattle.l4_core.specs.Processor.{Processor, with_local}

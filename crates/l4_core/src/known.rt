@@ -21,13 +21,13 @@ ghost use Rattle.l4_core.specs.Opening.{lists_below, opening_lists};
 ghost use Rattle.l4_core.specs.Parts.{kept_of, threads_of, ids_of, AreCore};
 ghost use Rattle.l4_core.specs.Turning.{IsSender};
 
-use l4_history::message_ref::MessageRef;
 use l4_script::instructions::Instr;
 use l4_script::machine::{Declaration, Machine};
 use l4_thread::sends::{Receive, SendRef};
 use l4_thread::tcb::Tcb;
 use l4_types::errors::NoMemory;
 use l4_types::ids::{GlobalId, ThreadId};
+use l4_types::message_ref::MessageRef;
 use l4_types::owed::Owed;
 use l4_types::reports::ThreadView;
 use l4_types::steps::{CLOCKS, Name, What};

@@ -2,16 +2,15 @@
 ghost use Rattle.std.specs.Prelude.{◌≡◌, ◌<◌, [], ◌++◌, IfNone, OnOk, OnErr, length, map};
 ghost use Rattle.std.specs.Option.{option_map, option_to_list};
 ghost use Rattle.l4_types.specs.LetterView.{letter_of};
-ghost use Rattle.l4_types.specs.StepView.{step_of};
-ghost use Rattle.l4_history.specs.Seen.{seen};
+ghost use Rattle.l4_types.specs.StepView.{seen, step_of};
 ghost use Rattle.l4_core.specs.Tellings.{IsBegun, posted_of, with_step, with_letter};
 
 use arrayvec::ArrayVec;
 use l4_history::history::EVENT_STEPS;
 use l4_history::sink::Sink;
-use l4_history::step_ref::StepRef;
 use l4_types::errors::NoMemory;
 use l4_types::letters::Letter;
+use l4_types::step_ref::StepRef;
 use l4_types::steps::{Event, Step};
 use std::marker::Model;
 

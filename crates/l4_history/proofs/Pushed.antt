@@ -2,12 +2,12 @@
 use Rattle.std.proofs.Common.{◌≡◌, ℕ, List, [], ◌∷◌, ◌++◌, length, take, drop, refl, ap, arith, sym, ◌∙◌}
 use Rattle.std.specs.Prelude.{slice_get, Some}
 use Rattle.std.proofs.lemmas.List.{take_all, drop_at, map-append}
-use Rattle.l4_history.specs.declared.records.Record.{Record}
-use Rattle.l4_history.specs.declared.records.Record.TheVariants.{Deliver}
+use Rattle.l4_types.specs.declared.steps.Step.{Step}
+use Rattle.l4_types.specs.declared.steps.Step.TheVariants.{Deliver}
+use Rattle.l4_types.specs.declared.step_ref.DeliveryRef.{DeliveryRef}
+use Rattle.l4_types.specs.StepView.{delivered}
 use Rattle.l4_history.specs.declared.records.Head.{Head}
 use Rattle.l4_history.specs.Rows.{AreRows, IsHeadOf, delivery_at, step_at, told}
-use Rattle.l4_history.specs.Seen.{delivered}
-use Rattle.l4_history.specs.declared.step_ref.DeliveryRef.{DeliveryRef}
 use Rattle.l4_history.proofs.Kept.{told-kept}
 
 get-push : (heads : List Head) (h : Head) → slice_get (heads ++ h ∷ []) (length heads) ≡ Some h
@@ -18,12 +18,12 @@ row-end : (words more : List ℕ) (start count : ℕ) → start ≡ length words
 row-end words more start count begins ends =
     rw (drop_at words more start (sym begins)) (take_all count more (omega arith))
 
-pub told-deliver : (records : List Record) (heads : List Head) (words more : List ℕ) (h : Head) → AreRows records heads words → told (records ++ Deliver (length heads) ∷ []) (heads ++ h ∷ []) (words ++ more) ≡ told records heads words ++ delivery_at (words ++ more) (Some h) ∷ []
+pub told-deliver : (records : List (Step ℕ)) (heads : List Head) (words more : List ℕ) (h : Head) → AreRows records heads words → told (records ++ Deliver (length heads) ∷ []) (heads ++ h ∷ []) (words ++ more) ≡ told records heads words ++ delivery_at (words ++ more) (Some h) ∷ []
 told-deliver records heads words more h are =
     rw (map-append (step_at (heads ++ h ∷ []) (words ++ more)) records (Deliver (length heads) ∷ []), told-kept heads (h ∷ []) words more records are.known are.within, get-push heads h) refl
 
 -- A delivery was stored.
-pub delivery-told : (records records' : List Record) (heads heads' : List Head) (words words' : List ℕ) (at start : ℕ) (h : Head) (d : DeliveryRef) →
+pub delivery-told : (records records' : List (Step ℕ)) (heads heads' : List Head) (words words' : List ℕ) (at start : ℕ) (h : Head) (d : DeliveryRef) →
     AreRows records heads words → IsHeadOf d start h → at ≡ length heads → start ≡ length words →
     records' ≡ records ++ Deliver at ∷ [] → heads' ≡ heads ++ h ∷ [] → words' ≡ words ++ d.message.words →
     told records' heads' words' ≡ told records heads words ++ delivered d ∷ []

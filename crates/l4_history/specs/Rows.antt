@@ -1,14 +1,13 @@
 -- What the rows of a history tell: its records, the heads of its deliveries, and the words of all of them.
-use Rattle.std.specs.Prelude.{◌≡◌, ℕ, ◌+◌, ◌<◌, ◌≤◌, ⊤, Bool, true, false, Option, Some, None, List, ◌++◌, length, map, take, drop, slice_get, All}
-use Rattle.l4_history.specs.declared.records.Record.{Record}
-use Rattle.l4_history.specs.declared.records.Record.TheVariants.{Local, Begin, Queue, Deliver, Wait, SendTimeout, ReceiveTimeout, SendNobody, ReceiveNobody, SendCancel, ReceiveCancel, Drop, Order, Obey, Tick, Retarget}
+use Rattle.std.specs.Prelude.{◌≡◌, ℕ, ◌+◌, ◌<◌, ◌≤◌, Option, Some, None, IfSome, List, ◌++◌, length, map, take, drop, slice_get, All}
 use Rattle.l4_history.specs.declared.records.Head.{Head}
-use Rattle.l4_history.specs.declared.step_ref.DeliveryRef.{DeliveryRef}
+use Rattle.l4_types.specs.declared.step_ref.DeliveryRef.{DeliveryRef}
+use Rattle.l4_types.specs.declared.steps.Step.{Step}
 use Rattle.l4_model.specs.Words.{global_id, label_limit, register_count}
 use Rattle.l4_model.specs.World.{Message}
 use Rattle.l4_model.specs.Rules.{received_tag}
 use Rattle.l4_model.specs.Steps as steps
-use Rattle.l4_types.specs.StepView.{what_of}
+use Rattle.l4_types.specs.StepView.{delivery_in, step_by}
 
 -- A history to its callers: its steps, and how many more it takes without memory.
 pub record Told : Type 0 where
@@ -28,25 +27,11 @@ abbrev pub delivery_at : List ℕ → Option Head → steps.Step
 delivery_at words (Some h) = steps.Deliver h.name h.receiver h.shown h.actual (received_tag h.cross (message_of words h)) (take h.count (drop h.start words))
 delivery_at words None = steps.Local (global_id 0 1)
 
-abbrev pub step_at : List Head → List ℕ → Record → steps.Step
-step_at heads words (Local t) = steps.Local t
-step_at heads words (Begin s) = steps.Begin s
-step_at heads words (Queue s) = steps.Queue s
-step_at heads words (Deliver at) = delivery_at words (slice_get heads at)
-step_at heads words (Wait t) = steps.Wait t
-step_at heads words (SendTimeout s) = steps.SendTimeout s
-step_at heads words (ReceiveTimeout t) = steps.ReceiveTimeout t
-step_at heads words (SendNobody s) = steps.SendNobody s
-step_at heads words (ReceiveNobody t) = steps.ReceiveNobody t
-step_at heads words (SendCancel s) = steps.SendCancel s
-step_at heads words (ReceiveCancel t) = steps.ReceiveCancel t
-step_at heads words (Drop s) = steps.Drop s
-step_at heads words (Order caller target what) = steps.Order caller target (what_of what)
-step_at heads words (Obey t) = steps.Obey t
-step_at heads words (Tick t) = steps.Tick t.cpu t.clock
-step_at heads words (Retarget s) = steps.Retarget s
+-- What a history keeps of a step: of a delivery the place of its head.
+abbrev pub step_at : List Head → List ℕ → Step ℕ → steps.Step
+step_at heads words r = step_by (λ at. delivery_at words (slice_get heads at)) r
 
-abbrev pub told : List Record → List Head → List ℕ → List steps.Step
+abbrev pub told : List (Step ℕ) → List Head → List ℕ → List steps.Step
 told records heads words = map (step_at heads words) records
 
 -- A head whose words lie in a row of so many words.
@@ -64,14 +49,9 @@ pub record IsHeadOf (d : DeliveryRef) (start : ℕ) (h : Head) : Type 0 where
   pub delivery : record { name = h.name; receiver = h.receiver; message = record { label = h.label; words = d.message.words; propagated = h.propagated; shown = h.shown; actual = h.actual }; cross = h.cross } ≡ d
 
 -- A record that names none but the first heads, so many.
-abbrev pub IsRecord : ℕ → Record → Type 0
-IsRecord heads (Deliver at) = at < heads
-IsRecord heads _ = ⊤
+abbrev pub IsRecord : ℕ → Step ℕ → Type 0
+IsRecord heads r = IfSome (delivery_in r) (λ at. at < heads)
 
-pub record AreRows (records : List Record) (heads : List Head) (words : List ℕ) : Type 0 where
+pub record AreRows (records : List (Step ℕ)) (heads : List Head) (words : List ℕ) : Type 0 where
   pub known : All (IsRecord (length heads)) records
   pub within : All (IsHead (length words)) heads
-
-abbrev pub is_delivery : Record → Bool
-is_delivery (Deliver at) = true
-is_delivery _ = false

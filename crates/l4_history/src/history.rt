@@ -1,17 +1,16 @@
 //! The history of a machine.
-ghost use Rattle.std.specs.Prelude.{◌≡◌, ◌<◌, ◌≤◌, ◌-◌, ◌^◌, [], ◌∷◌, ◌++◌, ◌↔◌, All, OnOk, OnErr, IfOk, IfSome, Some, IsTrue, length, map, take, drop, slice_get, false};
+ghost use Rattle.std.specs.Prelude.{◌≡◌, ◌<◌, ◌≤◌, ◌-◌, ◌^◌, [], ◌∷◌, ◌++◌, ◌↔◌, All, OnOk, OnErr, IfOk, IfSome, Some, None, IsTrue, length, map, take, drop, slice_get};
 ghost use Rattle.l4_model.specs.History.{begun_name};
-ghost use Rattle.l4_types.specs.StepView.{step_of};
-ghost use Rattle.l4_history.specs.Rows.{HasMore, IsHead, IsHeadOf, delivery_at, is_delivery, step_at};
-ghost use Rattle.l4_history.specs.Seen.{delivered, seen};
+ghost use Rattle.l4_types.specs.StepView.{delivered, delivery_in, seen, step_of};
+ghost use Rattle.l4_history.specs.Rows.{HasMore, IsHead, IsHeadOf, delivery_at, step_at};
 
-use crate::message_ref::MessageRef;
 use crate::records::{Head, Record};
 use crate::sink::tell;
-use crate::step_ref::{DeliveryRef, StepRef};
 use crate::steps::Steps;
 use l4_types::errors::NoMemory;
+use l4_types::message_ref::MessageRef;
 use l4_types::messages::MOST_WORDS;
+use l4_types::step_ref::{DeliveryRef, StepRef};
 use l4_types::steps::{Name, Step};
 use std::alloc::Global;
 use std::marker::Model;
@@ -114,38 +113,16 @@ impl History {
         requires { 0 < self.old.room }
         ensures { self.new ≡ record { steps = self.old.steps ++ seen step.entry ∷ []; room = self.old.room - 1 } }
     {
-        match step {
-            StepRef::Local(thread) => self.push_whole(Record::Local(thread)),
-            StepRef::Begin(name) => self.push_whole(Record::Begin(name)),
-            StepRef::Queue(name) => self.push_whole(Record::Queue(name)),
-            StepRef::Deliver(delivery) => self.push_delivery(&delivery),
-            StepRef::Wait(thread) => self.push_whole(Record::Wait(thread)),
-            StepRef::SendTimeout(name) => self.push_whole(Record::SendTimeout(name)),
-            StepRef::ReceiveTimeout(thread) => self.push_whole(Record::ReceiveTimeout(thread)),
-            StepRef::SendNobody(name) => self.push_whole(Record::SendNobody(name)),
-            StepRef::ReceiveNobody(thread) => self.push_whole(Record::ReceiveNobody(thread)),
-            StepRef::SendCancel(name) => self.push_whole(Record::SendCancel(name)),
-            StepRef::ReceiveCancel(thread) => self.push_whole(Record::ReceiveCancel(thread)),
-            StepRef::Drop(name) => self.push_whole(Record::Drop(name)),
-            StepRef::Order {
-                caller,
-                target,
-                what,
-            } => self.push_whole(Record::Order {
-                caller,
-                target,
-                what,
-            }),
-            StepRef::Obey(caller) => self.push_whole(Record::Obey(caller)),
-            StepRef::Tick(tick) => self.push_whole(Record::Tick(tick)),
-            StepRef::Retarget(name) => self.push_whole(Record::Retarget(name)),
+        match step.as_delivery() {
+            Ok(delivery) => self.push_delivery(delivery),
+            Err(whole) => self.push_whole(whole),
         }
     }
 
     // Appends a step that is no delivery.
     fn push_whole(&mut self, whole: Record)
         requires room { 0 < self.old.room }
-        requires no_delivery { is_delivery whole ≡ false }
+        requires no_delivery { delivery_in whole ≡ None }
         ensures { self.new ≡ record { steps = self.old.steps ++ step_at [] [] whole ∷ []; room = self.old.room - 1 } }
     {
         self.records.push_reserved(whole);
@@ -172,9 +149,9 @@ impl History {
         requires within { place < length other.now.steps }
         ensures { IfSome (slice_get other.now.steps place) (λ step. self.new ≡ record { steps = self.old.steps ++ step ∷ []; room = self.old.room - 1 }) }
     {
-        match other.records[place] {
-            Record::Deliver(at) => self.push_delivery(&delivery(&other.heads, &other.words, at)),
-            whole => self.push_whole(whole),
+        match other.records[place].as_delivery() {
+            Ok(at) => self.push_delivery(&delivery(&other.heads, &other.words, *at)),
+            Err(whole) => self.push_whole(whole),
         }
     }
 
@@ -230,35 +207,14 @@ impl History {
     }
 
     /// The i-th step, counted from 0.
+    #[inline(always)]
     pub fn step(&self, i: usize) -> StepRef<'_>
         requires { i < length self.now.steps }
         ensures { slice_get self.now.steps i ≡ Some (seen result) }
     {
-        match self.records[i] {
-            Record::Local(thread) => StepRef::Local(thread),
-            Record::Begin(name) => StepRef::Begin(name),
-            Record::Queue(name) => StepRef::Queue(name),
-            Record::Deliver(at) => StepRef::Deliver(delivery(&self.heads, &self.words, at)),
-            Record::Wait(thread) => StepRef::Wait(thread),
-            Record::SendTimeout(name) => StepRef::SendTimeout(name),
-            Record::ReceiveTimeout(thread) => StepRef::ReceiveTimeout(thread),
-            Record::SendNobody(name) => StepRef::SendNobody(name),
-            Record::ReceiveNobody(thread) => StepRef::ReceiveNobody(thread),
-            Record::SendCancel(name) => StepRef::SendCancel(name),
-            Record::ReceiveCancel(thread) => StepRef::ReceiveCancel(thread),
-            Record::Drop(name) => StepRef::Drop(name),
-            Record::Order {
-                caller,
-                target,
-                what,
-            } => StepRef::Order {
-                caller,
-                target,
-                what,
-            },
-            Record::Obey(caller) => StepRef::Obey(caller),
-            Record::Tick(tick) => StepRef::Tick(tick),
-            Record::Retarget(name) => StepRef::Retarget(name),
+        match self.records[i].as_delivery() {
+            Ok(at) => Step::Deliver(delivery(&self.heads, &self.words, *at)),
+            Err(step) => step,
         }
     }
 }

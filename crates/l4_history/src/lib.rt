@@ -5,8 +5,6 @@
 #![tactic(auto)]
 
 pub mod history;
-pub mod message_ref;
 mod records;
 pub mod sink;
-pub mod step_ref;
 pub mod steps;

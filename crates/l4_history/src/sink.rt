@@ -3,13 +3,13 @@ ghost use Rattle.std.specs.Prelude.{◌≡◌, ◌<◌, ◌≤◌, ◌+◌, ◌-
 ghost use Rattle.std.specs.Vec.{vec_capacity};
 ghost use Rattle.arrayvec.specs.ArrayVec.{array_vec_len};
 ghost use Rattle.l4_model.specs.Steps.{Step as ModelStep};
-ghost use Rattle.l4_types.specs.StepView.{step_of};
-ghost use Rattle.l4_history.specs.Seen.{seen};
+ghost use Rattle.l4_types.specs.StepView.{seen, step_of};
+ghost use Rattle.l4_history.specs.Rows.{HasMore};
 
 use crate::history::{EVENT_STEPS, History};
-use crate::step_ref::StepRef;
 use arrayvec::ArrayVec;
 use l4_types::errors::NoMemory;
+use l4_types::step_ref::StepRef;
 use l4_types::steps::Step;
 
 /// What is told the steps of a machine, one after another.
@@ -98,7 +98,8 @@ impl<const CAP: usize> Sink for ArrayVec<Step, CAP> {
 
 /// Tells steps one after another, and makes room for each. Where memory is refused, those before have been told.
 pub fn tell<S: Sink>(sink: &mut S, steps: &[Step]) -> Result<(), NoMemory>
-    ensures { OnOk result (S.told sink.new ≡ S.told sink.old ++ map step_of steps.now) }
+    ensures ok { OnOk result (S.told sink.new ≡ S.told sink.old ++ map step_of steps.now) }
+    ensures err { OnErr result (HasMore (S.told sink.old) (S.told sink.new)) }
 {
     for step in steps {
         sink.reserve()?;

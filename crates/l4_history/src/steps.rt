@@ -1,9 +1,9 @@
 //! The steps of a history, one after another.
 ghost use Rattle.std.specs.Iterator.{YieldsFirstBy, item_count};
-ghost use Rattle.l4_history.specs.Seen.{seen};
+ghost use Rattle.l4_types.specs.StepView.{seen};
 
 use crate::history::History;
-use crate::step_ref::StepRef;
+use l4_types::step_ref::StepRef;
 use std::marker::Model;
 
 /// Goes over steps of a history in order, and moves none.

@@ -1,10 +1,10 @@
 // Steps in a history, and out of it.
 use l4_history::history::History;
 use l4_history::sink::tell;
-use l4_history::step_ref::StepRef;
 use l4_trace::reading::read_events;
 use l4_types::errors::NoMemory;
 use l4_types::ids::GlobalId;
+use l4_types::step_ref::StepRef;
 use l4_types::steps::{Name, Step};
 use std::process::Abort;
 use std::test::Fail;

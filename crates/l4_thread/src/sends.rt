@@ -7,8 +7,8 @@ ghost use Rattle.l4_thread.specs.Held.{with_words, sent_with, AreFew};
 ghost use Rattle.l4_thread.specs.Partners.{turned_from};
 ghost use Rattle.l4_thread.specs.declared.sends.Words.TheVariants.{InRegisters, Apart};
 
-use l4_history::message_ref::MessageRef;
 use l4_types::ids::{GlobalId, ThreadId};
+use l4_types::message_ref::MessageRef;
 use l4_types::times::Period;
 use std::marker::Model;
 

@@ -2,7 +2,7 @@
 #![tactic(auto)]
 
 pub mod fault;
-mod kinds;
+mod keywords;
 pub mod lines;
 pub mod reading;
 mod steps;

@@ -1,38 +1,40 @@
 //! The lines of a trace: one for each step.
-ghost use Rattle.std.specs.Prelude.{◌≡◌, ◌≤◌, ◌+◌, ◌*◌, true, List, ◌++◌, codes, length, drop, OnOk, OnErr};
+ghost use Rattle.std.specs.Prelude.{◌≡◌, ◌≤◌, ◌+◌, ◌*◌, true, List, [], ◌∷◌, ◌++◌, codes, decimal, length, drop, OnOk, OnErr};
 ghost use Rattle.std.specs.List.{list_all};
 ghost use Rattle.l4_model.specs.Words.{is_global};
-ghost use Rattle.l4_model.specs.Steps.{Step as ModelStep, Order as ModelOrder, Tick as ModelTick};
-ghost use Rattle.l4_types.specs.StepView.{step_of, what_of};
-ghost use Rattle.l4_history.specs.Seen.{delivered, seen};
-ghost use Rattle.l4_trace.specs.Lines.{thread_word, name_word, what_word, line_of, trace_of, is_name, has_line};
-ghost use Rattle.l4_trace.specs.Room.{most_bytes};
+ghost use Rattle.l4_model.specs.Steps.{Step as ModelStep, Tick as ModelTick};
+ghost use Rattle.l4_types.specs.StepView.{delivered, seen, step_of, what_of};
+ghost use Rattle.l4_trace.specs.Lines.{thread_word, name_word, what_word, line_of, line_of_words, trace_of, is_name, has_line};
 
-use l4_history::step_ref::{DeliveryRef, StepRef};
+use crate::keywords::{DELIVER, by_keyword};
 use l4_types::errors::NoMemory;
 use l4_types::ids::GlobalId;
 use l4_types::messages::MOST_WORDS;
+use l4_types::step_ref::{DeliveryRef, StepRef};
 use l4_types::steps::{Name, Step, Tick, What};
-use l4_words::digits::write_byte;
+use l4_words::digits::{write_byte, write_bytes};
 use l4_words::pieces::{
-    WORD_BYTES, write_keyword, write_name, write_number, write_thread, write_word, write_words,
+    WORD_BYTES, write_name, write_number, write_thread, write_word, write_words,
 };
 
 // The first word of a line, and the last one of an order, take at most so many bytes.
 const KEYWORD_BYTES: usize = 8;
 
-// The line of a step that is no delivery takes at most so many bytes.
-const OTHER_BYTES: usize = 64;
+/// A line takes at most so many bytes: that of a delivery, whose message has the most words.
+pub(crate) const LONGEST_LINE: usize = 134 + WORD_BYTES * MOST_WORDS;
 
-// The line of a delivery takes at most so many bytes, besides those of the words of its message.
-const DELIVERY_BYTES: usize = 134;
-
-// Lines of deliveries of more words get the room for the longest line, which takes longer to clear.
-const FEW_WORDS: usize = 4;
-
-const SHORT_LINE: usize = DELIVERY_BYTES + WORD_BYTES * FEW_WORDS;
-
-const LONG_LINE: usize = DELIVERY_BYTES + WORD_BYTES * MOST_WORDS;
+// The line of a step, by the row of its keyword.
+macro_rules! write_rows {
+    (
+        ($step:ident, $line:ident)
+        $($keyword:literal => $variant:ident $fields:tt, $read:ident, $write:ident($($operand:ident),*);)*
+    ) => {
+        match $step {
+            Step::Deliver(delivery) => write_delivery(delivery, $line),
+            $(Step::$variant $fields => $write($keyword, $(*$operand,)* $line),)*
+        }
+    };
+}
 
 /// Appends the line of a step, with its line feed. Where memory is refused, nothing is appended.
 pub fn write_event(step: &Step, out: &mut Vec<u8>) -> Result<(), NoMemory>
@@ -49,86 +51,66 @@ pub fn write_step(step: &StepRef<'_>, out: &mut Vec<u8>) -> Result<(), NoMemory>
     ensures spelled { OnOk result (has_line (seen step.now) ≡ true) }
     ensures err { OnErr result (out.new.items ≡ out.old.items) }
 {
-    match step {
-        StepRef::Deliver(delivery) if delivery.message.words().len() > FEW_WORDS => {
-            append_line::<LONG_LINE>(step, out)
-        }
-        _ => append_line::<SHORT_LINE>(step, out),
-    }
+    let mut line = [0; LONGEST_LINE];
+    append_line(step, &mut line, out)
 }
 
-// Appends the line of a step. It is written where it has room for certain, since its length is known only then.
-fn append_line<const ROOM: usize>(step: &StepRef<'_>, out: &mut Vec<u8>) -> Result<(), NoMemory>
-    requires room { most_bytes step.now ≤ ROOM }
-    requires small { ROOM ≤ LONG_LINE }
+/// Appends the line of a step, which is written into `line` first, since its length is known only then. One room serves many lines.
+pub(crate) fn append_line(
+    step: &StepRef<'_>,
+    line: &mut [u8],
+    out: &mut Vec<u8>,
+) -> Result<(), NoMemory>
+    requires { LONGEST_LINE ≤ length line.old }
     ensures ok { OnOk result (out.new.items ≡ out.old.items ++ line_of (seen step.now)) }
     ensures spelled { OnOk result (has_line (seen step.now) ≡ true) }
     ensures err { OnErr result (out.new.items ≡ out.old.items) }
 {
-    let mut line = [0; ROOM];
-    let start = write_line(step, &mut line);
-    let line = &line[..];
+    let start = write_line(step, line);
     out.extend_from_slice(&line[start..])?;
     Ok(())
 }
 
 // Writes the line of a step at the end of the room for a line. Answers where it starts.
 fn write_line(step: &StepRef<'_>, line: &mut [u8]) -> usize
-    requires { most_bytes step.now ≤ length line.old }
+    requires { LONGEST_LINE ≤ length line.old }
     ensures within { result ≤ length line.new }
     ensures written { drop result line.new ≡ line_of (seen step.now) }
     ensures spelled { has_line (seen step.now) ≡ true }
 {
-    match step {
-        StepRef::Local(thread) => write_thread_line(b"local", *thread, line),
-        StepRef::Begin(name) => write_name_line(b"begin", *name, line),
-        StepRef::Queue(name) => write_name_line(b"queue", *name, line),
-        StepRef::Deliver(delivery) => write_delivery(delivery, line),
-        StepRef::Wait(thread) => write_thread_line(b"wait", *thread, line),
-        StepRef::SendTimeout(name) => write_name_line(b"stimeout", *name, line),
-        StepRef::ReceiveTimeout(thread) => write_thread_line(b"rtimeout", *thread, line),
-        StepRef::SendNobody(name) => write_name_line(b"snobody", *name, line),
-        StepRef::ReceiveNobody(thread) => write_thread_line(b"rnobody", *thread, line),
-        StepRef::SendCancel(name) => write_name_line(b"scancel", *name, line),
-        StepRef::ReceiveCancel(thread) => write_thread_line(b"rcancel", *thread, line),
-        StepRef::Drop(name) => write_name_line(b"drop", *name, line),
-        StepRef::Order {
-            caller,
-            target,
-            what,
-        } => write_order(*caller, *target, *what, line),
-        StepRef::Obey(caller) => write_thread_line(b"obey", *caller, line),
-        StepRef::Tick(tick) => write_tick(*tick, line),
-        StepRef::Retarget(name) => write_name_line(b"retarget", *name, line),
-    }
+    by_keyword!(write_rows(step, line))
 }
 
+// A keyword of known length is copied at once, so it is written where the step is known.
+#[inline(always)]
 fn write_thread_line(keyword: &[u8], thread: GlobalId, line: &mut [u8]) -> usize
     requires short { length keyword.now ≤ KEYWORD_BYTES }
-    requires room { OTHER_BYTES ≤ length line.old }
+    requires room { LONGEST_LINE ≤ length line.old }
     ensures within { result ≤ length line.new }
     ensures written { drop result line.new ≡ keyword.now ++ codes " " ++ thread_word thread ++ codes "\n" }
     ensures spelled { is_global thread ≡ true }
 {
     let end = write_byte(b'\n', line, line.len());
     let start = write_thread(thread, line, end);
-    write_keyword(keyword, line, start)
+    write_bytes(keyword, line, start)
 }
 
+// The same of the name of a send.
+#[inline(always)]
 fn write_name_line(keyword: &[u8], name: Name, line: &mut [u8]) -> usize
     requires short { length keyword.now ≤ KEYWORD_BYTES }
-    requires room { OTHER_BYTES ≤ length line.old }
+    requires room { LONGEST_LINE ≤ length line.old }
     ensures within { result ≤ length line.new }
     ensures written { drop result line.new ≡ keyword.now ++ codes " " ++ name_word name ++ codes "\n" }
     ensures spelled { is_name name ≡ true }
 {
     let end = write_byte(b'\n', line, line.len());
     let start = write_name(name, line, end);
-    write_keyword(keyword, line, start)
+    write_bytes(keyword, line, start)
 }
 
 fn write_delivery(delivery: &DeliveryRef<'_>, line: &mut [u8]) -> usize
-    requires { DELIVERY_BYTES + WORD_BYTES * length delivery.now.message.words ≤ length line.old }
+    requires { LONGEST_LINE ≤ length line.old }
     ensures within { result ≤ length line.new }
     ensures written { drop result line.new ≡ line_of (delivered delivery.now) }
     ensures spelled { has_line (delivered delivery.now) ≡ true }
@@ -141,33 +123,45 @@ fn write_delivery(delivery: &DeliveryRef<'_>, line: &mut [u8]) -> usize
     let shown = write_thread(message.shown(), line, actual);
     let receiver = write_thread(delivery.receiver, line, shown);
     let name = write_name(delivery.name, line, receiver);
-    write_keyword(b"deliver", line, name)
+    write_bytes(DELIVER, line, name)
 }
 
-fn write_order(caller: GlobalId, target: GlobalId, what: What, line: &mut [u8]) -> usize
-    requires { OTHER_BYTES ≤ length line.old }
+fn write_order(
+    keyword: &[u8],
+    caller: GlobalId,
+    target: GlobalId,
+    what: What,
+    line: &mut [u8],
+) -> usize
+    requires short { length keyword.now ≤ KEYWORD_BYTES }
+    requires room { LONGEST_LINE ≤ length line.old }
     ensures within { result ≤ length line.new }
-    ensures written { drop result line.new ≡ line_of (ModelOrder caller target (what_of what)) }
-    ensures spelled { has_line (ModelOrder caller target (what_of what)) ≡ true }
+    ensures written { drop result line.new
+        ≡ line_of_words (keyword.now ∷ thread_word caller ∷ thread_word target
+        ∷ what_word (what_of what) ∷ []) }
+    ensures caller { is_global caller ≡ true }
+    ensures target { is_global target ≡ true }
 {
     let end = write_byte(b'\n', line, line.len());
-    let word = write_keyword(spelled(what), line, end);
+    let word = write_bytes(spelled(what), line, end);
     let space = write_byte(b' ', line, word);
     let second = write_thread(target, line, space);
     let first = write_thread(caller, line, second);
-    write_keyword(b"order", line, first)
+    write_bytes(keyword, line, first)
 }
 
-fn write_tick(tick: Tick, line: &mut [u8]) -> usize
-    requires { OTHER_BYTES ≤ length line.old }
+fn write_tick(keyword: &[u8], tick: Tick, line: &mut [u8]) -> usize
+    requires short { length keyword.now ≤ KEYWORD_BYTES }
+    requires room { LONGEST_LINE ≤ length line.old }
     ensures within { result ≤ length line.new }
-    ensures written { drop result line.new ≡ line_of (ModelTick tick.cpu tick.clock) }
+    ensures written { drop result line.new
+        ≡ line_of_words (keyword.now ∷ decimal tick.cpu ∷ decimal tick.clock ∷ []) }
     ensures spelled { has_line (ModelTick tick.cpu tick.clock) ≡ true }
 {
     let end = write_byte(b'\n', line, line.len());
     let clock = write_number(tick.clock(), line, end);
     let cpu = write_number(u64::from(tick.cpu()), line, clock);
-    write_keyword(b"tick", line, cpu)
+    write_bytes(keyword, line, cpu)
 }
 
 fn spelled(what: What) -> &'static [u8]

@@ -1,21 +1,22 @@
 //! The steps that lines spell.
-ghost use Rattle.std.specs.Prelude.{◌≡◌, ◌<◌, [], length, is_some, MatchOption, None, Some};
+ghost use Rattle.std.specs.Prelude.{◌≡◌, ◌<◌, [], false, codes, length, is_some, MatchOption, None, Some};
 ghost use Rattle.std.specs.Option.{option_map};
+ghost use Rattle.std.specs.Str.{bytes_eq};
 ghost use Rattle.l4_model.specs.Words.{register_count};
-ghost use Rattle.l4_types.specs.StepView.{what_of};
-ghost use Rattle.l4_history.specs.Seen.{seen, delivered as seen_delivery};
+ghost use Rattle.l4_model.specs.Steps.{Order as ModelOrder, Tick as ModelTick};
+ghost use Rattle.l4_types.specs.StepView.{seen, delivered as seen_delivery, what_of};
 ghost use Rattle.l4_words.specs.Words.{Finds};
 ghost use Rattle.l4_trace.specs.Reading.{message_words, delivered, delivery_of, what_of_word, order_of, tick_of, of_thread, of_name, step_behind, step_of_line};
 ghost use Rattle.l4_trace.specs.Telling.{told_onto};
 
-use crate::kinds::{Kind, kind_of};
+use crate::keywords::{DELIVER, by_keyword};
 use arrayvec::ArrayVec;
 use l4_history::history::History;
-use l4_history::message_ref::MessageRef;
-use l4_history::step_ref::{DeliveryRef, StepRef};
 use l4_types::ids::GlobalId;
+use l4_types::message_ref::MessageRef;
 use l4_types::messages::MOST_WORDS;
-use l4_types::steps::{Name, Tick, What};
+use l4_types::step_ref::{DeliveryRef, StepRef};
+use l4_types::steps::{Name, Step, Tick, What};
 use l4_types::tags::MsgTag;
 use l4_words::names::name;
 use l4_words::numbers::{decimal, hexadecimal};
@@ -64,33 +65,30 @@ fn what(word: &[u8]) -> Option<What>
 
 /// What stands behind `order`.
 #[tactic(auto, unfolding(crate::specs::Reading::order_of))]
-fn order(operands: Words<'_>) -> Option<StepRef<'static>>
-    ensures { Finds seen result (order_of operands.entry) }
+fn order(operands: Words<'_>) -> Option<(GlobalId, GlobalId, What)>
+    ensures { Finds (λ order. ModelOrder order.0 order.1 (what_of order.2)) result
+        (order_of operands.entry) }
 {
     let (first, second, third) = operands.three()?;
     let caller = thread(first)?;
     let target = thread(second)?;
     let what = what(third)?;
-    Some(StepRef::Order {
-        caller,
-        target,
-        what,
-    })
+    Some((caller, target, what))
 }
 
 /// What stands behind `tick`.
 #[tactic(auto, unfolding(crate::specs::Reading::tick_of))]
-fn tick(operands: Words<'_>) -> Option<StepRef<'static>>
-    ensures { Finds seen result (tick_of operands.entry) }
+fn tick(operands: Words<'_>) -> Option<Tick>
+    ensures { Finds (λ tick. ModelTick tick.cpu tick.clock) result (tick_of operands.entry) }
 {
     let (first, second) = operands.two()?;
     let cpu = decimal(first)?;
     let clock = decimal(second)?;
-    let tick = Tick::new(u8::try_from(cpu).ok()?, clock)?;
-    Some(StepRef::Tick(tick))
+    Tick::new(u8::try_from(cpu).ok()?, clock)
 }
 
 /// The thread that stands alone behind a word.
+#[inline(always)]
 #[tactic(auto, unfolding(crate::specs::Reading::of_thread))]
 fn of_thread(operands: Words<'_>) -> Option<GlobalId>
     ensures { result ≡ of_thread operands.entry }
@@ -99,6 +97,7 @@ fn of_thread(operands: Words<'_>) -> Option<GlobalId>
 }
 
 /// The name that stands alone behind a word.
+#[inline(always)]
 #[tactic(auto, unfolding(crate::specs::Reading::of_name))]
 fn of_name(operands: Words<'_>) -> Option<Name>
     ensures { result ≡ of_name operands.entry }
@@ -152,7 +151,31 @@ fn tell_delivery(operands: Words<'_>, words: &mut ReadWords, history: &mut Histo
     Some(())
 }
 
+// The step behind a word, by the row of its keyword.
+macro_rules! read_rows {
+    (
+        ($word:ident, $operands:ident)
+        $($keyword:literal => $variant:ident $fields:tt, $read:ident, $write:ident($($operand:ident),*);)*
+    ) => {{
+        $(if $word == $keyword.as_slice() {
+            let ($($operand),*) = $read($operands)?;
+            return Some(Step::$variant $fields);
+        })*
+        None
+    }};
+}
+
+/// The step of a line that begins with this word, but a delivery.
+#[tactic(auto, unfolding(crate::specs::Reading::step_behind))]
+fn other_step(word: &[u8], operands: Words<'_>) -> Option<StepRef<'static>>
+    requires { bytes_eq word.now (codes "deliver") ≡ false }
+    ensures { Finds seen result (step_behind word.now operands.entry) }
+{
+    by_keyword!(read_rows(word, operands))
+}
+
 /// Tells the step of a line that begins with this word.
+#[tactic(auto, unfolding(crate::specs::Reading::step_behind))]
 fn tell_behind(
     word: &[u8],
     operands: Words<'_>,
@@ -163,14 +186,10 @@ fn tell_behind(
     ensures found { is_some result ≡ is_some (step_behind word.now operands.entry) }
     ensures told { history.new ≡ told_onto history.old (step_behind word.now operands.entry) }
 {
-    let step = match kind_of(word)? {
-        Kind::OfThread(kind) => kind.step(of_thread(operands)?),
-        Kind::OfName(kind) => kind.step(of_name(operands)?),
-        Kind::Delivery => return tell_delivery(operands, words, history),
-        Kind::Order => order(operands)?,
-        Kind::Tick => tick(operands)?,
-    };
-    history.push(step);
+    if word == DELIVER {
+        return tell_delivery(operands, words, history);
+    }
+    history.push(other_step(word, operands)?);
     Some(())
 }
 

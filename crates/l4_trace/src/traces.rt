@@ -4,9 +4,10 @@ ghost use Rattle.std.specs.List.{list_all};
 ghost use Rattle.l4_types.specs.StepView.{step_of};
 ghost use Rattle.l4_trace.specs.Lines.{has_line, trace_of};
 
-use crate::lines::{write_event, write_step};
+use crate::lines::{LONGEST_LINE, append_line};
 use l4_history::history::History;
 use l4_types::errors::NoMemory;
+use l4_types::step_ref::StepRef;
 use l4_types::steps::Step;
 use std::alloc::Global;
 
@@ -16,8 +17,9 @@ pub fn trace(alloc: Global, history: &[Step]) -> Result<Vec<u8>, NoMemory>
     ensures spelled { IfOk result (λ lines. list_all has_line (map step_of history.now) ≡ true) }
 {
     let mut lines = Vec::new(alloc);
+    let mut line = [0; LONGEST_LINE];
     for step in history {
-        write_event(step, &mut lines)?;
+        append_line(&StepRef::from(step), &mut line, &mut lines)?;
     }
     Ok(lines)
 }
@@ -28,8 +30,9 @@ pub fn trace_history(alloc: Global, history: &History) -> Result<Vec<u8>, NoMemo
     ensures spelled { IfOk result (λ lines. list_all has_line history.now.steps ≡ true) }
 {
     let mut lines = Vec::new(alloc);
+    let mut line = [0; LONGEST_LINE];
     for step in history.steps() {
-        write_step(&step, &mut lines)?;
+        append_line(&step, &mut line, &mut lines)?;
     }
     Ok(lines)
 }

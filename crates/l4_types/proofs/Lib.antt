@@ -1,3 +1,4 @@
 pub mod InFormats
 pub mod Products
+pub mod Seen
 mod Values

@@ -1,8 +1,9 @@
 //! The steps of a machine, and the events that processors tell.
-ghost use Rattle.std.specs.Prelude.{◌≡◌, ◌<◌, ◌^◌, ◌↔◌, IsSome, IfSome};
+ghost use Rattle.std.specs.Prelude.{◌≡◌, ◌<◌, ◌^◌, ◌↔◌, IsSome, IfSome, MatchResult};
 ghost use Rattle.l4_model.specs.Words.{word_of_tag, tag_of_word, clock_limit};
 ghost use Rattle.l4_model.specs.Machine.{most_processors};
 ghost use Rattle.l4_model.specs.Rules.{received_tag};
+ghost use Rattle.l4_types.specs.StepView.{IsSameOther};
 
 use crate::ids::GlobalId;
 use crate::messages::Message;
@@ -155,9 +156,10 @@ impl Tick {
     }
 }
 
-/// One step of a machine. It holds only what a line of a trace can spell.
-#[derive(PartialEq, Eq, Debug, Drop)]
-pub enum Step {
+/// One step of a machine. It holds only what a line of a trace can spell. A delivery is held as a `D`: whole, only looked at, or as the
+/// place where it is kept.
+#[derive(Clone, Copy, PartialEq, Eq, Debug, Drop)]
+pub enum Step<D = Delivery> {
     /// The thread ran an instruction that concerns nobody else, or ended.
     Local(GlobalId),
     /// A thread began this send.
@@ -165,7 +167,7 @@ pub enum Step {
     /// The send was appended to the list of its receiver.
     Queue(Name),
     /// The message of a send was delivered.
-    Deliver(Delivery),
+    Deliver(D),
     /// The thread began a receive phase without a send phase.
     Wait(GlobalId),
     /// The send was refused, since its time has passed.
@@ -199,7 +201,7 @@ pub enum Step {
     Retarget(Name),
 }
 
-impl Default for Step {
+impl<D> Default for Step<D> {
     ghost use Rattle.std.specs.Prelude.{◌≡◌};
     ghost use Rattle.l4_model.specs.Words.{global_id};
     ghost use Rattle.l4_types.specs.declared.steps.Step.TheVariants.{Local};
@@ -207,8 +209,45 @@ impl Default for Step {
     ghost is_default = { λ step. step ≡ Local (global_id 0 1) };
 
     /// What stands in an unused place.
-    fn default() -> Step {
+    fn default() -> Step<D> {
         Step::Local(GlobalId::default())
+    }
+}
+
+impl<D> Step<D> {
+    /// The delivery. Where the step is none, the same step, which may hold a delivery as anything else.
+    #[inline(always)]
+    pub fn as_delivery<E>(&self) -> Result<&D, Step<E>>
+        ensures { MatchResult result
+            (λ delivery. self.now ≡ Step.Deliver delivery.now)
+            (IsSameOther self.now) }
+    {
+        Err(match self {
+            Step::Deliver(delivery) => return Ok(delivery),
+            Step::Local(thread) => Step::Local(*thread),
+            Step::Begin(name) => Step::Begin(*name),
+            Step::Queue(name) => Step::Queue(*name),
+            Step::Wait(thread) => Step::Wait(*thread),
+            Step::SendTimeout(name) => Step::SendTimeout(*name),
+            Step::ReceiveTimeout(thread) => Step::ReceiveTimeout(*thread),
+            Step::SendNobody(name) => Step::SendNobody(*name),
+            Step::ReceiveNobody(thread) => Step::ReceiveNobody(*thread),
+            Step::SendCancel(name) => Step::SendCancel(*name),
+            Step::ReceiveCancel(thread) => Step::ReceiveCancel(*thread),
+            Step::Drop(name) => Step::Drop(*name),
+            Step::Order {
+                caller,
+                target,
+                what,
+            } => Step::Order {
+                caller: *caller,
+                target: *target,
+                what: *what,
+            },
+            Step::Obey(caller) => Step::Obey(*caller),
+            Step::Tick(tick) => Step::Tick(*tick),
+            Step::Retarget(name) => Step::Retarget(*name),
+        })
     }
 }
 

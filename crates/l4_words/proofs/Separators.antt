@@ -6,7 +6,7 @@ use Rattle.std.proofs.lemmas.Bool.{false≢true, eqb-true, eq-eqb, ltb-true, ltb
 use Rattle.std.proofs.lemmas.List.{get_or-take, length-take-le}
 use Rattle.std.proofs.lemmas.List.Quantifiers.{position-Some}
 use Rattle.std.proofs.lemmas.List.Sums.{position_or_len_is, prefix_len_passes, prefix_len_stops}
-use Rattle.l4_model.specs.Conditions.{◌>>=◌, ◌>>◌}
+use Rattle.l4_model.specs.Conditions.{◌>>=◌}
 use Rattle.l4_words.specs.Numbers.{digit_of, with_digit, number_onto, value_of, has_leading_zero, number_of}
 use Rattle.l4_words.proofs.Front.{is_digit}
 use Rattle.l4_words.proofs.Places.{at_place, at_end}

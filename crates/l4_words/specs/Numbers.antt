@@ -1,6 +1,6 @@
 -- Numbers as words spell them.
-use Rattle.std.specs.Prelude.{ℕ, ◌+◌, ◌-◌, ◌*◌, ◌^◌, Bool, false, not, ◌==◌, ◌&&◌, nat_lt, nat_le, if◌then◌else◌, Option, Some, None, List, [], ◌∷◌, length, slice_index}
-use Rattle.std.specs.Fmt.{digits}
+use Rattle.std.specs.Prelude.{ℕ, zero, suc, ◌+◌, ◌-◌, ◌*◌, ◌/◌, ◌%◌, ◌^◌, Bool, false, not, ◌==◌, ◌&&◌, nat_lt, nat_le, if◌then◌else◌, Option, Some, None, List, [], ◌∷◌, ◌++◌, length, slice_index}
+use Rattle.std.specs.Fmt.{digits, digit_glyph}
 use Rattle.l4_model.specs.Conditions.{◌>>=◌, ◌>>◌}
 
 abbrev pub is_word : ℕ → Bool
@@ -9,6 +9,15 @@ is_word n = nat_lt n (2 ^ 64)
 -- In lower case, with no prefix and no leading zero, as `decimal` has none: 0 is `0`.
 abbrev pub hexadecimal : ℕ → List ℕ
 hexadecimal n = digits 16 false n
+
+-- The two digits of a byte.
+abbrev pub byte_digits : ℕ → List ℕ
+byte_digits byte = digit_glyph false (byte / 16) ∷ digit_glyph false (byte % 16) ∷ []
+
+-- The digits of so many bytes of a number, the lowest ones last. Leading zeros are among them.
+unfoldable pub pairs_of : (bytes n : ℕ) → List ℕ
+pairs_of zero n = []
+pairs_of (suc bytes) n = pairs_of bytes (n / 256) ++ byte_digits (n % 256)
 
 -- `0` to `9` are the bytes 48 to 57, `a` to `f` 97 to 102.
 abbrev pub digit_of : (radix byte : ℕ) → Option ℕ

@@ -6,6 +6,7 @@ ghost use Rattle.l4_words.specs.Lines.{parts_of};
 use memchr::memchr;
 
 /// The place of the first such byte.
+#[inline(always)]
 pub fn find_byte(byte: u8, bytes: &[u8]) -> Option<usize>
     ensures { result ≡ position (λ other. other == byte) bytes.now }
 {
@@ -33,6 +34,7 @@ fn split_at(byte: u8, bytes: &[u8], place: Option<usize>) -> Option<(&[u8], &[u8
 }
 
 /// What stands before the first such byte, and what follows it. None where there is no such byte.
+#[inline(always)]
 pub fn split_once(byte: u8, bytes: &[u8]) -> Option<(&[u8], &[u8])>
     ensures parts { MatchOption result
         (slice_split (λ other. other == byte) bytes.now ≡ bytes.now ∷ [])

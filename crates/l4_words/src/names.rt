@@ -8,6 +8,7 @@ use crate::threads::thread;
 use l4_types::steps::Name;
 
 /// The send of a thread and a decimal number.
+#[inline(always)]
 fn name_between(thread_word: &[u8], k: &[u8]) -> Option<Name>
     ensures { result ≡ name_between thread_word.now k.now }
 {
@@ -17,6 +18,7 @@ fn name_between(thread_word: &[u8], k: &[u8]) -> Option<Name>
 }
 
 /// The name of a send, `N.V#K`.
+#[inline(always)]
 pub fn name(word: &[u8]) -> Option<Name>
     ensures { result ≡ name_of word.now }
 {

@@ -182,6 +182,7 @@ pub(crate) fn hexadecimal_in_front(text: &[u8]) -> (Option<u64>, usize)
 }
 
 /// The number of decimal digits without a leading zero. None where it is 2^64 or more.
+#[inline(always)]
 pub fn decimal(word: &[u8]) -> Option<u64>
     ensures { result ≡ number_of 10 word.now }
 {

@@ -28,6 +28,7 @@ pub const NAME_BYTES: usize = 43;
 pub const WORD_BYTES: usize = 17;
 
 // Writes half a thread id in decimal in front of a place of the line. Answers where it starts.
+#[inline(always)]
 #[tactic(auto, using(crate::proofs::Lengths::at_most_10))]
 fn write_half(half: u32, line: &mut [u8], end: usize) -> usize
     requires room { HALF_BYTES ≤ end }
@@ -53,6 +54,7 @@ pub fn write_number(number: u64, line: &mut [u8], end: usize) -> usize
 }
 
 /// Writes a space and a thread, `N.V`, its number and its version in decimal, in front of a place of the line. Answers where they start.
+#[inline(always)]
 pub fn write_thread(thread: GlobalId, line: &mut [u8], end: usize) -> usize
     requires room { THREAD_BYTES ≤ end }
     requires within { end ≤ length line.old }
@@ -68,6 +70,7 @@ pub fn write_thread(thread: GlobalId, line: &mut [u8], end: usize) -> usize
 }
 
 /// Writes a space and the name of a send, `N.V#K`, in front of a place of the line. Answers where they start.
+#[inline(always)]
 #[tactic(auto, using(crate::proofs::Lengths::at_most_20))]
 pub fn write_name(name: Name, line: &mut [u8], end: usize) -> usize
     requires room { NAME_BYTES ≤ end }
@@ -112,16 +115,4 @@ pub fn write_words(words: &[u64], line: &mut [u8], end: usize) -> usize
         rest = before;
     }
     at
-}
-
-/// Writes the first word of a line in front of a place of the line. Answers where it starts.
-pub fn write_keyword(keyword: &[u8], line: &mut [u8], end: usize) -> usize
-    requires room { length keyword.now ≤ end }
-    requires within { end ≤ length line.old }
-    ensures room { end ≤ result + length keyword.now }
-    ensures written { drop result line.new ≡ keyword.now ++ drop end line.old }
-{
-    let start = end - keyword.len();
-    line[start..end].copy_from_slice(keyword);
-    start
 }

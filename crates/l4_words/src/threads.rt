@@ -7,6 +7,7 @@ use crate::numbers::decimal;
 use l4_types::ids::GlobalId;
 
 /// The thread of a decimal number and a decimal version.
+#[inline(always)]
 fn thread_between(number: &[u8], version: &[u8]) -> Option<GlobalId>
     ensures { result ≡ thread_between number.now version.now }
 {
@@ -16,6 +17,7 @@ fn thread_between(number: &[u8], version: &[u8]) -> Option<GlobalId>
 }
 
 /// The thread of a word `N.V`, its number and its version in decimal (manual: ThreadId). None where they make no global id.
+#[inline(always)]
 pub fn thread(word: &[u8]) -> Option<GlobalId>
     ensures { result ≡ thread_of word.now }
 {

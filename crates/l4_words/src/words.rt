@@ -41,6 +41,7 @@ impl<'a> Words<'a> {
     }
 
     /// The next word, or None where no word is left.
+    #[inline(always)]
     pub fn next(&mut self) -> Option<&'a [u8]>
         ensures { MatchOption result
             ((self.old ≡ []) × (self.new ≡ []))
@@ -81,6 +82,7 @@ impl<'a> Words<'a> {
     }
 
     /// The one word that is left. None where there are more or fewer.
+    #[inline(always)]
     pub fn one(mut self) -> Option<&'a [u8]>
         ensures { Finds (λ word. word.now) result (one self.entry) }
     {

@@ -5,19 +5,19 @@ ghost use Rattle.l4_model.specs.Machine.{same_cpu};
 ghost use Rattle.l4_model.specs.Rules.{owed_by};
 ghost use Rattle.l4_model.specs.Steps.{next};
 ghost use Rattle.l4_types.specs.OwedView.{owed_of};
-ghost use Rattle.l4_history.specs.Seen.{delivered};
+ghost use Rattle.l4_types.specs.StepView.{delivered};
 ghost use Rattle.l4_audit.specs.Audited.{IsOf, Makes, with_world};
 ghost use Rattle.l4_audit.specs.Delivering.{is_delivery, taken_over, IsFound};
 
 use crate::found::{Found, Pending};
 use crate::world::World;
-use l4_history::step_ref::DeliveryRef;
 use l4_script::machine::Machine;
 use l4_thread::sends::SendRef;
 use l4_types::errors::NoMemory;
 use l4_types::ids::GlobalId;
 use l4_types::letters::Decision;
 use l4_types::owed::Owed;
+use l4_types::step_ref::DeliveryRef;
 use l4_types::steps::Name;
 
 // Whether two threads are of different processors, or not declared. They may be those of a send and its receiver, which were found already.

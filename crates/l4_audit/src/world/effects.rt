@@ -13,13 +13,13 @@ ghost use Rattle.l4_audit.specs.Audited.{with_world, id_at};
 ghost use Rattle.l4_audit.specs.Starting.{CanStart, starts_at};
 
 use crate::world::World;
-use l4_history::step_ref::DeliveryRef;
 use l4_script::instructions::Instr;
 use l4_script::machine::Machine;
 use l4_thread::orders::Asked;
 use l4_types::errors::IpcError;
 use l4_types::ids::GlobalId;
 use l4_types::letters::Decision;
+use l4_types::step_ref::DeliveryRef;
 use l4_types::steps::What;
 use tcb_arena::Waiting;
 

@@ -1,13 +1,13 @@
 //! One step after another.
 ghost use Rattle.std.specs.Prelude.{◌≡◌, IfOk};
 ghost use Rattle.l4_model.specs.Steps.{next};
-ghost use Rattle.l4_history.specs.Seen.{seen};
+ghost use Rattle.l4_types.specs.StepView.{seen};
 ghost use Rattle.l4_audit.specs.Audited.{IsOf, IsPlaced, Makes};
 
 use crate::world::World;
-use l4_history::step_ref::StepRef;
 use l4_script::machine::Machine;
 use l4_types::errors::NoMemory;
+use l4_types::step_ref::StepRef;
 
 impl World {
     /// A step is taken, where it is possible. Else false, and nothing may be said of the world any more. It takes memory where a delivery

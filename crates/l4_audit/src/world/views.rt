@@ -4,16 +4,16 @@ ghost use Rattle.std.specs.Option.{option_map};
 ghost use Rattle.l4_model.specs.Conditions.{undecided};
 ghost use Rattle.l4_model.specs.History.{view, waiting, waiting_name};
 ghost use Rattle.l4_types.specs.ReportView.{report_of_view};
-ghost use Rattle.l4_history.specs.Seen.{seen};
+ghost use Rattle.l4_types.specs.StepView.{seen};
 ghost use Rattle.l4_audit.specs.Audited.{IsOf};
 
 use crate::world::World;
 use l4_history::history::History;
-use l4_history::step_ref::StepRef;
 use l4_script::machine::Machine;
 use l4_types::errors::NoMemory;
 use l4_types::ids::ThreadId;
 use l4_types::reports::ThreadView;
+use l4_types::step_ref::StepRef;
 use l4_types::steps::Name;
 use std::alloc::Global;
 

@@ -21,12 +21,12 @@ ghost use Rattle.l4_core.specs.Processor.{with_local};
 ghost use Rattle.l4_core.specs.Turning.{begun_by, IsAtHand, IsFree, IsNotSplit, IsOwnOf, IsReceiver, IsSender};
 
 use crate::known::Known;
-use l4_history::message_ref::MessageRef;
 use l4_script::instructions::Instr;
 use l4_thread::changes::Change;
 use l4_thread::phases::Began;
 use l4_thread::tcb::Tcb;
 use l4_types::ids::GlobalId;
+use l4_types::message_ref::MessageRef;
 use l4_types::steps::{Name, What};
 use l4_types::tags::MsgTag;
 use tcb_arena::Waiting;

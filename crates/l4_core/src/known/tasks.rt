@@ -8,9 +8,9 @@ ghost use Rattle.l4_core.specs.Tasks.{refusal_for, task_of, IsForeign, IsTask};
 ghost use Rattle.l4_core.specs.Turning.{IsOwnOf, IsSender};
 
 use crate::known::Known;
-use l4_history::message_ref::MessageRef;
 use l4_types::ids::GlobalId;
 use l4_types::letters::{Cause, Content, Decision, Refusal};
+use l4_types::message_ref::MessageRef;
 use l4_types::messages::Message;
 use l4_types::owed::Owed;
 use l4_types::steps::{Name, What};

@@ -7,7 +7,7 @@ ghost use Rattle.l4_core.specs.Turning.{IsEvent};
 use crate::processor::{Core, Fault};
 use crate::told::Told;
 use l4_history::sink::Sink;
-use l4_history::step_ref::StepRef;
+use l4_types::step_ref::StepRef;
 use l4_types::steps::{CLOCKS, Tick};
 
 impl Core<'_> {

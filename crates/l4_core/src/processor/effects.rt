@@ -23,11 +23,11 @@ ghost use Rattle.l4_core.specs.Tasks.{IsForeign};
 ghost use Rattle.l4_core.specs.Turning.{begun_by, IsAtHand, IsFree, IsNotSplit, IsOwnOf, IsReceiver, IsSender};
 
 use crate::processor::{Core, note, note_all, note_own, note_zero};
-use l4_history::message_ref::MessageRef;
 use l4_script::instructions::Instr;
 use l4_thread::changes::Change;
 use l4_thread::phases::Began;
 use l4_types::ids::GlobalId;
+use l4_types::message_ref::MessageRef;
 use l4_types::owed::Owed;
 use l4_types::steps::{Name, What};
 use l4_types::tags::MsgTag;

@@ -1,7 +1,7 @@
 //! What was chosen is done.
 ghost use Rattle.std.specs.Prelude.{◌≡◌, ◌<◌, ◌≤◌, Some, slice_get, ℕ, true};
 ghost use Rattle.l4_types.specs.Codes.{code_of};
-ghost use Rattle.l4_history.specs.Seen.{seen};
+ghost use Rattle.l4_types.specs.StepView.{seen};
 ghost use Rattle.l4_core_model.specs.Plain.{due_block};
 ghost use Rattle.l4_core_model.specs.Local.{is_own, thread};
 ghost use Rattle.l4_core_model.specs.Turns.{does_choice, does_duty, times_out, TellsGone, ByDue as IsDue, ByReady as IsReady};
@@ -13,10 +13,10 @@ use crate::known::duties::Duty;
 use crate::processor::{Choice, Core};
 use crate::told::Told;
 use l4_history::sink::Sink;
-use l4_history::step_ref::StepRef;
 use l4_thread::changes::Change;
 use l4_types::errors::IpcError;
 use l4_types::letters::{Cause, Content, Refusal};
+use l4_types::step_ref::StepRef;
 
 impl Core<'_> {
     /// What was chosen is done.

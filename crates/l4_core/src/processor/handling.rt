@@ -14,11 +14,11 @@ ghost use Rattle.l4_core.specs.Turning.{Does, IsEvent};
 use crate::known::tasks::Task;
 use crate::processor::{Core, Fault};
 use crate::told::Told;
-use l4_history::message_ref::MessageRef;
 use l4_history::sink::Sink;
 use l4_thread::changes::Change;
 use l4_types::ids::GlobalId;
 use l4_types::letters::{Content, Decision, Letter};
+use l4_types::message_ref::MessageRef;
 use l4_types::steps::{Name, What};
 
 impl Core<'_> {

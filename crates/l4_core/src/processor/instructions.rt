@@ -17,13 +17,13 @@ ghost use Rattle.l4_core.specs.Turning.{Does, IsAtHand, IsOwnOf};
 use crate::processor::Core;
 use crate::told::Told;
 use l4_history::sink::Sink;
-use l4_history::step_ref::StepRef;
 use l4_script::instructions::Instr;
 use l4_thread::changes::Change;
 use l4_thread::orders::Asked;
 use l4_thread::phases::Began;
 use l4_types::ids::{GlobalId, ThreadId};
 use l4_types::letters::{Cause, Content};
+use l4_types::step_ref::StepRef;
 use l4_types::steps::What;
 
 // Why an order withdraws a send of its target, where it does.

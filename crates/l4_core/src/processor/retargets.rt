@@ -10,9 +10,9 @@ ghost use Rattle.l4_core.specs.Turning.{Does, IsOwnOf};
 use crate::processor::Core;
 use crate::told::Told;
 use l4_history::sink::Sink;
-use l4_history::step_ref::StepRef;
 use l4_types::letters::Content;
 use l4_types::owed::Owed;
+use l4_types::step_ref::StepRef;
 
 impl Core<'_> {
     /// A retarget is owed since a message came to this receiver. It is kept beside the receiver where the originator is of this processor,

@@ -6,15 +6,15 @@ ghost use Rattle.l4_core_model.specs.Local.{thread, is_own};
 ghost use Rattle.l4_core_model.specs.Acts.{arrives, delivers, decides_send, send_goes_to, posts_send, queues_send, refuses, split_place, withdraws};
 ghost use Rattle.l4_core_model.specs.Local.{destination_place};
 ghost use Rattle.l4_types.specs.LetterView.{refusal_of_send, decision_of, cause_of_withdrawal};
-ghost use Rattle.l4_history.specs.Seen.{seen};
+ghost use Rattle.l4_types.specs.StepView.{seen};
 ghost use Rattle.l4_core.specs.Turning.{hands_over, Does, IsNewSender, IsNotSplit, IsOwnOf, IsReceiver, IsSender};
 
 use crate::processor::Core;
 use crate::told::Told;
 use l4_history::sink::Sink;
-use l4_history::step_ref::{DeliveryRef, StepRef};
 use l4_thread::changes::Change;
 use l4_types::letters::{Cause, Content, Decision, Letter, Refusal};
+use l4_types::step_ref::{DeliveryRef, StepRef};
 use l4_types::steps::Name;
 
 // The step that tells a refusal.

@@ -9,5 +9,5 @@ pub returns-clause-written : goal.returns-clause-written
 returns-clause-written c =
     let d = c.args.delivery.now in
     let end : drop c.write_byte-end.result c.write_byte-end.new.line ≡ 10 ∷ [] = grind (arith, common_steps) in
-    rw (c.write_keyword.ensures.written, c.write_name-name.ensures.written, c.write_thread-receiver.ensures.written, c.write_thread-shown.ensures.written, c.write_thread-actual.ensures.written, c.write_word-tag.ensures.written, c.write_words-words.ensures.written, end, c.words.ensures.value, c.shown.ensures, c.actual.ensures, c.raw.ensures.value, c.tag.ensures.word)
+    rw (c.write_bytes.ensures.written, c.write_name-name.ensures.written, c.write_thread-receiver.ensures.written, c.write_thread-shown.ensures.written, c.write_thread-actual.ensures.written, c.write_word-tag.ensures.written, c.write_words-words.ensures.written, end, c.words.ensures.value, c.shown.ensures, c.actual.ensures, c.raw.ensures.value, c.tag.ensures.word)
     (delivery_line (name_word d.name) (thread_word d.receiver) (thread_word d.message.shown) (thread_word d.message.actual) (hexadecimal (received_tag d.cross d.message)) d.message.words)

@@ -3,10 +3,10 @@ ghost use Rattle.std.specs.Prelude.{◌≡◌, ◌<◌, length, false};
 ghost use Rattle.l4_model.specs.Words.{label_limit, register_count};
 ghost use Rattle.l4_types.specs.Flags.{flags_of};
 
+use crate::ids::GlobalId;
+use crate::messages::Message;
+use crate::tags::MsgTag;
 use arrayvec::ArrayVec;
-use l4_types::ids::GlobalId;
-use l4_types::messages::Message;
-use l4_types::tags::MsgTag;
 use std::marker::Model;
 
 /// A message whose words stay where they are: in a message, in a history, or in message registers 1 to u of its sender (manual: Messages

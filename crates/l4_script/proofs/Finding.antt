@@ -1,55 +1,70 @@
--- Threads are found by their ids.
-use Rattle.std.proofs.Common.{◌≡◌, ℕ, suc, ◌+◌, ◌≤◌, arith, Bool, true, false, cond, ◌&&◌, List, [], ◌∷◌, ◌++◌, map, length, Some, None, refl, sym, ap, ◌∙◌, inl, inr, ◌⊎◌}
-use Rattle.std.specs.Prelude.{◌==◌, not, nat_lt, position, find, slice_get}
-use Rattle.std.specs.List.{position_or_len, list_any}
-use Rattle.std.proofs.lemmas.Bool.{cases_eq, eq-eqb, ne_eqb, or_parts}
+-- Threads are found by their numbers.
+use Rattle.std.proofs.Common.{◌≡◌, ℕ, suc, ◌+◌, ◌<◌, ◌≤◌, arith, Bool, true, false, true≢false, cond, ◌∷◌, [], List, length, Option, Some, None, refl, sym, ap, ◌∙◌}
+use Rattle.std.specs.Prelude.{not, find, slice_get, is_some}
+use Rattle.std.specs.List.{position_or_len}
+use Rattle.std.proofs.lemmas.Bool.{eq-eqb, ne_eqb}
 use Rattle.std.proofs.lemmas.Grind.{common_steps}
-use Rattle.std.proofs.lemmas.List.{map_push}
-use Rattle.std.proofs.lemmas.Option.{slice_get_past}
+use Rattle.std.proofs.lemmas.List.Elements.{All-from_get_or}
+use Rattle.std.proofs.lemmas.List.Folds.{list_any_at, list_any_none}
+use Rattle.std.proofs.lemmas.Option.{none-some, slice_get_past}
 use Rattle.l4_model.specs.Words.{GlobalId, same_id}
 use Rattle.l4_model.specs.Machine.{Declaration, Machine, place_of, declaration_of}
-use Rattle.l4_script.specs.Machines.{has_number}
+use Rattle.l4_model.proofs.Chains.{some_is}
+use Rattle.l4_model.proofs.Places.{place_id}
+use Rattle.l4_core_model.specs.Local.{declared, undeclared}
+use Rattle.l4_core_model.specs.Runs.{IsMachine}
+use Rattle.l4_script.specs.Machines.{AreFound, has_number, is_taken}
 
-same_size : (ds : List Declaration) → length (map (λ (d : Declaration). d.id) ds) ≡ length ds
-same_size [] = refl
-same_size (d ∷ ds) = ap suc (same_size ds)
+module _ (places : ℕ → Option ℕ) (m : Machine) (are : AreFound places m) where
+  -- A thread whose number is this one has its place.
+  numbered : (number i : ℕ) → i < length m.threads → (declared m i).id.number ≡ number → places number ≡ Some i
+  numbered number i within named = ap places (sym named) ∙ are.each i within
 
-same_place : (p : GlobalId → Bool) (q : Declaration → Bool) → ((d : Declaration) → p d.id ≡ q d) → (ds : List Declaration) → position_or_len p (map (λ (d : Declaration). d.id) ds) ≡ position_or_len q ds
-same_place p q e [] = refl
-same_place p q e (d ∷ ds) = ap (λ b. cond (not b) (1 + position_or_len p (map (λ (d : Declaration). d.id) ds)) 0) (e d) ∙ ap (λ n. cond (not (q d)) (1 + n) 0) (same_place p q e ds)
+  placed : (id : GlobalId) (i : ℕ) → place_of m id ≡ Some i → (places id.number ≡ Some i) × ((declared m i).id.version ≡ id.version)
+  placed id i e =
+      let at = place_id m id i e undeclared in
+      (numbered id.number i at.0 (ap (λ (t : GlobalId). t.number) at.1), ap (λ (t : GlobalId). t.version) at.1)
 
-same_position : (p : GlobalId → Bool) (q : Declaration → Bool) → ((d : Declaration) → p d.id ≡ q d) → (ds : List Declaration) → position p (map (λ (d : Declaration). d.id) ds) ≡ position q ds
-same_position p q e ds =
-    ap (λ n. cond (nat_lt n (length (map (λ (d : Declaration). d.id) ds))) (Some n) None) (same_place p q e ds) ∙ ap (λ n. cond (nat_lt (position_or_len q ds) n) (Some (position_or_len q ds)) None) (same_size ds)
+  -- The thread at the place of the number, if its version is the same.
+  pub found : (id : GlobalId) (i : ℕ) → IsMachine m → places id.number ≡ Some i → (declared m i).id.version ≡ id.version → place_of m id ≡ Some i
+  found id i machine there same =
+      let at = are.only id.number i there in
+      let named : (declared m i).id ≡ id = λ j. record { number = at.1 j; version = same j } in
+      ap (place_of m) (sym named) ∙ machine.placed i at.0
 
-turned : (a b : ℕ) → (a == b) ≡ (b == a)
-turned a b = by (cases_eq a b)
-  where
-    by : (a ≡ b) ⊎ (a ≡ b → ⊥) → (a == b) ≡ (b == a)
-    by (inl e) = eq-eqb a b e ∙ sym (eq-eqb b a (sym e))
-    by (inr e) = ne_eqb a b e ∙ sym (ne_eqb b a (λ f. e (sym f)))
+  pub other_version : (id : GlobalId) (i : ℕ) → places id.number ≡ Some i → ((declared m i).id.version ≡ id.version → ⊥) → place_of m id ≡ None
+  other_version id i there other = by (place_of m id) refl
+    where
+      by : (o : Option ℕ) → place_of m id ≡ o → o ≡ None
+      by None e = refl
+      by (Some j) e =
+          let at = placed id j e in
+          let same : j ≡ i = some_is j i (sym at.0 ∙ there) in
+          absurd (other (ap (λ (k : ℕ). (declared m k).id.version) (sym same) ∙ at.1))
 
-same_turned : (a b : GlobalId) → same_id a b ≡ same_id b a
-same_turned a b = ap (λ x. x && (a.version == b.version)) (turned a.number b.number) ∙ ap (λ x. (b.number == a.number) && x) (turned a.version b.version)
+  pub no_place : (id : GlobalId) → places id.number ≡ None → place_of m id ≡ None
+  no_place id none = by (place_of m id) refl
+    where
+      by : (o : Option ℕ) → place_of m id ≡ o → o ≡ None
+      by None e = refl
+      by (Some j) e = absurd (none-some j (sym none ∙ (placed id j e).0))
 
--- The place of an id among the ids of the threads is that of its thread.
-pub found : (m : Machine) (ids : List GlobalId) (id : GlobalId) → ids ≡ map (λ (d : Declaration). d.id) m.threads → position (same_id id) ids ≡ place_of m id
-found m ids id e = ap (position (same_id id)) e ∙ same_position (same_id id) (λ d. same_id d.id id) (λ d. same_turned id d.id) m.threads
+  -- A number has a place where a thread has the number.
+  pub taken : (number : ℕ) (o : Option ℕ) → o ≡ places number → is_some o ≡ is_taken number m
+  taken number (Some i) e =
+      let at = are.only number i (sym e) in
+      sym (list_any_at (has_number number) m.threads i undeclared at.0 (eq-eqb (declared m i).id.number number at.1))
+  taken number None e =
+      let nobody : (i : ℕ) → i < length m.threads → has_number number (declared m i) ≡ false =
+      λ i within. ne_eqb (declared m i).id.number number (λ named. none-some i (e ∙ numbered number i within named)) in
+      sym (list_any_none (has_number number) m.threads (All-from_get_or (λ d. has_number number d ≡ false) m.threads undeclared nobody))
 
--- A thread of a new number has a new id.
-list_fresh : (id : GlobalId) (ds : List Declaration) → list_any (has_number id.number) ds ≡ false → list_any (same_id id) (map (λ (d : Declaration). d.id) ds) ≡ false
-list_fresh id [] e = refl
-list_fresh id (d ∷ ds) e =
-    let p = or_parts (has_number id.number d) (list_any (has_number id.number) ds) e in
-    let apart : (id.number == d.id.number) ≡ false = turned id.number d.id.number ∙ p.0 in
-    let rest = list_fresh id ds p.1 in
-    rw (apart, rest) refl
-
-pub id_added : (id : GlobalId) (ids after : List GlobalId) (ds : List Declaration) (d : Declaration) → d.id ≡ id → ids ≡ map (λ (x : Declaration). x.id) ds → list_any (has_number id.number) ds ≡ false →
-    after ≡ cond (list_any (same_id id) ids) ids (ids ++ id ∷ []) → after ≡ map (λ (x : Declaration). x.id) (ds ++ d ∷ [])
-id_added id ids after ds d named are fresh is =
-    let none : list_any (same_id id) ids ≡ false = ap (list_any (same_id id)) are ∙ list_fresh id ds fresh in
-    is ∙ ap (λ b. cond b ids (ids ++ id ∷ [])) none ∙ ap (λ (xs : List GlobalId). xs ++ id ∷ []) are ∙ ap (λ (x : GlobalId). map (λ (y : Declaration). y.id) ds ++ x ∷ []) (sym named) ∙ sym (map_push (λ (x : Declaration). x.id) ds d)
+  pub free : (number : ℕ) → is_taken number m ≡ false → places number ≡ None
+  free number fresh = by (places number) refl
+    where
+      by : (o : Option ℕ) → places number ≡ o → o ≡ None
+      by None e = refl
+      by (Some i) e = absurd (true≢false (taken number (Some i) (sym e) ∙ fresh))
 
 -- What is found is what stands at the place that is found.
 found_there : (p : Declaration → Bool) (ds : List Declaration) → find p ds ≡ slice_get ds (position_or_len p ds)

@@ -1,14 +1,15 @@
 -- A machine stays lawful as it grows.
-use Rattle.std.proofs.Common.{◌≡◌, ℕ, ◌<◌, Bool, true, false, cond, ltb, eqb, List, [], ◌∷◌, ◌++◌, length, get_or, set, Some, None, refl, ap, ◌∙◌, arith, inl, inr}
+use Rattle.std.proofs.Common.{◌≡◌, ℕ, ◌<◌, Bool, true, false, cond, ltb, eqb, List, [], ◌∷◌, ◌++◌, length, get_or, set, subst, Option, Some, None, refl, sym, ap, ◌∙◌, arith, inl, inr}
 use Rattle.std.specs.List.{list_any, position, position_or_len}
-use Rattle.std.proofs.lemmas.Bool.{cases_lt, ltb-true, lt-ltb, eq-eqb, ne_eqb, cases_eq, or_parts}
+use Rattle.std.proofs.lemmas.Bool.{cases_lt, ltb-true, lt-ltb, eqb-true, eq-eqb, ne_eqb, cases_eq, or_parts}
 use Rattle.std.specs.Prelude.{Result, Ok, Err, OnOk, OnErr}
 use Rattle.std.proofs.lemmas.List.{get_or_read, length_push, length-set, get_or_push, get_or_append_left, get_or-set_same, get_or-set_other}
-use Rattle.std.proofs.lemmas.List.Folds.{position_or_len-set, position_or_len_push}
+use Rattle.std.proofs.lemmas.List.Folds.{list_any_at, position_or_len-set, position_or_len_push}
 use Rattle.l4_model.specs.Words.{GlobalId, same_id}
 use Rattle.l4_model.specs.Machine.{Instr, Declaration, Machine, place_of}
+use Rattle.l4_model.proofs.Chains.{some_is}
 use Rattle.l4_core_model.specs.Local.{declared, undeclared}
-use Rattle.l4_script.specs.Machines.{IsLawful, has_number, is_taken, with_instruction, with_thread, last_place, last_thread, extended}
+use Rattle.l4_script.specs.Machines.{AreFound, IsLawful, has_number, is_taken, with_instruction, with_thread, last_place, last_thread, extended}
 
 -- Where a first passing place is known, and from one.
 place : {A : Type 0} (p : A → Bool) (xs : List A) (i : ℕ) → position_or_len p xs ≡ i → i < length xs → position p xs ≡ Some i
@@ -80,6 +81,51 @@ lawful-with_thread d m lawful room home fresh =
           | inr ge ↦ let e : i ≡ length m.threads = omega (arith, length_push m.threads d) in rw (e, new) home
         ]
 
+-- Who has another number than the new thread is found as before.
+pub found-with_thread : (places after : ℕ → Option ℕ) (d : Declaration) (m : Machine) → AreFound places m → is_taken d.id.number m ≡ false
+    → ((number : ℕ) → after number ≡ cond (eqb number d.id.number) (Some (length m.threads)) (places number)) → AreFound after (with_thread d m)
+found-with_thread places after d m are fresh is = record { each = each; only = only }
+  where
+    old : (i : ℕ) → i < length m.threads → declared (with_thread d m) i ≡ declared m i
+    old i l = get_or_append_left m.threads (d ∷ []) undeclared i l
+
+    new : declared (with_thread d m) (length m.threads) ≡ d
+    new = get_or_push m.threads d undeclared (length m.threads) refl
+
+    apart : (i : ℕ) → i < length m.threads → eqb (declared m i).id.number d.id.number ≡ false
+    apart i l = by (eqb (declared m i).id.number d.id.number) refl
+      where
+        by : (b : Bool) → eqb (declared m i).id.number d.id.number ≡ b → b ≡ false
+        by true e = sym (list_any_at (has_number d.id.number) m.threads i undeclared l e) ∙ fresh
+        by false e = refl
+
+    each : (i : ℕ) → i < length (with_thread d m).threads → after (declared (with_thread d m) i).id.number ≡ Some i
+    each i l =
+        elim (cases_lt i (length m.threads)) [
+          | inl lt ↦ rw (old i lt, is (declared m i).id.number, apart i lt) (are.each i lt)
+          | inr ge ↦ let e : i ≡ length m.threads = omega (arith, length_push m.threads d) in rw (e, new, is d.id.number, eq-eqb d.id.number d.id.number refl) refl
+        ]
+
+    Stands : (number i : ℕ) → Type 0
+    Stands number i = (i < length (with_thread d m).threads) × ((declared (with_thread d m) i).id.number ≡ number)
+
+    only : (number i : ℕ) → after number ≡ Some i → Stands number i
+    only number i at = by (eqb number d.id.number) refl (sym (is number) ∙ at)
+      where
+        by : (b : Bool) → eqb number d.id.number ≡ b → cond b (Some (length m.threads)) (places number) ≡ Some i → Stands number i
+        by true same e =
+            subst (Stands number) (some_is (length m.threads) i e)
+            (omega (arith, length_push m.threads d), ap (λ (x : Declaration). x.id.number) new ∙ sym (eqb-true number d.id.number same))
+        by false other e =
+            let there = are.only number i e in
+            (omega (arith, there.0, length_push m.threads d), ap (λ (x : Declaration). x.id.number) (old i there.0) ∙ there.1)
+
+pub found-same : (places after : ℕ → Option ℕ) (m : Machine) → AreFound places m → ((number : ℕ) → after number ≡ places number) → AreFound after m
+found-same places after m are same = record {
+  each = λ i within. same (declared m i).id.number ∙ are.each i within;
+  only = λ number i at. are.only number i (sym (same number) ∙ at);
+}
+
 -- A change of a script changes neither ids nor processors.
 module _ (ds : List Declaration) (k : ℕ) (d : Declaration) (in_range : k < length ds) (same : d.id ≡ (get_or ds k undeclared).id) where
   pub id-set : (i : ℕ) → (get_or (set ds k d) i undeclared).id ≡ (get_or ds i undeclared).id
@@ -94,6 +140,18 @@ module _ (ds : List Declaration) (k : ℕ) (d : Declaration) (in_range : k < len
       let stays : position_or_len (λ x. same_id x.id id) (set ds k d) ≡ position_or_len (λ x. same_id x.id id) ds =
       position_or_len-set (λ x. same_id x.id id) ds k d undeclared (rw same refl) in
       rw (stays, length-set ds k d) refl
+
+pub found-set : (places : ℕ → Option ℕ) (m : Machine) (k : ℕ) (d : Declaration) → AreFound places m → k < length m.threads → d.id ≡ (declared m k).id → AreFound places (record m { threads = set m.threads k d })
+found-set places m k d are in_range same = record { each = each; only = only }
+  where
+    number : (i : ℕ) → (get_or (set m.threads k d) i undeclared).id.number ≡ (declared m i).id.number
+    number i = ap (λ (id : GlobalId). id.number) (id-set m.threads k d in_range same i)
+
+    each : (i : ℕ) → i < length (set m.threads k d) → places (get_or (set m.threads k d) i undeclared).id.number ≡ Some i
+    each i l = ap places (number i) ∙ are.each i (omega (arith, l, length-set m.threads k d))
+
+    only : (n i : ℕ) → places n ≡ Some i → (i < length (set m.threads k d)) × ((get_or (set m.threads k d) i undeclared).id.number ≡ n)
+    only n i at = let there = are.only n i at in (omega (arith, there.0, length-set m.threads k d), number i ∙ there.1)
 
 cpu-set : (ds : List Declaration) (k : ℕ) (d : Declaration) → k < length ds → d.cpu ≡ (get_or ds k undeclared).cpu → (i : ℕ) → (get_or (set ds k d) i undeclared).cpu ≡ (get_or ds i undeclared).cpu
 cpu-set ds k d in_range same i =
@@ -121,11 +179,15 @@ pub lawful-extended : (instr : Instr) (m : Machine) → IsLawful m → 0 < lengt
 lawful-extended instr m lawful some = lawful-set m (last_place m) (with_instruction instr (last_thread m)) lawful (omega arith) refl refl
 
 -- A machine with the thread at a place changed in its script alone.
-pub lawful-changed : (m : Machine) (k : ℕ) (old new : Declaration) → IsLawful m → k < length m.threads → old ≡ get_or m.threads k old → (new.id ≡ old.id) × (new.cpu ≡ old.cpu)
-    → IsLawful (record m { threads = set m.threads k new })
-lawful-changed m k old new lawful in_range there kept =
-    let at : old ≡ declared m k = get_or_read m.threads k old in_range there undeclared in
-    lawful-set m k new lawful in_range (kept.0 ∙ ap (λ (d : Declaration). d.id) at) (kept.1 ∙ ap (λ (d : Declaration). d.cpu) at)
+module _ (m : Machine) (k : ℕ) (old new : Declaration) (in_range : k < length m.threads) (there : old ≡ get_or m.threads k old) (kept : (new.id ≡ old.id) × (new.cpu ≡ old.cpu)) where
+  at : old ≡ declared m k
+  at = get_or_read m.threads k old in_range there undeclared
+
+  pub lawful-changed : IsLawful m → IsLawful (record m { threads = set m.threads k new })
+  lawful-changed lawful = lawful-set m k new lawful in_range (kept.0 ∙ ap (λ (d : Declaration). d.id) at) (kept.1 ∙ ap (λ (d : Declaration). d.cpu) at)
+
+  pub found-changed : (places : ℕ → Option ℕ) → AreFound places m → AreFound places (record m { threads = set m.threads k new })
+  found-changed places are = found-set places m k new are in_range (kept.0 ∙ ap (λ (d : Declaration). d.id) at)
 
 pub keeps : {E : Type 0} (r : Result (Unit {0}) E) (instr : Instr) (old new : Declaration) → OnOk r (new ≡ with_instruction instr old) → OnErr r (new ≡ old) → (new.id ≡ old.id) × (new.cpu ≡ old.cpu)
 keeps (Ok x) instr old new ok err = (ap (λ (d : Declaration). d.id) ok, ap (λ (d : Declaration). d.cpu) ok)

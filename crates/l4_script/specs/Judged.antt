@@ -37,6 +37,7 @@ abbrev pub Fails : {Y : Type 0} → TextFaultKind → Result Y TextFaultKind →
 Fails NoMemory part = Unit {0}
 Fails kind part = part ≡ Err kind
 
-abbrev pub Gives : {X Y : Type 0} → (X → Y) → Result X TextFaultKind → Result Y TextFaultKind → Type 0
-Gives view (Ok x) part = part ≡ Ok (view x)
-Gives view (Err kind) part = Fails kind part
+-- The same of what it left changed in place.
+abbrev pub Leads : {Y : Type 0} → Result (Unit {0}) TextFaultKind → (after : Y) → Result Y TextFaultKind → Type 0
+Leads (Ok x) after part = part ≡ Ok after
+Leads (Err kind) after part = Fails kind part

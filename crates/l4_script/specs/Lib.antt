@@ -7,6 +7,7 @@ pub mod Judged
 pub mod Lines
 pub mod Machines
 pub mod Numbers
+pub mod Places
 pub mod Scripts
 pub mod Stages
 pub mod Statements

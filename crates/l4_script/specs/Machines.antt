@@ -1,5 +1,5 @@
 -- How a machine grows as its text is read.
-use Rattle.std.specs.Prelude.{ℕ, ◌-◌, ◌≤◌, Bool, ◌==◌, List, [], ◌∷◌, ◌++◌, length, slice_set}
+use Rattle.std.specs.Prelude.{ℕ, ◌≡◌, ◌<◌, ◌-◌, ◌≤◌, Bool, ◌==◌, Option, Some, List, [], ◌∷◌, ◌++◌, length, slice_set}
 use Rattle.std.specs.List.{list_any}
 use Rattle.l4_model.specs.Machine.{Instr, Declaration, Machine, most_processors, most_threads}
 use Rattle.l4_core_model.specs.Local.{declared}
@@ -15,6 +15,11 @@ pub record IsLawful (m : Machine) : Type 0 where
   pub some : 1 ≤ m.cpus
   pub limit : m.cpus ≤ most_processors
   pub threads : length m.threads ≤ most_threads
+
+-- Each thread stands at the place of its number, and no other number has a place.
+pub record AreFound (places : ℕ → Option ℕ) (m : Machine) : Type 0 where
+  pub each : (i : ℕ) → i < length m.threads → places (declared m i).id.number ≡ Some i
+  pub only : (number i : ℕ) → places number ≡ Some i → (i < length m.threads) × ((declared m i).id.number ≡ number)
 
 abbrev pub has_number : ℕ → Declaration → Bool
 has_number number d = d.id.number == number

@@ -129,7 +129,7 @@ abbrev pub Reads : {X : Type 0} → Result X TextFault → Result X TextFault �
 Reads (Ok x) text = text ≡ Ok x
 Reads (Err fault) text = (fault ≡ no_memory) ⊎ (text ≡ Err fault)
 
--- The same of a value that is seen by a view.
-abbrev pub ReadsAs : {X Y : Type 0} → (X → Y) → Result X TextFault → Result Y TextFault → Type 0
-ReadsAs view (Ok x) text = text ≡ Ok (view x)
-ReadsAs view (Err fault) text = (fault ≡ no_memory) ⊎ (text ≡ Err fault)
+-- The same of what was changed in place.
+abbrev pub LeadsOn : {Y : Type 0} → Result (Unit {0}) TextFault → (after : Y) → Result Y TextFault → Type 0
+LeadsOn (Ok x) after text = text ≡ Ok after
+LeadsOn (Err fault) after text = (fault ≡ no_memory) ⊎ (text ≡ Err fault)

@@ -4,4 +4,5 @@
 pub mod instructions;
 mod lookups;
 pub mod machine;
+mod places;
 pub mod text;

@@ -6,7 +6,7 @@ ghost use Rattle.l4_script.specs.Scripts.{instr_of};
 ghost use Rattle.l4_script.specs.Machines.{is_taken, last_thread, machine_with, with_instruction, with_thread, extended};
 
 use crate::instructions::Instr;
-use indexmap::IndexSet;
+use crate::places::Places;
 use l4_types::errors::NoMemory;
 use l4_types::ids::GlobalId;
 use std::alloc::Global;
@@ -85,12 +85,12 @@ impl Declaration {
     }
 
     // Appends an instruction to the script.
-    fn push(&mut self, instr: Instr) -> Result<(), NoMemory>
+    fn push(&mut self, instr: &Instr) -> Result<(), NoMemory>
         requires { length self.old.script < most_instructions }
-        ensures ok { OnOk result (self.new ≡ with_instruction (instr_of instr) self.old) }
+        ensures ok { OnOk result (self.new ≡ with_instruction (instr_of instr.now) self.old) }
         ensures err { OnErr result (self.new ≡ self.old) }
     {
-        self.script.extend_from_slice(&[instr])?;
+        self.script.push(*instr)?;
         Ok(())
     }
 
@@ -114,8 +114,8 @@ pub struct Machine {
     retargeting: bool,
     cpus: u8,
     threads: Vec<Declaration>,
-    // The ids of the threads in the same order, by which a place is found.
-    places: IndexSet<GlobalId>,
+    // The places of the threads, by their numbers.
+    places: Places,
 }
 
 impl Model for Machine {
@@ -123,13 +123,14 @@ impl Model for Machine {
 
     ghost Value = { ModelMachine };
 
-    ghost use Rattle.l4_script.specs.Machines.{IsLawful, machine_with};
+    ghost use Rattle.l4_script.specs.Machines.{AreFound, IsLawful, machine_with};
 
     ghost view = { λ m. machine_with m.retargeting m.cpus m.threads.items };
 
-    ghost use Rattle.std.specs.Prelude.{◌≡◌, map};
+    ghost use Rattle.l4_script.specs.Places.{place_by};
 
-    ghost invariant = { λ m. IsLawful (machine_with m.retargeting m.cpus m.threads.items) × (m.places.keys ≡ map (λ d. d.id) m.threads.items) };
+    ghost invariant = { λ m. IsLawful (machine_with m.retargeting m.cpus m.threads.items)
+        × AreFound (place_by m.places) (machine_with m.retargeting m.cpus m.threads.items) };
 }
 
 impl Machine {
@@ -143,7 +144,7 @@ impl Machine {
             retargeting,
             cpus,
             threads: Vec::new(alloc),
-            places: IndexSet::new(alloc),
+            places: Places::new(alloc),
         }
     }
 
@@ -177,16 +178,19 @@ impl Machine {
     pub fn place_of(&self, id: GlobalId) -> Option<usize>
         ensures { result ≡ place_of self.now id }
     {
-        self.places.get_index_of(&id)
+        let place = self.places.get(id.number())?;
+        if self.threads[place].id.version() == id.version() {
+            Some(place)
+        } else {
+            None
+        }
     }
 
     /// Whether a thread of this number is declared, with any version.
     pub fn has_number(&self, number: u32) -> bool
         ensures { result ≡ is_taken number self.now }
     {
-        self.threads
-            .iter()
-            .any(|thread| thread.id.number() == number)
+        self.places.get(number).is_some()
     }
 
     // The length of the script of the thread that was declared last.
@@ -207,16 +211,17 @@ impl Machine {
         ensures err { OnErr result (self.new ≡ self.old) }
     {
         self.threads.reserve(1)?;
-        self.places.insert(thread.id)?;
+        let place = self.threads.len() as u16;
+        self.places.insert(thread.id.number(), place)?;
         self.threads.push_reserved(thread);
         Ok(())
     }
 
     // Appends an instruction to the script of the thread that was declared last.
-    pub(crate) fn add_instruction(&mut self, instr: Instr) -> Result<(), NoMemory>
+    pub(crate) fn add_instruction(&mut self, instr: &Instr) -> Result<(), NoMemory>
         requires some { 0 < length self.old.threads }
         requires room { length (last_thread self.old).script < most_instructions }
-        ensures ok { OnOk result (self.new ≡ extended (instr_of instr) self.old) }
+        ensures ok { OnOk result (self.new ≡ extended (instr_of instr.now) self.old) }
         ensures err { OnErr result (self.new ≡ self.old) }
     {
         let last = self.threads.len() - 1;
@@ -236,7 +241,7 @@ impl Machine {
             retargeting: self.retargeting,
             cpus: self.cpus,
             threads,
-            places: self.places.clone()?,
+            places: self.places.try_clone()?,
         })
     }
 }

@@ -45,7 +45,7 @@ fn read(alloc: Global, text: &[u8]) -> Result<Machine, TextFault>
     let mut rest = text;
     let mut number = 1;
     'lines: while let Some((line, others)) = split_line(rest) {
-        stage = stage.after_line_at(number, alloc, line)?;
+        stage.read_line_at(number, alloc, line)?;
         rest = others;
         number += 1;
     }

@@ -12,11 +12,14 @@ pub fn find_byte(byte: u8, bytes: &[u8]) -> Option<usize>
     bytes.iter().position(|other| *other == byte)
 }
 
-/// The same, and cheaper where the byte is some way off.
+/// The same, and cheaper where the byte is some way off, or the first one.
 fn find_far_byte(byte: u8, bytes: &[u8]) -> Option<usize>
     ensures { result ≡ position (λ other. other == byte) bytes.now }
 {
-    memchr(byte, bytes)
+    match bytes.first() {
+        Some(first) if *first == byte => Some(0),
+        _ => memchr(byte, bytes),
+    }
 }
 
 // What stands before and behind the first such byte, which is at this place.

@@ -1,13 +1,13 @@
 //! How far a text has been read.
-ghost use Rattle.std.specs.Prelude.{◌≡◌, ◌<◌, ◌≤◌, ◌∷◌, [], ◌++◌, find, length, Ok, OnErr, OnOk};
+ghost use Rattle.std.specs.Prelude.{◌≡◌, ◌<◌, ◌≤◌, ◌∷◌, [], ◌++◌, find, length, MatchOption, OnErr, OnOk};
 ghost use Rattle.std.specs.Option.{option_copied};
 ghost use Rattle.l4_model.specs.Machine.{most_processors};
 ghost use Rattle.l4_types.specs.FormatView.{format_of};
 ghost use Rattle.l4_script.specs.Headings.{heading_of};
-ghost use Rattle.l4_script.specs.Judged.{Gives};
+ghost use Rattle.l4_script.specs.Judged.{Leads};
 ghost use Rattle.l4_script.specs.Scripts.{instr_of};
 ghost use Rattle.l4_script.specs.Statements.{declare, extend};
-ghost use Rattle.l4_script.specs.Texts.{ReadsAs, nothing_read, naming, targets_of, thread_line, declared_in, extended_at, after_words, after_line, judged_at, is_missed, unless_missed, ended};
+ghost use Rattle.l4_script.specs.Texts.{LeadsOn, nothing_read, targets_of, thread_line, extended_at, after_words, after_line, judged_at, is_missed, unless_missed, ended};
 ghost use Rattle.l4_script.specs.Stages.{stage_of};
 
 use super::fault::{TextFault, TextFaultKind};
@@ -69,11 +69,12 @@ pub(super) enum Stage {
     Threads(Reading),
 }
 
-/// The machine with one more thread.
+/// Declares one more thread.
 #[tactic(auto, unfolding(crate::specs::Statements::declare))]
-fn declare(thread: Declaration, mut machine: Machine) -> Result<Machine, TextFaultKind>
-    requires { thread.cpu < machine.cpus }
-    ensures { Gives (λ m. m) result (declare thread machine) }
+fn declare(thread: Declaration, machine: &mut Machine) -> Result<(), TextFaultKind>
+    requires { thread.cpu < machine.old.cpus }
+    ensures ok { Leads result machine.new (declare thread machine.old) }
+    ensures err { OnErr result (machine.new ≡ machine.old) }
 {
     if machine.threads().len() >= MOST_THREADS {
         return Err(TextFaultKind::TooManyThreads);
@@ -82,20 +83,37 @@ fn declare(thread: Declaration, mut machine: Machine) -> Result<Machine, TextFau
         return Err(TextFaultKind::DoubleId);
     }
     machine.declare(thread)?;
-    Ok(machine)
+    Ok(())
 }
 
-/// The machine with one more instruction of its last thread.
+/// Gives the last thread one more instruction.
 #[tactic(auto, unfolding(crate::specs::Statements::extend))]
-fn extend(instr: Instr, mut machine: Machine) -> Result<Machine, TextFaultKind>
-    requires { 0 < length machine.threads }
-    ensures { Gives (λ m. m) result (extend (instr_of instr) machine) }
+fn extend(instr: &Instr, machine: &mut Machine) -> Result<(), TextFaultKind>
+    requires { 0 < length machine.old.threads }
+    ensures ok { Leads result machine.new (extend (instr_of instr.now) machine.old) }
+    ensures err { OnErr result (machine.new ≡ machine.old) }
 {
     if machine.last_script_len() >= MOST_INSTRUCTIONS {
         return Err(TextFaultKind::TooManyInstructions);
     }
     machine.add_instruction(instr)?;
-    Ok(machine)
+    Ok(())
+}
+
+/// The place that an instruction of a line names, if it names one.
+fn named_place(line: usize, thread: usize, instr: &Instr) -> Option<Target>
+    ensures { MatchOption result
+        (targets_of line thread (instr_of instr.now) ≡ [])
+        (λ target. targets_of line thread (instr_of instr.now) ≡ target ∷ []) }
+{
+    match *instr {
+        Instr::Jump(place) | Instr::OnErr(place) => Some(Target {
+            line,
+            thread,
+            place,
+        }),
+        _ => None,
+    }
 }
 
 fn keep(targets: &mut Vec<Target>, target: Target) -> Result<(), NoMemory>
@@ -138,75 +156,39 @@ impl Reading {
         }
     }
 
-    /// One more thread.
-    fn declare(self, thread: Declaration) -> Result<Reading, TextFaultKind>
-        requires { thread.cpu < self.machine.cpus }
-        ensures { Gives (λ r. r) result (declared_in self thread) }
-    {
-        Ok(Reading {
-            format: self.format,
-            machine: declare(thread, self.machine)?,
-            targets: self.targets,
-        })
-    }
-
     /// One more instruction of the last thread, by the line of this number.
-    fn extend(self, line: usize, instr: Instr) -> Result<Reading, TextFaultKind>
-        requires { 0 < length self.machine.threads }
-        ensures { Gives (λ r. r) result (extended_at line self (instr_of instr)) }
+    fn extend(&mut self, line: usize, instr: &Instr) -> Result<(), TextFaultKind>
+        requires { 0 < length self.old.machine.threads }
+        ensures { Leads result self.new (extended_at line self.old (instr_of instr.now)) }
     {
-        let thread = self.machine.threads().len() - 1;
-        let reading = Reading {
-            format: self.format,
-            machine: extend(instr, self.machine)?,
-            targets: self.targets,
-        };
-        reading.with_target(line, thread, instr)
-    }
-
-    /// The place that an instruction of a line names is kept.
-    fn with_target(
-        mut self,
-        line: usize,
-        thread: usize,
-        instr: Instr,
-    ) -> Result<Reading, TextFaultKind>
-        ensures { Gives (λ r. r) result (Ok (naming (targets_of line thread (instr_of instr)) self)) }
-    {
-        match instr {
-            Instr::Jump(place) | Instr::OnErr(place) => {
-                let target = Target {
-                    line,
-                    thread,
-                    place,
-                };
-                keep(&mut self.targets, target)?;
-            }
-            _ => (),
+        let target = named_place(line, self.machine.threads().len() - 1, instr);
+        extend(instr, &mut self.machine)?;
+        if let Some(target) = target {
+            keep(&mut self.targets, target)?;
         }
-        Ok(self)
+        Ok(())
     }
 
-    /// What was read, and what a line of this number says of threads.
+    /// Reads what a line of this number says of threads.
     #[tactic(auto, unfolding(crate::specs::Texts::thread_line))]
     fn thread_line(
-        self,
+        &mut self,
         line: usize,
         alloc: Global,
         mut words: Words<'_>,
-    ) -> Result<Reading, TextFaultKind>
-        ensures { Gives (λ r. r) result (thread_line line self words.entry) }
+    ) -> Result<(), TextFaultKind>
+        ensures { Leads result self.new (thread_line line self.old words.entry) }
     {
         let name = words.next().ok_or(TextFaultKind::BadLine)?;
         if name == THREAD {
             let thread = declaration(alloc, self.format, self.machine.cpus(), words)?;
-            return self.declare(thread);
+            return declare(thread, &mut self.machine);
         }
         if self.machine.threads().is_empty() {
             return Err(TextFaultKind::BadLine);
         }
         match instruction(self.format, name, words) {
-            Ok(instr) => self.extend(line, instr),
+            Ok(instr) => self.extend(line, &instr),
             Err(kind) => Err(kind),
         }
     }
@@ -223,53 +205,54 @@ impl Reading {
 }
 
 impl Stage {
-    /// What comes next behind a line of words.
+    /// Reads a line of words.
     #[tactic(auto, unfolding(crate::specs::Texts::after_words))]
-    fn after_words(
-        self,
+    fn read_words(
+        &mut self,
         line: usize,
         alloc: Global,
         words: Words<'_>,
-    ) -> Result<Stage, TextFaultKind>
-        ensures { Gives stage_of result (after_words line (stage_of self) words.entry) }
+    ) -> Result<(), TextFaultKind>
+        ensures { Leads result (stage_of self.new) (after_words line (stage_of self.old) words.entry) }
     {
         match self {
             Stage::Start => {
                 let heading = format_line(words)?;
-                Ok(Stage::Processors(heading))
+                *self = Stage::Processors(heading);
+                Ok(())
             }
             Stage::Processors(heading) => {
                 let cpus = processors_line(words)?;
-                Ok(Stage::Threads(Reading::new(alloc, heading, cpus)))
+                *self = Stage::Threads(Reading::new(alloc, *heading, cpus));
+                Ok(())
             }
-            Stage::Threads(reading) => {
-                Ok(Stage::Threads(reading.thread_line(line, alloc, words)?))
-            }
+            Stage::Threads(reading) => reading.thread_line(line, alloc, words),
         }
     }
 
-    /// What comes next behind a line of this number.
+    /// Reads a line of this number.
     #[tactic(auto, unfolding(crate::specs::Texts::after_line))]
-    fn after_line(self, line: usize, alloc: Global, text: &[u8]) -> Result<Stage, TextFaultKind>
-        ensures { Gives stage_of result (after_line line (stage_of self) text.now) }
+    fn read_line(&mut self, line: usize, alloc: Global, text: &[u8]) -> Result<(), TextFaultKind>
+        ensures { Leads result (stage_of self.new) (after_line line (stage_of self.old) text.now) }
     {
         match words_of(text)? {
-            None => Ok(self),
-            Some(words) => self.after_words(line, alloc, words),
+            None => Ok(()),
+            Some(words) => self.read_words(line, alloc, words),
         }
     }
 
-    /// What comes next behind the line of this number, or its fault.
-    pub(super) fn after_line_at(
-        self,
+    /// Reads the line of this number, or answers its fault.
+    pub(super) fn read_line_at(
+        &mut self,
         line: usize,
         alloc: Global,
         text: &[u8],
-    ) -> Result<Stage, TextFault>
-        ensures { ReadsAs stage_of result (judged_at line (after_line line (stage_of self) text.now) (λ stage. Ok stage)) }
+    ) -> Result<(), TextFault>
+        ensures { LeadsOn result (stage_of self.new)
+            (judged_at line (after_line line (stage_of self.old) text.now) (λ stage. Ok stage)) }
     {
-        match self.after_line(line, alloc, text) {
-            Ok(stage) => Ok(stage),
+        match self.read_line(line, alloc, text) {
+            Ok(()) => Ok(()),
             Err(kind) => Err(TextFault::at(line, kind)),
         }
     }

@@ -163,7 +163,10 @@ fn source(word: &[u8]) -> Result<Source, TextFaultKind>
     Source::new(number as u8).ok_or(TextFaultKind::BadNumber)
 }
 
+// The readers of instructions are calls of their own: inlined together they clear room for all of them at each line.
+
 /// What stands behind `set`.
+#[inline(never)]
 #[tactic(auto, unfolding(crate::specs::Statements::set_of))]
 fn set(format: Format, operands: Words<'_>) -> Result<Instr, TextFaultKind>
     ensures { Returns instr_of result (set_of (format_of format) operands.entry) }
@@ -175,6 +178,7 @@ fn set(format: Format, operands: Words<'_>) -> Result<Instr, TextFaultKind>
 }
 
 /// What stands behind `copy`.
+#[inline(never)]
 #[tactic(auto, unfolding(crate::specs::Statements::copy_of))]
 fn copy(operands: Words<'_>) -> Result<Instr, TextFaultKind>
     ensures { Returns instr_of result (copy_of operands.entry) }
@@ -186,6 +190,7 @@ fn copy(operands: Words<'_>) -> Result<Instr, TextFaultKind>
 }
 
 /// What stands behind `add`.
+#[inline(never)]
 #[tactic(auto, unfolding(crate::specs::Statements::add_of))]
 fn add(format: Format, operands: Words<'_>) -> Result<Instr, TextFaultKind>
     ensures { Returns instr_of result (add_of (format_of format) operands.entry) }
@@ -200,6 +205,7 @@ fn add(format: Format, operands: Words<'_>) -> Result<Instr, TextFaultKind>
 }
 
 /// What stands behind `tag`.
+#[inline(never)]
 #[tactic(auto, unfolding(crate::specs::Statements::tag_of, crate::specs::Numbers::word_from))]
 fn tag(format: Format, operands: Words<'_>) -> Result<Instr, TextFaultKind>
     ensures { Returns instr_of result (tag_of (format_of format) operands.entry) }
@@ -219,6 +225,7 @@ fn thread_id(format: Format, word: &[u8]) -> Result<ThreadId, TextFaultKind>
 }
 
 /// What stands behind `vs`.
+#[inline(never)]
 #[tactic(auto, unfolding(crate::specs::Statements::vs_of))]
 fn vs(format: Format, operands: Words<'_>) -> Result<Instr, TextFaultKind>
     ensures { Returns instr_of result (vs_of (format_of format) operands.entry) }
@@ -238,6 +245,7 @@ fn destination(format: Format, word: &[u8]) -> Result<To, TextFaultKind>
 }
 
 /// What stands behind `ipc`.
+#[inline(never)]
 #[tactic(auto, unfolding(crate::specs::Statements::ipc_of))]
 fn ipc(format: Format, operands: Words<'_>) -> Result<Instr, TextFaultKind>
     ensures { Returns instr_of result (ipc_of (format_of format) operands.entry) }
@@ -264,6 +272,7 @@ fn bits(word: &[u8]) -> Option<What>
 }
 
 /// What stands behind `exregs`.
+#[inline(never)]
 #[tactic(auto, unfolding(crate::specs::Statements::exregs_of))]
 fn exregs(format: Format, operands: Words<'_>) -> Result<Instr, TextFaultKind>
     ensures { Returns instr_of result (exregs_of (format_of format) operands.entry) }
@@ -274,6 +283,7 @@ fn exregs(format: Format, operands: Words<'_>) -> Result<Instr, TextFaultKind>
 }
 
 /// What stands behind `delete`.
+#[inline(never)]
 #[tactic(auto, unfolding(crate::specs::Statements::delete_of))]
 fn delete(format: Format, operands: Words<'_>) -> Result<Instr, TextFaultKind>
     ensures { Returns instr_of result (delete_of (format_of format) operands.entry) }
@@ -310,28 +320,37 @@ pub(super) fn instruction(
     ensures { Returns instr_of result (instruction_of (format_of format) name.now operands.entry) }
 {
     if name == SET {
-        set(format, operands)
-    } else if name == COPY {
-        copy(operands)
-    } else if name == ADD {
-        add(format, operands)
-    } else if name == TAG {
-        tag(format, operands)
-    } else if name == VIRTUAL_SENDER {
-        vs(format, operands)
-    } else if name == IPC {
-        ipc(format, operands)
-    } else if name == EXCHANGE_REGISTERS {
-        exregs(format, operands)
-    } else if name == DELETE {
-        delete(format, operands)
-    } else if name == JUMP {
-        Ok(Instr::Jump(target(operands)?))
-    } else if name == ON_ERROR {
-        Ok(Instr::OnErr(target(operands)?))
-    } else if name == END {
-        end(operands)
-    } else {
-        Err(TextFaultKind::BadLine)
+        return set(format, operands);
     }
+    if name == COPY {
+        return copy(operands);
+    }
+    if name == ADD {
+        return add(format, operands);
+    }
+    if name == TAG {
+        return tag(format, operands);
+    }
+    if name == VIRTUAL_SENDER {
+        return vs(format, operands);
+    }
+    if name == IPC {
+        return ipc(format, operands);
+    }
+    if name == EXCHANGE_REGISTERS {
+        return exregs(format, operands);
+    }
+    if name == DELETE {
+        return delete(format, operands);
+    }
+    if name == JUMP {
+        return Ok(Instr::Jump(target(operands)?));
+    }
+    if name == ON_ERROR {
+        return Ok(Instr::OnErr(target(operands)?));
+    }
+    if name == END {
+        return end(operands);
+    }
+    Err(TextFaultKind::BadLine)
 }

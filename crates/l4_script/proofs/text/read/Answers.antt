@@ -9,11 +9,11 @@ use Rattle.l4_script.proofs.text.read.Goals as goal
 pub lines-preserved : goal.lines-preserved
 lines-preserved c =
     record {
-      whole = goes_on c.in-Some.line.now c.in-Some.others.now (parts_of c.lines.rest.now) (stage_of c.lines.stage) c.lines.number (read (parts_of c.args.text.now) Start 1) c.in-Some.ensures.parts c.lines.invariant.whole (stage_of c.in_ok-stage.stage) c.in_ok-stage.ensures;
+      whole = goes_on c.in-Some.line.now c.in-Some.others.now (parts_of c.lines.rest.now) (stage_of c.lines.stage) c.lines.number (read (parts_of c.args.text.now) Start 1) c.in-Some.ensures.parts c.lines.invariant.whole (stage_of c.read_line_at.new.self) c.in_ok-read_line_at.ensures;
       counted = omega (arith, c.lines.invariant.counted, c.in-Some.ensures.shorter);
     }
 
-pub returns-in_err-stage : goal.returns-in_err-stage
-returns-in_err-stage c =
+pub returns-in_err-read_line_at : goal.returns-in_err-read_line_at
+returns-in_err-read_line_at c =
     let p = err_from_is_err_and c.from_residual.result c.from_residual.ensures.1 in
-    rw (p.1, p.2) (stops c.in-Some.line.now c.in-Some.others.now (parts_of c.lines.rest.now) (stage_of c.lines.stage) c.lines.number (read (parts_of c.args.text.now) Start 1) c.in-Some.ensures.parts c.lines.invariant.whole c.in_err-stage.field-0.0 c.in_err-stage.ensures)
+    rw (p.1, p.2) (stops c.in-Some.line.now c.in-Some.others.now (parts_of c.lines.rest.now) (stage_of c.lines.stage) c.lines.number (read (parts_of c.args.text.now) Start 1) c.in-Some.ensures.parts c.lines.invariant.whole c.in_err-read_line_at.field-0.0 c.in_err-read_line_at.ensures)

@@ -1,9 +1,9 @@
-use Rattle.std.proofs.Common.{◌-◌, ◌<◌, length, subst, sym, ap, ◌∙◌, arith}
-use Rattle.std.proofs.Math.Seq.{map-set_same}
+use Rattle.std.proofs.Common.{◌-◌, ◌<◌, length, subst, sym, arith}
 use Rattle.l4_model.specs.Machine.{Declaration, Machine}
 use Rattle.l4_script.specs.Machines.{machine_with}
+use Rattle.l4_script.specs.Places.{place_by}
 use Rattle.l4_script.specs.Scripts.{instr_of}
-use Rattle.l4_script.proofs.Growing.{lawful-changed, keeps}
+use Rattle.l4_script.proofs.Growing.{found-changed, lawful-changed, keeps}
 use Rattle.l4_script.proofs.machine.Machine.add_instruction.Goals as goal
 
 pub invariant_of-self : goal.invariant_of-self
@@ -12,6 +12,8 @@ invariant_of-self c =
     let some : 0 < length old.threads = subst (λ (m : Machine). 0 < length m.threads) (sym c.self.view_is) c.requires.some in
     let last : c.len-last.result - 1 < length old.threads = omega (arith, c.self.inside.threads.ok.0) in
     let before : Declaration = c.index_mut-thread.result.now in
-    let kept = keeps c.push.result (instr_of c.args.instr) before c.push.new.self c.push.ensures.ok c.push.ensures.err in
-    let same = map-set_same (λ (d : Declaration). d.id) old.threads (c.len-last.result - 1) c.push.new.self before (kept.0 ∙ ap (λ (d : Declaration). d.id) c.index_mut-thread.ensures.value) in
-    (lawful-changed old (c.len-last.result - 1) before c.push.new.self c.self.invariant.0 last c.index_mut-thread.ensures.value kept, c.self.invariant.1 ∙ sym same)
+    let there = c.index_mut-thread.ensures.value in
+    let kept = keeps c.push.result (instr_of c.args.instr.now) before c.push.new.self c.push.ensures.ok c.push.ensures.err in (
+      lawful-changed old (c.len-last.result - 1) before c.push.new.self last there kept c.self.invariant.0,
+      found-changed old (c.len-last.result - 1) before c.push.new.self last there kept (place_by c.self.inside.places) c.self.invariant.1,
+    )

@@ -4,8 +4,8 @@ use crate::runs::comes_to;
 use l4_proc::gate::Gate;
 use std::alloc::{AllocError, Global};
 use std::sync::atomic::{AtomicU64, Ordering};
-use std::test::Fail;
 use std::thread;
+use std::thread::Threads;
 
 const CPUS: u8 = 16;
 
@@ -47,6 +47,18 @@ pub(crate) fn busy_text(alloc: Global) -> Result<String, AllocError> {
     Ok(text)
 }
 
+// Whether a run comes to its end under a gate, and its turns are used up.
+fn is_lasting<R: AllocGlobal + Threads + Sync, G: Gate + Sync>(
+    rt: &R,
+    text: &str,
+    gate: &G,
+) -> bool {
+    match comes_to(rt, text, TURNS, gate) {
+        Some(outcome) => outcome.turns >= TURNS,
+        None => false,
+    }
+}
+
 // Looks until the number has come to this value, at most so often. Answers whether it has.
 fn look_for(number: &AtomicU64, value: u64, looks: u32) -> bool {
     for look in 0..looks {
@@ -78,14 +90,15 @@ impl Gate for Stopped {
 }
 
 #[test]
-fn one_is_stopped_at_every_turn(rt: HostRuntime) -> Result<(), Fail> {
-    let text = busy_text(rt.alloc())?;
+fn one_is_stopped_at_every_turn(rt: HostRuntime) {
+    let text = busy_text(rt.alloc()).expect(&rt, "a text");
     for cpu in [0, 7, 15] {
         let looks = AtomicU64::new(0);
-        let outcome = comes_to(&rt, text.as_str(), TURNS, &Stopped { cpu, looks })?;
-        assert!(rt; outcome.turns >= TURNS, "{cpu}");
+        assert!(rt;
+            is_lasting(&rt, text.as_str(), &Stopped { cpu, looks }),
+            "{cpu}"
+        );
     }
-    Ok(())
 }
 
 // Lets one processor take its share alone. The others may begin when it has tried its last turn, or finds nothing and tries a turn again.
@@ -109,21 +122,23 @@ impl Gate for Alone {
     }
 }
 
+// Whether nobody has looked in vain where a processor has its share alone.
+fn has_share_alone<R: AllocGlobal + Threads + Sync>(rt: &R, text: &str, cpu: u8) -> bool {
+    let gate = Alone {
+        cpu,
+        last: AtomicU64::new(0),
+        open: AtomicU64::new(0),
+        missed: AtomicU64::new(0),
+    };
+    is_lasting(rt, text, &gate) && gate.missed.load(Ordering::SeqCst) == 0
+}
+
 #[test]
-fn each_has_its_share_alone_first(rt: HostRuntime) -> Result<(), Fail> {
-    let text = busy_text(rt.alloc())?;
+fn each_has_its_share_alone_first(rt: HostRuntime) {
+    let text = busy_text(rt.alloc()).expect(&rt, "a text");
     for cpu in 0..CPUS {
-        let gate = Alone {
-            cpu,
-            last: AtomicU64::new(0),
-            open: AtomicU64::new(0),
-            missed: AtomicU64::new(0),
-        };
-        let outcome = comes_to(&rt, text.as_str(), TURNS, &gate)?;
-        assert!(rt; outcome.turns >= TURNS, "{cpu}");
-        assert!(rt; gate.missed.load(Ordering::SeqCst) == 0, "{cpu}");
+        assert!(rt; has_share_alone(&rt, text.as_str(), cpu), "{cpu}");
     }
-    Ok(())
 }
 
 // Lets the processors take one turn after the other, at odd turns in the order of their numbers, at even ones against it. One that has nothing to do
@@ -150,12 +165,10 @@ impl Gate for Reversed {
 }
 
 #[test]
-fn the_order_is_turned_round_at_each_turn(rt: HostRuntime) -> Result<(), Fail> {
-    let text = busy_text(rt.alloc())?;
+fn the_order_is_turned_round_at_each_turn(rt: HostRuntime) {
+    let text = busy_text(rt.alloc()).expect(&rt, "a text");
     for _ in 0..4 {
         let place = AtomicU64::new(u64::from(CPUS));
-        let outcome = comes_to(&rt, text.as_str(), TURNS, &Reversed { place })?;
-        assert!(rt; outcome.turns >= TURNS);
+        assert!(rt; is_lasting(&rt, text.as_str(), &Reversed { place }));
     }
-    Ok(())
 }

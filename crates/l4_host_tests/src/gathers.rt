@@ -4,6 +4,7 @@ ghost use Rattle.l4_machine.specs.Gathers.{AreOfOne};
 ghost use Rattle.l4_proc.specs.Working.{HasGoneOn};
 ghost use Rattle.l4_mail.specs.Fabrics.{most_room};
 
+use crate::runs::machine_of;
 use l4_jobs::report_lines::write_report;
 use l4_machine::{Outcome, RunFault, gather};
 use l4_proc::assembly::assemble;
@@ -14,8 +15,6 @@ use l4_samples::{ACROSS, call_begins, call_ends};
 use l4_script::machine::Machine;
 use l4_trace::traces::trace;
 use std::alloc::Global;
-use std::process::Abort;
-use std::test::Fail;
 
 const QUEUED: &str = "l4 1 64
 cpus 2
@@ -114,74 +113,90 @@ fn gathered_without_last<'m>(
     gather(alloc, machine, processors).err()
 }
 
-/// Tests that an outcome has this trace, this report and so many turns.
-pub(crate) fn has<R: AllocGlobal + Abort>(
-    rt: &R,
-    outcome: &Outcome,
-    lines: &str,
-    report: &str,
-    turns: u64,
-) -> Result<(), Fail> {
-    let told = trace(rt.alloc(), outcome.history.as_slice())?;
-    assert!(rt; told.as_slice() == lines.as_bytes(), "{lines}");
-    let mut reported = Vec::new(rt.alloc());
-    let threads = outcome.threads.as_slice();
-    let waiting = outcome.waiting.as_slice();
-    write_report(threads, waiting, outcome.ending, &mut reported)?;
-    assert!(rt; reported.as_slice() == report.as_bytes(), "{report}");
-    assert!(rt; outcome.turns == turns, "{turns}");
-    Ok(())
+// Whether an outcome has this trace.
+fn has_trace(alloc: Global, outcome: &Outcome, lines: &str) -> bool {
+    match trace(alloc, outcome.history.as_slice()) {
+        Ok(told) => told.as_slice() == lines.as_bytes(),
+        Err(_) => false,
+    }
 }
 
-// Tests what the processors of a text come to.
-fn come_to<R: AllocGlobal + Abort + Print>(
+// Whether it has this report.
+fn has_report(alloc: Global, outcome: &Outcome, report: &str) -> bool {
+    let mut reported = Vec::new(alloc);
+    let threads = outcome.threads.as_slice();
+    let waiting = outcome.waiting.as_slice();
+    let written = write_report(threads, waiting, outcome.ending, &mut reported);
+    written.is_ok() && reported.as_slice() == report.as_bytes()
+}
+
+/// Whether an outcome has this trace, this report and so many turns.
+pub(crate) fn has(alloc: Global, outcome: &Outcome, lines: &str, report: &str, turns: u64) -> bool {
+    has_trace(alloc, outcome, lines) && has_report(alloc, outcome, report) && outcome.turns == turns
+}
+
+// Whether the processors of a text come to this trace, this report and so many turns.
+fn come_to<R: AllocGlobal + Print>(
     rt: &R,
     text: &str,
     room: usize,
     shares: &[(usize, u64)],
     wanted: (&str, &str, u64),
-) -> Result<(), Fail>
+) -> Option<bool>
     requires { (0 < room) × (room ≤ most_room) }
 {
     let (lines, report, turns) = wanted;
-    let machine = Machine::parse(rt.alloc(), text.as_bytes())?;
-    let processors = worked(rt, &machine, room, shares).ok_or("processors")?;
-    let outcome = gathered_again(rt, &machine, processors).ok_or("an outcome")?;
-    has(rt, &outcome, lines, report, turns)
+    let machine = machine_of(rt.alloc(), text)?;
+    let processors = worked(rt, &machine, room, shares)?;
+    let outcome = gathered_again(rt, &machine, processors)?;
+    Some(has(rt.alloc(), &outcome, lines, report, turns))
 }
 
 #[test]
-fn two_logs_make_one_history(rt: HostRuntime) -> Result<(), Fail> {
+fn two_logs_make_one_history(rt: HostRuntime) {
     let shares = [(1, 1), (0, 3), (1, 1), (0, 2), (1, 1)];
     let lines =
         "local 1.1\nwait 2.1\nlocal 1.1\nbegin 1.1#1\nqueue 1.1#1\ndeliver 1.1#1 2.1 1.1 1.1 74001 a\nlocal 2.1\nlocal 1.1\n";
     let report =
         "thread 1.1 ended 0 nil nil 0 a\nthread 2.1 ended 0 1.1 1.1 74001 a\nending quiet\n";
-    come_to(&rt, ACROSS, 64, &shares, (lines, report, 8))
+    assert!(rt; come_to(&rt, ACROSS, 64, &shares, (lines, report, 8)) == Some(true));
 }
 
 // There is room for one letter between the two: the others wait in the outbox. Two sends and one answer are under way.
 #[test]
-fn full_rings_hold_nothing_back(rt: HostRuntime) -> Result<(), Fail> {
+fn full_rings_hold_nothing_back(rt: HostRuntime) {
     let lines =
         "begin 1.1#1\nbegin 2.1#1\nqueue 1.1#1\nbegin 3.1#1\nwait 4.1\ndeliver 1.1#1 4.1 1.1 1.1 4000\n";
     let report =
         "thread 1.1 ready 0 nil nil 0\nthread 2.1 sending 0 nil nil 0\nthread 3.1 sending 0 nil nil 0\nthread 4.1 ready 0 1.1 1.1 4000\nwaiting 2.1#1 4.1\nwaiting 3.1#1 4.1\nending spent\n";
-    come_to(&rt, QUEUED, 1, &[(0, 3), (1, 3)], (lines, report, 6))
+    let shares = [(0, 3), (1, 3)];
+    assert!(rt; come_to(&rt, QUEUED, 1, &shares, (lines, report, 6)) == Some(true));
+}
+
+// Whether these are two processors in their order, of which each has taken two turns.
+fn are_two(processors: &[Processor<'_>]) -> bool {
+    for (cpu, processor) in processors.iter().enumerate() {
+        if usize::from(processor.cpu()) != cpu {
+            return false;
+        }
+        if processor.turns() != 2 || processor.log().len() != 2 {
+            return false;
+        }
+    }
+    processors.len() == 2
+}
+
+fn come_back<R: AllocGlobal + Print>(rt: &R, machine: &Machine) -> Option<bool> {
+    let processors = worked(rt, machine, 1, &[(1, 2), (2, 1), (0, 2)])?;
+    let (fault, back) = gathered_without_last(rt.alloc(), machine, processors)?;
+    Some(fault == RunFault::Strangers && are_two(back.as_slice()))
 }
 
 // None of them is there; then the last of three is missing: the two others come back in their order, with all that they did. That one is there twice is
 // ruled out by ownership, since no processor can be copied.
 #[test]
-fn one_of_them_is_missing(rt: HostRuntime) -> Result<(), Fail> {
-    let machine = Machine::parse(rt.alloc(), TOGETHER.as_bytes())?;
+fn one_of_them_is_missing(rt: HostRuntime) {
+    let machine = machine_of(rt.alloc(), TOGETHER).expect(&rt, "a machine");
     assert!(rt; gather(rt.alloc(), &machine, Vec::new(rt.alloc())).is_err());
-    let processors = worked(&rt, &machine, 1, &[(1, 2), (2, 1), (0, 2)]).ok_or("processors")?;
-    let (fault, back) = gathered_without_last(rt.alloc(), &machine, processors).ok_or("a fault")?;
-    assert!(rt; fault == RunFault::Strangers && back.len() == 2);
-    for (cpu, processor) in back.iter().enumerate() {
-        assert!(rt; usize::from(processor.cpu()) == cpu);
-        assert!(rt; processor.turns() == 2 && processor.log().len() == 2);
-    }
-    Ok(())
+    assert!(rt; come_back(&rt, &machine) == Some(true));
 }

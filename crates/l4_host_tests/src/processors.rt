@@ -1,8 +1,9 @@
-ghost use Rattle.std.specs.Prelude.{map};
+ghost use Rattle.std.specs.Prelude.{◌<◌, ◌≤◌, map};
+ghost use Rattle.l4_mail.specs.Fabrics.{most_room};
 ghost use Rattle.l4_mail.specs.Ports.{AreOneFabric};
 ghost use Rattle.l4_proc.specs.Logs.{IsClosed};
 
-use crate::runs::Meeting;
+use crate::runs::{Meeting, machine_of};
 use l4_mail::rests::RestFault;
 use l4_proc::assembly::assemble;
 use l4_proc::gate::Open;
@@ -13,7 +14,8 @@ use l4_proc::stops::Stop;
 use l4_proc::together::work_together;
 use l4_samples::{ACROSS, endless};
 use l4_script::machine::Machine;
-use std::test::Fail;
+use std::alloc::Global;
+use std::thread::Threads;
 
 // A thread waits for five ticks.
 const TIMED: &str = "l4 1 64
@@ -37,66 +39,105 @@ pub(crate) fn has_stamps(log: &Log, stamps: &[u64]) -> bool
     true
 }
 
+// Whether a processor takes as many turns as it may.
+fn uses_up(processor: &mut Processor<'_>, turns: u64) -> bool {
+    processor.work(turns, &Open) == Stop::Used
+}
+
+// Whether it finds nothing to do before it has taken as many.
+fn is_idle(processor: &mut Processor<'_>, turns: u64) -> bool {
+    processor.work(turns, &Open) == Stop::Idle
+}
+
 // Whether a processor has taken so many turns, with events of these stamps, and there is nothing left to do.
 fn is_done(processor: &mut Processor<'_>, turns: u64, stamps: &[u64]) -> bool {
-    has_stamps(processor.log(), stamps)
-        && processor.turns() == turns
-        && processor.work(1, &Open) == Stop::Idle
+    has_stamps(processor.log(), stamps) && processor.turns() == turns && is_idle(processor, 1)
+}
+
+/// The processors of a machine, whose rings have this room.
+pub(crate) fn processors_of<'m>(
+    alloc: Global,
+    machine: &'m Machine,
+    room: usize,
+) -> Option<Vec<Processor<'m>>>
+    requires { (0 < room) × (room ≤ most_room) }
+{
+    assemble(alloc, machine, room).ok()
+}
+
+fn has_crossed(alloc: Global) -> Option<bool> {
+    let machine = machine_of(alloc, ACROSS)?;
+    let mut processors = processors_of(alloc, &machine, 64)?;
+    let mut other = processors.pop()?;
+    let mut home = processors.pop()?;
+    let have_worked = processors.is_empty()
+        && uses_up(&mut other, 1)
+        && uses_up(&mut home, 3)
+        && uses_up(&mut other, 1)
+        && uses_up(&mut home, 2)
+        && uses_up(&mut other, 1);
+    let are_done = is_done(&mut home, 5, &[1, 2, 3, 5, 6]) && is_done(&mut other, 3, &[1, 4, 5]);
+    Some(have_worked && are_done)
 }
 
 // Two letters: the send, and that it was delivered. The receiver waits, the send goes, it is delivered, the sender learns of it, and both end. A
 // processor that takes no letter, or that never moves one on, keeps all contracts.
 #[test]
-fn a_message_crosses(rt: HostRuntime) -> Result<(), Fail> {
-    let machine = Machine::parse(rt.alloc(), ACROSS.as_bytes())?;
-    let mut processors = assemble(rt.alloc(), &machine, 64)?;
-    assert_eq!(rt; processors.len(), 2);
-    let mut other = processors.pop().ok_or("a processor")?;
-    let mut home = processors.pop().ok_or("a processor")?;
-    assert!(rt; other.work(1, &Open) == Stop::Used);
-    assert!(rt; home.work(3, &Open) == Stop::Used);
-    assert!(rt; other.work(1, &Open) == Stop::Used);
-    assert!(rt; home.work(2, &Open) == Stop::Used);
-    assert!(rt; other.work(1, &Open) == Stop::Used);
-    assert!(rt; is_done(&mut home, 5, &[1, 2, 3, 5, 6]));
-    assert!(rt; is_done(&mut other, 3, &[1, 4, 5]));
-    Ok(())
+fn a_message_crosses(rt: HostRuntime) {
+    assert!(rt; has_crossed(rt.alloc()) == Some(true));
 }
 
-// The clock goes on, which is no turn, and then the receive has timed out.
+// Whether its clock goes on to five, which is no turn.
+fn ticks_to_five(processor: &mut Processor<'_>) -> bool {
+    processor.core().least_deadline() == Some(5)
+        && processor.tick(0).is_err()
+        && processor.tick(5).is_ok()
+        && processor.turns() == 1
+}
+
+fn times_out(alloc: Global) -> Option<bool> {
+    let machine = machine_of(alloc, TIMED)?;
+    let mut processors = processors_of(alloc, &machine, 1)?;
+    let mut processor = processors.pop()?;
+    let is_timed_out = processors.is_empty()
+        && is_idle(&mut processor, 2)
+        && ticks_to_five(&mut processor)
+        && is_idle(&mut processor, 3);
+    Some(is_timed_out && has_stamps(processor.log(), &[1, 2, 3, 4]) && !processor.in_hand())
+}
+
+// The clock goes on, and then the receive has timed out.
 #[test]
-fn a_clock_goes_on(rt: HostRuntime) -> Result<(), Fail> {
-    let machine = Machine::parse(rt.alloc(), TIMED.as_bytes())?;
-    let mut processors = assemble(rt.alloc(), &machine, 1)?;
-    assert_eq!(rt; processors.len(), 1);
-    let mut processor = processors.pop().ok_or("a processor")?;
-    assert!(rt; processor.work(2, &Open) == Stop::Idle);
-    assert_eq!(rt; processor.core().least_deadline(), Some(5));
-    assert!(rt; processor.tick(0).is_err() && processor.tick(5).is_ok());
-    assert_eq!(rt; processor.turns(), 1);
-    assert!(rt; processor.work(3, &Open) == Stop::Idle);
-    assert!(rt; has_stamps(processor.log(), &[1, 2, 3, 4]));
-    assert!(rt; !processor.in_hand());
-    Ok(())
+fn a_clock_goes_on(rt: HostRuntime) {
+    assert!(rt; times_out(rt.alloc()) == Some(true));
+}
+
+// Whether so many processors have taken ten turns.
+fn have_taken_ten(processors: &[Processor<'_>], cpus: u8) -> bool {
+    for processor in processors {
+        if processor.turns() != 10 || processor.stop() != Stop::Used {
+            return false;
+        }
+    }
+    processors.len() == usize::from(cpus)
+}
+
+fn meet<R: AllocGlobal + Threads + Sync>(rt: &R, cpus: u8) -> Option<bool> {
+    let text = endless(rt.alloc(), cpus, cpus).ok()?;
+    let machine = machine_of(rt.alloc(), text.as_str())?;
+    let mut processors = processors_of(rt.alloc(), &machine, 1)?;
+    let gate = Meeting::new(cpus);
+    work_together(rt, processors.as_mut_slice(), 10, &gate);
+    Some(gate.was_kept() && have_taken_ten(processors.as_slice(), cpus))
 }
 
 // Each has a thread that goes on for ever, and they meet while each takes ten turns. No clause says that host threads run side by side: where they do
 // not, the looks of a gate that waits for all run out.
 #[test]
-fn processors_are_at_work_at_the_same_time(rt: HostRuntime) -> Result<(), Fail> {
+fn processors_are_at_work_at_the_same_time(rt: HostRuntime) {
     for cpus in [2, 16] {
-        let text = endless(rt.alloc(), cpus, cpus)?;
-        let machine = Machine::parse(rt.alloc(), text.as_bytes())?;
-        let mut processors = assemble(rt.alloc(), &machine, 1)?;
-        assert_eq!(rt; processors.len(), usize::from(cpus));
-        let gate = Meeting::new(cpus);
-        work_together(&rt, processors.as_mut_slice(), 10, &gate);
-        assert!(rt; gate.was_kept());
-        for processor in processors.iter() {
-            assert!(rt; processor.turns() == 10 && processor.stop() == Stop::Used);
-        }
+        assert!(rt; meet(&rt, cpus) == Some(true), "{cpus}");
     }
-    Ok(())
 }
 
 // How many turns the processor at this place took.
@@ -107,19 +148,26 @@ fn turns_at(processors: &[Processor<'_>], at: usize) -> u64 {
     }
 }
 
-// They work until the first one has its five turns. No clause says that a letter comes, so there is a limit to how often it is waited for.
-#[test]
-fn a_message_crosses_between_threads(rt: HostRuntime) -> Result<(), Fail> {
-    let machine = Machine::parse(rt.alloc(), ACROSS.as_bytes())?;
-    let mut processors = assemble(rt.alloc(), &machine, 64)?;
+// Whether the processors work until the first one has its five turns.
+fn work_until_five<R: Threads + Sync>(rt: &R, processors: &mut Vec<Processor<'_>>) -> bool {
     for _ in 0..1000 {
         if turns_at(processors.as_slice(), 0) != 5 {
-            work_together(&rt, processors.as_mut_slice(), 100, &Open);
+            work_together(rt, processors.as_mut_slice(), 100, &Open);
         }
     }
-    assert_eq!(rt; turns_at(processors.as_slice(), 0), 5);
-    assert!(rt; turns_at(processors.as_slice(), 1) >= 3);
-    Ok(())
+    turns_at(processors.as_slice(), 0) == 5 && turns_at(processors.as_slice(), 1) >= 3
+}
+
+fn crosses_between_threads<R: AllocGlobal + Threads + Sync>(rt: &R) -> Option<bool> {
+    let machine = machine_of(rt.alloc(), ACROSS)?;
+    let mut processors = processors_of(rt.alloc(), &machine, 64)?;
+    Some(work_until_five(rt, &mut processors))
+}
+
+// No clause says that a letter comes, so there is a limit to how often it is waited for.
+#[test]
+fn a_message_crosses_between_threads(rt: HostRuntime) {
+    assert!(rt; crosses_between_threads(&rt) == Some(true));
 }
 
 /// Whether the processor at this place takes turns until it finds nothing.
@@ -149,19 +197,41 @@ pub(crate) fn have_rested(processors: &[Processor<'_>]) -> bool {
         && processors[0].stop() == Stop::Idle
 }
 
+// Whether letters have come to rest.
+fn rested(alloc: Global, processors: &mut Vec<Processor<'_>>) -> Result<bool, RestFault>
+    requires { AreOneFabric (map (λ p. p.port) processors.old.items) }
+    ensures { AreOneFabric (map (λ p. p.port) processors.new.items) }
+{
+    rest(alloc, processors)
+}
+
+// Whether letters come to rest once the processors are idle.
+fn come_to_rest(alloc: Global, processors: &mut Vec<Processor<'_>>) -> bool
+    requires { AreOneFabric (map (λ p. p.port) processors.old.items) }
+    ensures { AreOneFabric (map (λ p. p.port) processors.new.items) }
+{
+    rested(alloc, processors) == Ok(true)
+        && runs_idle(processors, 0)
+        && rested(alloc, processors) == Ok(false)
+        && runs_idle(processors, 1)
+        && runs_idle(processors, 0)
+        && rested(alloc, processors) == Ok(true)
+}
+
+// Whether the last one of two is missed.
+fn is_missed(alloc: Global, processors: &mut Vec<Processor<'_>>) -> bool
+    requires { AreOneFabric (map (λ p. p.port) processors.old.items) }
+{
+    drop_last(processors);
+    rested(alloc, processors) == Err(RestFault::Numbers) && processors.len() == 1
+}
+
 #[test]
-fn letters_come_to_rest(rt: HostRuntime) -> Result<(), Fail> {
-    let machine = Machine::parse(rt.alloc(), ACROSS.as_bytes())?;
-    let mut processors = assemble(rt.alloc(), &machine, 1)?;
-    assert!(rt; rest(rt.alloc(), &mut processors) == Ok(true));
-    assert!(rt; runs_idle(&mut processors, 0));
-    assert!(rt; rest(rt.alloc(), &mut processors) == Ok(false));
-    assert!(rt; runs_idle(&mut processors, 1));
-    assert!(rt; runs_idle(&mut processors, 0));
-    assert!(rt; rest(rt.alloc(), &mut processors) == Ok(true));
+fn letters_come_to_rest(rt: HostRuntime) {
+    let machine = machine_of(rt.alloc(), ACROSS).expect(&rt, "a machine");
+    let processors = assemble(rt.alloc(), &machine, 1);
+    let mut processors = processors.ok().expect(&rt, "processors");
+    assert!(rt; come_to_rest(rt.alloc(), &mut processors));
     assert!(rt; have_rested(processors.as_slice()));
-    drop_last(&mut processors);
-    assert!(rt; rest(rt.alloc(), &mut processors) == Err(RestFault::Numbers));
-    assert_eq!(rt; processors.len(), 1);
-    Ok(())
+    assert!(rt; is_missed(rt.alloc(), &mut processors));
 }

@@ -4,13 +4,13 @@ ghost use Rattle.std.specs.Prelude.{map};
 ghost use Rattle.l4_mail.specs.Ports.{AreOneFabric};
 
 use crate::gathers::has;
-use crate::processors::{have_rested, runs_idle};
-use crate::runs::is_right;
-use l4_audit::audit::{AuditFault, check};
+use crate::processors::{have_rested, processors_of, runs_idle};
+use crate::runs::{is_right, machine_of};
+use l4_audit::audit::{Audit, AuditFault, check};
 use l4_jobs::job::Job;
 use l4_jobs::perform::perform;
 use l4_jobs::words::{WordsFault, job_of};
-use l4_machine::{RunFault, replay, run};
+use l4_machine::{Outcome, RunFault, replay, run};
 use l4_mail::rests::RestFault;
 use l4_proc::assembly::assemble;
 use l4_proc::gate::Open;
@@ -20,8 +20,9 @@ use l4_proc::stops::{ProcFault, Stop};
 use l4_samples::{ACROSS, ACROSS_TRACE, PING, PING_REPORT, PING_TRACE, call_begins, call_ends};
 use l4_script::machine::Machine;
 use l4_types::errors::NoMemory;
+use l4_types::steps::Step;
 use std::process::Abort;
-use std::test::Fail;
+use std::thread::Threads;
 
 const REPORT: &str =
     "thread 1.1 ended 0 nil nil 0 a\nthread 2.1 ended 0 1.1 1.1 74001 a\nending quiet\n";
@@ -43,41 +44,58 @@ fn assembled<'m, R: AllocGlobal + Print>(
     }
 }
 
-// They stand in the order of their numbers, and have done nothing.
-#[test]
-fn processors_are_assembled(rt: HostRuntime) -> Result<(), Fail> {
-    let machine = Machine::parse(rt.alloc(), ACROSS.as_bytes())?;
-    let processors = assembled(&rt, &machine)?;
-    assert_eq!(rt; processors.len(), 2);
+// Whether two processors stand in the order of their numbers, and have done nothing.
+fn are_fresh(processors: &[Processor<'_>]) -> bool {
     for (cpu, processor) in processors.iter().enumerate() {
-        assert!(rt; usize::from(processor.cpu()) == cpu);
-        assert!(rt; processor.log().is_empty() && processor.turns() == 0);
+        if usize::from(processor.cpu()) != cpu {
+            return false;
+        }
+        if !processor.log().is_empty() || processor.turns() != 0 {
+            return false;
+        }
     }
-    Ok(())
+    processors.len() == 2
 }
 
-// It goes on 19 times, and the one thread of the processor then begins to wait. A tick that is refused changes nothing.
 #[test]
-fn a_clock_goes_on(rt: HostRuntime) -> Result<(), Fail> {
-    let machine = Machine::parse(rt.alloc(), ACROSS.as_bytes())?;
-    let mut processors = assemble(rt.alloc(), &machine, 1)?;
-    let mut processor = processors.pop().ok_or("a processor")?;
-    for to in 1..20 {
-        let clock = processor.core().clock();
-        let events = processor.log().len();
-        call_begins(&rt, "tick");
-        let told = processor.tick(to);
-        call_ends(&rt);
-        if let Err(fault) = told {
-            assert!(rt; fault == ProcFault::NoMemory);
-            assert!(rt; processor.core().clock() == clock && processor.log().len() == events);
-            assert!(rt; processor.tick(to).is_ok());
+fn processors_are_assembled(rt: HostRuntime) {
+    let machine = machine_of(rt.alloc(), ACROSS).expect(&rt, "a machine");
+    let processors = assembled(&rt, &machine).ok().expect(&rt, "processors");
+    assert!(rt; are_fresh(processors.as_slice()));
+}
+
+// Whether the clock of a processor goes on, by a second call where memory was refused. A tick that is refused changes nothing.
+fn is_ticked<R: Print>(rt: &R, processor: &mut Processor<'_>, to: u64) -> bool {
+    let clock = processor.core().clock();
+    let events = processor.log().len();
+    call_begins(rt, "tick");
+    let told = processor.tick(to);
+    call_ends(rt);
+    match told {
+        Ok(()) => processor.core().clock() == to,
+        Err(ProcFault::NoMemory) => {
+            let is_unchanged = processor.core().clock() == clock && processor.log().len() == events;
+            is_unchanged && processor.tick(to).is_ok() && processor.core().clock() == to
         }
-        assert!(rt; processor.core().clock() == to);
+        Err(_) => false,
     }
-    assert!(rt; processor.work(2, &Open) == Stop::Idle);
-    assert!(rt; processor.turns() == 1 && processor.log().len() == 20);
-    Ok(())
+}
+
+// It goes on 19 times, and the one thread of the processor then begins to wait.
+fn begins_to_wait(processor: &mut Processor<'_>) -> bool {
+    processor.work(2, &Open) == Stop::Idle && processor.turns() == 1 && processor.log().len() == 20
+}
+
+#[test]
+fn a_clock_goes_on(rt: HostRuntime) {
+    let machine = machine_of(rt.alloc(), ACROSS).expect(&rt, "a machine");
+    let processors = processors_of(rt.alloc(), &machine, 1);
+    let mut processors = processors.expect(&rt, "processors");
+    let mut processor = processors.pop().expect(&rt, "a processor");
+    for to in 1..20 {
+        assert!(rt; is_ticked(&rt, &mut processor, to));
+    }
+    assert!(rt; begins_to_wait(&mut processor));
 }
 
 // Whether letters have come to rest, by a second call where memory was refused.
@@ -100,56 +118,90 @@ fn rested<R: AllocGlobal + Abort + Print>(
     }
 }
 
-#[test]
-fn letters_come_to_rest(rt: HostRuntime) -> Result<(), Fail> {
-    let machine = Machine::parse(rt.alloc(), ACROSS.as_bytes())?;
-    let mut processors = assemble(rt.alloc(), &machine, 1)?;
-    assert!(rt; runs_idle(&mut processors, 0));
-    assert_eq!(rt; rested(&rt, &mut processors), Some(false));
-    assert!(rt; runs_idle(&mut processors, 1));
-    assert!(rt; runs_idle(&mut processors, 0));
-    assert_eq!(rt; rested(&rt, &mut processors), Some(true));
-    assert!(rt; have_rested(processors.as_slice()));
-    Ok(())
+// Whether letters come to rest once the processors are idle.
+fn come_to_rest<R: AllocGlobal + Abort + Print>(rt: &R, processors: &mut Vec<Processor<'_>>) -> bool
+    requires { AreOneFabric (map (λ p. p.port) processors.old.items) }
+{
+    runs_idle(processors, 0)
+        && rested(rt, processors) == Some(false)
+        && runs_idle(processors, 1)
+        && runs_idle(processors, 0)
+        && rested(rt, processors) == Some(true)
 }
 
 #[test]
-fn a_machine_runs(rt: HostRuntime) -> Result<(), Fail> {
-    let machine = Machine::parse(rt.alloc(), ACROSS.as_bytes())?;
-    call_begins(&rt, "run");
-    let told = run(&rt, rt.alloc(), &machine, 1_000, &Open);
-    call_ends(&rt);
-    let outcome = match told {
-        Err(RunFault::NoMemory) => run(&rt, rt.alloc(), &machine, 1_000, &Open)?,
-        told => told?,
-    };
-    is_right(&rt, &machine, 1_000, &outcome)?;
+fn letters_come_to_rest(rt: HostRuntime) {
+    let machine = machine_of(rt.alloc(), ACROSS).expect(&rt, "a machine");
+    let processors = assemble(rt.alloc(), &machine, 1);
+    let mut processors = processors.ok().expect(&rt, "processors");
+    assert!(rt; come_to_rest(&rt, &mut processors));
+    assert!(rt; have_rested(processors.as_slice()));
+}
+
+// What a run comes to, by a second call where memory was refused.
+fn ran<R: AllocGlobal + Threads + Sync + Print>(
+    rt: &R,
+    machine: &Machine,
+) -> Result<Outcome, RunFault> {
+    call_begins(rt, "run");
+    let told = run(rt, rt.alloc(), machine, 1_000, &Open);
+    call_ends(rt);
+    match told {
+        Err(RunFault::NoMemory) => run(rt, rt.alloc(), machine, 1_000, &Open),
+        told => told,
+    }
+}
+
+#[test]
+fn a_machine_runs(rt: HostRuntime) {
+    let machine = machine_of(rt.alloc(), ACROSS).expect(&rt, "a machine");
+    let outcome = ran(&rt, &machine).ok().expect(&rt, "an outcome");
+    assert!(rt; is_right(rt.alloc(), &machine, 1_000, &outcome));
     assert!(rt; outcome.turns == 8 || outcome.turns == 9);
     assert!(rt; outcome.waiting.is_empty());
-    Ok(())
+}
+
+// What the replay of the schedule comes to, by a second call where memory was refused.
+fn replayed<R: AllocGlobal + Print>(rt: &R, machine: &Machine) -> Result<Outcome, RunFault> {
+    call_begins(rt, "replay");
+    let told = replay(rt.alloc(), machine, &SCHEDULE);
+    call_ends(rt);
+    match told {
+        Err(RunFault::NoMemory) => replay(rt.alloc(), machine, &SCHEDULE),
+        told => told,
+    }
+}
+
+// What the audit of its history finds, by a second call where memory was refused.
+fn audited<R: AllocGlobal + Print>(
+    rt: &R,
+    machine: &Machine,
+    history: &[Step],
+) -> Result<Audit, AuditFault> {
+    call_begins(rt, "check");
+    let told = check(rt.alloc(), machine, history);
+    call_ends(rt);
+    match told {
+        Err(AuditFault::NoMemory) => check(rt.alloc(), machine, history),
+        told => told,
+    }
+}
+
+// Whether an audit finds what an outcome reports, and no send that waits.
+fn is_confirmed(outcome: &Outcome, audit: &Audit) -> bool {
+    audit.threads.as_slice() == outcome.threads.as_slice()
+        && audit.waiting.is_empty()
+        && audit.ending == outcome.ending
 }
 
 #[test]
-fn a_schedule_is_replayed_and_audited(rt: HostRuntime) -> Result<(), Fail> {
-    let machine = Machine::parse(rt.alloc(), ACROSS.as_bytes())?;
-    call_begins(&rt, "replay");
-    let told = replay(rt.alloc(), &machine, &SCHEDULE);
-    call_ends(&rt);
-    let outcome = match told {
-        Err(RunFault::NoMemory) => replay(rt.alloc(), &machine, &SCHEDULE)?,
-        told => told?,
-    };
-    has(&rt, &outcome, ACROSS_TRACE, REPORT, 8)?;
-    call_begins(&rt, "check");
-    let told = check(rt.alloc(), &machine, outcome.history.as_slice());
-    call_ends(&rt);
-    let audit = match told {
-        Err(AuditFault::NoMemory) => check(rt.alloc(), &machine, outcome.history.as_slice())?,
-        told => told?,
-    };
-    assert!(rt; audit.threads.as_slice() == outcome.threads.as_slice());
-    assert!(rt; audit.waiting.is_empty() && audit.ending == outcome.ending);
-    Ok(())
+fn a_schedule_is_replayed_and_audited(rt: HostRuntime) {
+    let machine = machine_of(rt.alloc(), ACROSS).expect(&rt, "a machine");
+    let outcome = replayed(&rt, &machine).ok().expect(&rt, "an outcome");
+    assert!(rt; has(rt.alloc(), &outcome, ACROSS_TRACE, REPORT, 8));
+    let audit = audited(&rt, &machine, outcome.history.as_slice());
+    let audit = audit.ok().expect(&rt, "an audit");
+    assert!(rt; is_confirmed(&outcome, &audit));
 }
 
 // What words of a command line ask for, read again where memory was refused.
@@ -186,60 +238,77 @@ const AUDIT: Job<'static> = Job::Audit {
     trace: "m.trace",
 };
 
-#[test]
-fn words_are_read_and_explained(rt: HostRuntime) -> Result<(), Fail> {
-    let words = ["l4run", "run", "m.l4", "--turns", "100", "--report"];
-    assert!(rt; asked(&rt, &words)? == REPORTED);
-    let words = ["l4run", "audit", "m.l4", "m.trace"];
-    assert!(rt; asked(&rt, &words)? == AUDIT);
-    let help = asked(&rt, &["l4run", "--help"]);
-    assert!(rt; matches!(help, Err(WordsFault::Help(_))));
-    let usage = asked(&rt, &["l4run", "run", "m.l4", "--turns", "many"]);
-    assert!(rt; matches!(usage, Err(WordsFault::Usage(_))));
-    Ok(())
+// Whether words ask for this job.
+fn is_asked<R: AllocGlobal + Print>(rt: &R, words: &[&str], job: &Job<'_>) -> bool {
+    match asked(rt, words) {
+        Ok(read) => read == *job,
+        Err(_) => false,
+    }
 }
 
-// Each job comes to this output. Where memory is refused it says so and has written nothing else, and is done again. The writers have room for all
-// that may be written, so that they need none.
+fn is_helped<R: AllocGlobal + Print>(rt: &R, words: &[&str]) -> bool {
+    matches!(asked(rt, words), Err(WordsFault::Help(_)))
+}
+
+fn is_told_usage<R: AllocGlobal + Print>(rt: &R, words: &[&str]) -> bool {
+    matches!(asked(rt, words), Err(WordsFault::Usage(_)))
+}
+
 #[test]
-fn jobs_are_performed(rt: HostRuntime) -> Result<(), Fail> {
+fn words_are_read_and_explained(rt: HostRuntime) {
+    let words = ["l4run", "run", "m.l4", "--turns", "100", "--report"];
+    assert!(rt; is_asked(&rt, &words, &REPORTED));
+    assert!(rt; is_asked(&rt, &["l4run", "audit", "m.l4", "m.trace"], &AUDIT));
+    assert!(rt; is_helped(&rt, &["l4run", "--help"]));
+    assert!(rt; is_told_usage(&rt, &["l4run", "run", "m.l4", "--turns", "many"]));
+}
+
+// Performs a job on a text and a trace. Answers the status.
+fn done<R: AllocGlobal + Threads + Sync>(
+    rt: &R,
+    job: &Job<'_>,
+    text: &str,
+    told: &str,
+    out: &mut Vec<u8>,
+    faults: &mut Vec<u8>,
+) -> u8 {
+    let (mut machine, mut trace) = (text.as_bytes(), told.as_bytes());
+    perform(rt, rt.alloc(), job, &mut machine, &mut trace, out, faults)
+}
+
+// Whether a job comes to this output, by a second call where memory was refused: then it has said so, and has written nothing else. The writers have
+// room for all that may be written, so that they need none.
+fn is_performed<R: AllocGlobal + Threads + Sync + Print>(
+    rt: &R,
+    job: &Job<'_>,
+    text: &str,
+    told: &str,
+    wanted: &str,
+) -> Option<bool> {
+    let mut out = Vec::with_capacity(rt.alloc(), 1_000).ok()?;
+    let mut faults = Vec::with_capacity(rt.alloc(), 1_000).ok()?;
+    call_begins(rt, "perform");
+    let mut status = done(rt, job, text, told, &mut out, &mut faults);
+    call_ends(rt);
+    if status == 1 {
+        if faults.as_slice() != b"l4run: no memory\n".as_slice() || !out.is_empty() {
+            return None;
+        }
+        faults.clear();
+        status = done(rt, job, text, told, &mut out, &mut faults);
+    }
+    Some(status == 0 && faults.is_empty() && out.as_slice() == wanted.as_bytes())
+}
+
+#[test]
+fn jobs_are_performed(rt: HostRuntime) {
     for (job, text, told, wanted) in [
         (RUN, PING, "", PING_TRACE),
         (REPORTED, PING, "", PING_REPORT),
         (REPLAY, ACROSS, "", ACROSS_TRACE),
         (AUDIT, ACROSS, ACROSS_TRACE, "passed 8 quiet\n"),
     ] {
-        let mut out = Vec::with_capacity(rt.alloc(), 1_000)?;
-        let mut faults = Vec::with_capacity(rt.alloc(), 1_000)?;
-        let (mut machine, mut trace) = (text.as_bytes(), told.as_bytes());
-        call_begins(&rt, "perform");
-        let status = perform(
-            &rt,
-            rt.alloc(),
-            &job,
-            &mut machine,
-            &mut trace,
-            &mut out,
-            &mut faults,
-        );
-        call_ends(&rt);
-        if status == 1 {
-            assert!(rt; faults.as_slice() == b"l4run: no memory\n".as_slice() && out.is_empty());
-            faults.clear();
-            let (mut machine, mut trace) = (text.as_bytes(), told.as_bytes());
-            let again = perform(
-                &rt,
-                rt.alloc(),
-                &job,
-                &mut machine,
-                &mut trace,
-                &mut out,
-                &mut faults,
-            );
-            assert!(rt; again == 0);
-        }
-        assert!(rt; status <= 1 && faults.is_empty());
-        assert!(rt; out.as_slice() == wanted.as_bytes(), "{wanted}");
+        let is_performed = is_performed(&rt, &job, text, told, wanted);
+        assert!(rt; is_performed == Some(true), "{wanted}");
     }
-    Ok(())
 }

@@ -1,26 +1,44 @@
 // Runs and replays whose traces are read back and audited.
+use crate::runs::machine_of;
+use l4_audit::audit::Audit;
 use l4_proc::gate::Open;
 use l4_round_trips::{audited_replay, audited_run};
 use l4_samples::{PING, PING_TRACE};
 use l4_script::machine::Machine;
 use l4_types::reports::{Ending, State};
-use std::test::Fail;
+use std::alloc::Global;
 
-// The audit finds both threads ended, and the word at the second one.
+// Whether an audit finds both threads ended, and the word at the second one.
+fn is_ended(audit: &Audit) -> bool {
+    let threads = audit.threads.as_slice();
+    audit.ending == Ending::Quiet
+        && audit.waiting.is_empty()
+        && threads.len() == 2
+        && threads[1].state == State::Ended
+        && threads[1].regs.words[1] == 10
+}
+
+// Whether a replay of so many turns comes to this trace and this ending.
+fn is_replayed(
+    alloc: Global,
+    machine: &Machine,
+    schedule: &[u8],
+    lines: &str,
+    ending: Ending,
+) -> bool {
+    match audited_replay(alloc, machine, schedule) {
+        Ok(done) => done.trace.as_slice() == lines.as_bytes() && done.audit.ending == ending,
+        Err(_) => false,
+    }
+}
+
 #[test]
-fn what_is_written_is_read_and_passes(rt: HostRuntime) -> Result<(), Fail> {
-    let machine = Machine::parse(rt.alloc(), PING.as_bytes())?;
-    let ran = audited_run(&rt, rt.alloc(), &machine, 100, &Open)?;
-    assert!(rt; ran.trace.as_slice() == PING_TRACE.as_bytes());
-    assert!(rt; ran.audit.ending == Ending::Quiet && ran.audit.waiting.is_empty());
-    let threads = ran.audit.threads.as_slice();
-    assert_eq!(rt; threads.len(), 2);
-    assert!(rt; threads[1].state == State::Ended && threads[1].regs.words[1] == 10);
-    let replayed = audited_replay(rt.alloc(), &machine, &[0; 8])?;
-    assert!(rt; replayed.trace.as_slice() == PING_TRACE.as_bytes());
-    assert!(rt; replayed.audit.ending == Ending::Quiet);
-    let begun = audited_replay(rt.alloc(), &machine, &[0; 2])?;
-    assert!(rt; begun.trace.as_slice() == b"local 1.1\nwait 2.1\n".as_slice());
-    assert!(rt; begun.audit.ending == Ending::Spent);
-    Ok(())
+fn what_is_written_is_read_and_passes(rt: HostRuntime) {
+    let machine = machine_of(rt.alloc(), PING).expect(&rt, "a machine");
+    let ran = audited_run(&rt, rt.alloc(), &machine, 100, &Open);
+    let ran = ran.ok().expect(&rt, "a run");
+    assert!(rt; ran.trace.as_slice() == PING_TRACE.as_bytes() && is_ended(&ran.audit));
+    let begun = "local 1.1\nwait 2.1\n";
+    assert!(rt; is_replayed(rt.alloc(), &machine, &[0; 8], PING_TRACE, Ending::Quiet));
+    assert!(rt; is_replayed(rt.alloc(), &machine, &[0; 2], begun, Ending::Spent));
 }

@@ -9,51 +9,48 @@ use l4_samples::{ACROSS, CALLS, endless};
 use l4_script::machine::Machine;
 use l4_trace::traces::trace;
 use l4_types::reports::Ending;
-use std::process::Abort;
+use std::alloc::Global;
 use std::sync::atomic::{AtomicU64, Ordering};
-use std::test::Fail;
 use std::thread::Threads;
 use std::{str, thread};
 
-/// What a run comes to, which is tested for what every run must have.
-pub(crate) fn comes_to<R: AllocGlobal + Abort + Threads + Sync, G: Gate + Sync>(
+/// The machine of a text.
+pub(crate) fn machine_of(alloc: Global, text: &str) -> Option<Machine> {
+    Machine::parse(alloc, text.as_bytes()).ok()
+}
+
+/// What a run comes to, where it has what every run must have.
+pub(crate) fn comes_to<R: AllocGlobal + Threads + Sync, G: Gate + Sync>(
     rt: &R,
     text: &str,
     turns: u64,
     gate: &G,
-) -> Result<Outcome, Fail> {
-    let machine = Machine::parse(rt.alloc(), text.as_bytes())?;
-    let outcome = run(rt, rt.alloc(), &machine, turns, gate)?;
-    is_right(rt, &machine, turns, &outcome)?;
-    Ok(outcome)
+) -> Option<Outcome> {
+    let machine = machine_of(rt.alloc(), text)?;
+    let outcome = run(rt, rt.alloc(), &machine, turns, gate).ok()?;
+    if !is_right(rt.alloc(), &machine, turns, &outcome) {
+        return None;
+    }
+    Some(outcome)
 }
 
-/// Tests that the history of an outcome is one of the machine, which leads to the threads and the sends that it reports, and if it is quiet, to a still
+/// Whether the history of an outcome is one of the machine, which leads to the threads and the sends that it reports, and if it is quiet, to a still
 /// world.
-pub(crate) fn passes<R: AllocGlobal + Abort>(
-    rt: &R,
-    machine: &Machine,
-    outcome: &Outcome,
-) -> Result<(), Fail> {
-    let audit = check(rt.alloc(), machine, outcome.history.as_slice())?;
-    assert!(rt; audit.threads.as_slice() == outcome.threads.as_slice());
-    assert!(rt; audit.waiting.as_slice() == outcome.waiting.as_slice());
-    assert!(rt; outcome.ending == Ending::Spent || audit.ending == Ending::Quiet);
-    Ok(())
+pub(crate) fn passes(alloc: Global, machine: &Machine, outcome: &Outcome) -> bool {
+    let Ok(audit) = check(alloc, machine, outcome.history.as_slice()) else {
+        return false;
+    };
+    audit.threads.as_slice() == outcome.threads.as_slice()
+        && audit.waiting.as_slice() == outcome.waiting.as_slice()
+        && (outcome.ending == Ending::Spent || audit.ending == Ending::Quiet)
 }
 
-/// Tests what every outcome of a run of so many turns must have: it passes, and unless it has come to rest it has used up its turns, with at most one
-/// more for each other processor.
-pub(crate) fn is_right<R: AllocGlobal + Abort>(
-    rt: &R,
-    machine: &Machine,
-    turns: u64,
-    outcome: &Outcome,
-) -> Result<(), Fail> {
-    passes(rt, machine, outcome)?;
-    assert!(rt; outcome.ending == Ending::Quiet || outcome.turns >= turns);
-    assert!(rt; outcome.turns.saturating_sub(turns) < u64::from(machine.cpus()));
-    Ok(())
+/// Whether an outcome of a run of so many turns has what every one must have: it passes, and unless it has come to rest it has used up its turns, with at
+/// most one more for each other processor.
+pub(crate) fn is_right(alloc: Global, machine: &Machine, turns: u64, outcome: &Outcome) -> bool {
+    passes(alloc, machine, outcome)
+        && (outcome.ending == Ending::Quiet || outcome.turns >= turns)
+        && outcome.turns.saturating_sub(turns) < u64::from(machine.cpus())
 }
 
 /// Holds turns 1 and 10 of each processor until the same turn of all others was reached.
@@ -107,21 +104,21 @@ impl Gate for Meeting {
     }
 }
 
+// Whether the processors of a run meet.
+fn meet<R: AllocGlobal + Threads + Sync>(rt: &R, cpus: u8) -> Option<bool> {
+    let text = endless(rt.alloc(), cpus, cpus).ok()?;
+    let gate = Meeting::new(cpus);
+    let turns = 10 * u64::from(cpus);
+    let outcome = comes_to(rt, text.as_str(), turns, &gate)?;
+    Some(outcome.turns == turns && outcome.ending == Ending::Spent && gate.was_kept())
+}
+
 // No clause says that host threads run side by side: where they do not, the looks of a gate that waits for all run out.
 #[test]
-fn processors_of_a_run_are_at_work_at_the_same_time(rt: HostRuntime) -> Result<(), Fail> {
+fn processors_of_a_run_are_at_work_at_the_same_time(rt: HostRuntime) {
     for cpus in [2, 16] {
-        let text = endless(rt.alloc(), cpus, cpus)?;
-        let gate = Meeting::new(cpus);
-        let turns = 10 * u64::from(cpus);
-        let outcome = comes_to(&rt, text.as_str(), turns, &gate)?;
-        assert!(rt;
-            outcome.turns == turns && outcome.ending == Ending::Spent,
-            "{cpus}"
-        );
-        assert!(rt; gate.was_kept(), "{cpus}");
+        assert!(rt; meet(&rt, cpus) == Some(true), "{cpus}");
     }
-    Ok(())
 }
 
 // Notes the last turn of each of four processors, how often each was asked for again, and how often a turn was left out or fell back.
@@ -148,68 +145,104 @@ impl Gate for Noted {
     }
 }
 
+impl Noted {
+    fn new() -> Noted {
+        let none = || AtomicU64::new(0);
+        Noted {
+            last: [none(), none(), none(), none()],
+            again: [none(), none(), none(), none()],
+            missed: none(),
+        }
+    }
+
+    // Whether a processor was asked for this turn at last, and for none of them twice.
+    fn has_ended_at(&self, cpu: usize, turn: u64) -> bool {
+        let (Some(last), Some(again)) = (self.last.get(cpu), self.again.get(cpu)) else {
+            return false;
+        };
+        last.load(Ordering::SeqCst) == turn && again.load(Ordering::SeqCst) == 0
+    }
+
+    // Whether each of the three busy ones of four processors was asked for so many turns, one after the other, and the idle one for its first one.
+    fn is_once_each(&self, turns: u64) -> bool {
+        let is_idle = self.last[3].load(Ordering::SeqCst) == 1;
+        is_idle
+            && self.missed.load(Ordering::SeqCst) == 0
+            && self.has_ended_at(0, turns)
+            && self.has_ended_at(1, turns)
+            && self.has_ended_at(2, turns)
+    }
+}
+
 // Of 1,000 turns each processor may take 250 in the first round. One has nothing to do, so 250 are left, of which each may take 63, and then of 61
 // each 16, of 13 each 4, and of one each one. So each of the three busy processors is asked for 334 turns, one after the other, and the idle one for its
 // first turn alone: it never gets as far as to try another one.
 #[test]
-fn each_turn_is_asked_for_once(rt: HostRuntime) -> Result<(), Fail> {
-    let text = endless(rt.alloc(), 4, 3)?;
-    let none = || AtomicU64::new(0);
-    let gate = Noted {
-        last: [none(), none(), none(), none()],
-        again: [none(), none(), none(), none()],
-        missed: none(),
-    };
-    let outcome = comes_to(&rt, text.as_str(), 1_000, &gate)?;
-    assert_eq!(rt; outcome.turns, 1_002);
-    assert_eq!(rt; gate.missed.load(Ordering::SeqCst), 0);
-    for cpu in 0..3 {
-        assert_eq!(rt; gate.last[cpu].load(Ordering::SeqCst), 334, "{cpu}");
-        assert_eq!(rt; gate.again[cpu].load(Ordering::SeqCst), 0, "{cpu}");
-    }
-    assert_eq!(rt; gate.last[3].load(Ordering::SeqCst), 1);
-    Ok(())
+fn each_turn_is_asked_for_once(rt: HostRuntime) {
+    let text = endless(rt.alloc(), 4, 3).expect(&rt, "a text");
+    let gate = Noted::new();
+    let outcome = comes_to(&rt, text.as_str(), 1_000, &gate).expect(&rt, "an outcome");
+    assert!(rt; outcome.turns == 1_002);
+    assert!(rt; gate.is_once_each(334));
 }
 
-// Threads that go on for ever use the turns of a run up, of which each is a step. Where there is one processor, there are as many as were asked for.
+// Whether a run uses its turns up.
+fn is_spent<R: AllocGlobal + Threads + Sync>(rt: &R, text: &str, turns: u64) -> bool {
+    match comes_to(rt, text, turns, &Open) {
+        Some(outcome) => outcome.ending == Ending::Spent,
+        None => false,
+    }
+}
+
+// Whether threads that go on for ever use them up, and each is a step. Where there is one processor, there are as many as were asked for.
+fn is_used_up<R: AllocGlobal + Threads + Sync>(rt: &R, cpus: u8, turns: u64) -> Option<bool> {
+    let text = endless(rt.alloc(), cpus, cpus).ok()?;
+    let outcome = comes_to(rt, text.as_str(), turns, &Open)?;
+    let is_spent = outcome.ending == Ending::Spent;
+    let are_steps = outcome.history.len() as u64 == outcome.turns;
+    Some(is_spent && are_steps && (cpus > 1 || outcome.turns == turns))
+}
+
 #[test]
-fn turns_are_used_up(rt: HostRuntime) -> Result<(), Fail> {
+fn turns_are_used_up(rt: HostRuntime) {
     for cpus in [1, 2, 3, 16] {
-        let text = endless(rt.alloc(), cpus, cpus)?;
         for turns in [1, 2, 15, 16, 17, 1_000] {
-            let outcome = comes_to(&rt, text.as_str(), turns, &Open)?;
-            assert!(rt; outcome.ending == Ending::Spent, "{cpus} {turns}");
-            assert!(rt; outcome.history.len() as u64 == outcome.turns);
-            assert!(rt; cpus > 1 || outcome.turns == turns);
+            assert!(rt;
+                is_used_up(&rt, cpus, turns) == Some(true),
+                "{cpus} {turns}"
+            );
         }
     }
     for turns in [1, 2, 99, 100] {
-        let outcome = comes_to(&rt, CALLS, turns, &Open)?;
-        assert!(rt; outcome.ending == Ending::Spent, "{turns}");
+        assert!(rt; is_spent(&rt, CALLS, turns), "{turns}");
     }
-    Ok(())
 }
 
 const ARRIVED: &str =
     "thread 1.1 ended 0 nil nil 0 a\nthread 2.1 ended 0 1.1 1.1 74001 a\nending quiet\n";
 
+// Whether there is one delivery, and the number of turns that goes with where the wait stands.
+fn has_arrived(alloc: Global, outcome: &Outcome) -> Option<bool> {
+    let lines = trace(alloc, outcome.history.as_slice()).ok()?;
+    let lines = str::from_utf8(lines.as_slice()).ok()?;
+    let delivered = "\ndeliver 1.1#1 2.1 1.1 1.1 74001 a\n";
+    if lines.matches(delivered).count() != 1 || lines.matches("deliver ").count() != 1 {
+        return None;
+    }
+    let is_waited_for = lines.contains("queue 1.1#1\ndeliver ");
+    let turns = if is_waited_for { 8 } else { 9 };
+    Some(has(alloc, outcome, lines, ARRIVED, turns))
+}
+
 // Whether the wait or the send comes first is up to the threads. The sender's processor has five events: two instructions, the send, the letter that
 // it was taken, and the end. That of the receiver has the wait, the end, and where the wait comes first, one in which the send is queued and taken;
 // else two.
 #[test]
-fn a_word_arrives_in_each_run(rt: HostRuntime) -> Result<(), Fail> {
-    let delivered = "\ndeliver 1.1#1 2.1 1.1 1.1 74001 a\n";
+fn a_word_arrives_in_each_run(rt: HostRuntime) {
     for _ in 0..20 {
-        let outcome = comes_to(&rt, ACROSS, 1_000, &Open)?;
-        let lines = trace(rt.alloc(), outcome.history.as_slice())?;
-        let lines = str::from_utf8(lines.as_slice())?;
-        assert!(rt; lines.matches(delivered).count() == 1);
-        assert!(rt; lines.matches("deliver ").count() == 1);
-        let is_waited_for = lines.contains("queue 1.1#1\ndeliver ");
-        let turns = if is_waited_for { 8 } else { 9 };
-        has(&rt, &outcome, lines, ARRIVED, turns)?;
+        let outcome = comes_to(&rt, ACROSS, 1_000, &Open).expect(&rt, "an outcome");
+        assert!(rt; has_arrived(rt.alloc(), &outcome) == Some(true));
     }
-    Ok(())
 }
 
 // A thread on the first of two processors that waits for five ticks.
@@ -265,12 +298,11 @@ local 2.1
 ];
 
 #[test]
-fn all_clocks_go_on_to_the_least_deadline(rt: HostRuntime) -> Result<(), Fail> {
+fn all_clocks_go_on_to_the_least_deadline(rt: HostRuntime) {
     for (text, turns, lines, report, taken) in TICKS {
-        let outcome = comes_to(&rt, text, turns, &Open)?;
-        has(&rt, &outcome, lines, report, taken)?;
+        let outcome = comes_to(&rt, text, turns, &Open).expect(&rt, "an outcome");
+        assert!(rt; has(rt.alloc(), &outcome, lines, report, taken), "{lines}");
     }
-    Ok(())
 }
 
 // Makes processor 1 look 1,000 times before each turn.
@@ -291,12 +323,11 @@ impl Gate for Slow {
 }
 
 #[test]
-fn one_that_is_slow_is_waited_for(rt: HostRuntime) -> Result<(), Fail> {
+fn one_that_is_slow_is_waited_for(rt: HostRuntime) {
     let gate = Slow {
         looks: AtomicU64::new(0),
     };
-    let outcome = comes_to(&rt, CALLS, 1_000, &gate)?;
+    let outcome = comes_to(&rt, CALLS, 1_000, &gate).expect(&rt, "an outcome");
     assert!(rt; outcome.ending == Ending::Spent);
     assert!(rt; outcome.turns == 1_000 || outcome.turns == 1_001);
-    Ok(())
 }

@@ -4,9 +4,9 @@ use l4_jobs::perform::perform;
 use l4_jobs::refusal::refuse;
 use l4_jobs::words::job_of;
 use l4_samples::{PING, PING_TRACE};
+use std::alloc::Global;
 use std::io;
 use std::io::{Read, Write};
-use std::test::Fail;
 use std::thread::Threads;
 
 const RUN: [&str; 3] = ["l4run", "run", "m.l4"];
@@ -15,16 +15,22 @@ const REPLAY: [&str; 5] = ["l4run", "replay", "m.l4", "--schedule", "0"];
 
 const AUDIT: [&str; 4] = ["l4run", "audit", "m.l4", "m.trace"];
 
-// Gives the bytes, and then fails in place of an end.
+const HELP: [&str; 2] = ["l4run", "--help"];
+
+// A text that has no such line.
+const WALK: &str = "l4 1 64\ncpus 1\nwalk\n";
+
+// Gives the bytes, and then ends, or fails in place of an end.
 #[derive(Drop)]
-struct Broken {
+struct Source {
     bytes: &'static [u8],
+    fails: bool,
 }
 
-impl Read for Broken {
+impl Read for Source {
     fn read(&mut self, buf: &mut [u8]) -> io::Result<usize> {
         let count = self.bytes.read(buf)?;
-        if count == 0 {
+        if count == 0 && self.fails {
             return Err(io::ErrorKind::Other.into());
         }
         Ok(count)
@@ -69,67 +75,104 @@ fn does<R: AllocGlobal + Threads + Sync, M: Read, T: Read, W: Write>(
     }
 }
 
-// Whether the words come to this status, output and faults, where the reader of the trace gives these bytes and then fails.
-fn come_to<R: AllocGlobal + Threads + Sync, M: Read>(
-    rt: &R,
-    words: &[&str],
-    machine: &mut M,
-    told: &'static [u8],
-    (status, output, line): (u8, &str, &str),
-) -> bool {
+// What is given: words, a machine text, whether its reader fails behind it, and the bytes of a trace, whose reader fails behind them.
+type Given = (&'static [&'static str], &'static str, bool, &'static str);
+
+// What comes of it: the status, the output and the line of the fault.
+type Wanted = (u8, &'static str, &'static str);
+
+// A text that cannot be read is reported by its name. A trace is read by an audit alone, and behind the text.
+const READS: [(Given, Wanted); 11] = [
+    ((&RUN, PING, true, ""), (1, "", "l4run: cannot read m.l4\n")),
+    (
+        (&REPLAY, PING, true, ""),
+        (1, "", "l4run: cannot read m.l4\n"),
+    ),
+    (
+        (&AUDIT, PING, true, ""),
+        (1, "", "l4run: cannot read m.l4\n"),
+    ),
+    (
+        (&AUDIT, PING, false, ""),
+        (1, "", "l4run: cannot read m.trace\n"),
+    ),
+    (
+        (&AUDIT, WALK, false, ""),
+        (1, "", "l4run: line 3: BadLine\n"),
+    ),
+    ((&RUN, PING, false, ""), (0, PING_TRACE, "")),
+    ((&REPLAY, PING, false, ""), (3, "local 1.1\n", "")),
+    (
+        (&AUDIT, PING, false, "local 1.1\n"),
+        (1, "", "l4run: cannot read m.trace\n"),
+    ),
+    (
+        (&AUDIT, WALK, false, "local 1.1\n"),
+        (1, "", "l4run: line 3: BadLine\n"),
+    ),
+    ((&RUN, PING, false, "local 1.1\n"), (0, PING_TRACE, "")),
+    (
+        (&REPLAY, PING, false, "local 1.1\n"),
+        (3, "local 1.1\n", ""),
+    ),
+];
+
+// Whether what is given comes to what is wanted.
+fn come_to<R: AllocGlobal + Threads + Sync>(rt: &R, given: Given, wanted: Wanted) -> bool {
+    let (words, text, fails, told) = given;
+    let (status, output, line) = wanted;
+    let mut machine = Source {
+        bytes: text.as_bytes(),
+        fails,
+    };
+    let mut trace = Source {
+        bytes: told.as_bytes(),
+        fails: true,
+    };
     let mut out = Vec::new(rt.alloc());
     let mut faults = Vec::new(rt.alloc());
-    let mut trace = Broken { bytes: told };
-    let done = does(rt, words, machine, &mut trace, &mut out, &mut faults);
+    let done = does(rt, words, &mut machine, &mut trace, &mut out, &mut faults);
     done == status && out.as_slice() == output.as_bytes() && faults.as_slice() == line.as_bytes()
 }
 
-// A text that cannot be read is reported by its name. A trace is read by an audit alone, and behind the text.
 #[test]
 fn a_read_that_fails_is_reported(rt: HostRuntime) {
-    let bytes = PING.as_bytes();
-    let unread = (1, "", "l4run: cannot read m.l4\n");
-    assert!(rt; come_to(&rt, &RUN, &mut Broken { bytes }, b"", unread));
-    assert!(rt; come_to(&rt, &REPLAY, &mut Broken { bytes }, b"", unread));
-    assert!(rt; come_to(&rt, &AUDIT, &mut Broken { bytes }, b"", unread));
-    for told in [b"".as_slice(), b"local 1.1\n".as_slice()] {
-        let (mut one, mut two, mut three) = (bytes, bytes, bytes);
-        let mut walk = b"l4 1 64\ncpus 1\nwalk\n".as_slice();
-        let unread = (1, "", "l4run: cannot read m.trace\n");
-        assert!(rt; come_to(&rt, &AUDIT, &mut one, told, unread));
-        assert!(rt;
-            come_to(
-                &rt,
-                &AUDIT,
-                &mut walk,
-                told,
-                (1, "", "l4run: line 3: BadLine\n")
-            )
-        );
-        assert!(rt; come_to(&rt, &RUN, &mut two, told, (0, PING_TRACE, "")));
-        assert!(rt; come_to(&rt, &REPLAY, &mut three, told, (3, "local 1.1\n", "")));
+    for (number, (given, wanted)) in READS.iter().enumerate() {
+        assert!(rt; come_to(&rt, *given, *wanted), "row {number}");
     }
+}
+
+// The bytes that a writer with this room has taken, where it then fails and that is reported.
+fn written<R: AllocGlobal + Threads + Sync>(
+    rt: &R,
+    words: &[&str],
+    room: usize,
+) -> Option<Vec<u8>> {
+    let taken = Vec::new(rt.alloc());
+    let mut out = Full { taken, room };
+    let mut faults = Vec::new(rt.alloc());
+    let (mut machine, mut trace) = (PING.as_bytes(), b"".as_slice());
+    let status = does(rt, words, &mut machine, &mut trace, &mut out, &mut faults);
+    if status != 1 || faults.as_slice() != b"l4run: cannot write\n".as_slice() {
+        return None;
+    }
+    Some(out.taken)
 }
 
 // What is written before is the beginning of the output.
 #[test]
-fn a_write_that_fails_is_reported(rt: HostRuntime) -> Result<(), Fail> {
-    let help = ["l4run", "--help"];
-    for (words, room) in [
-        (RUN.as_slice(), 0),
-        (RUN.as_slice(), 5),
-        (help.as_slice(), 5),
-    ] {
-        let taken = Vec::new(rt.alloc());
-        let mut out = Full { taken, room };
-        let mut faults = Vec::new(rt.alloc());
-        let (mut machine, mut trace) = (PING.as_bytes(), b"".as_slice());
-        let status = does(&rt, words, &mut machine, &mut trace, &mut out, &mut faults);
-        assert!(rt; status == 1 && faults.as_slice() == b"l4run: cannot write\n".as_slice());
-        let beginning = PING_TRACE.as_bytes().get(..room).ok_or("a beginning")?;
-        assert!(rt; words.len() == 2 || out.taken.as_slice() == beginning);
-    }
-    Ok(())
+fn a_write_that_fails_is_reported(rt: HostRuntime) {
+    let nothing = written(&rt, &RUN, 0).expect(&rt, "a report");
+    assert!(rt; nothing.is_empty());
+    let beginning = written(&rt, &RUN, 5).expect(&rt, "a report");
+    assert!(rt; beginning.as_slice() == b"local".as_slice());
+    assert!(rt; written(&rt, &HELP, 5).is_some());
+}
+
+// Whether a fault is reported by this line.
+fn is_reported(alloc: Global, fault: &Fault<'_>, line: &str) -> bool {
+    let mut faults = Vec::new(alloc);
+    report(alloc, &mut faults, fault) == 1 && faults.as_slice() == line.as_bytes()
 }
 
 #[test]
@@ -144,8 +187,6 @@ fn each_fault_has_one_line(rt: HostRuntime) {
         ),
         (Fault::Write, "l4run: cannot write\n"),
     ] {
-        let mut faults = Vec::new(rt.alloc());
-        assert!(rt; report(rt.alloc(), &mut faults, &fault) == 1, "{line}");
-        assert!(rt; faults.as_slice() == line.as_bytes(), "{line}");
+        assert!(rt; is_reported(rt.alloc(), &fault, line), "{line}");
     }
 }

@@ -3,11 +3,12 @@ ghost use Rattle.l4_proc.specs.Working.{HasGoneOn};
 ghost use Rattle.l4_proc.specs.declared.processor.Processor.{Processor as ProcessorOfMachine};
 
 use l4_audit::audit::check;
-use l4_machine::gather;
+use l4_machine::{Outcome, gather};
 use l4_proc::assembly::assemble;
 use l4_proc::gate::Open;
 use l4_proc::processor::Processor;
 use l4_script::machine::Machine;
+use std::alloc::Global;
 use std::test::*;
 use std::thread;
 use std::thread::Threads;
@@ -49,6 +50,16 @@ fn all_work_on<R: Threads + Sync>(rt: &R, processors: &mut [Processor<'_>])
     );
 }
 
+// Whether these are the two processors in their order.
+fn are_two(processors: &[Processor<'_>]) -> bool {
+    processors.len() == 2 && processors[0].cpu() == 0 && processors[1].cpu() == 1
+}
+
+// Whether what they came to is a history of the machine, and has all of their turns.
+fn is_right(alloc: Global, machine: &Machine, outcome: &Outcome, turns: u64) -> bool {
+    outcome.turns == turns && check(alloc, machine, outcome.history.as_slice()).is_ok()
+}
+
 // Whatever the other one does, each comes back, and what they came to is a history of the machine.
 #[test]
 fn without_wait(rt: HostRuntime) -> Result<(), Fail> {
@@ -57,17 +68,14 @@ fn without_wait(rt: HostRuntime) -> Result<(), Fail> {
         .expect(&rt, "a machine");
     let mut processors = assemble(rt.alloc(), &machine, 64)?;
     all_work_on(&rt, processors.as_mut_slice());
-    assert_eq!(rt; processors.len(), 2);
-    assert_eq!(rt; processors[0].cpu(), 0);
-    assert_eq!(rt; processors[1].cpu(), 1);
+    assert!(rt; are_two(processors.as_slice()));
+    assert!(rt; processors.len() == 2);
     let first = processors[0].turns();
     let second = processors[1].turns();
-    assert!(&rt; first > 0);
-    assert!(&rt; second > 0);
+    assert!(rt; first > 0 && second > 0);
     let outcome = gather(rt.alloc(), &machine, processors)
         .ok()
         .expect(&rt, "an outcome");
-    assert_eq!(rt; outcome.turns, first + second);
-    assert!(&rt; check(rt.alloc(), &machine, outcome.history.as_slice()).is_ok());
+    assert!(rt; is_right(rt.alloc(), &machine, &outcome, first + second));
     Ok(())
 }

@@ -6,8 +6,7 @@ use l4_trace::reading::read_events;
 use l4_types::errors::NoMemory;
 use l4_types::ids::GlobalId;
 use l4_types::steps::{Name, Step};
-use std::process::Abort;
-use std::test::Fail;
+use std::alloc::Global;
 
 // One step of most kinds, with deliveries of no word, of two and of 63.
 const STEPS: &str = "begin 1.1#1
@@ -19,95 +18,95 @@ order 1.1 2.1 SR
 tick 0 24
 ";
 
-// Tests that a history has these steps.
-fn has_steps<R: AllocGlobal + Abort>(
-    rt: &R,
-    history: &History,
-    steps: &[Step],
-) -> Result<(), Fail> {
-    assert!(rt; history.len() == steps.len());
-    let given = history.to_steps(rt.alloc())?;
-    assert!(rt; given.as_slice() == steps);
-    Ok(())
+// Whether a history has these steps.
+fn has_steps(alloc: Global, history: &History, steps: &[Step]) -> Option<bool> {
+    let given = history.to_steps(alloc).ok()?;
+    Some(history.len() == steps.len() && given.as_slice() == steps)
 }
 
-// Tests what is seen of the first three steps, where they stay.
-fn shows_its_steps<R: Abort>(rt: &R, history: &History) -> Result<(), Fail> {
-    assert_eq!(rt; history.len(), 7);
+// Whether the first three steps are seen as they are, where they stay.
+fn shows_its_steps(history: &History) -> Option<bool> {
+    if history.len() != 7 {
+        return None;
+    }
     let StepRef::Deliver(delivery) = history.step(2) else {
-        return Err("the third step is a delivery".into());
+        return None;
     };
-    assert!(rt; delivery.message.words() == [10, 11].as_slice());
-    assert!(rt; delivery.tag().raw() == 0x8_5002);
-    let thread = GlobalId::new(1, 1).ok_or("a thread")?;
-    assert!(rt; history.begun(0) == Name::new(thread, 1));
-    assert!(rt; history.begun(1).is_none());
-    Ok(())
+    let first = Name::new(GlobalId::new(1, 1)?, 1);
+    let is_delivered = delivery.message.words() == [10, 11].as_slice()
+        && delivery.tag().raw() == 0x8_5002;
+    Some(is_delivered && history.begun(0) == first && history.begun(1).is_none())
+}
+
+fn is_given_back(alloc: Global) -> Option<bool> {
+    let steps = read_events(alloc, STEPS.as_bytes()).ok()?;
+    let history = History::from_steps(alloc, steps.as_slice()).ok()?;
+    Some(has_steps(alloc, &history, steps.as_slice())? && shows_its_steps(&history)?)
 }
 
 #[test]
-fn a_history_gives_its_steps_back_and_shows_each(rt: HostRuntime) -> Result<(), Fail> {
-    let steps = read_events(rt.alloc(), STEPS.as_bytes())?;
-    let history = History::from_steps(rt.alloc(), steps.as_slice())?;
-    has_steps(&rt, &history, steps.as_slice())?;
-    shows_its_steps(&rt, &history)
+fn a_history_gives_its_steps_back_and_shows_each(rt: HostRuntime) {
+    assert!(rt; is_given_back(rt.alloc()) == Some(true));
+}
+
+fn are_told_the_same(alloc: Global) -> Option<bool> {
+    let steps = read_events(alloc, STEPS.as_bytes()).ok()?;
+    let mut list = Vec::new(alloc);
+    tell(&mut list, steps.as_slice()).ok()?;
+    let mut history = History::new(alloc);
+    tell(&mut history, steps.as_slice()).ok()?;
+    Some(list.as_slice() == steps.as_slice() && has_steps(alloc, &history, steps.as_slice())?)
 }
 
 #[test]
-fn sinks_are_told_the_same(rt: HostRuntime) -> Result<(), Fail> {
-    let steps = read_events(rt.alloc(), STEPS.as_bytes())?;
-    let mut list = Vec::new(rt.alloc());
-    tell(&mut list, steps.as_slice())?;
-    assert!(rt; list.as_slice() == steps.as_slice());
-    let mut history = History::new(rt.alloc());
-    tell(&mut history, steps.as_slice())?;
-    has_steps(&rt, &history, steps.as_slice())
+fn sinks_are_told_the_same(rt: HostRuntime) {
+    assert!(rt; are_told_the_same(rt.alloc()) == Some(true));
 }
 
-// Appends the second to the fourth step of another history.
-fn appends<R: Abort>(rt: &R, history: &mut History, other: &History) {
-    assert_eq!(rt; other.len(), 7);
-    let appended = history.extend(&other.steps_between(1, 4));
-    assert!(rt; appended.is_ok());
+// A history of the fifth step, to which the second to the fourth of another one are appended.
+fn appended(alloc: Global, steps: &[Step]) -> Option<Vec<Step>> {
+    let other = History::from_steps(alloc, steps).ok()?;
+    if steps.len() != 7 || other.len() != 7 {
+        return None;
+    }
+    let mut history = History::from_steps(alloc, &steps[4..5]).ok()?;
+    history.extend(&other.steps_between(1, 4)).ok()?;
+    history.to_steps(alloc).ok()
 }
 
-// Tests that a history has the fifth step, and behind it the second to the fourth.
-fn has_appended<R: AllocGlobal + Abort>(
-    rt: &R,
-    history: &History,
-    steps: &[Step],
-) -> Result<(), Fail> {
-    assert_eq!(rt; steps.len(), 7);
-    let appended = history.to_steps(rt.alloc())?;
-    let appended = appended.as_slice();
-    assert_eq!(rt; appended.len(), 4);
-    assert!(rt; &appended[..1] == &steps[4..5]);
-    assert!(rt; &appended[1..] == &steps[1..4]);
-    Ok(())
+fn are_appended(alloc: Global) -> Option<bool> {
+    let steps = read_events(alloc, STEPS.as_bytes()).ok()?;
+    let given = appended(alloc, steps.as_slice())?;
+    if steps.len() != 7 || given.len() != 4 {
+        return None;
+    }
+    let (steps, given) = (steps.as_slice(), given.as_slice());
+    Some(&given[..1] == &steps[4..5] && &given[1..] == &steps[1..4])
 }
 
 #[test]
-fn steps_of_another_history_are_appended(rt: HostRuntime) -> Result<(), Fail> {
-    let steps = read_events(rt.alloc(), STEPS.as_bytes())?;
-    let steps = steps.as_slice();
-    assert_eq!(rt; steps.len(), 7);
-    let mut history = History::from_steps(rt.alloc(), &steps[4..5])?;
-    appends(&rt, &mut history, &History::from_steps(rt.alloc(), steps)?);
-    has_appended(&rt, &history, steps)
+fn steps_of_another_history_are_appended(rt: HostRuntime) {
+    assert!(rt; are_appended(rt.alloc()) == Some(true));
+}
+
+// Whether a history has a step more, or where memory is refused, as many as before.
+fn grows_or_stays(history: &mut History) -> bool {
+    let before = history.len();
+    match history.reserve() {
+        Ok(()) => {
+            history.push(StepRef::Local(GlobalId::default()));
+            true
+        }
+        Err(NoMemory) => history.len() == before,
+    }
 }
 
 // To be run with each allocation refused in turn.
 #[test]
-fn steps_stay_where_memory_is_refused(rt: HostRuntime) -> Result<(), Fail> {
+fn steps_stay_where_memory_is_refused(rt: HostRuntime) {
     let mut history = History::new(rt.alloc());
-    let thread = GlobalId::new(1, 1).ok_or("a thread")?;
     for _ in 0..1000 {
-        let before = history.len();
-        match history.reserve() {
-            Ok(()) => history.push(StepRef::Local(thread)),
-            Err(NoMemory) => assert!(rt; history.len() == before),
-        }
+        assert!(rt; grows_or_stays(&mut history));
     }
     assert!(rt; history.len() >= 999);
-    Ok(())
 }

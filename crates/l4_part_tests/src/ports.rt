@@ -7,7 +7,7 @@ use l4_mail::ports::Port;
 use l4_mail::rests::{RestFault, rest};
 use l4_types::ids::GlobalId;
 use l4_types::letters::{Content, Letter};
-use std::test::Fail;
+use std::alloc::Global;
 
 /// Whether a letter could be posted.
 pub(crate) fn send(port: &mut Port, to: u8, stamp: u64) -> bool
@@ -31,35 +31,52 @@ pub(crate) fn gives(port: &mut Port, poster: u8, stamp: u64) -> bool {
 
 fn may_move<T: Send>(_: &T) {}
 
-// Two letters go through a ring with room for one, and each is seen until it is taken. A port has room for the other one alone, once it was made.
-// A body that never flushes or never takes keeps all contracts.
-#[test]
-fn letters_arrive_in_order(rt: HostRuntime) -> Result<(), Fail> {
-    let mut ports = fabric(rt.alloc(), 2, 1)?;
-    let mut receiver = ports.pop().ok_or("a port")?;
-    let mut poster = ports.pop().ok_or("a port")?;
-    may_move(&poster);
-    assert!(rt; !poster.has_room(1) && send(&mut poster, 1, 7));
-    assert!(rt; poster.has_room(1) && !poster.has_room(0) && !poster.has_room(2));
-    assert!(rt; send(&mut poster, 1, 8));
-    for stamp in [7, 8] {
-        assert!(rt; !receiver.has_mail() && receiver.take().is_none());
-        poster.flush();
-        assert!(rt; receiver.has_mail() && gives(&mut receiver, 0, stamp));
+// Whether a letter of this stamp is there once it is flushed, and not before.
+fn arrives(poster: &mut Port, receiver: &mut Port, stamp: u64) -> bool {
+    if receiver.has_mail() || receiver.take().is_some() {
+        return false;
     }
-    assert!(rt; !receiver.has_mail());
-    assert!(rt; receiver.take().is_none() && poster.take().is_none());
-    Ok(())
+    poster.flush();
+    receiver.has_mail() && gives(receiver, 0, stamp)
+}
+
+// Whether a port has room for the other one of two alone, once it was made, and posts two letters.
+fn posts_two(poster: &mut Port) -> bool {
+    if poster.has_room(1) || !send(poster, 1, 7) {
+        return false;
+    }
+    poster.has_room(1) && !poster.has_room(0) && !poster.has_room(2) && send(poster, 1, 8)
+}
+
+fn arrive_in_order(alloc: Global) -> Option<bool> {
+    let mut ports = fabric(alloc, 2, 1).ok()?;
+    let mut receiver = ports.pop()?;
+    let mut poster = ports.pop()?;
+    may_move(&poster);
+    let arrive = posts_two(&mut poster)
+        && arrives(&mut poster, &mut receiver, 7)
+        && arrives(&mut poster, &mut receiver, 8);
+    Some(arrive && !receiver.has_mail() && receiver.take().is_none() && poster.take().is_none())
+}
+
+// Two letters go through a ring with room for one, and each is seen until it is taken. A body that never flushes or never takes keeps all contracts.
+#[test]
+fn letters_arrive_in_order(rt: HostRuntime) {
+    assert!(rt; arrive_in_order(rt.alloc()) == Some(true));
+}
+
+fn come_by_posters(alloc: Global) -> Option<bool> {
+    let mut ports = fabric(alloc, 3, 4).ok()?;
+    let (mut third, mut second, mut first) = (ports.pop()?, ports.pop()?, ports.pop()?);
+    let are_posted = send(&mut third, 1, 5) && send(&mut first, 1, 6);
+    third.flush();
+    first.flush();
+    Some(are_posted && gives(&mut second, 0, 6) && gives(&mut second, 2, 5))
 }
 
 #[test]
-fn the_lowest_poster_comes_first(rt: HostRuntime) -> Result<(), Fail> {
-    let mut ports = fabric(rt.alloc(), 3, 4)?;
-    assert!(rt; send(&mut ports[2], 1, 5) && send(&mut ports[0], 1, 6));
-    ports[2].flush();
-    ports[0].flush();
-    assert!(rt; gives(&mut ports[1], 0, 6) && gives(&mut ports[1], 2, 5));
-    Ok(())
+fn the_lowest_poster_comes_first(rt: HostRuntime) {
+    assert!(rt; come_by_posters(rt.alloc()) == Some(true));
 }
 
 #[test]

@@ -21,10 +21,11 @@ use l4_trace::lines::write_event;
 use l4_trace::reading::read_events;
 use l4_types::ids::GlobalId;
 use l4_types::letters::{Cause, Content, Decision, Letter, Refusal};
+use l4_types::messages::Message;
 use l4_types::owed::Owed;
 use l4_types::steps::{Delivery, Event, Name, Step, What};
 use l4_words::spelling::{push_name, push_thread};
-use std::alloc::Global;
+use std::alloc::{AllocError, Global};
 use std::str;
 use std::test::Fail;
 
@@ -78,33 +79,57 @@ fn delivery(alloc: Global, line: &str) -> Result<Option<Delivery>, Fail> {
     }
 }
 
-// What these words tell, but for a send that has begun.
-fn told(words: &[&str]) -> Option<Content> {
-    Some(match words {
-        ["done", send, how] => Content::Done {
-            name: name(send)?,
-            decision: decision(how)?,
-        },
-        ["withdraw", send, receiver, why] => Content::Withdraw {
-            name: name(send)?,
-            receiver: id(receiver)?,
-            cause: cause(why)?,
-        },
-        ["gone", thread] => Content::Gone(id(thread)?),
-        ["order", caller, target, asked] => Content::Order {
-            caller: id(caller)?,
-            target: id(target)?,
-            what: what(asked)?,
-        },
-        ["obeyed", caller] => Content::OrderDone(id(caller)?),
-        ["retarget", send, originator, old_partner, new_partner] => Content::Retarget(Owed {
-            send: name(send)?,
-            originator: id(originator)?,
-            old_partner: id(old_partner)?,
-            new_partner: id(new_partner)?,
-        }),
-        _ => return None,
+fn done(words: &str) -> Option<Content> {
+    let (send, how) = words.split_once(' ')?;
+    Some(Content::Done {
+        name: name(send)?,
+        decision: decision(how)?,
     })
+}
+
+fn withdraw(words: &str) -> Option<Content> {
+    let (send, words) = words.split_once(' ')?;
+    let (receiver, why) = words.split_once(' ')?;
+    Some(Content::Withdraw {
+        name: name(send)?,
+        receiver: id(receiver)?,
+        cause: cause(why)?,
+    })
+}
+
+fn order(words: &str) -> Option<Content> {
+    let (caller, words) = words.split_once(' ')?;
+    let (target, asked) = words.split_once(' ')?;
+    Some(Content::Order {
+        caller: id(caller)?,
+        target: id(target)?,
+        what: what(asked)?,
+    })
+}
+
+fn retarget(words: &str) -> Option<Content> {
+    let (send, words) = words.split_once(' ')?;
+    let (originator, words) = words.split_once(' ')?;
+    let (old_partner, new_partner) = words.split_once(' ')?;
+    Some(Content::Retarget(Owed {
+        send: name(send)?,
+        originator: id(originator)?,
+        old_partner: id(old_partner)?,
+        new_partner: id(new_partner)?,
+    }))
+}
+
+// What a letter with this first word and these others tells, but for a send that has begun.
+fn told(first: &str, words: &str) -> Option<Content> {
+    match first {
+        "done" => done(words),
+        "withdraw" => withdraw(words),
+        "gone" => Some(Content::Gone(id(words)?)),
+        "order" => order(words),
+        "obeyed" => Some(Content::OrderDone(id(words)?)),
+        "retarget" => retarget(words),
+        _ => None,
+    }
 }
 
 // The content of a letter:
@@ -117,17 +142,16 @@ fn told(words: &[&str]) -> Option<Content> {
 //     obeyed CALLER
 //     retarget SEND ORIGINATOR OLD NEW
 fn read_content(alloc: Global, text: &str) -> Result<Content, Fail> {
-    let (when, line) = text.split_once(' ').unwrap_or(("", ""));
-    if when != "waits" && when != "now" {
-        let words: Vec<&str> = text.split(' ').collect(alloc)?;
-        return Ok(told(words.as_slice()).ok_or("a letter")?);
+    let (first, words) = text.split_once(' ').ok_or("the words of a letter")?;
+    if first != "waits" && first != "now" {
+        return Ok(told(first, words).ok_or("a letter")?);
     }
-    let delivery = delivery(alloc, line)?.ok_or("a line of a delivery")?;
+    let delivery = delivery(alloc, words)?.ok_or("a line of a delivery")?;
     Ok(Content::Send {
         name: delivery.name,
         receiver: delivery.receiver,
         message: delivery.message,
-        zero_timeout: when == "now",
+        zero_timeout: first == "now",
     })
 }
 
@@ -139,66 +163,123 @@ fn push_step(alloc: Global, out: &mut String, step: &Step) -> Result<(), Fail> {
     Ok(())
 }
 
-// Appends the line of what a letter tells, spelled as it is read.
-fn push_content(alloc: Global, out: &mut String, content: &Content) -> Result<(), Fail> {
+// Appends the delivery that a letter of a send leads to.
+fn push_send(
+    alloc: Global,
+    out: &mut String,
+    name: Name,
+    receiver: GlobalId,
+    message: &Message,
+) -> Result<(), Fail> {
+    let delivery = Delivery {
+        name,
+        receiver,
+        message: message.copy(),
+        cross: false,
+    };
+    push_step(alloc, out, &Step::Deliver(delivery))
+}
+
+// Appends a word, the name of a send where there is one, and threads.
+fn push_told(
+    out: &mut String,
+    word: &str,
+    send: Option<Name>,
+    threads: &[GlobalId],
+) -> Result<(), AllocError> {
+    out.push_str(word)?;
+    if let Some(name) = send {
+        push_name(out, name)?;
+    }
+    for thread in threads {
+        push_thread(out, *thread)?;
+    }
+    Ok(())
+}
+
+// Appends what a letter tells, but for its last word and the end of the line.
+fn push_subject(out: &mut String, content: &Content) -> Result<(), AllocError> {
     match content {
-        Content::Send {
-            name,
-            receiver,
-            message,
-            zero_timeout,
-        } => {
-            let delivery = Delivery {
-                name: *name,
-                receiver: *receiver,
-                message: message.copy(),
-                cross: false,
-            };
-            out.push_str(if *zero_timeout { "now " } else { "waits " })?;
-            return push_step(alloc, out, &Step::Deliver(delivery));
+        Content::Send { zero_timeout, .. } => {
+            out.push_str(if *zero_timeout { "now " } else { "waits " })
         }
-        Content::Done { name, decision } => {
-            out.push_str("done")?;
-            push_name(out, *name)?;
-            write!(out, " {decision:?}")?;
+        Content::Done { name, .. } => push_told(out, "done", Some(*name), &[]),
+        Content::Withdraw { name, receiver, .. } => {
+            push_told(out, "withdraw", Some(*name), &[*receiver])
         }
-        Content::Withdraw {
-            name,
-            receiver,
-            cause,
-        } => {
-            out.push_str("withdraw")?;
-            push_name(out, *name)?;
-            push_thread(out, *receiver)?;
-            write!(out, " {cause:?}")?;
+        Content::Gone(thread) => push_told(out, "gone", None, &[*thread]),
+        Content::Order { caller, target, .. } => {
+            push_told(out, "order", None, &[*caller, *target])
         }
-        Content::Gone(thread) => {
-            out.push_str("gone")?;
-            push_thread(out, *thread)?;
-        }
-        Content::Order {
-            caller,
-            target,
-            what,
-        } => {
-            out.push_str("order")?;
-            push_thread(out, *caller)?;
-            push_thread(out, *target)?;
-            write!(out, " {what:?}")?;
-        }
-        Content::OrderDone(caller) => {
-            out.push_str("obeyed")?;
-            push_thread(out, *caller)?;
-        }
+        Content::OrderDone(caller) => push_told(out, "obeyed", None, &[*caller]),
         Content::Retarget(owed) => {
-            out.push_str("retarget")?;
-            push_name(out, owed.send)?;
-            push_thread(out, owed.originator)?;
-            push_thread(out, owed.old_partner)?;
-            push_thread(out, owed.new_partner)?;
+            let threads = [owed.originator, owed.old_partner, owed.new_partner];
+            push_told(out, "retarget", Some(owed.send), &threads)
         }
     }
+}
+
+// How a send is decided, spelled as it is read.
+fn decision_word(decision: Decision) -> &'static str {
+    match decision {
+        Decision::Delivered => " Delivered",
+        Decision::Refused(Refusal::TimedOut) => " Refused(TimedOut)",
+        Decision::Refused(Refusal::Nobody) => " Refused(Nobody)",
+        Decision::Refused(Refusal::Cancelled) => " Refused(Cancelled)",
+        Decision::Refused(Refusal::Dropped) => " Refused(Dropped)",
+    }
+}
+
+fn cause_word(cause: Cause) -> &'static str {
+    match cause {
+        Cause::ByTimeout => " ByTimeout",
+        Cause::ByCancel => " ByCancel",
+        Cause::ByDeletion => " ByDeletion",
+    }
+}
+
+fn what_word(what: What) -> &'static str {
+    match what {
+        What::CancelSend => " CancelSend",
+        What::CancelReceive => " CancelReceive",
+        What::CancelBoth => " CancelBoth",
+        What::Delete => " Delete",
+    }
+}
+
+// The last word of what a letter tells, where it is no name and no thread, with the space before it.
+fn last_word(content: &Content) -> &'static str {
+    match content {
+        Content::Done { decision, .. } => decision_word(*decision),
+        Content::Withdraw { cause, .. } => cause_word(*cause),
+        Content::Order { what, .. } => what_word(*what),
+        _ => "",
+    }
+}
+
+// Appends the line of what a letter tells, spelled as it is read.
+fn push_content(alloc: Global, out: &mut String, content: &Content) -> Result<(), Fail> {
+    push_subject(out, content)?;
+    if let Content::Send {
+        name,
+        receiver,
+        message,
+        ..
+    } = content
+    {
+        return push_send(alloc, out, *name, *receiver, message);
+    }
+    out.push_str(last_word(content))?;
     Ok(out.push_str("\n")?)
+}
+
+// Appends the letters that an event posts.
+fn push_letters(alloc: Global, out: &mut String, letters: &[(u8, Letter)]) -> Result<(), Fail> {
+    for (cpu, letter) in letters {
+        write!(out, "  to {cpu} at {} ", letter.stamp)?;
+        push_content(alloc, out, &letter.content)?;
+    }
+    Ok(())
 }
 
 // Appends what an event tells and posts.
@@ -213,11 +294,7 @@ fn push_event(
         out.push_str("  ")?;
         push_step(alloc, out, step)?;
     }
-    for (cpu, letter) in letters {
-        write!(out, "  to {cpu} at {} ", letter.stamp)?;
-        push_content(alloc, out, &letter.content)?;
-    }
-    Ok(())
+    push_letters(alloc, out, letters)
 }
 
 // Appends why nothing was done.
@@ -243,14 +320,20 @@ fn push_handled(
     }
 }
 
+// The next turn, where a stamp is left for it.
+fn next_turn(core: &mut Core<'_>) -> Option<Turn> {
+    if !core.can_stamp(0) {
+        return None;
+    }
+    Some(core.turn())
+}
+
 // Appends what the next turn does.
 fn push_turn(alloc: Global, out: &mut String, core: &mut Core<'_>) -> Result<(), Fail> {
-    if !core.can_stamp(0) {
-        return push_fault(out, Fault::Stamp);
-    }
-    match core.turn() {
-        Turn::Did { event, letters } => push_event(alloc, out, &event, letters.as_slice()),
-        Turn::Idle => Ok(out.push_str("  idle\n")?),
+    match next_turn(core) {
+        Some(Turn::Did { event, letters }) => push_event(alloc, out, &event, letters.as_slice()),
+        Some(Turn::Idle) => Ok(out.push_str("  idle\n")?),
+        None => push_fault(out, Fault::Stamp),
     }
 }
 
@@ -298,23 +381,37 @@ fn chosen(alloc: Global, rows: &str, number: usize) -> Result<String, Fail> {
     Ok(out)
 }
 
-// The questions of these rows, each with the answer that it is given.
-fn answered(alloc: Global, machine: &Machine, rows: &str) -> Result<String, Fail> {
-    let mut out = String::new(alloc);
-    let (first, rows) = rows.split_once('\n').ok_or("a first row")?;
-    let cpu: u8 = first.strip_prefix("cpu ").ok_or("a processor")?.parse()?;
+// Appends the questions of these rows, each with the answer that it is given.
+fn push_answers(
+    alloc: Global,
+    out: &mut String,
+    core: &mut Core<'_>,
+    rows: &str,
+) -> Result<(), Fail> {
+    for row in rows.lines() {
+        if !row.starts_with(' ') {
+            writeln!(out, "{row}")?;
+            push_answer(alloc, out, core, row.strip_prefix("? ").unwrap_or(row))?;
+        }
+    }
+    Ok(())
+}
+
+// The processor that a first row names.
+fn named<'m>(alloc: Global, machine: &'m Machine, row: &str) -> Result<Core<'m>, Fail> {
+    let cpu: u8 = row.strip_prefix("cpu ").ok_or("a processor")?.parse()?;
     if cpu >= machine.cpus() {
         return Err("a processor of the machine".into());
     }
-    let mut core = Core::new(alloc, machine, cpu)?;
-    writeln!(out, "{first}")?;
-    for row in rows.lines() {
-        if row.starts_with(' ') {
-            continue;
-        }
-        writeln!(out, "{row}")?;
-        push_answer(alloc, &mut out, &mut core, row.trim_start_matches("? "))?;
-    }
+    Ok(Core::new(alloc, machine, cpu)?)
+}
+
+// The questions of these rows, each with the answer that it is given.
+fn answered(alloc: Global, machine: &Machine, rows: &str) -> Result<String, Fail> {
+    let (first, rows) = rows.split_once('\n').ok_or("a first row")?;
+    let mut core = named(alloc, machine, first)?;
+    let mut out = format!(in alloc; "{first}\n")?;
+    push_answers(alloc, &mut out, &mut core, rows)?;
     Ok(out)
 }
 

@@ -3,7 +3,6 @@ use l4_samples::PING;
 use l4_script::machine::Machine;
 use l4_script::text::{TextFault, TextFaultKind};
 use std::alloc::Global;
-use std::test::Fail;
 
 // Where the lines of the text end.
 const LINE_ENDS: [usize; 8] = [8, 15, 40, 49, 61, 85, 110, 134];
@@ -16,46 +15,55 @@ fn fault_of(alloc: Global, text: &[u8]) -> Option<TextFault> {
     }
 }
 
+// The fault of a line that is not whole.
+fn bad_line(line: usize) -> Option<TextFault> {
+    let kind = TextFaultKind::BadLine;
+    Some(TextFault { line, kind })
+}
+
+// The fault of the text with a carriage return in the place of this byte.
+fn fault_with_return_at(alloc: Global, place: usize) -> Option<TextFault> {
+    let mut text = PING.as_bytes().to_vec(alloc).ok()?;
+    *text.get_mut(place)? = b'\r';
+    fault_of(alloc, text.as_slice())
+}
+
 // Whether the text with a carriage return in the place of this byte, and the beginning up to it, are both faulty in this line: the one that is not
 // whole. The beginning is a text where it ends with a line, behind both header lines.
-fn names_its_line(alloc: Global, place: usize, line: usize, is_start: bool) -> Result<bool, Fail> {
-    let kind = TextFaultKind::BadLine;
-    let bad_line = Some(TextFault { line, kind });
-    let mut text = PING.as_bytes().to_vec(alloc)?;
-    *text.get_mut(place).ok_or("a place of the text")? = b'\r';
-    let noticed = fault_of(alloc, text.as_slice());
-    let beginning = PING.as_bytes().get(..place).ok_or("a beginning")?;
-    let cut = if is_start && line > 2 { None } else { bad_line };
-    Ok(noticed == bad_line && fault_of(alloc, beginning) == cut)
+fn names_its_line(alloc: Global, place: usize, line: usize, is_start: bool) -> bool {
+    let Some(beginning) = PING.as_bytes().get(..place) else {
+        return false;
+    };
+    let is_text = is_start && line > 2;
+    let cut = if is_text { None } else { bad_line(line) };
+    fault_with_return_at(alloc, place) == bad_line(line) && fault_of(alloc, beginning) == cut
 }
 
 #[test]
-fn a_text_that_is_cut_or_spoilt_names_the_line(rt: HostRuntime) -> Result<(), Fail> {
+fn a_text_that_is_cut_or_spoilt_names_the_line(rt: HostRuntime) {
     let mut start = 0;
     for (number, end) in LINE_ENDS.iter().enumerate() {
         for place in start..*end {
-            let line = number + 1;
-            assert!(rt;
-                names_its_line(rt.alloc(), place, line, place == start)?,
-                "{place}"
-            );
+            let is_named = names_its_line(rt.alloc(), place, number + 1, place == start);
+            assert!(rt; is_named, "{place}");
         }
         start = *end;
     }
     assert!(rt; PING.len() == start && fault_of(rt.alloc(), PING.as_bytes()).is_none());
-    Ok(())
 }
 
-// Its third line is one long comment.
+// The fault of a text of this length, whose third line is one long comment. Behind it the lines are empty.
+fn fault_of_length(alloc: Global, length: usize) -> Option<Option<TextFault>> {
+    let mut text = b"l4 1 64\ncpus 1\n".to_vec(alloc).ok()?;
+    text.resize(1_048_575, b';').ok()?;
+    text.resize(length, b'\n').ok()?;
+    Some(fault_of(alloc, text.as_slice()))
+}
+
 #[test]
-fn a_text_may_have_a_mebibyte(rt: HostRuntime) -> Result<(), Fail> {
-    let mut text = b"l4 1 64\ncpus 1\n".to_vec(rt.alloc())?;
-    text.resize(1_048_575, b';')?;
-    text.push(b'\n')?;
-    assert!(rt; fault_of(rt.alloc(), text.as_slice()).is_none());
-    text.push(b'\n')?;
+fn a_text_may_have_a_mebibyte(rt: HostRuntime) {
     let kind = TextFaultKind::TooLong;
     let too_long = Some(TextFault { line: 0, kind });
-    assert!(rt; fault_of(rt.alloc(), text.as_slice()) == too_long);
-    Ok(())
+    assert!(rt; fault_of_length(rt.alloc(), 1_048_576) == Some(None));
+    assert!(rt; fault_of_length(rt.alloc(), 1_048_577) == Some(too_long));
 }

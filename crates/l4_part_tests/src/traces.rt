@@ -8,8 +8,7 @@ use l4_trace::traces::trace;
 use l4_types::ids::GlobalId;
 use l4_types::messages::Message;
 use l4_types::steps::{Delivery, Name, Step, Tick, What};
-use std::alloc::Global;
-use std::test::Fail;
+use std::alloc::{AllocError, Global};
 
 const FAULTY: [&str; 7] = [
     "tick 16 1\n",
@@ -93,50 +92,65 @@ fn steps_of_lines() -> Option<[Step; 14]> {
 }
 
 // Whether the lines are read as these steps, and these are written as the lines.
-fn are_lines_of(alloc: Global, lines: &str, steps: &[Step]) -> Result<bool, Fail> {
-    let read = read_events(alloc, lines.as_bytes())?;
-    let written = trace(alloc, steps)?;
-    Ok(read.as_slice() == steps && written.as_slice() == lines.as_bytes())
-}
-
-// The longest line, which a delivery has.
-fn longest_line(alloc: Global) -> Result<String, Fail> {
-    let thread = "4294967295.4294967294";
-    let mut line = format!(in alloc;
-        "deliver {thread}#18446744073709551615 {thread} {thread} {thread} ffffffffffff503f"
-    )?;
-    line.push_str(" ffffffffffffffff".repeat(alloc, 63)?.as_str())?;
-    line.push_str("\n")?;
-    Ok(line)
+fn are_lines_of(alloc: Global, lines: &str, steps: &[Step]) -> Option<bool> {
+    let read = read_events(alloc, lines.as_bytes()).ok()?;
+    let written = trace(alloc, steps).ok()?;
+    Some(read.as_slice() == steps && written.as_slice() == lines.as_bytes())
 }
 
 #[test]
-fn each_kind_of_step_is_read_and_written(rt: HostRuntime) -> Result<(), Fail> {
-    let steps = steps_of_lines().ok_or("steps")?;
-    assert!(rt; are_lines_of(rt.alloc(), LINES, &steps)?);
-    let last = GlobalId::new(4294967295, 4294967294).ok_or("a thread")?;
-    let words = ArrayVec::from([u64::MAX; 63]);
-    let step = delivered(last, last, (1 << 48) - 1, words).ok_or("a delivery")?;
-    assert!(rt; are_lines_of(rt.alloc(), longest_line(rt.alloc())?.as_str(), &[step])?);
-    Ok(())
+fn each_kind_of_step_is_read_and_written(rt: HostRuntime) {
+    let steps = steps_of_lines().expect(&rt, "steps");
+    assert!(rt; are_lines_of(rt.alloc(), LINES, &steps) == Some(true));
+}
+
+// The delivery of the longest line.
+fn longest_delivery() -> Option<Step> {
+    let last = GlobalId::new(4294967295, 4294967294)?;
+    delivered(last, last, (1 << 48) - 1, ArrayVec::from([u64::MAX; 63]))
+}
+
+// Its line.
+fn longest_line(alloc: Global) -> Result<String, AllocError> {
+    let thread = "4294967295.4294967294";
+    let words = " ffffffffffffffff".repeat(alloc, 63)?;
+    format!(in alloc;
+        "deliver {thread}#18446744073709551615 {thread} {thread} {thread} ffffffffffff503f{words}\n"
+    )
+}
+
+fn is_longest_line(alloc: Global) -> Option<bool> {
+    let line = longest_line(alloc).ok()?;
+    are_lines_of(alloc, line.as_str(), &[longest_delivery()?])
+}
+
+#[test]
+fn the_longest_line_is_read_and_written(rt: HostRuntime) {
+    assert!(rt; is_longest_line(rt.alloc()) == Some(true));
+}
+
+// Whether the line of a tick is appended whole, or where memory is refused, not at all.
+fn is_whole_or_missing(tick: &Step, out: &mut Vec<u8>) -> bool {
+    let before = out.len();
+    let is_written = write_event(tick, out).is_ok();
+    let whole = if is_written { "tick 0 24\n" } else { "" };
+    match out.get(before..) {
+        Some(line) => line == whole.as_bytes(),
+        None => false,
+    }
 }
 
 // To be run with each allocation refused in turn.
 #[test]
-fn a_line_is_whole_or_missing_where_memory_is_refused(rt: HostRuntime) -> Result<(), Fail> {
-    let tick = Step::Tick(Tick::new(0, 24).ok_or("a tick")?);
+fn a_line_is_whole_or_missing_where_memory_is_refused(rt: HostRuntime) {
+    let tick = Step::Tick(Tick::new(0, 24).expect(&rt, "a tick"));
     let mut out = Vec::new(rt.alloc());
     for _ in 0..100 {
-        let before = out.len();
-        let is_written = write_event(&tick, &mut out).is_ok();
-        let line = out.get(before..).ok_or("the lines before it")?;
-        let whole = if is_written { "tick 0 24\n" } else { "" };
-        assert!(rt; line == whole.as_bytes());
+        assert!(rt; is_whole_or_missing(&tick, &mut out));
     }
     assert!(rt; out.len() >= 990);
     match read_events(rt.alloc(), PING_TRACE.as_bytes()) {
         Ok(steps) => assert!(rt; steps.len() == 8),
         Err(fault) => assert!(rt; fault == TraceFault::NoMemory),
     }
-    Ok(())
 }

@@ -10,19 +10,19 @@ use l4_types::steps::{Delivery, Name, Step, Tick};
 use l4_types::tags::{MsgTag, TagFault};
 use l4_types::times::{Period, time_of, timeouts};
 use std::alloc::AllocError;
-use std::test::Fail;
 
-#[test]
-fn ids_and_tags_have_their_words(rt: HostRuntime) -> Result<(), Fail> {
-    let id = GlobalId::new(2, 65).ok_or("a global id")?;
+fn id_has_its_word() -> Option<bool> {
+    let id = GlobalId::new(2, 65)?;
     let same = ThreadId::from_raw(8589934657);
-    assert_eq!(rt; [id.id().raw(), ThreadId::from(id).raw()], [8589934657; 2]);
-    assert!(rt; same.as_global() == Some(id) && ThreadId::global(2, 65) == Some(same));
     let (number, version) = (id.number(), id.version());
-    assert!(rt; same.kind() == Kind::Global { number, version });
-    assert!(rt; GlobalId::new(4294967295, 4294967295).is_none());
-    let tag = MsgTag::new(7, 1, false).ok_or("a tag")?;
-    let asking = MsgTag::new(5, 1, true).ok_or("a tag")?;
+    let words = [id.id().raw(), ThreadId::from(id).raw()];
+    let is_same = same.as_global() == Some(id) && ThreadId::global(2, 65) == Some(same);
+    Some(words == [8589934657; 2] && is_same && same.kind() == Kind::Global { number, version })
+}
+
+fn tags_have_their_words() -> Option<bool> {
+    let tag = MsgTag::new(7, 1, false)?;
+    let asking = MsgTag::new(5, 1, true)?;
     let words = [
         tag.raw(),
         tag.received(true, false).raw(),
@@ -30,23 +30,29 @@ fn ids_and_tags_have_their_words(rt: HostRuntime) -> Result<(), Fail> {
         asking.received(false, true).raw(),
         asking.received(false, false).raw(),
     ];
-    assert_eq!(rt; words, [0x70001, 0x74001, 0x51001, 0x51001, 0x50001]);
-    assert!(rt; asking.label() == 5 && asking.untyped() == 1 && asking.propagate());
-    assert!(rt; MsgTag::from_raw(0x51001) == Ok(asking));
+    let is_asking = asking.label() == 5 && asking.untyped() == 1 && asking.propagate();
+    let is_read = MsgTag::from_raw(0x51001) == Ok(asking);
+    Some(words == [0x70001, 0x74001, 0x51001, 0x51001, 0x50001] && is_asking && is_read)
+}
+
+#[test]
+fn ids_and_tags_have_their_words(rt: HostRuntime) {
+    assert!(rt; id_has_its_word() == Some(true));
+    assert!(rt; GlobalId::new(4294967295, 4294967295).is_none());
+    assert!(rt; tags_have_their_words() == Some(true));
     assert!(rt; MsgTag::from_raw(0x41) == Err(TagFault::TypedItems));
-    Ok(())
 }
 
 #[test]
 fn ids_have_their_words_of_32_bits(rt: HostRuntime) {
     let id = ThreadId::global_in(Format::W32, 262143, 16382).expect(&rt, "a global id");
-    assert_eq!(rt; id.raw_in(Format::W32), Some(0xffff_fffe));
+    assert!(rt; id.raw_in(Format::W32) == Some(0xffff_fffe));
     assert!(rt; ThreadId::from_raw_in(Format::W32, 0xffff_fffe) == Some(id));
     assert!(rt; ThreadId::from_raw_in(Format::W64, id.raw()) == Some(id));
     assert!(rt; ThreadId::from_raw_in(Format::W32, 0x8041) == ThreadId::global(2, 65));
     assert!(rt; ThreadId::from_raw_in(Format::W32, 0x1_0000_0001).is_none());
     assert!(rt; ThreadId::global_in(Format::W32, 262143, 16383).is_none());
-    assert_eq!(rt; ThreadId::ANY_LOCAL.raw_in(Format::W32), Some(0xffff_ffc0));
+    assert!(rt; ThreadId::ANY_LOCAL.raw_in(Format::W32) == Some(0xffff_ffc0));
     assert!(rt;
         ThreadId::from_raw(0xffff_ffc0)
             .raw_in(Format::W32)
@@ -57,7 +63,7 @@ fn ids_have_their_words_of_32_bits(rt: HostRuntime) {
 #[test]
 fn tags_have_their_words_of_32_bits(rt: HostRuntime) {
     let tag = MsgTag::new_in(Format::W32, 65535, 63, false).expect(&rt, "a tag");
-    assert_eq!(rt; tag.raw(), 0xffff_003f);
+    assert!(rt; tag.raw() == 0xffff_003f);
     assert!(rt; MsgTag::from_raw_in(Format::W32, 0xffff_003f) == Ok(tag));
     assert!(rt; MsgTag::new_in(Format::W32, 65536, 0, false).is_none());
     assert!(rt; MsgTag::from_raw_in(Format::W32, 0x1_0000_0041) == Err(TagFault::Wide));
@@ -84,36 +90,50 @@ fn times_and_faults_have_their_codes(rt: HostRuntime) {
         IpcError::SendCancelled.code(),
         IpcError::ReceiveCancelled.code(),
     ];
-    assert_eq!(rt; codes, [2, 3, 4, 5, 6, 7]);
+    assert!(rt; codes == [2, 3, 4, 5, 6, 7]);
     assert!(rt; NoMemory::from(AllocError) == NoMemory);
     let regs = Regs::new();
     assert!(rt; regs == Regs::default() && regs.from == ThreadId::NIL);
 }
 
-// A message of 63 words, in the third send of its thread.
-#[test]
-fn a_delivery_has_the_received_tag(rt: HostRuntime) -> Result<(), Fail> {
-    let id = GlobalId::new(1, 1).ok_or("a global id")?;
-    let name = Name::new(id, 3).ok_or("a name")?;
-    let message = Message::new(7, false, ArrayVec::from([10; 63]), id, id).ok_or("a message")?;
-    assert!(rt; name.thread() == message.shown() && name.thread() == message.actual());
-    assert!(rt; message.copy() == message && !message.propagated());
-    assert_eq!(rt; message.words().last(), Some(&10));
-    let numbers = [name.k(), message.label(), message.tag().raw()];
-    assert_eq!(rt; numbers, [3, 7, 0x7003f]);
+// A message of 63 words.
+fn long_message(id: GlobalId) -> Option<Message> {
+    Message::new(7, false, ArrayVec::from([10; 63]), id, id)
+}
+
+// Whether a message is that of this thread, and its copy the same.
+fn is_long_message(message: &Message, id: GlobalId) -> bool {
+    message.shown() == id
+        && message.actual() == id
+        && message.copy() == *message
+        && !message.propagated()
+        && message.words().last() == Some(&10)
+        && [message.label(), message.tag().raw()] == [7, 0x7003f]
+}
+
+// It is in the third send of its thread.
+fn has_received_tag() -> Option<bool> {
+    let id = GlobalId::new(1, 1)?;
+    let name = Name::new(id, 3)?;
+    let message = long_message(id)?;
+    let is_right = name.thread() == id && name.k() == 3 && is_long_message(&message, id);
     let delivery = Delivery {
         name,
         receiver: id,
         message,
         cross: true,
     };
-    assert_eq!(rt; delivery.tag().raw(), 0x7403f);
-    Ok(())
+    Some(is_right && delivery.tag().raw() == 0x7403f)
 }
 
 #[test]
-fn there_is_room_for_steps_and_letters(rt: HostRuntime) -> Result<(), Fail> {
-    let tick = Tick::new(15, 24).ok_or("a tick")?;
+fn a_delivery_has_the_received_tag(rt: HostRuntime) {
+    assert!(rt; has_received_tag() == Some(true));
+}
+
+#[test]
+fn there_is_room_for_steps_and_letters(rt: HostRuntime) {
+    let tick = Tick::new(15, 24).expect(&rt, "a tick");
     assert!(rt; tick.cpu() == 15 && tick.clock() == 24);
     let mut steps: ArrayVec<Step, 3> = ArrayVec::new();
     steps.push(Step::Tick(tick));
@@ -121,5 +141,4 @@ fn there_is_room_for_steps_and_letters(rt: HostRuntime) -> Result<(), Fail> {
     let content = Content::Gone(GlobalId::default());
     letters.push((1, Letter { stamp: 4, content }));
     assert!(rt; steps.len() == 1 && letters.len() == 1);
-    Ok(())
 }

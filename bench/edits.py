@@ -7,16 +7,20 @@ IMPL = re.compile(r"impl(?:<[^{]*?>)?\s+(?:[\w:<>', ]+\s+for\s+)?(\w+)")
 
 
 def pairs_of(path):
-    """The places of a mistake: file, old text, new text."""
-    pairs, file, old = [], None, None
+    """The places of a mistake: file, old text, new text. Lines `new:` that follow one another are the lines of one text."""
+    pairs, file, old, last = [], None, None, None
     for line in path.read_text().splitlines():
-        key, _, text = line.partition(": ")
+        key, _, text = line.partition(":")
+        text = text.removeprefix(" ")
         if key == "file":
             file = text
         elif key == "old":
             old = text
+        elif key == "new" and last == "new":
+            pairs[-1] = file, old, f"{pairs[-1][2]}\n{text}"
         elif key == "new":
             pairs.append((file, old, text))
+        last = key
     return pairs
 
 

@@ -1,5 +1,17 @@
-//! Does the commands of the cases that its words name, and prints each that comes to something else than its case says. A case is a file of `data/`,
-//! and is named as it lies there. The gate compares what is printed.
+//! Does the commands of the cases that its words name, and prints each that comes to something else
+//! than its case says.
+//!
+//! A case is a file of `data/`: a machine text with its commands and what each is to print, by hand
+//! from docs/MODEL.md and docs/FORMATS.md. Each goes the way of the program, by `job_of` and
+//! `perform_on_files`, or by `perform` where the case holds its texts. The gate compares what is
+//! printed, as two compilers build it. examples/README.md tells how a case is written.
+//!
+//! Nothing is proved of what a case comes to: cases show what the definitions mean, and that a
+//! command prints what a reader expects.
+//!
+//! ```text
+//! ./x try cases call_gets_its_answer.l4
+//! ```
 #![tactic(auto)]
 
 mod audits;

@@ -14,15 +14,19 @@ fn push_numbered(out: &mut String, text: &str, number: u64) -> Result<(), AllocE
     Ok(())
 }
 
-// Appends what a repeat `TEXT*FIRST..LAST` stands for: the text for each of these numbers.
+// Appends what a repeat `TEXT*FIRST..LAST` stands for: the text for each of these numbers, or with ` by STEP` for each so many-th of them.
 fn push_repeat(out: &mut String, repeat: &str) -> io::Result<()> {
     let wrong = io::ErrorKind::InvalidData;
     let (text, range) = repeat.rsplit_once('*').ok_or(wrong)?;
     let (first, last) = range.split_once("..").ok_or(wrong)?;
+    let (last, step) = last.split_once(" by ").unwrap_or((last, "1"));
     let first: u64 = first.parse().ok().ok_or(wrong)?;
     let last: u64 = last.parse().ok().ok_or(wrong)?;
+    let step: u64 = step.parse().ok().ok_or(wrong)?;
     for number in first..=last {
-        push_numbered(out, text, number)?;
+        if number.abs_diff(first).checked_rem(step) == Some(0) {
+            push_numbered(out, text, number)?;
+        }
     }
     Ok(())
 }

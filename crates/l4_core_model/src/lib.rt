@@ -1,4 +1,17 @@
-//! The definitions of what one processor does, and of runs of several.
+//! What one processor does, and what several do together, as definitions: local states, letters,
+//! events, core runs.
+//!
+//! `Turns` has the turn of a processor, `Mail` what it does with each letter, `Runs` what they come
+//! to together. `Schedules` has the two ways in which the program runs: by a schedule, and in
+//! rounds. The merge orders the events of all by stamp.
+//!
+//! The code is two laws with an empty body: both ways are core runs. That a core run is a history
+//! of the model stands in `l4_split`, that logs make one in `l4_merge`. `proofs/` has worked
+//! examples of turns, letters and runs.
+//!
+//! ```rust
+//! law_run_is_core_run(); // from here on: a run in rounds is a core run
+//! ```
 #![tactic(auto)]
 
 ghost use Rattle.std.specs.Prelude.{ℕ, List};

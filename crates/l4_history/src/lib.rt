@@ -1,7 +1,20 @@
-//! The history of a machine in compact form: 24 bytes for a step, and what deliveries carry in rows of its own. Contracts see a plain list
-//! of steps.
+//! Histories in compact form: 24 bytes for a step, 64 more for a delivery, and the words of all
+//! deliveries in one row.
 //!
-//! Only the calls that say so take memory.
+//! A million steps of a run stay in memory so. Contracts see a plain list of steps, and the room
+//! for more of them: `push` wants room, `reserve` makes it. So a turn of a processor takes no
+//! memory, and where memory is refused nothing was done yet. `Sink` is what steps are told to, a
+//! history or a plain vector.
+//!
+//! Memory is taken by `reserve`, and by `extend`, `tell`, `from_steps` and `to_steps`, which go on
+//! after it. How many bytes a step takes stands in no clause.
+//!
+//! ```rust
+//! let mut history = History::new(alloc);
+//! history.reserve()?; // room for three steps, the most that an event has
+//! history.push(StepRef::Wait(thread));
+//! assert!(rt; history.len() == 1 && history.begun(0).is_none());
+//! ```
 #![tactic(auto)]
 
 pub mod history;

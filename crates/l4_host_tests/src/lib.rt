@@ -1,5 +1,16 @@
-//! Tests of processors at work, one after the other in the hand of a caller and each in a host thread of its own, and of the program where a stream
-//! fails or memory is refused.
+//! Tests of processors at work, and of the program where a stream fails or memory is refused.
+//!
+//! Processors work one after the other in the hand of a caller, or each on a host thread of its
+//! own. Gates hold some of them back. Which history comes is up to the host, so a test looks for
+//! what each must have: it passes its audit, which finds what the outcome has. `streams` has reads
+//! and writes that fail, `refused` calls in which bench/refusals.sh refuses memory.
+//!
+//! No clause says that several host threads are at work, or that memory suffices: these tests show
+//! both.
+//!
+//! ```text
+//! ./x try l4_host_tests
+//! ```
 #![tactic(auto)]
 
 #[cfg(test)]
@@ -16,5 +27,7 @@ mod rooms;
 mod round_trips;
 #[cfg(test)]
 mod runs;
+#[cfg(test)]
+mod server;
 #[cfg(test)]
 mod streams;

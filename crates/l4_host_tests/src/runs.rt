@@ -115,7 +115,7 @@ fn meet<R: AllocGlobal + Threads + Sync>(rt: &R, cpus: u8) -> Option<bool> {
 
 // No clause says that host threads run side by side: where they do not, the looks of a gate that waits for all run out.
 #[test]
-fn processors_of_a_run_are_at_work_at_the_same_time(rt: HostRuntime) {
+fn both_at_work(rt: HostRuntime) {
     for cpus in [2, 16] {
         assert!(rt; meet(&rt, cpus) == Some(true), "{cpus}");
     }

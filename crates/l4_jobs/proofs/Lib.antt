@@ -1,4 +1,5 @@
 pub mod Appending
+pub mod Audited
 pub mod Joined
 pub mod Registers
 pub mod ReportRows

@@ -17,8 +17,6 @@ use Rattle.l4_script.specs.declared.text.fault.TextFaultKind.TheVariants.{NoMemo
 use Rattle.l4_types.specs.declared.reports.Ending.{Ending}
 use Rattle.l4_types.specs.declared.reports.Ending.TheVariants.{Quiet, Spent}
 use Rattle.l4_audit.specs.Audits.{is_quiet}
-use Rattle.l4_audit.specs.declared.audit.AuditFault.{AuditFault}
-use Rattle.l4_audit.specs.declared.audit.AuditFault.TheVariants as audit_fault
 use Rattle.l4_machine.specs.Outcomes.{Findings, IsRunFor, in_order}
 use Rattle.l4_machine.specs.Entries.{turns_fault}
 use Rattle.l4_machine.specs.declared.outcome.RunFault.{RunFault}
@@ -102,10 +100,6 @@ fault_of_result (Err f) = Some (fault_of_run f)
 abbrev pub fault_of_reading : TraceFault → Fault
 fault_of_reading trace_fault.NoMemory = fault.NoMemory
 fault_of_reading (trace_fault.Line line) = fault.Trace line
-
-abbrev pub fault_of_audit : AuditFault → Fault
-fault_of_audit audit_fault.NoMemory = fault.NoMemory
-fault_of_audit (audit_fault.Refused place) = fault.Refused place
 
 -- A trace has a line that is none, or a step that is not possible.
 abbrev pub fault_of_steps : Machine → Result (List Step) ℕ → Option Fault

@@ -1,4 +1,5 @@
 pub mod Asked
+pub mod Audits
 pub mod Commands
 pub mod FaultLines
 pub mod Items

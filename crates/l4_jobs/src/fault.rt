@@ -2,11 +2,10 @@
 ghost use Rattle.std.specs.Prelude.{◌≡◌, ◌⊎◌, IfOk, Some};
 ghost use Rattle.std.specs.String.{string_bytes};
 ghost use Rattle.l4_jobs.specs.FaultLines.{kind_word, fault_words, fault_line, IsReported};
-ghost use Rattle.l4_jobs.specs.Jobs.{IsUnread, text_fault, fault_of_run, fault_of_reading, fault_of_audit};
+ghost use Rattle.l4_jobs.specs.Jobs.{IsUnread, text_fault, fault_of_run, fault_of_reading};
 ghost use Rattle.l4_jobs.specs.declared.fault.Fault.TheVariants.{NoMemory as OutOfMemory};
 
 use crate::streams::Sink;
-use l4_audit::audit::AuditFault;
 use l4_machine::RunFault;
 use l4_script::text::{TextFault, TextFaultKind};
 use l4_trace::fault::TraceFault;
@@ -76,17 +75,6 @@ impl From<TraceFault> for Fault<'_> {
         match fault {
             TraceFault::NoMemory => Fault::NoMemory,
             TraceFault::Line(line) => Fault::Trace(line),
-        }
-    }
-}
-
-impl From<AuditFault> for Fault<'_> {
-    ghost from_gives = { λ of fault. fault ≡ fault_of_audit of };
-
-    fn from(fault: AuditFault) -> Self {
-        match fault {
-            AuditFault::NoMemory => Fault::NoMemory,
-            AuditFault::Refused { place } => Fault::Refused(place),
         }
     }
 }

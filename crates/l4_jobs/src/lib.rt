@@ -1,7 +1,22 @@
-//! The jobs of the program `l4run`: what the words of its command line ask for, and the doing of it over two readers and two writers.
+//! The program `l4run` without its streams: what the words of a command line ask for, and the doing
+//! of it.
+//!
+//! `job_of` reads words, `perform` does a job over two sources and two sinks, `perform_on_files`
+//! opens its files first. Contracts see bytes: the lines written once are exactly the trace, report
+//! or verdict that the job asks for; else one fault line is, and the status is 1. Which file is
+//! which, and which fault comes first, is said too.
+//!
+//! What the system's files and streams do is believed in `streams` and tried by
+//! `.ci/command-lines`. `l4_host_tests` has streams that fail and refused memory, `l4_cases` what
+//! each command prints.
+//!
+//! ```rust
+//! let job = job_of(alloc, &["l4run", "run", "examples/first.l4"])?;
+//! let status = perform_on_files(&rt, alloc, &rt, &job, &mut out, &mut faults); // 0, 1 or 3
+//! ```
 #![tactic(auto)]
 
-mod audits;
+pub mod audits;
 pub mod fault;
 pub mod files;
 pub mod items;

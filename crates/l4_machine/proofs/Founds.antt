@@ -5,6 +5,7 @@ use Rattle.l4_model.specs.Machine.{Machine}
 use Rattle.l4_core_model.specs.Runs.{Run, merged, told, at_rest}
 use Rattle.l4_merge.specs.Pasts.{AreWholePasts, all_events}
 use Rattle.l4_merge.specs.Merges.{AreAtRest, EndsAt}
+use Rattle.l4_merge.specs.Rounds.{IsInRounds}
 use Rattle.l4_merge.proofs.Alone.{alone}
 use Rattle.l4_merge.proofs.Permuted.{merged_moves}
 use Rattle.l4_merge.proofs.Rest.{rests as run_rests, rested as run_rested}
@@ -49,15 +50,15 @@ merged_same m ps r come whole =
     (IsPermutation-trans (all_events (pasts ps)) r.events (merged r.events) come.events (merged_moves r.events))
     (merged_sorted r.events)
 
-pub found : (m : Machine) (most : ℕ) (ps : List Processor) (r : Run) (o : Findings) → HaveCome m ps r → AreWhole (map port_of ps) →
+pub found : (m : Machine) (most : ℕ) (ps : List Processor) (r : Run) (o : Findings) → HaveCome m ps r → IsInRounds m most r → AreWhole (map port_of ps) →
     (most ≤ count_events ps) ⊎ AreResting ps → count_events ps < most + m.cpus → IsGathered m ps o → IsFoundFor m most o
-found m most ps r o come whole least fewer g = record {
+found m most ps r o come rounds whole least fewer g = record {
   run = r;
   is = record {
-    rounds = come.rounds;
+    rounds = rounds;
     least = ends;
     fewer = omega (arith, count);
-    alone = λ one. alone m most r one come.rounds (omega (arith, count, one)) ends;
+    alone = λ one. alone m most most r one rounds (omega (arith, count, one)) ends;
   };
   outcome = same_outcome m g.run (in_order r) o
       (merged_same m ps r come whole ∙ sym (g.whole.events ∙ ap (λ done. merged (all_events done)) (pasts_are m ps all)))

@@ -464,7 +464,7 @@ gathered_same m olds news o same g = record {
 
 -- Processors that go on by themselves are still those of one machine
 
-pub assembled : (m : Machine) (ps : List Processor) → AreAssembled m ps → AreOfOne m ps
+pub assembled : {room : ℕ} (m : Machine) (ps : List Processor) → AreAssembled room m ps → AreOfOne m ps
 assembled m ps a = record {
   each = λ cpu p at.
       let o = a.each cpu p at in

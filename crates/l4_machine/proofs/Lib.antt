@@ -14,9 +14,11 @@ pub mod Outcomes
 pub mod Posting
 pub mod Replays
 pub mod Rising
-pub mod Rooms
 pub mod Stamps
+pub mod Stations
 pub mod Systems
+pub mod Delivered
+pub mod Told
 pub mod Ticked
 pub mod Turned
 pub mod Sought

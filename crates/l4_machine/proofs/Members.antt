@@ -25,7 +25,7 @@ some_there [] i lt = absurd (omega arith)
 some_there (x ∷ xs) zero lt = (x, refl)
 some_there (x ∷ xs) (suc i) lt = some_there xs i (omega arith)
 
-pub assembled_in_order : (m : Machine) (ps : List Processor) → AreAssembled m ps → AreInOrder m ps
+pub assembled_in_order : {room : ℕ} (m : Machine) (ps : List Processor) → AreAssembled room m ps → AreInOrder m ps
 assembled_in_order m ps a = record { for_each = a.count; numbers = λ i p at. (a.each i p at).number; of_one = assembled m ps a }
 
 -- Each number is there

@@ -11,7 +11,7 @@ use Rattle.l4_core_model.specs.Local.{Local, opening_local}
 use Rattle.l4_core_model.specs.Runs.{Run, opening_run}
 use Rattle.l4_merge.specs.Pasts.{Past, posted_in, handled_in, letters_posted, letters_handled, all_events}
 use Rattle.l4_merge.specs.Merges.{EndsAt}
-use Rattle.l4_merge.proofs.InRounds.{opening_in_rounds}
+use Rattle.l4_merge.proofs.InRounds.{opening_in_rounds, is_core_run}
 use Rattle.l4_types.specs.LetterView.{letter_of}
 use Rattle.l4_mail.specs.Ports.{AreOneFabric}
 use Rattle.l4_proc.specs.Assembled.{AreAssembled}
@@ -33,7 +33,7 @@ locals_of : (ps : List Processor) → map (λ (d : Past). d.local) (pasts ps) �
 locals_of [] = refl
 locals_of (p ∷ ps) = ap (λ ls. p.worker.core.local ∷ ls) (locals_of ps)
 
-none_carried : (m : Machine) (ps : List Processor) → AreAssembled m ps → (from to : ℕ) →
+none_carried : {room : ℕ} (m : Machine) (ps : List Processor) → AreAssembled room m ps → (from to : ℕ) →
     (letters_posted (pasts ps) from to ≡ []) × (letters_handled (pasts ps) from to ≡ [])
 none_carried m ps a from to = (posted (slice_get (pasts ps) from) refl, handled (slice_get (pasts ps) to) refl)
   where
@@ -49,12 +49,12 @@ none_carried m ps a from to = (posted (slice_get (pasts ps) from) refl, handled 
         let p = past_at ps to done at in
         ap (λ (d : Past). d.handled from) (sym p.1.1) ∙ none_handled p.0 from ((a.each to p.0 p.1.0).taken from)
 
-pub opening_come : (m : Machine) (ps : List Processor) → AreAssembled m ps → HaveCome m ps (opening_run m)
+pub opening_come : {room : ℕ} (m : Machine) (ps : List Processor) → AreAssembled room m ps → HaveCome m ps (opening_run m)
 opening_come m ps a =
     let none = no_events ps (λ i p at. (a.each i p at).events) in
     record {
       in_order = assembled_in_order m ps a;
-      rounds = opening_in_rounds m;
+      core_run = is_core_run m 0 (opening_run m) (opening_in_rounds m 0);
       ends = record {
         locals =
             ap (λ n. map (opening_local m) (range_with_len 0 n)) (sym a.count)
@@ -67,13 +67,13 @@ opening_come m ps a =
       clocks = λ i p at. let still = ap (λ (l : Local). l.clock) (a.each i p at).local in omega arith;
     }
 
-pub opening_count : (m : Machine) (ps : List Processor) → AreAssembled m ps → count_events ps ≡ 0
+pub opening_count : {room : ℕ} (m : Machine) (ps : List Processor) → AreAssembled room m ps → count_events ps ≡ 0
 opening_count m ps a = ap length (no_events ps (λ i p at. (a.each i p at).events))
 
 pub come_same : (m : Machine) (olds news : List Processor) (r : Run) → AreAsBefore olds news → AreOneFabric (map port_of news) → HaveCome m olds r → HaveCome m news r
 come_same m olds news r same one come = record {
   in_order = in_order_same m olds news same one come.in_order;
-  rounds = come.rounds;
+  core_run = come.core_run;
   ends = subst (EndsAt r) (sym (same_pasts olds news same)) come.ends;
   events = subst (λ done. IsPermutation (all_events done) r.events) (sym (same_pasts olds news same)) come.events;
   clocks = λ i p at.

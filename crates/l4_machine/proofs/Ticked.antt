@@ -22,9 +22,9 @@ use Rattle.l4_core_model.specs.Turns.{ByDue, ByReady, advance, clock_is, first_d
 use Rattle.l4_merge.specs.Pasts.{Past, letters_posted, letters_handled, all_events}
 use Rattle.l4_merge.specs.Pasts as deeds
 use Rattle.l4_merge.specs.Merges.{EndsAt}
-use Rattle.l4_merge.specs.Rounds.{is_idle}
+use Rattle.l4_merge.specs.Rounds.{IsInRounds, is_idle}
 use Rattle.l4_merge.proofs.Ticking.{ends_ticked, permuted_ticked}
-use Rattle.l4_merge.proofs.InRounds.{ticked_in_rounds, idles}
+use Rattle.l4_merge.proofs.InRounds.{ticked_in_rounds, ticks_core_run, idles}
 use Rattle.l4_mail.specs.Ports.{kept_from, AreOneFabric, AreWhole}
 use Rattle.l4_mail.specs.declared.ports.Port.{Port}
 use Rattle.l4_proc.specs.Rests.{HaveHandledAll}
@@ -283,6 +283,18 @@ handled_same clock olds news come all = record {
 
 -- So the run goes on
 
+pub tick_in_rounds : (m : Machine) (turns : ℕ) (olds : List Processor) (r : Run) → IsInRounds m turns r → HaveCome m olds r → AreWhole (map port_of olds) →
+    AreIdle olds → HaveHandledAll olds → IsInRounds m turns (ticks m r)
+tick_in_rounds m turns olds r rounds was whole idle handled =
+    let all = was.in_order in
+    ticked_in_rounds m turns r rounds (idles m (pasts olds) r was.ends
+    (λ cpu done at. let p = past_at olds cpu done at in
+    subst (λ (d : Past). is_busy m cpu d.local ≡ false) p.1.1
+    (subst (λ m. is_busy m cpu p.0.worker.core.local ≡ false) (all.of_one.each cpu p.0 p.1.0).machine
+    (subst (λ n. is_busy p.0.worker.core.machine n p.0.worker.core.local ≡ false) (all.numbers cpu p.0 p.1.0) (idle cpu p.0 p.1.0))))
+    (subst (λ done. (from to : ℕ) → letters_posted done from to ≡ letters_handled done from to) (pasts_are m olds all)
+    (all_handled_between m olds all.of_one (in_order_have_numbers m olds all) whole handled)))
+
 pub ticks_come : (m : Machine) (clock : ℕ) (olds news : List Processor) (r : Run) → HaveCome m olds r → AreWhole (map port_of olds) → AreIdle olds → HaveHandledAll olds →
     first_deadline olds ≡ Some clock → clock < (count_events olds + 1) * 2 ^ 42 → HaveComeTo clock olds news → HaveCome m news (ticks m r)
 ticks_come m clock olds news r was whole idle handled first near come =
@@ -295,17 +307,10 @@ ticks_come m clock olds news r was whole idle handled first near come =
     (record { machine = λ i p at. (all.of_one.each i p at).machine; number = λ i p at. let n = all.numbers i p at in omega arith }) come in
     let runs : ticks m r ≡ attempts_all m r (map (λ cpu. Ticks cpu clock) (range_with_len 0 (length olds))) =
     ap (ticks_to m r) (first_is m olds r was ∙ first) ∙ ap (λ n. attempts_all m r (map (λ cpu. Ticks cpu clock) (range_with_len 0 n))) (sym all.for_each) in
-    let idle_run : is_idle m r.system ≡ true = idles m (pasts olds) r was.ends
-    (λ cpu done at. let p = past_at olds cpu done at in
-    subst (λ (d : Past). is_busy m cpu d.local ≡ false) p.1.1
-    (subst (λ m. is_busy m cpu p.0.worker.core.local ≡ false) (all.of_one.each cpu p.0 p.1.0).machine
-    (subst (λ n. is_busy p.0.worker.core.machine n p.0.worker.core.local ≡ false) (all.numbers cpu p.0 p.1.0) (idle cpu p.0 p.1.0))))
-    (subst (λ done. (from to : ℕ) → letters_posted done from to ≡ letters_handled done from to) (pasts_are m olds all)
-    (all_handled_between m olds all.of_one (in_order_have_numbers m olds all) whole handled)) in
     record {
       in_order = in_order_gone_on m olds news size (λ i old new a b. gone_to clock old new (come.each i old new a b))
           (subst AreOneFabric (sym (ports_same clock olds news come)) all.of_one.one) all;
-      rounds = ticked_in_rounds m r was.rounds idle_run;
+      core_run = ticks_core_run m r was.core_run;
       ends = subst (λ r. EndsAt r (pasts news)) (sym runs) ticked.ends;
       events = subst (λ (r : Run). IsPermutation (all_events (pasts news)) r.events) (sym runs) ticked.events;
       clocks = λ i p at.

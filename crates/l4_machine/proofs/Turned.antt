@@ -15,11 +15,14 @@ use Rattle.l4_core_model.specs.Letters as letters
 use Rattle.l4_core_model.specs.Runs.{Run, letters as letters_of, merged}
 use Rattle.l4_core_model.specs.Turns.{Choice, choice, turn, is_busy, can_stamp}
 use Rattle.l4_core_model.specs.Mail.{handle}
-use Rattle.l4_merge.specs.Pasts.{Past, HasTurned, HaveTurned, HaveWorked, Begins, posted_in, handled_in, letters_posted, letters_handled, all_events, added_events}
+use Rattle.l4_merge.specs.Merges.{IsTurnedRun}
+use Rattle.l4_merge.specs.Rounds.{IsInRounds}
+use Rattle.l4_merge.specs.Pasts.{Past, AddAtMost, HasTurned, HaveTurned, HaveWorked, Begins, posted_in, handled_in, letters_posted, letters_handled, all_events, added_events}
 use Rattle.l4_merge.proofs.GoingOn.{merge_turns}
 use Rattle.l4_merge.proofs.ClocksOfEvents.{turned_clock}
 use Rattle.l4_merge.proofs.Permuted.{permuted}
-use Rattle.l4_merge.proofs.InRounds.{turned_in_rounds, is_core_run}
+use Rattle.l4_merge.proofs.CoreRuns.{stays_core_run}
+use Rattle.l4_merge.proofs.InRounds.{turned_in_rounds}
 use Rattle.l4_split.specs.Laws.{IsLawfulRun}
 use Rattle.l4_types.specs.LetterView.{letter_of}
 use Rattle.l4_types.specs.declared.letters.Letter.{Letter}
@@ -33,7 +36,7 @@ use Rattle.l4_proc.specs.declared.stops.Stop.TheVariants as stop
 use Rattle.l4_proc.specs.declared.processor.Processor.{Processor}
 use Rattle.l4_proc.proofs.Rested.{port_of, same_at, same_pasts, posted_is, one_of_worked}
 use Rattle.l4_machine.specs.Teams.{pasts, count_events, AreIdle, AreInOrder, HaveCome}
-use Rattle.l4_machine.proofs.Counting.{counted}
+use Rattle.l4_machine.proofs.Counting.{counted, turns_and_ticks}
 use Rattle.l4_machine.proofs.InOneHand.{whole_pasts, none_taken_beyond, none_taken_own}
 use Rattle.l4_machine.proofs.Members.{some_there, in_order_gone_on, in_order_same, in_order_have_numbers, pasts_are}
 use Rattle.l4_machine.proofs.Stamps.{local_stamp, letter_stamp}
@@ -82,12 +85,13 @@ worked_of m olds news t = record { for_each = t.for_each; each = λ i old new wa
 pub count_same : (olds news : List Processor) → AreAsBefore olds news → count_events news ≡ count_events olds
 count_same olds news same = ap (λ done. length (all_events done)) (same_pasts olds news same)
 
--- The run goes on to where they are.
-pub record HasNext (m : Machine) (news : List Processor) : Type 0 where
+-- The run goes on to where they are, by turns.
+pub record HasNext (m : Machine) (olds news : List Processor) (r : Run) : Type 0 where
   pub run : Run
   pub come : HaveCome m news run
+  pub turned : IsTurnedRun m r (pasts olds) (pasts news) run
 
-pub round_come : (m : Machine) (turns : ℕ) (olds mids news : List Processor) (r : Run) → HaveCome m olds r → IsRound m turns olds mids news → HasNext m news
+pub round_come : (m : Machine) (turns : ℕ) (olds mids news : List Processor) (r : Run) → HaveCome m olds r → IsRound m turns olds mids news → HasNext m olds news r
 round_come m turns olds mids news r was round =
     let all = was.in_order in
     let turned = round_turned m turns olds mids news all round in
@@ -98,9 +102,10 @@ round_come m turns olds mids news r was round =
     let same = count_same mids news round.same in
     record {
       run = next.0;
+      turned = next.1;
       come = record {
         in_order = round_in_order m turns olds mids news all round;
-        rounds = turned_in_rounds m r next.0 (pasts olds) (pasts news) was.rounds next.1;
+        core_run = stays_core_run m r next.0 (pasts olds) (pasts news) was.core_run next.1.merged;
         ends = next.1.merged.ends;
         events = subst (IsPermutation (all_events (pasts news))) (sym next.1.merged.events)
             (IsPermutation-trans (all_events (pasts news)) (all_events (pasts olds) ++ added) (r.events ++ added)
@@ -118,6 +123,32 @@ round_come m turns olds mids news r was round =
             omega arith;
       };
     }
+
+-- No processor has more events than its share.
+few_each : (m : Machine) (turns : ℕ) (olds mids news : List Processor) → IsRound m turns olds mids news → AddAtMost turns (pasts olds) (pasts news)
+few_each m turns olds mids news round i old new was is =
+    let a = past_at olds i old was in
+    let b = past_at mids i new (ap (λ done. slice_get done i) (sym (same_pasts mids news round.same)) ∙ is) in
+    let worked = round.worked.each i a.0 b.0 a.1.0 b.1.0 in
+    let most = worked.most in
+    let ticks = worked.ticks in
+    let before = turns_and_ticks a.0 in
+    let behind = turns_and_ticks b.0 in
+    let first = ap (λ (done : Past). length done.events) a.1.1 in
+    let last = ap (λ (done : Past). length done.events) b.1.1 in
+    omega arith
+
+pub round_in_rounds : (m : Machine) (asked turns left cpus : ℕ) (olds mids news : List Processor) (r : Run) → IsInRounds m asked r →
+    (come : HaveCome m olds r) (round : IsRound m turns olds mids news) → left ≡ asked - count_events olds → count_events olds ≡ length r.events →
+    cpus ≡ m.cpus → turns * cpus < left + cpus → IsInRounds m asked (round_come m turns olds mids news r come round).run
+round_in_rounds m asked turns left cpus olds mids news r rounds come round left_is count cpus_is fewer =
+    let next = round_come m turns olds mids news r come round in
+    let all = come.in_order in
+    let share : turns * m.cpus < (asked - length r.events) + m.cpus =
+    subst (λ n. turns * m.cpus < (asked - n) + m.cpus) count (subst (λ k. turns * k < (asked - count_events olds) + k) cpus_is
+    (subst (λ n. turns * cpus < n + cpus) left_is fewer)) in
+    turned_in_rounds m asked turns r next.run (pasts olds) (pasts news) rounds next.turned
+    (worked_of m (pasts olds) (pasts news) (round_turned m turns olds mids news all round)) (few_each m turns olds mids news round) share
 
 -- No fault but a want of memory
 
@@ -188,7 +219,7 @@ pub can_stamp_here : (m : Machine) (ps : List Processor) (r : Run) (i : ℕ) (p 
     can_stamp p.worker.core.local 0 ≡ true
 can_stamp_here m ps r i p come few at =
     low_stamp p.worker.core.local.stamp 0 (length r.events)
-    (local_stamp m r i p.worker.core.local (is_core_run m r come.rounds) (local_at m ps r i p come at)) (omega arith) few
+    (local_stamp m r i p.worker.core.local come.core_run (local_at m ps r i p come at)) (omega arith) few
 
 -- A letter in hand is lawful where it is.
 pub no_mail_fault : (m : Machine) (ps : List Processor) (r : Run) (i : ℕ) (p : Processor) → HaveCome m ps r → AreWhole (map port_of ps) → IsLawfulRun m r →
@@ -209,7 +240,7 @@ pub no_stamp_fault : (m : Machine) (ps : List Processor) (r : Run) (i : ℕ) (p 
 no_stamp_fault m ps r i p come whole few at why = by p.worker.hand refl
   where
     own : p.worker.core.local.stamp ≤ length r.events
-    own = local_stamp m r i p.worker.core.local (is_core_run m r come.rounds) (local_at m ps r i p come at)
+    own = local_stamp m r i p.worker.core.local come.core_run (local_at m ps r i p come at)
 
     by : (hand : Option (ℕ × Letter)) → p.worker.hand ≡ hand → ⊥
     by None is =
@@ -219,7 +250,7 @@ no_stamp_fault m ps r i p come whole few at why = by p.worker.hand refl
         cc
     by (Some x) is =
         let first = (in_hand_first m ps r i p x come whole at is).first in
-        let its = letter_stamp m r x.0 i (letter_of x.1) (is_core_run m r come.rounds) first in
+        let its = letter_stamp m r x.0 i (letter_of x.1) come.core_run first in
         let low = low_stamp p.worker.core.local.stamp x.1.stamp (length r.events) own its few in
         let no : can_stamp p.worker.core.local x.1.stamp ≡ false = ap (λ h. can_stamp p.worker.core.local (stamp_in_hand h)) (sym is) ∙ why.full in
         let both = sym low ∙ no in

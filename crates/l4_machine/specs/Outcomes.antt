@@ -78,8 +78,9 @@ in_order r = record r { events = merged r.events }
 
 -- A run of a machine for so many turns, however its processors come to one another.
 pub record IsRunFor (m : Machine) (most : ℕ) (r : Run) : Type 0 where
-  -- it goes in rounds of turns in any order, and the clocks go on, to the least deadline, only where nothing else is to be done
-  pub rounds : IsInRounds m r
+  -- it goes in rounds of turns in any order, of which none has more than its share; the clocks go on, to the least deadline, only where
+  -- nothing else is to be done
+  pub rounds : IsInRounds m most r
   -- it ends at rest, or has used up its turns
   pub least : (most ≤ length r.events) ⊎ (at_rest m r.system ≡ true)
   -- of which it has fewer than so many and one for each processor

@@ -9,6 +9,7 @@ use Rattle.l4_core_model.specs.Turns.{is_busy}
 use Rattle.l4_core_model.specs.Schedules.{earliest_of}
 use Rattle.l4_merge.specs.Pasts.{Past, all_events}
 use Rattle.l4_merge.specs.Merges.{EndsAt}
+use Rattle.l4_core_model.specs.Laws.{IsCoreRun}
 use Rattle.l4_merge.specs.Rounds.{IsInRounds}
 use Rattle.l4_mail.specs.Ports.{AreWhole}
 use Rattle.l4_proc.specs.Rests.{HaveHandledAll}
@@ -30,10 +31,10 @@ pub record AreInOrder (m : Machine) (ps : List Processor) : Type 0 where
   pub numbers : (i : ℕ) (p : Processor) → slice_get ps i ≡ Some p → p.worker.core.cpu ≡ i
   pub of_one : AreOfOne m ps
 
--- They have come to where this run in rounds ends, whose events are those of their logs. At an event a clock goes on by less than 2^42.
+-- They have come to where this core run ends, whose events are those of their logs. At an event a clock goes on by less than 2^42.
 pub record HaveCome (m : Machine) (ps : List Processor) (r : Run) : Type 0 where
   pub in_order : AreInOrder m ps
-  pub rounds : IsInRounds m r
+  pub core_run : IsCoreRun m r
   pub ends : EndsAt r (pasts ps)
   pub events : IsPermutation (all_events (pasts ps)) r.events
   pub clocks : (i : ℕ) (p : Processor) → slice_get ps i ≡ Some p → p.worker.core.local.clock ≤ count_events ps * period_limit
@@ -42,6 +43,7 @@ pub record HaveCome (m : Machine) (ps : List Processor) (r : Run) : Type 0 where
 pub record IsTeam (t : Team) : Type 0 where
   pub run : Run
   pub come : HaveCome t.machine.now t.processors.items run
+  pub rounds : IsInRounds t.machine.now t.turns run
   pub whole : AreWhole (map (λ p. p.port) t.processors.items)
   pub handled : IsTrue t.all_handled ↔ HaveHandledAll t.processors.items
 

@@ -1,17 +1,32 @@
-//! Machines at work: runs by host threads, replays of a schedule, and the law of core runs.
+//! Whole machines: `run` on host threads, `replay` of a schedule, `gather` for callers with threads
+//! of their own, and their law.
+//!
+//! Each answers an `Outcome`: the history, the undecided sends, what each thread has come to,
+//! whether anything was left to do, and how many turns were taken. Contracts say that it is the
+//! outcome of a core run, so `law_core_run` holds of it: its history is one of the model, with all
+//! laws. `run_compact` and `replay_compact` keep the history in 24 bytes a step.
+//!
+//! Which of its histories a run of several processors takes is up to the host; a replay has one.
+//! That a run succeeds where memory is ample, and that processors work at the same time, is tested
+//! (`l4_host_tests`), in no clause.
+//!
+//! ```rust
+//! let outcome = replay(alloc, &machine, &[0, 1, 0, 16])?; // turns of 0, 1, 0; then a tick of 0
+//! assert!(rt; outcome.turns <= 4);
+//! ```
 #![tactic(auto)]
 
-mod core_run;
 mod entries;
-mod events;
 mod gathering;
 mod homes;
+mod inbox;
 mod laws;
 mod logs;
 mod merging;
 mod outcome;
 mod run_history;
 mod runs;
+mod scheduler;
 mod schedules;
 mod searching;
 mod station;

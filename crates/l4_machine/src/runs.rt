@@ -67,7 +67,7 @@ fn outcome_of_turns<'m, R: Threads + Sync, G: Gate + Sync>(
     requires { turns ≤ most_turns }
     ensures { IfOk result (IsCompactOutcome machine.now turns) }
 {
-    let mut team = Team::new(alloc, machine)?;
-    team.run(rt, alloc, turns, gate)?;
+    let mut team = Team::new(alloc, machine, turns)?;
+    team.run(rt, alloc, gate)?;
     team.into_outcome(alloc)
 }

@@ -39,13 +39,16 @@ pub(crate) struct Team<'m> {
     processors: Vec<Processor<'m>>,
     // Whether no letter is under way or in hand.
     all_handled: bool,
+    // How many turns they take, until one is behind them all.
+    turns: u64,
 }
 
 impl<'m> Team<'m> {
     /// The processors of a machine where nothing has happened.
-    pub(crate) fn new(alloc: Global, machine: &'m Machine) -> Result<Team<'m>, NoMemory>
+    pub(crate) fn new(alloc: Global, machine: &'m Machine, turns: u64) -> Result<Team<'m>, NoMemory>
         ensures team { IfOk result IsTeam }
         ensures machine { IfOk result (λ team. team.machine.now ≡ machine.now) }
+        ensures turns { IfOk result (λ team. team.turns ≡ turns) }
         ensures fresh { IfOk result (λ team. count_events team.processors.items ≡ 0) }
     {
         let _ = machine.cpus();
@@ -55,29 +58,30 @@ impl<'m> Team<'m> {
             machine,
             processors,
             all_handled,
+            turns,
         })
     }
 
-    /// Goes on in rounds, until nothing is left to do or so many turns are used up.
+    /// Goes on in rounds, until nothing is left to do or its turns are used up.
     pub(crate) fn run<R: Threads + Sync, G: Gate + Sync>(
         &mut self,
         rt: &R,
         alloc: Global,
-        turns: u64,
         gate: &G,
     ) -> Result<(), NoMemory>
         requires team { IsTeam self.old }
-        requires few { turns ≤ most_turns }
+        requires few { self.old.turns ≤ most_turns }
         requires fresh { count_events self.old.processors.items ≡ 0 }
         ensures team { OnOk result (IsTeam self.new) }
         ensures machine { self.new.machine ≡ self.old.machine }
-        ensures least { OnOk result ((turns ≤ count_events self.new.processors.items) ⊎ AreResting self.new.processors.items) }
-        ensures fewer { OnOk result (count_events self.new.processors.items < turns + self.old.machine.now.cpus) }
+        ensures turns { self.new.turns ≡ self.old.turns }
+        ensures least { OnOk result ((self.old.turns ≤ count_events self.new.processors.items) ⊎ AreResting self.new.processors.items) }
+        ensures fewer { OnOk result (count_events self.new.processors.items < self.old.turns + self.old.machine.now.cpus) }
     {
         let _ = self.machine.cpus();
-        for done in 0..turns {
+        for done in 0..self.turns {
             let _ = done;
-            if self.events() >= turns || !self.go_on(rt, alloc, turns, gate)? {
+            if self.events() >= self.turns || !self.go_on(rt, alloc, gate)? {
                 return Ok(());
             }
         }
@@ -110,20 +114,20 @@ impl<'m> Team<'m> {
         &mut self,
         rt: &R,
         alloc: Global,
-        turns: u64,
         gate: &G,
     ) -> Result<bool, NoMemory>
         requires team { IsTeam self.old }
-        requires few { turns ≤ most_turns }
-        requires left { count_events self.old.processors.items < turns }
+        requires few { self.old.turns ≤ most_turns }
+        requires left { count_events self.old.processors.items < self.old.turns }
         ensures team { OnOk result (IsTeam self.new) }
         ensures machine { self.new.machine ≡ self.old.machine }
+        ensures turns { self.new.turns ≡ self.old.turns }
         ensures more { IfOk result (λ on. IsTrue on → count_events self.old.processors.items < count_events self.new.processors.items) }
         ensures rest { IfOk result (λ on. on ≡ false → AreResting self.new.processors.items) }
-        ensures fewer { OnOk result (count_events self.new.processors.items < turns + self.old.machine.now.cpus) }
+        ensures fewer { OnOk result (count_events self.new.processors.items < self.old.turns + self.old.machine.now.cpus) }
     {
         if !self.is_idle() {
-            self.work(rt, alloc, turns, gate)?;
+            self.work(rt, alloc, gate)?;
             return Ok(true);
         }
         match self.first_deadline() {
@@ -168,20 +172,20 @@ impl<'m> Team<'m> {
         &mut self,
         rt: &R,
         alloc: Global,
-        turns: u64,
         gate: &G,
     ) -> Result<(), NoMemory>
         requires team { IsTeam self.old }
-        requires few { turns ≤ most_turns }
-        requires left { count_events self.old.processors.items < turns }
+        requires few { self.old.turns ≤ most_turns }
+        requires left { count_events self.old.processors.items < self.old.turns }
         requires busy { AreIdle self.old.processors.items × HaveHandledAll self.old.processors.items → ⊥ }
         ensures team { OnOk result (IsTeam self.new) }
         ensures machine { self.new.machine ≡ self.old.machine }
+        ensures turns { self.new.turns ≡ self.old.turns }
         ensures more { OnOk result (count_events self.old.processors.items < count_events self.new.processors.items) }
-        ensures fewer { OnOk result (count_events self.new.processors.items < turns + self.old.machine.now.cpus) }
+        ensures fewer { OnOk result (count_events self.new.processors.items < self.old.turns + self.old.machine.now.cpus) }
     {
         law_core_run();
-        let share = share(turns - self.events(), self.machine.cpus());
+        let share = share(self.turns - self.events(), self.machine.cpus());
         work_together(rt, self.processors.as_mut_slice(), share, gate);
         let all_handled = come_to_rest(alloc, &mut self.processors)?;
         check_stops(self.processors.as_slice())?;
@@ -198,6 +202,7 @@ impl<'m> Team<'m> {
         requires near { deadline < (count_events self.old.processors.items + 1) * period_limit }
         ensures team { OnOk result (IsTeam self.new) }
         ensures machine { self.new.machine ≡ self.old.machine }
+        ensures turns { self.new.turns ≡ self.old.turns }
         ensures more { OnOk result (count_events self.old.processors.items < count_events self.new.processors.items) }
         ensures fewer { OnOk result (count_events self.new.processors.items ≤ count_events self.old.processors.items + self.old.machine.now.cpus) }
     {

@@ -8,7 +8,7 @@ use Rattle.l4_mail.specs.declared.inlets.Inlet.{Inlet}
 use Rattle.l4_mail.specs.declared.ports.Port.{Port}
 use Rattle.l4_mail.specs.Ends.{RingId, ring_out, posted, ring_in, taken, kept}
 use Rattle.l4_mail.specs.Ports.{Place, place, HasWayTo, IsWay, AreOneFabric}
-use Rattle.l4_mail.specs.Fabrics.{AreFresh, GainsOutlet, GainsInlet, IsMember, AreMembers, AreJoined}
+use Rattle.l4_mail.specs.Fabrics.{HaveRooms, AreFresh, GainsOutlet, GainsInlet, IsMember, AreMembers, AreJoined}
 
 pub some_within : {A : Type 0} (l : List (Option A)) (k : ℕ) (x : A) → get_or l k None ≡ Some x → k < length l
 some_within [] k x e = absurd (none-some x e)
@@ -29,6 +29,34 @@ none_longer l more e h k = ap (λ v. get_or v k []) e ∙ walk l h k
     walk [] h (suc k) = refl
     walk (x ∷ l) h zero = h zero
     walk (x ∷ l) h (suc k) = walk l (λ j. h (suc j)) k
+
+from_some : {A : Type 0} → A → Option A → A
+from_some a None = a
+from_some a (Some x) = x
+
+pub some_is : {A : Type 0} (a b : A) → Some a ≡ Some b → a ≡ b
+unfolding from_some
+some_is a b e = ap (from_some a) e
+
+-- A ring that may be none has room for so many letters.
+abbrev Fits : (room : ℕ) → Option RingId → Type 0
+Fits room out = (ring : RingId) → out ≡ Some ring → ring.capacity ≡ room
+
+none_fits : (room : ℕ) → Fits room None
+none_fits room ring e = absurd (none-some ring e)
+
+some_fits : (room : ℕ) (ring : RingId) → ring.capacity ≡ room → Fits room (Some ring)
+some_fits room ring e other same = ap (λ (r : RingId). r.capacity) (sym (some_is ring other same)) ∙ e
+
+rooms_longer : (room : ℕ) (l more : List (Option RingId)) (y : Option RingId) → more ≡ l ++ y ∷ [] → HaveRooms room l → Fits room y
+    → HaveRooms room more
+rooms_longer room l more y e h f k ring is = walk room l y h f k ring (ap (λ v. get_or v k None) (sym e) ∙ is)
+  where
+    walk : (room : ℕ) (l : List (Option RingId)) (y : Option RingId) → HaveRooms room l → Fits room y → HaveRooms room (l ++ y ∷ [])
+    walk room [] y h f zero ring is = f ring is
+    walk room [] y h f (suc k) ring is = absurd (none-some ring is)
+    walk room (x ∷ l) y h f zero ring is = h zero ring is
+    walk room (x ∷ l) y h f (suc k) ring is = walk room l y (λ j. h (suc j)) f k ring is
 
 -- The port has got one end more of each kind.
 pub record Grown (old new : Port) (out in_ : Option RingId) : Type 0 where
@@ -74,12 +102,13 @@ none_at : {A : Type 0} (l more : List (Option A)) (y : Option A) (i n : ℕ) →
 none_at l more y i n e len here none = ap (λ v. get_or v i None) e ∙ none_there l y i (λ same. here (same ∙ len)) none
 
 -- At its own place it has got no end.
-member_grown : (n i : ℕ) (old new : Port) (out in_ : Option RingId) → (i ≡ n → (out ≡ None) × (in_ ≡ None)) → Grown old new out in_ → IsMember n i old →
-    IsMember (n + 1) i new
-member_grown n i old new out in_ own g m = record {
+member_grown : {room : ℕ} (n i : ℕ) (old new : Port) (out in_ : Option RingId) → (i ≡ n → (out ≡ None) × (in_ ≡ None)) → Fits room out → Grown old new out in_ → IsMember room n i old →
+    IsMember room (n + 1) i new
+member_grown n i old new out in_ own fits g m = record {
   cpu = g.cpu ∙ m.cpu;
   outlets = one_longer ring_out old.outlets.items new.outlets.items out n g.outs m.outlets;
   inlets = one_longer ring_in old.inlets.items new.inlets.items in_ n g.ins m.inlets;
+  rooms = rooms_longer _ _ _ out g.outs m.rooms fits;
   out = none_at _ _ out i n g.outs (length-map old.outlets.items ring_out ∙ m.outlets) (λ same. (own same).0) m.out;
   in_ = none_at _ _ in_ i n g.ins (length-map old.inlets.items ring_in ∙ m.inlets) (λ same. (own same).1) m.in_;
   posted = none_longer _ _ g.posts m.posted;
@@ -118,14 +147,6 @@ new_way n k i j p p' q q' ring in_ out a b c d x y = (
   some_last (map ring_in q.inlets.items) (map ring_in q'.inlets.items) (Some ring) None p'.cpu b.ins (length-map q.inlets.items ring_in ∙ y ∙ sym (a.cpu ∙ c)),
 )
 
-from_some : {A : Type 0} → A → Option A → A
-from_some a None = a
-from_some a (Some x) = x
-
-pub some_is : {A : Type 0} (a b : A) → Some a ≡ Some b → a ≡ b
-unfolding from_some
-some_is a b e = ap (from_some a) e
-
 pub set_case : {A : Type 0} (l : List A) (k i : ℕ) (y s : A) → slice_get (set l k y) i ≡ Some s → ((i ≡ k) × (y ≡ s)) ⊎ ((i ≢ k) × (slice_get l i ≡ Some s))
 set_case [] k i y s e = inr ((λ f. let lt = slice_get_within [] i s e in omega arith), e)
 set_case (x ∷ l) zero zero y s e = inl (refl, some_is y s e)
@@ -140,17 +161,17 @@ end_case (a ∷ l) y zero x e = inl e
 end_case (a ∷ l) y (suc i) x e = ⊎_elim inl (λ t. inr (ap suc t.0, t.1)) (end_case l y i x e)
 
 -- One port more has ways to the next one and back.
-pub joined_more : (n k : ℕ) (ports : List Port) (p p' q q' : Port) (r s : RingId) → AreJoined n k ports q → slice_get ports k ≡ Some p → Grown p p' (Some r) (Some s) → Grown q q' (Some s) (Some r) → AreJoined n (k + 1) (set ports k p') q'
-joined_more n k ports p p' q q' r s h at a b =
+pub joined_more : (room n k : ℕ) (ports : List Port) (p p' q q' : Port) (r s : RingId) → r.capacity ≡ room → s.capacity ≡ room → AreJoined room n k ports q → slice_get ports k ≡ Some p → Grown p p' (Some r) (Some s) → Grown q q' (Some s) (Some r) → AreJoined room n (k + 1) (set ports k p') q'
+joined_more room n k ports p p' q q' r s fits_r fits_s h at a b =
     let m = h.later k p at (omega arith) in
     let below : k < n = (let lt = slice_get_within ports k p at in let c = h.count in omega arith) in
     let la = longer p p' (Some r) (Some s) a in let lb = longer q q' (Some s) (Some r) b in
     record {
       count = length-set ports k p' ∙ h.count;
-      next = member_grown k n q q' (Some s) (Some r) (λ same. absurd (omega arith)) b h.next;
+      next = member_grown k n q q' (Some s) (Some r) (λ same. absurd (omega arith)) (some_fits _ s fits_s) b h.next;
       joined = λ i x e lt. ⊎_elim
-          (λ (t : (i ≡ k) × (p' ≡ x)). subst (λ y. IsMember (n + 1) i y × IsWay (place y) (place q') × IsWay (place q') (place y)) t.1 (
-            subst (λ j. IsMember (n + 1) j p') (sym t.0) (member_grown n k p p' (Some r) (Some s) (λ same. absurd (omega arith)) a m),
+          (λ (t : (i ≡ k) × (p' ≡ x)). subst (λ y. IsMember room (n + 1) i y × IsWay (place y) (place q') × IsWay (place q') (place y)) t.1 (
+            subst (λ j. IsMember room (n + 1) j p') (sym t.0) (member_grown n k p p' (Some r) (Some s) (λ same. absurd (omega arith)) (some_fits _ r fits_r) a m),
             new_way n k k n p p' q q' r (Some s) (Some s) a b m.cpu h.next.cpu m.outlets h.next.inlets,
             new_way n k n k q q' p p' s (Some r) (Some r) b a h.next.cpu m.cpu h.next.outlets m.inlets,
           ))
@@ -177,15 +198,15 @@ joined_more n k ports p p' q q' r s h at a b =
     }
 
 -- The next port stands behind those that it has ways to.
-pub all_joined : (n : ℕ) (ports : List Port) (q q' : Port) → AreJoined n n ports q → Grown q q' None None → AreMembers (n + 1) (ports ++ q' ∷ [])
-all_joined n ports q q' h b =
+pub all_joined : (room n : ℕ) (ports : List Port) (q q' : Port) → AreJoined room n n ports q → Grown q q' None None → AreMembers room (n + 1) (ports ++ q' ∷ [])
+all_joined room n ports q q' h b =
     let lb = longer q q' None None b in
     let first : (i : ℕ) (x : Port) → slice_get ports i ≡ Some x → i < n = (λ i x e. let lt = slice_get_within ports i x e in let c = h.count in omega arith) in
     record {
       count = (let a = h.count in let c = length-append ports (q' ∷ []) in omega arith);
       each = λ i x e. ⊎_elim
           (λ (t : slice_get ports i ≡ Some x). (h.joined i x t (first i x t)).0)
-          (λ (t : (i ≡ length ports) × (q' ≡ x)). subst (λ y. IsMember (n + 1) i y) t.1 (subst (λ j. IsMember (n + 1) j q') (sym (t.0 ∙ h.count)) (member_grown n n q q' None None (λ same. (refl, refl)) b h.next)))
+          (λ (t : (i ≡ length ports) × (q' ≡ x)). subst (λ y. IsMember room (n + 1) i y) t.1 (subst (λ j. IsMember room (n + 1) j q') (sym (t.0 ∙ h.count)) (member_grown n n q q' None None (λ same. (refl, refl)) (none_fits _) b h.next)))
           (end_case ports q' i x e);
       ways = λ i j x y e f ne. ⊎_elim
           (λ (t : slice_get ports i ≡ Some x). ⊎_elim
@@ -199,10 +220,10 @@ all_joined n ports q q' h b =
           (end_case ports q' i x e);
     }
 
-pub none_members : AreMembers 0 []
+pub none_members : {room : ℕ} → AreMembers room 0 []
 none_members = record { count = refl; each = λ i x e. absurd (let lt = slice_get_within [] i x e in omega arith); ways = λ i j x y e f ne. absurd (let lt = slice_get_within [] i x e in omega arith) }
 
-pub none_joined : (n : ℕ) (ports : List Port) (q : Port) → AreMembers n ports → IsMember 0 n q → AreJoined n 0 ports q
+pub none_joined : {room : ℕ} (n : ℕ) (ports : List Port) (q : Port) → AreMembers room n ports → IsMember room 0 n q → AreJoined room n 0 ports q
 none_joined n ports q h m = record { count = h.count; next = m; joined = λ i x e lt. absurd (omega arith); later = λ i x e le. h.each i x e; ways = h.ways }
 
 -- An element of a list to which a function was applied.
@@ -211,7 +232,7 @@ made_of f [] i b e = absurd (let lt = slice_get_within [] i b e in omega arith)
 made_of f (x ∷ l) zero b e = (x, refl, some_is (f x) b e)
 made_of f (x ∷ l) (suc i) b e = made_of f l i b e
 
-all_linked : (n : ℕ) (ports : List Port) → AreMembers n ports → AreOneFabric ports
+all_linked : {room : ℕ} (n : ℕ) (ports : List Port) → AreMembers room n ports → AreOneFabric ports
 unfolding made_of
 all_linked n ports h i j a b e f ne =
     let p = made_of place ports i a e in
@@ -229,7 +250,7 @@ read (a ∷ l) (suc i) lt = read l i (omega arith)
 way_to : (p q : Port) (to : ℕ) → q.cpu ≡ to → IsWay (place p) (place q) → HasWayTo p to
 way_to p q to e w = (w.0, ap (λ j. get_or (map ring_out p.outlets.items) j None) (sym e) ∙ w.1)
 
-pub fresh : (n : ℕ) (ports : List Port) → AreMembers n ports → AreFresh n ports
+pub fresh : {room : ℕ} (n : ℕ) (ports : List Port) → AreMembers room n ports → AreFresh room n ports
 fresh n ports h = record {
   count = h.count;
   one = all_linked n ports h;
@@ -245,6 +266,7 @@ fresh n ports h = record {
         in_ = ap (λ k. get_or (map ring_in p.inlets.items) k None) m.cpu ∙ m.in_;
         size = length-map p.inlets.items ring_in ∙ m.inlets ∙ sym m.outlets ∙ sym (length-map p.outlets.items ring_out);
       };
+  rooms = λ i p e. (h.each i p e).rooms;
   posted = λ i p e. (h.each i p e).posted;
   taken = λ i p e. (h.each i p e).taken;
   kept = λ i p e. (h.each i p e).kept;
@@ -284,14 +306,14 @@ own_place old new c o i = record {
 }
 
 -- The ends that two ports have got before there is a way between them are few enough.
-pub few_ends : (n k : ℕ) (p q : Port) → IsMember n k p → IsMember k n q → k < n → n < 16 → (vec_len p.outlets < 16) × (vec_len q.inlets < 16)
+pub few_ends : {room : ℕ} (n k : ℕ) (p q : Port) → IsMember room n k p → IsMember room k n q → k < n → n < 16 → (vec_len p.outlets < 16) × (vec_len q.inlets < 16)
 few_ends n k p q m next lt few = (
   (let a = m.outlets in let b = p.outlets.ok.0 in omega arith),
   (let a = next.inlets in let b = q.inlets.ok.0 in omega arith),
 )
 
 -- So they are before there is a way back.
-pub few_back : (n k : ℕ) (p p' q q' : Port) (out in_ : Option RingId) → IsMember n k p → IsMember k n q → k < n → n < 16 → GainsOutlet p p' out → GainsInlet q q' in_ →
+pub few_back : {room : ℕ} (n k : ℕ) (p p' q q' : Port) (out in_ : Option RingId) → IsMember room n k p → IsMember room k n q → k < n → n < 16 → GainsOutlet p p' out → GainsInlet q q' in_ →
     (vec_len q'.outlets < 16) × (vec_len p'.inlets < 16)
 few_back n k p p' q q' out in_ m next lt few a b = (
   subst (λ v. vec_len v < 16) (sym b.outlets) (let d = next.outlets in let e = q.outlets.ok.0 in omega arith),

@@ -1,12 +1,13 @@
 -- The inlets of a port, while a letter is looked for.
-use Rattle.std.proofs.Common.{◌≡◌, ℕ, ◌+◌, ◌<◌, ◌≤◌, List, [], ◌∷◌, ◌++◌, length, map, set, get_or, sym, ap, ◌∙◌, ⊎_elim, inr, arith, Option, Some, None, IfSome, IfNone}
+use Rattle.std.proofs.Common.{◌≡◌, ℕ, zero, suc, refl, ◌+◌, ◌<◌, ◌≤◌, List, [], ◌∷◌, ◌++◌, length, map, set, get_or, sym, ap, ◌∙◌, ⊎_elim, inr, arith, Option, Some, None, IfSome, IfNone}
 use Rattle.std.proofs.lemmas.Bool.Decides.{eqb_tells}
 use Rattle.std.proofs.Math.Seq.{map-set_same}
 use Rattle.l4_types.specs.declared.letters.Letter.{Letter}
 use Rattle.l4_mail.specs.declared.inlets.Inlet.{Inlet}
-use Rattle.l4_mail.specs.Ends.{ring_in, taken, kept}
+use Rattle.l4_mail.specs.Ends.{ring_in, taken, kept, here}
 use Rattle.l4_mail.specs.Ports.{only}
-use Rattle.l4_mail.specs.Takes.{NoneIsKept, NoneIsTaken, IsTaken, WasKept, IsFirst}
+use Rattle.l4_mail.specs.Takes.{NoneIsKept, NoneIsHere, NoneIsTaken, IsTaken, WasKept, IsFirst}
+use Rattle.l4_mail.proofs.Taken.{front_empty}
 use Rattle.l4_mail.proofs.Rows.{set_here, set_elsewhere, read_here, read_beyond, grown_at, shrunk_at, below_or}
 
 pub kept_there : (l : List (Option Inlet)) (i : ℕ) (d : Option Inlet) → i < length l → NoneIsKept l → kept (get_or l i d) ≡ []
@@ -43,6 +44,32 @@ none_at_all old l i le same h k = ⊎_elim (λ lt. h k lt) (λ ge. ap (λ v. get
 pub none_still : (old l : List (Option Inlet)) → map kept l ≡ map kept old → NoneIsKept old → NoneIsKept l
 none_still old l same h k = ap (λ v. get_or v k []) same ∙ h k
 
+-- What is put by is here.
+pub kept_is_here : (end : Option Inlet) → here end ≡ [] → kept end ≡ []
+kept_is_here None e = refl
+kept_is_here (Some i) e = front_empty i.kept.items _ e
+
+pub none_kept_here : (l : List (Option Inlet)) → NoneIsHere l → NoneIsKept l
+none_kept_here [] h k = refl
+none_kept_here (x ∷ l) h zero = kept_is_here x (h zero)
+none_kept_here (x ∷ l) h (suc k) = none_kept_here l (λ j. h (suc j)) k
+
+pub here_before : (l : List (Option Inlet)) (i : ℕ) (y : Option Inlet) → i < length l → here y ≡ []
+    → ((k : ℕ) → k < i → get_or (map here l) k [] ≡ []) → (k : ℕ) → k < i + 1 → get_or (map here (set l i y)) k [] ≡ []
+here_before l i y lt e h k le = ⊎_elim
+    (λ t. ap (λ j. get_or (map here (set l i y)) j []) t.1 ∙ set_here here l i y [] lt ∙ e)
+    (λ t. let n = t.1 in set_elsewhere here l i y k [] n ∙ h k (omega arith))
+    (eqb_tells k i)
+
+pub none_here_at_all : (l : List (Option Inlet)) (i : ℕ) → length l ≤ i → ((k : ℕ) → k < i → get_or (map here l) k [] ≡ []) → NoneIsHere l
+none_here_at_all l i le h k = ⊎_elim (λ lt. h k lt) (λ ge. read_beyond here l k [] (omega arith)) (below_or k i)
+
+pub none_at : (l : List (Option Inlet)) (i : ℕ) (y : Option Inlet) → i < length l → NoneIsHere (set l i y) → here y ≡ []
+none_at l i y lt h = sym (set_here here l i y [] lt) ∙ h i
+
+pub none_kept_before : (old new : List (Option Inlet)) → map kept new ≡ map kept old → NoneIsKept new → NoneIsKept old
+none_kept_before old new same h k = ap (λ v. get_or v k []) (sym same) ∙ h k
+
 -- Nothing was put by, and then a letter was taken that has come.
 come_first : (old mid new : List (Option Inlet)) (from : ℕ) (letter : Letter) → NoneIsTaken old mid × NoneIsKept old × NoneIsKept mid → IsTaken mid new from letter → NoneIsKept new
     → IsTaken old new from letter × IsFirst old new from letter
@@ -56,7 +83,7 @@ pub some_first : (old mid new : List (Option Inlet)) (o : Option (ℕ × Letter)
 some_first old mid new None a h n = h
 some_first old mid new (Some r) a h n = come_first old mid new r.0 r.1 a h n
 
-pub none_first : (old mid new : List (Option Inlet)) (o : Option (ℕ × Letter)) → NoneIsTaken old mid × NoneIsKept old × NoneIsKept mid → IfNone o (NoneIsTaken mid new) → NoneIsKept new
-    → IfNone o (NoneIsTaken old new × NoneIsKept old × NoneIsKept new)
-none_first old mid new None a h n = (record { rings = h.rings ∙ a.0.rings; taken = h.taken ∙ a.0.taken }, a.1, n)
-none_first old mid new (Some r) a h n = h
+pub none_first : (old mid new : List (Option Inlet)) (o : Option (ℕ × Letter)) → NoneIsTaken old mid × NoneIsKept old × NoneIsKept mid → IfNone o (NoneIsTaken mid new × NoneIsHere new)
+    → IfNone o (NoneIsTaken old new × NoneIsKept old × NoneIsHere new)
+none_first old mid new None a h = (record { rings = h.0.rings ∙ a.0.rings; taken = h.0.taken ∙ a.0.taken }, a.1, h.1)
+none_first old mid new (Some r) a h = h

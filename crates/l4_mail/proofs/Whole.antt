@@ -1,16 +1,18 @@
 -- A port of which nothing but one part has changed.
-use Rattle.std.proofs.Common.{◌≡◌, ℕ, ◌+◌, ◌<◌, ◌≤◌, List, [], ◌∷◌, ◌++◌, length, map, set, get_or, subst, sym, ap, ◌∙◌, ◌⊎◌, ⊎_elim, inl, inr, arith, Option, Some, None, IfSome, IfNone}
+use Rattle.std.proofs.Common.{◌≡◌, ◌↔◌, ℕ, ◌+◌, ◌<◌, ◌≤◌, List, [], ◌∷◌, ◌++◌, length, map, set, get_or, subst, sym, ap, ◌∙◌, ◌⊎◌, ⊎_elim, inl, inr, arith, Option, Some, None, IfSome, IfNone}
 use Rattle.std.specs.Vec.{with_item, with_items}
 use Rattle.std.proofs.lemmas.List.{with_items_is, length-map}
+use Rattle.std.proofs.lemmas.Bool.Decides.{eqb_tells}
 use Rattle.std.proofs.lemmas.Option.{none-some}
 use Rattle.std.proofs.Math.Seq.{map-set_same}
 use Rattle.l4_types.specs.declared.letters.Letter.{Letter}
 use Rattle.l4_mail.specs.declared.outlets.Outlet.{Outlet}
 use Rattle.l4_mail.specs.declared.inlets.Inlet.{Inlet}
 use Rattle.l4_mail.specs.declared.ports.Port.{Port}
-use Rattle.l4_mail.specs.Ends.{RingId, ring_out, posted, room, ring_in, taken, kept}
+use Rattle.l4_mail.specs.Ends.{RingId, ring_out, posted, waiting, free, room, ring_in, taken, kept, here}
 use Rattle.l4_mail.specs.Ports.{room_to, taken_from, kept_from, only, IsAsBefore, HasPosted, HasTaken}
-use Rattle.l4_mail.specs.Takes.{NoneIsKept, NoneIsTaken, IsTaken, IsFirst}
+use Rattle.l4_mail.specs.Takes.{NoneIsKept, NoneIsHere, NoneIsTaken, IsTaken, IsFirst}
+use Rattle.l4_mail.proofs.Looking.{none_kept_here}
 use Rattle.l4_mail.proofs.Rows.{below_or, AreAsBefore, HaveRoom, grown_at, set_elsewhere, set_here, read_here, read_beyond, room_within}
 
 -- Only the outlets have changed.
@@ -102,8 +104,8 @@ only_looked old new items c o i none same =
     }
 
 nothing_taken : (old new : Port) (items : List (Option Inlet)) → new.cpu ≡ old.cpu → new.outlets ≡ old.outlets → new.inlets ≡ with_items old.inlets items
-    → NoneIsTaken old.inlets.items items × NoneIsKept old.inlets.items × NoneIsKept items → IsAsBefore old new
-nothing_taken old new items c o i h = only_looked old new items c o i h.0 (λ k. h.2 k ∙ sym (h.1 k))
+    → NoneIsTaken old.inlets.items items × NoneIsKept old.inlets.items × NoneIsHere items → IsAsBefore old new
+nothing_taken old new items c o i h = only_looked old new items c o i h.0 (λ k. none_kept_here items h.2 k ∙ sym (h.1 k))
 
 pub looked_at : (old new : Port) (olds items : List (Option Inlet)) → new.cpu ≡ old.cpu → new.outlets ≡ old.outlets → new.inlets ≡ with_items old.inlets items
     → olds ≡ old.inlets.items → NoneIsTaken olds items → map kept items ≡ map kept olds → IsAsBefore old new
@@ -114,11 +116,51 @@ pub none_there : (old : Port) (olds : List (Option Inlet)) → olds ≡ old.inle
 none_there old olds e none from = ap (λ l. get_or (map kept l) from []) (sym e) ∙ none from
 
 pub none_taken : (old new : Port) (olds items : List (Option Inlet)) (o : Option (ℕ × Letter)) → new.cpu ≡ old.cpu → new.outlets ≡ old.outlets → new.inlets ≡ with_items old.inlets items
-    → olds ≡ old.inlets.items → IfNone o (NoneIsTaken olds items × NoneIsKept olds × NoneIsKept items) → IfNone o (IsAsBefore old new)
-none_taken old new olds items None c o i e h = nothing_taken old new items c o i (subst (λ l. NoneIsTaken l items × NoneIsKept l × NoneIsKept items) e h)
+    → olds ≡ old.inlets.items → IfNone o (NoneIsTaken olds items × NoneIsKept olds × NoneIsHere items) → IfNone o (IsAsBefore old new)
+none_taken old new olds items None c o i e h = nothing_taken old new items c o i (subst (λ l. NoneIsTaken l items × NoneIsKept l × NoneIsHere items) e h)
 none_taken old new olds items (Some r) c o i e h = h
 
-pub none_kept : (old : Port) (olds items : List (Option Inlet)) (o : Option (ℕ × Letter)) → olds ≡ old.inlets.items → IfNone o (NoneIsTaken olds items × NoneIsKept olds × NoneIsKept items)
+pub none_kept : (old : Port) (olds items : List (Option Inlet)) (o : Option (ℕ × Letter)) → olds ≡ old.inlets.items → IfNone o (NoneIsTaken olds items × NoneIsKept olds × NoneIsHere items)
     → IfNone o ((from : ℕ) → kept_from old from ≡ [])
 none_kept old olds items None e h = λ from. ap (λ l. get_or (map kept l) from []) (sym e) ∙ h.1 from
 none_kept old olds items (Some r) e h = h
+
+-- What is here at the inlets of a port that are written back.
+here_there : (old : Port) (items : List (Option Inlet)) → map ring_in items ≡ map ring_in old.inlets.items
+    → (from : ℕ) → get_or (map here (with_items old.inlets items).items) from [] ≡ get_or (map here items) from []
+here_there old items r from =
+    ap (λ l. get_or (map here l) from []) (with_items_is old.inlets items (same_length ring_in items old.inlets.items r ∙ sym old.inlets.ok.0))
+
+pub none_here_now : (old : Port) (olds items : List (Option Inlet)) (o : Option (ℕ × Letter)) → olds ≡ old.inlets.items
+    → IfNone o (NoneIsTaken olds items × NoneIsKept olds × NoneIsHere items)
+    → IfNone o ((from : ℕ) → get_or (map here (with_items old.inlets items).items) from [] ≡ [])
+none_here_now old olds items None e h = λ from. here_there old items (h.0.rings ∙ ap (map ring_in) e) from ∙ h.2 from
+none_here_now old olds items (Some r) e h = h
+
+pub mail_is_here : (old : Port) (olds items : List (Option Inlet)) (P : Type 0) → olds ≡ old.inlets.items → NoneIsTaken olds items
+    → P ↔ NoneIsHere items → P ↔ ((from : ℕ) → get_or (map here (with_items old.inlets items).items) from [] ≡ [])
+mail_is_here old olds items P e none told =
+    let same = here_there old items (none.rings ∙ ap (map ring_in) e) in
+    (λ p from. same from ∙ told.0 p from, λ h. told.1 (λ from. sym (same from) ∙ h from))
+
+-- Of the outlets, the waiting letters have found no place in the ring.
+abbrev pub HaveMoved : List (Option Outlet) → (below : ℕ) → Type 0
+HaveMoved l below = (k : ℕ) → k < below → (get_or (map waiting l) k [] ≡ []) ⊎ (get_or (map free l) k 0 ≡ 0)
+
+pub moved_before : (l : List (Option Outlet)) (i : ℕ) (y : Option Outlet) → i < length l → (waiting y ≡ []) ⊎ (free y ≡ 0) → HaveMoved l i
+    → HaveMoved (set l i y) (i + 1)
+moved_before l i y lt moved h k le = ⊎_elim
+    (λ t. both_ways moved
+    (λ none. ap (λ j. get_or (map waiting (set l i y)) j []) t.1 ∙ set_here waiting l i y [] lt ∙ none)
+    (λ full. ap (λ j. get_or (map free (set l i y)) j 0) t.1 ∙ set_here free l i y 0 lt ∙ full))
+    (λ t. let n = t.1 in both_ways (h k (omega arith))
+    (λ none. set_elsewhere waiting l i y k [] n ∙ none)
+    (λ full. set_elsewhere free l i y k 0 n ∙ full))
+    (eqb_tells k i)
+
+pub all_moved : (old : Port) (items : List (Option Outlet)) (i : ℕ) → AreAsBefore old.outlets.items items → HaveMoved items i → length items ≤ i
+    → (to : ℕ) → (get_or (map waiting (with_items old.outlets items).items) to [] ≡ []) ⊎ (get_or (map free (with_items old.outlets items).items) to 0 ≡ 0)
+all_moved old items i h moved le =
+    subst (λ l. (to : ℕ) → (get_or (map waiting l) to [] ≡ []) ⊎ (get_or (map free l) to 0 ≡ 0))
+    (sym (with_items_is old.outlets items (h.len ∙ sym old.outlets.ok.0)))
+    (λ to. ⊎_elim (λ lt. moved to (omega arith)) (λ ge. inl (read_beyond waiting items to [] ge)) (below_or to (length items)))

@@ -8,14 +8,20 @@ use Rattle.l4_mail.specs.Ports.{place, posted_to, taken_from, kept_from, fabric_
 abbrev pub most_room : ℕ
 most_room = 65536
 
--- The ports of all processors of a new fabric, in the order of their numbers, of which none has carried a letter.
-pub record AreFresh (n : ℕ) (ports : List Port) : Type 0 where
+-- Each ring of a row has room for so many letters.
+abbrev pub HaveRooms : (room : ℕ) → List (Option RingId) → Type 0
+HaveRooms room rings = (k : ℕ) (ring : RingId) → slice_index_or rings k None ≡ Some ring → ring.capacity ≡ room
+
+-- The ports of all processors of a new fabric, in the order of their numbers, of which none has carried a letter. Each of its rings has
+-- room for so many.
+pub record AreFresh (room n : ℕ) (ports : List Port) : Type 0 where
   pub count : length ports ≡ n
   pub one : AreOneFabric ports
   pub cpu : (i : ℕ) (p : Port) → slice_get ports i ≡ Some p → p.cpu ≡ i
   pub size : (i : ℕ) (p : Port) → slice_get ports i ≡ Some p → fabric_size p ≡ n
   pub ways : (i : ℕ) (p : Port) → slice_get ports i ≡ Some p → (to : ℕ) → to < n → to ≢ i → HasWayTo p to
   pub apart : (i : ℕ) (p : Port) → slice_get ports i ≡ Some p → IsApart (place p)
+  pub rooms : (i : ℕ) (p : Port) → slice_get ports i ≡ Some p → HaveRooms room (place p).outs
   pub posted : (i : ℕ) (p : Port) → slice_get ports i ≡ Some p → (to : ℕ) → posted_to p to ≡ []
   pub taken : (i : ℕ) (p : Port) → slice_get ports i ≡ Some p → (from : ℕ) → taken_from p from ≡ []
   pub kept : (i : ℕ) (p : Port) → slice_get ports i ≡ Some p → (from : ℕ) → kept_from p from ≡ []
@@ -36,10 +42,11 @@ pub record GainsInlet (old new : Port) (ring : Option RingId) : Type 0 where
   pub outlets : new.outlets ≡ old.outlets
 
 -- The port of processor `i` that has so many ends of each kind, and has carried no letter.
-pub record IsMember (n i : ℕ) (p : Port) : Type 0 where
+pub record IsMember (room n i : ℕ) (p : Port) : Type 0 where
   pub cpu : p.cpu ≡ i
   pub outlets : length p.outlets.items ≡ n
   pub inlets : length p.inlets.items ≡ n
+  pub rooms : HaveRooms room (map ring_out p.outlets.items)
   pub out : slice_index_or (map ring_out p.outlets.items) i None ≡ None
   pub in_ : slice_index_or (map ring_in p.inlets.items) i None ≡ None
   pub posted : (to : ℕ) → posted_to p to ≡ []
@@ -50,15 +57,15 @@ abbrev pub AreWays : List Port → Type 0
 AreWays ports = (i j : ℕ) (p q : Port) → slice_get ports i ≡ Some p → slice_get ports j ≡ Some q → i ≢ j → IsWay (place p) (place q)
 
 -- The ports of the first processors.
-pub record AreMembers (n : ℕ) (ports : List Port) : Type 0 where
+pub record AreMembers (room n : ℕ) (ports : List Port) : Type 0 where
   pub count : length ports ≡ n
-  pub each : (i : ℕ) (p : Port) → slice_get ports i ≡ Some p → IsMember n i p
+  pub each : (i : ℕ) (p : Port) → slice_get ports i ≡ Some p → IsMember room n i p
   pub ways : AreWays ports
 
 -- The same, while the next port gets its ways to them and back.
-pub record AreJoined (n k : ℕ) (ports : List Port) (q : Port) : Type 0 where
+pub record AreJoined (room n k : ℕ) (ports : List Port) (q : Port) : Type 0 where
   pub count : length ports ≡ n
-  pub next : IsMember k n q
-  pub joined : (i : ℕ) (p : Port) → slice_get ports i ≡ Some p → i < k → IsMember (n + 1) i p × IsWay (place p) (place q) × IsWay (place q) (place p)
-  pub later : (i : ℕ) (p : Port) → slice_get ports i ≡ Some p → k ≤ i → IsMember n i p
+  pub next : IsMember room k n q
+  pub joined : (i : ℕ) (p : Port) → slice_get ports i ≡ Some p → i < k → IsMember room (n + 1) i p × IsWay (place p) (place q) × IsWay (place q) (place p)
+  pub later : (i : ℕ) (p : Port) → slice_get ports i ≡ Some p → k ≤ i → IsMember room n i p
   pub ways : AreWays ports

@@ -2,7 +2,7 @@
 use Rattle.std.specs.Prelude.{◌≡◌, ◌≢◌, ◌⊎◌, ℕ, ◌+◌, ◌≤◌, List, [], ◌∷◌, ◌++◌, length, map, nat_eq, slice_get, slice_index_or, Option, Some, None, if◌then◌else◌}
 use Rattle.l4_types.specs.declared.letters.Letter.{Letter}
 use Rattle.l4_mail.specs.declared.ports.Port.{Port}
-use Rattle.l4_mail.specs.Ends.{RingId, ring_out, posted, room, ring_in, taken, kept}
+use Rattle.l4_mail.specs.Ends.{RingId, ring_out, posted, waiting, free, room, ring_in, taken, kept, here}
 
 -- Every letter that was given to `post` for a processor, in order.
 abbrev pub posted_to : Port → (to : ℕ) → List Letter
@@ -15,6 +15,18 @@ taken_from p from = slice_index_or (map taken p.inlets.items) from []
 -- The letters of a processor that a rest put by here, and that `take` has not given since.
 abbrev pub kept_from : Port → (from : ℕ) → List Letter
 kept_from p from = slice_index_or (map kept p.inlets.items) from []
+
+-- The letters of a processor that are here as far as the port has looked: those kept, then those seen in the ring.
+abbrev pub here_from : Port → (from : ℕ) → List Letter
+here_from p from = slice_index_or (map here p.inlets.items) from []
+
+-- The letters to a processor that wait for a place in the ring.
+abbrev pub waiting_to : Port → (to : ℕ) → List Letter
+waiting_to p to = slice_index_or (map waiting p.outlets.items) to []
+
+-- How many places of the ring to a processor were free when the port last looked, less those filled since.
+abbrev pub free_to : Port → (to : ℕ) → ℕ
+free_to p to = slice_index_or (map free p.outlets.items) to 0
 
 -- For how many letters more to a processor room is reserved.
 abbrev pub room_to : Port → (to : ℕ) → ℕ

@@ -2,12 +2,16 @@
 use Rattle.std.specs.Prelude.{◌≡◌, ◌⊎◌, ℕ, List, [], ◌++◌, map, slice_index_or, Option}
 use Rattle.l4_types.specs.declared.letters.Letter.{Letter}
 use Rattle.l4_mail.specs.declared.inlets.Inlet.{Inlet}
-use Rattle.l4_mail.specs.Ends.{ring_in, taken, kept}
+use Rattle.l4_mail.specs.Ends.{ring_in, taken, kept, here}
 use Rattle.l4_mail.specs.Ports.{only}
 
 -- No letter is put by here.
 abbrev pub NoneIsKept : List (Option Inlet) → Type 0
 NoneIsKept inlets = (k : ℕ) → slice_index_or (map kept inlets) k [] ≡ []
+
+-- No letter is here, as far as each inlet has looked.
+abbrev pub NoneIsHere : List (Option Inlet) → Type 0
+NoneIsHere inlets = (k : ℕ) → slice_index_or (map here inlets) k [] ≡ []
 
 -- Nothing was taken.
 pub record NoneIsTaken (old new : List (Option Inlet)) : Type 0 where

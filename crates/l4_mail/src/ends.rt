@@ -1,6 +1,6 @@
 //! The ends of ways by the other processor. A port has none for its own.
 ghost use Rattle.std.specs.Prelude.{◌≡◌, ◌↔◌, ◌≤◌, ◌<◌, ◌+◌, [], ◌∷◌, ◌++◌, false, OnOk, IfSome, IfNone, IsTrue, Option, None, ◌⊎◌};
-ghost use Rattle.l4_mail.specs.Ends.{ring_out, posted, room, ring_in, taken, kept, keeps};
+ghost use Rattle.l4_mail.specs.Ends.{ring_out, posted, waiting, free, room, ring_in, taken, kept, here, keeps};
 
 use crate::inlets::Inlet;
 use crate::outlets::Outlet;
@@ -42,6 +42,7 @@ pub fn flush(end: &mut Option<Outlet>)
     ensures ring { ring_out end.new ≡ ring_out end.old }
     ensures posted { posted end.new ≡ posted end.old }
     ensures room { room end.old ≤ room end.new }
+    ensures moved { (waiting end.new ≡ []) ⊎ (free end.new ≡ 0) }
 {
     if let Some(outlet) = end {
         outlet.flush();
@@ -61,7 +62,7 @@ pub fn has_mail(end: &mut Option<Inlet>) -> bool
     ensures ring { ring_in end.new ≡ ring_in end.old }
     ensures taken { taken end.new ≡ taken end.old }
     ensures kept { kept end.new ≡ kept end.old }
-    ensures none { result ≡ false → kept end.old ≡ [] }
+    ensures here { (result ≡ false) ↔ (here end.new ≡ []) }
 {
     match end {
         Some(inlet) => inlet.has_mail(),
@@ -86,6 +87,7 @@ pub fn take_come(end: &mut Option<Inlet>) -> Option<Letter>
     ensures some { IfSome result (λ x. taken end.new ≡ taken end.old ++ x ∷ []) }
     ensures none { IfNone result (taken end.new ≡ taken end.old) }
     ensures kept { kept end.new ≡ [] }
+    ensures here { IfNone result (here end.new ≡ []) }
 {
     match end {
         Some(inlet) => inlet.take_come(),

@@ -14,7 +14,7 @@ use std::alloc::{AllocError, Global};
 pub fn fabric(alloc: Global, cpus: u8, room: usize) -> Result<Vec<Port>, NoMemory>
     requires cpus { (0 < cpus) × (cpus ≤ most_processors) }
     requires room { (0 < room) × (room ≤ most_room) }
-    ensures { IfOk result (λ ports. AreFresh cpus ports.items) }
+    ensures { IfOk result (λ ports. AreFresh room cpus ports.items) }
 {
     let mut ports = Vec::new(alloc);
     for cpu in 0..cpus {
@@ -28,8 +28,8 @@ pub fn fabric(alloc: Global, cpus: u8, room: usize) -> Result<Vec<Port>, NoMemor
 fn join(alloc: Global, ports: &mut [Port], cpu: u8, room: usize) -> Result<Port, AllocError>
     requires few { cpu < most_processors }
     requires room { 0 < room }
-    requires members { AreMembers cpu ports.old }
-    ensures { IfOk result (λ next. AreMembers (cpu + 1) (ports.new ++ next ∷ [])) }
+    requires members { AreMembers room cpu ports.old }
+    ensures { IfOk result (λ next. AreMembers room (cpu + 1) (ports.new ++ next ∷ [])) }
 {
     let mut next = Port {
         cpu,
@@ -49,7 +49,7 @@ fn join(alloc: Global, ports: &mut [Port], cpu: u8, room: usize) -> Result<Port,
 fn lay(alloc: Global, room: usize, from: &mut Port, to: &mut Port) -> Result<(), AllocError>
     requires room { 0 < room }
     requires few { (vec_len from.old.outlets < most_processors) × (vec_len to.old.inlets < most_processors) }
-    ensures { OnOk result ((ring : RingId) × GainsOutlet from.old from.new (Some ring) × GainsInlet to.old to.new (Some ring)) }
+    ensures { OnOk result ((ring : RingId) × (ring.capacity ≡ room) × GainsOutlet from.old from.new (Some ring) × GainsInlet to.old to.new (Some ring)) }
 {
     let (outlet, inlet) = ways::open(alloc, room)?;
     from.outlets.push(Some(outlet))?;

@@ -16,9 +16,9 @@ pub struct Inlet {
 }
 
 impl Inlet {
-    ghost use Rattle.std.specs.Prelude.{◌≡◌, [], ◌∷◌, ◌++◌, false, not, IfSome, IfNone};
+    ghost use Rattle.std.specs.Prelude.{◌≡◌, ◌↔◌, [], ◌∷◌, ◌++◌, false, not, IfSome, IfNone};
     ghost use Rattle.l4_core_model.specs.Runs.{is_empty};
-    ghost use Rattle.l4_mail.specs.Ends.{inlet_ring, inlet_taken, inlet_kept};
+    ghost use Rattle.l4_mail.specs.Ends.{inlet_ring, inlet_taken, inlet_kept, inlet_here};
 
     /// Whether a letter is here that a rest put by.
     pub fn keeps_mail(&self) -> bool
@@ -32,7 +32,7 @@ impl Inlet {
         ensures ring { inlet_ring self.new ≡ inlet_ring self.old }
         ensures taken { inlet_taken self.new ≡ inlet_taken self.old }
         ensures kept { inlet_kept self.new ≡ inlet_kept self.old }
-        ensures none { result ≡ false → inlet_kept self.old ≡ [] }
+        ensures here { (result ≡ false) ↔ (inlet_here self.new ≡ []) }
     {
         !self.kept.is_empty() || !self.ring.is_empty()
     }
@@ -53,6 +53,7 @@ impl Inlet {
         ensures some { IfSome result (λ x. inlet_taken self.new ≡ inlet_taken self.old ++ x ∷ []) }
         ensures none { IfNone result (inlet_taken self.new ≡ inlet_taken self.old) }
         ensures kept { inlet_kept self.new ≡ [] }
+        ensures here { IfNone result (inlet_here self.new ≡ []) }
     {
         self.ring.pop().ok()
     }

@@ -1,4 +1,23 @@
-//! The mail between processors: for each processor a port, by which it posts letters to the others and takes theirs.
+//! The mail between processors: each has a port, by which it posts letters to the others and takes
+//! theirs.
+//!
+//! Two ports are joined by two rings, one each way; to push and to pop is all that they do to each
+//! other, and neither waits. Contracts see what a port has posted to each processor and taken from
+//! each: what was taken is the beginning of what was posted, so nothing is lost, comes twice or
+//! overtakes. After `rest`, with all ports in one hand, posted is taken and then what is kept. No
+//! clause names a ring.
+//!
+//! Only `fabric`, `reserve` and `rest` take memory. That `flush` moves letters on, and that `take`
+//! sees a letter that has come, is tested (`l4_part_tests`, and by threads in `l4_host_tests`), in
+//! no clause.
+//!
+//! ```rust
+//! let mut ports = fabric(alloc, 2, 64)?;   // two processors, rings of 64 letters
+//! ports[0].reserve()?;
+//! ports[0].post(1, letter);
+//! ports[0].flush();
+//! assert!(rt; ports[1].take().is_some());
+//! ```
 #![tactic(auto)]
 
 mod ends;

@@ -16,8 +16,8 @@ pub struct Outlet {
 }
 
 impl Outlet {
-    ghost use Rattle.std.specs.Prelude.{◌≡◌, ◌↔◌, ◌≤◌, ◌<◌, ◌+◌, [], ◌∷◌, ◌++◌, OnOk, IsTrue};
-    ghost use Rattle.l4_mail.specs.Ends.{outlet_ring, outlet_posted, outlet_room};
+    ghost use Rattle.std.specs.Prelude.{◌≡◌, ◌↔◌, ◌⊎◌, ◌≤◌, ◌<◌, ◌+◌, [], ◌∷◌, ◌++◌, OnOk, IsTrue};
+    ghost use Rattle.l4_mail.specs.Ends.{outlet_ring, outlet_posted, outlet_waiting, outlet_free, outlet_room};
 
     /// Makes room for so many letters.
     pub fn reserve(&mut self, letters: usize) -> Result<(), AllocError>
@@ -48,11 +48,12 @@ impl Outlet {
         };
     }
 
-    /// Moves letters on, in their order, while the ring has room.
+    /// Moves letters on, in their order, while the ring has room. Those that wait still have found none.
     pub fn flush(&mut self)
         ensures ring { outlet_ring self.new ≡ outlet_ring self.old }
         ensures posted { outlet_posted self.new ≡ outlet_posted self.old }
         ensures room { outlet_room self.old ≤ outlet_room self.new }
+        ensures moved { (outlet_waiting self.new ≡ []) ⊎ (outlet_free self.new ≡ 0) }
     {
         if self.outbox.is_empty() {
             return;

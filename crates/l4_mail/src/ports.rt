@@ -20,8 +20,8 @@ pub struct Port {
 }
 
 impl Port {
-    ghost use Rattle.std.specs.Prelude.{ℕ, ◌≡◌, ◌↔◌, ◌≤◌, ◌<◌, [], false, OnOk, IfSome, IfNone, IsTrue};
-    ghost use Rattle.l4_mail.specs.Ports.{posted_to, taken_from, kept_from, room_to, fabric_size, place, carried, account, HasWayTo, IsWay, IsWhole, IsAsBefore, HasPosted, HasTaken};
+    ghost use Rattle.std.specs.Prelude.{ℕ, ◌≡◌, ◌↔◌, ◌⊎◌, ◌≤◌, ◌<◌, [], false, OnOk, IfSome, IfNone, IsTrue};
+    ghost use Rattle.l4_mail.specs.Ports.{posted_to, taken_from, kept_from, here_from, waiting_to, free_to, room_to, fabric_size, place, carried, account, HasWayTo, IsWay, IsWhole, IsAsBefore, HasPosted, HasTaken};
 
     /// The number of the processor.
     pub fn cpu(&self) -> u8
@@ -66,9 +66,11 @@ impl Port {
         ends::post(&mut self.outlets[usize::from(to)], letter);
     }
 
-    /// Moves the letters of each outbox on, in their order, while its ring has room.
+    /// Moves the letters of each outbox on, in their order, while its ring has room. Where some wait still, no place of their ring was free
+    /// that they could have gone into.
     pub fn flush(&mut self)
         ensures same { IsAsBefore self.old self.new }
+        ensures moved { (to : ℕ) → (waiting_to self.new to ≡ []) ⊎ (free_to self.new to ≡ 0) }
     {
         for end in self.outlets.iter_mut() {
             ends::flush(end);
@@ -86,6 +88,7 @@ impl Port {
     pub fn has_mail(&mut self) -> bool
         ensures same { IsAsBefore self.old self.new }
         ensures none { result ≡ false → (from : ℕ) → kept_from self.old from ≡ [] }
+        ensures here { (result ≡ false) ↔ ((from : ℕ) → here_from self.new from ≡ []) }
     {
         takes::has_mail(&mut self.inlets)
     }
@@ -96,6 +99,7 @@ impl Port {
         ensures some { IfSome result (λ r. HasTaken self.old self.new r.0 r.1) }
         ensures none { IfNone result (IsAsBefore self.old self.new) }
         ensures kept { IfNone result ((from : ℕ) → kept_from self.old from ≡ []) }
+        ensures here { IfNone result ((from : ℕ) → here_from self.new from ≡ []) }
     {
         takes::first(&mut self.inlets)
     }

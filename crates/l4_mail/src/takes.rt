@@ -1,9 +1,9 @@
 //! Taking a letter at the first of a port's inlets that has one.
-ghost use Rattle.std.specs.Prelude.{◌≡◌, ◌≤◌, false, length, map, IfSome, IfNone};
+ghost use Rattle.std.specs.Prelude.{◌≡◌, ◌↔◌, ◌≤◌, false, length, map, IfSome, IfNone};
 ghost use Rattle.std.specs.List.{list_any};
 ghost use Rattle.l4_model.specs.Machine.{most_processors};
 ghost use Rattle.l4_mail.specs.Ends.{kept, keeps};
-ghost use Rattle.l4_mail.specs.Takes.{NoneIsKept, NoneIsTaken, IsTaken, WasKept, IsFirst};
+ghost use Rattle.l4_mail.specs.Takes.{NoneIsKept, NoneIsHere, NoneIsTaken, IsTaken, WasKept, IsFirst};
 
 use crate::ends;
 use crate::ends::{take_come, take_kept};
@@ -21,7 +21,7 @@ pub fn keeps_mail(inlets: &[Option<Inlet>]) -> bool
 pub fn has_mail(inlets: &mut [Option<Inlet>]) -> bool
     ensures taken { NoneIsTaken inlets.old inlets.new }
     ensures kept { map kept inlets.new ≡ map kept inlets.old }
-    ensures none { result ≡ false → NoneIsKept inlets.old }
+    ensures here { (result ≡ false) ↔ NoneIsHere inlets.new }
 {
     for from in 0..inlets.len() {
         if ends::has_mail(&mut inlets[from]) {
@@ -50,7 +50,7 @@ fn first_come(inlets: &mut [Option<Inlet>]) -> Option<(u8, Letter)>
     requires few { length inlets.old ≤ most_processors }
     requires none_kept { NoneIsKept inlets.old }
     ensures some { IfSome result (λ r. IsTaken inlets.old inlets.new r.0 r.1) }
-    ensures none { IfNone result (NoneIsTaken inlets.old inlets.new) }
+    ensures none { IfNone result (NoneIsTaken inlets.old inlets.new × NoneIsHere inlets.new) }
     ensures kept { NoneIsKept inlets.new }
 {
     for from in 0..inlets.len() {
@@ -65,7 +65,7 @@ fn first_come(inlets: &mut [Option<Inlet>]) -> Option<(u8, Letter)>
 pub fn first(inlets: &mut [Option<Inlet>]) -> Option<(u8, Letter)>
     requires { length inlets.old ≤ most_processors }
     ensures some { IfSome result (λ r. IsTaken inlets.old inlets.new r.0 r.1 × IsFirst inlets.old inlets.new r.0 r.1) }
-    ensures none { IfNone result (NoneIsTaken inlets.old inlets.new × NoneIsKept inlets.old × NoneIsKept inlets.new) }
+    ensures none { IfNone result (NoneIsTaken inlets.old inlets.new × NoneIsKept inlets.old × NoneIsHere inlets.new) }
 {
     if let Some(found) = first_kept(inlets) {
         return Some(found);

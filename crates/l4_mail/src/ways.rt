@@ -15,6 +15,7 @@ use std::collections::VecDeque;
 pub fn open(alloc: Global, room: usize) -> Result<(Outlet, Inlet), AllocError>
     requires { 0 < room }
     ensures ring { IfOk result (λ way. outlet_ring way.0 ≡ inlet_ring way.1) }
+    ensures room { IfOk result (λ way. (outlet_ring way.0).capacity ≡ room) }
     ensures posted { IfOk result (λ way. outlet_posted way.0 ≡ []) }
     ensures taken { IfOk result (λ way. (inlet_taken way.1 ≡ []) × (inlet_kept way.1 ≡ [])) }
 {

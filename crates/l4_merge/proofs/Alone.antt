@@ -22,7 +22,7 @@ use Rattle.l4_merge.proofs.Destinations.{no_letter_stays}
 use Rattle.l4_merge.proofs.OneDeed.{given, IsGiven, locals_then, mail_then}
 use Rattle.l4_merge.proofs.Processors.{each_processor}
 use Rattle.l4_merge.proofs.RunDeeds.{deed_of}
-use Rattle.l4_merge.proofs.InRounds.{if_then}
+use Rattle.l4_merge.proofs.InRounds.{if_then, turns_then}
 
 -- There is one processor, and no letter for it is under way.
 pub record IsAlone (r : Run) : Type 0 where
@@ -210,21 +210,21 @@ ticks_lead m most last r one alone idle goes = by (least_deadline r.system 0) re
 
 -- Rounds
 
-round_leads : (m : Machine) (most : ℕ) (last : Run) (round : Round) (r after : Run) → m.cpus ≡ 1 → after_round m r round ≡ Some after → IsAlone r →
-    (IsAlone after → Leads m most last after) → Leads m most last r
-round_leads m most last (Turning es) r after one is alone goes =
-    if_then (list_all is_no_tick es) (core_run m r es) after is λ turns is.
-    turns_lead m most last es r after one turns is alone goes
-round_leads m most last Ticking r after one is alone goes =
+round_leads : (m : Machine) (turns most : ℕ) (last : Run) (round : Round) (r after : Run) → m.cpus ≡ 1 → after_round m turns r round ≡ Some after →
+    IsAlone r → (IsAlone after → Leads m most last after) → Leads m most last r
+round_leads m turns most last (Turning es) r after one is alone goes =
+    turns_then m turns r after es is λ no_ticks is.
+    turns_lead m most last es r after one no_ticks is alone goes
+round_leads m turns most last Ticking r after one is alone goes =
     if_then (is_idle m r.system) (Some (ticks m r)) after is λ idle is.
     ticks_lead m most last r one alone idle (subst (λ q. IsAlone q → Leads m most last q) (sym (some_is (ticks m r) after is)) goes)
 
-rounds_lead : (m : Machine) (most : ℕ) (last : Run) (all : List Round) (r : Run) → m.cpus ≡ 1 → after_rounds m r all ≡ Some last → IsAlone r →
+rounds_lead : (m : Machine) (turns most : ℕ) (last : Run) (all : List Round) (r : Run) → m.cpus ≡ 1 → after_rounds m turns r all ≡ Some last → IsAlone r →
     (IsAlone last → Leads m most last last) → Leads m most last r
-rounds_lead m most last [] r one is alone goes = subst (λ q. IsAlone q → Leads m most last q) (sym (some_is r last is)) goes alone
-rounds_lead m most last (round ∷ all) r one is alone goes =
-    bind_then (after_round m r round) _ last is λ next may is.
-    round_leads m most last round r next one may alone (λ alone. rounds_lead m most last all next one is alone goes)
+rounds_lead m turns most last [] r one is alone goes = subst (λ q. IsAlone q → Leads m most last q) (sym (some_is r last is)) goes alone
+rounds_lead m turns most last (round ∷ all) r one is alone goes =
+    bind_then (after_round m turns r round) _ last is λ next may is.
+    round_leads m turns most last round r next one may alone (λ alone. rounds_lead m turns most last all next one is alone goes)
 
 -- The end: no turn is left, or nothing is to be done
 
@@ -260,10 +260,10 @@ ended m most r one few how alone = ⊎_elim used rest how
     rest h = record { left = most - turns_of r; count = omega arith; is = stays (rested_next m r one alone h) (most - turns_of r) }
 
 -- So it is the run by rounds of one turn each.
-pub alone : (m : Machine) (most : ℕ) (r : Run) → m.cpus ≡ 1 → IsInRounds m r → length r.events ≤ most →
+pub alone : (m : Machine) (turns most : ℕ) (r : Run) → m.cpus ≡ 1 → IsInRounds m turns r → length r.events ≤ most →
     (most ≤ length r.events) ⊎ (at_rest m r.system ≡ true) → r ≡ run m most
-alone m most r one is few how =
-    let lead = rounds_lead m most r is.0 (opening_run m) one is.1 (opening_alone m one) (ended m most r one few how) in
+alone m turns most r one is few how =
+    let lead = rounds_lead m turns most r is.0 (opening_run m) one is.1 (opening_alone m one) (ended m most r one few how) in
     let count : lead.left + 0 ≡ most = lead.count in
     let all : most ≡ lead.left = omega arith in
     sym (ap (λ left. rounds m most left (opening_run m)) all ∙ lead.is)

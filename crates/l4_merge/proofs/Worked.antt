@@ -91,6 +91,22 @@ turned_trans m cpu old middle new first then = record {
   turns = all_of_both first.worked.deeds then.worked.deeds first.turns then.turns;
 }
 
+-- Which deeds these are.
+
+pub deeds_of_none : (m : Machine) (cpu : ℕ) (past : Past) → (turned_none m cpu past).worked.deeds ≡ []
+unfolding turned_none worked_none
+deeds_of_none m cpu past = refl
+
+pub deeds_of_one : (m : Machine) (cpu : ℕ) (old new : Past) (d : Deed) (turn : is_turn d.event ≡ true) (next : IsNext m cpu old new d) →
+    (turned_one m cpu old new d turn next).worked.deeds ≡ d ∷ []
+unfolding turned_one worked_one
+deeds_of_one m cpu old new d turn next = refl
+
+pub deeds_of_both : (m : Machine) (cpu : ℕ) (old middle new : Past) (first : HasTurned m cpu old middle) (then : HasTurned m cpu middle new) →
+    (turned_trans m cpu old middle new first then).worked.deeds ≡ first.worked.deeds ++ then.worked.deeds
+unfolding turned_trans worked_trans
+deeds_of_both m cpu old middle new first then = refl
+
 -- Of the letters of a pair, those posted are those taken and those under way, and those taken are those handled and those in hand.
 pub handled_begin : (posted taken handled in_hand under_way : List Letter) → posted ≡ taken ++ under_way → taken ≡ handled ++ in_hand →
     Begins handled posted

@@ -1,5 +1,5 @@
 -- What the processors of a machine have done, as each of them knows it.
-use Rattle.std.specs.Prelude.{ℕ, ◌≡◌, true, length, drop, Option, Some, None, List, [], ◌∷◌, ◌++◌, map, slice_get}
+use Rattle.std.specs.Prelude.{ℕ, ◌≡◌, ◌≤◌, ◌+◌, true, length, drop, Option, Some, None, List, [], ◌∷◌, ◌++◌, map, slice_get}
 use Rattle.std.specs.List.{flat_map, AllByRecursion}
 use Rattle.l4_model.specs.Machine.{Machine}
 use Rattle.l4_core_model.specs.Letters.{Letter}
@@ -57,6 +57,11 @@ letters_handled pasts from to = handled_in from (slice_get pasts to)
 pub record Begins {A : Type 0} (first whole : List A) : Type 0 where
   pub rest : List A
   pub is : whole ≡ first ++ rest
+
+-- Each processor has at most so many events more.
+abbrev pub AddAtMost : (most : ℕ) → (olds news : List Past) → Type 0
+AddAtMost most olds news = (cpu : ℕ) (old new : Past) → slice_get olds cpu ≡ Some old → slice_get news cpu ≡ Some new →
+    length new.events ≤ length old.events + most
 
 -- All processors have gone on, each by itself. The letters of each pair are handled in the order in which they are posted.
 pub record HaveWorked (m : Machine) (olds news : List Past) : Type 0 where

@@ -1,21 +1,34 @@
-//! The events of all processors in order of their stamps are those of a core run.
+//! The law of the merge: logs that processors keep apart make one core run, in the order of their
+//! stamps.
+//!
+//! Each processor knows its own events alone, and handles the letters of another one in the order
+//! in which they were posted. Sorted by stamp and processor, the events of all logs are then those
+//! of a core run. It ends in the same local states, and is at rest exactly where each processor is
+//! and no letter is under way.
+//!
+//! All of it is definitions and proofs; the functions have an empty body. `law_alone` adds that one
+//! processor has one run in rounds.
+//!
+//! ```rust
+//! law_merge(); // from here on: the sorted events of these logs are those of a core run
+//! ```
 #![tactic(auto)]
 
-ghost use Rattle.std.specs.Prelude.{ℕ, ◌≡◌, ◌≤◌, ◌↔◌, ◌⊎◌, ◌++◌, true, Some, length, slice_get, List};
+ghost use Rattle.std.specs.Prelude.{ℕ, ◌≡◌, ◌≤◌, ◌+◌, ◌↔◌, ◌⊎◌, ◌++◌, true, Some, length, slice_get, List};
 ghost use Rattle.std.specs.List.Sorted.{IsPermutation};
 ghost use Rattle.l4_model.specs.Machine.{Machine};
 ghost use Rattle.l4_model.specs.World.{changed};
 ghost use Rattle.l4_core_model.specs.Runs.{Event, Run, Ticks, opening_run, at_rest, merged};
 ghost use Rattle.l4_core_model.specs.Schedules.{attempts, run};
 ghost use Rattle.l4_core_model.specs.Laws.{IsCoreRun};
-ghost use Rattle.l4_merge.specs.Pasts.{Past, AreWholePasts, HasTicked, HasTurned, HaveWorked, HaveTurned, opening_pasts, all_events, added_events};
+ghost use Rattle.l4_merge.specs.Pasts.{Past, AddAtMost, AreWholePasts, HasTicked, HasTurned, HaveWorked, HaveTurned, opening_pasts, all_events, added_events};
 ghost use Rattle.l4_merge.specs.Merges.{EndsAt, IsMergedRun, HasMergedRun, HasTurnedRun, HaveWholeRun, HasPasts, SortAsMerged, AreAtRest, HasReorderedRun};
-ghost use Rattle.l4_merge.specs.Rounds.{IsInRounds};
+ghost use Rattle.l4_merge.specs.Rounds.{IsInRounds, events_of};
 
 /// Processors that each keep a log, and handle the letters of each pair in the order in which they are posted, make a core run, whose
 /// events are those of all logs in order of stamp, however they are sorted. So it is of what they add to where a run has ended. The
 /// run is at rest exactly where each of them is and all letters are handled. Where they took turns alone, the run goes on by turns alone and
-/// no clock changes, and where the clock of one went on, by that tick.
+/// no clock changes, and where the clock of one went on, by that tick. Where each added so many events at most, so many at most are of each.
 pub fn law_merge()
     ensures whole { (m : Machine) (pasts : List Past) → AreWholePasts m pasts → HaveWholeRun m pasts }
     ensures sorted { (m : Machine) (pasts : List Past) → AreWholePasts m pasts → SortAsMerged (all_events pasts) }
@@ -34,7 +47,10 @@ pub fn law_merge()
     ensures clocks { (m : Machine) (cpu : ℕ) (old new : Past) → HasTurned m cpu old new → new.local.clock ≡ old.local.clock }
     ensures permuted { (m : Machine) (olds news : List Past) → HaveWorked m olds news →
         IsPermutation (all_events olds ++ merged (added_events olds news)) (all_events news) }
-    ensures in_rounds { (m : Machine) (r : Run) → IsInRounds m r → IsCoreRun m r }
+    ensures in_rounds { (m : Machine) (turns : ℕ) (r : Run) → IsInRounds m turns r → IsCoreRun m r }
+    ensures shares { (m : Machine) (most : ℕ) (before after : Run) (olds news : List Past) →
+        HaveWorked m olds news → IsMergedRun m before olds news after → AddAtMost most olds news →
+        (cpu : ℕ) → events_of cpu after.events ≤ events_of cpu before.events + most }
     ensures core_run { (m : Machine) (before after : Run) (olds news : List Past) →
         IsCoreRun m before → IsMergedRun m before olds news after → IsCoreRun m after }
     ensures rest { (m : Machine) (pasts : List Past) (r : Run) → EndsAt r pasts → (at_rest m r.system ≡ true) ↔ AreAtRest m pasts }
@@ -51,6 +67,6 @@ pub fn law_reorder()
 /// of `most` events, or of fewer that is at rest, is the one whose rounds have one turn of the processor each, or where it has none a tick to
 /// its least deadline, and which ends where nothing goes on or `most` events are used up.
 pub fn law_alone()
-    ensures { (m : Machine) (most : ℕ) (r : Run) → m.cpus ≡ 1 → IsInRounds m r → length r.events ≤ most →
+    ensures { (m : Machine) (turns most : ℕ) (r : Run) → m.cpus ≡ 1 → IsInRounds m turns r → length r.events ≤ most →
         (most ≤ length r.events) ⊎ (at_rest m r.system ≡ true) → r ≡ run m most }
 {}

@@ -34,8 +34,8 @@ of_one_gone_on m olds news count each all = record {
 }
 
 -- So are those of one assembly, behind their work in a slice.
-pub of_one_behind : (m : Machine) (v : Vec Processor Global) (slice news : List Processor) → slice ≡ v.items → length slice ≡ v.len → length news ≡ length slice →
-    HaveGoneOn slice news → AreAssembled m v.items → AreOfOne m (with_items v news).items
+pub of_one_behind : {room : ℕ} (m : Machine) (v : Vec Processor Global) (slice news : List Processor) → slice ≡ v.items → length slice ≡ v.len → length news ≡ length slice →
+    HaveGoneOn slice news → AreAssembled room m v.items → AreOfOne m (with_items v news).items
 of_one_behind m v slice news value len count each all =
     subst (AreOfOne m) (sym (with_items_is v news (count ∙ len)))
     (of_one_gone_on m slice news count each (subst (AreOfOne m) (sym value) (assembled m v.items all)))

@@ -1,16 +1,18 @@
 -- The ports of a new fabric, each with its processor.
 use Rattle.std.proofs.Common.{◌≡◌, ℕ, zero, suc, ◌<◌, true, Some, None, List, [], ◌∷◌, ◌++◌, map, length, refl, ap, sym, ◌∙◌, subst, arith, append_assoc}
 use Rattle.std.specs.Prelude.{slice_get, is_some}
-use Rattle.std.proofs.lemmas.List.{length-append, length-map, map-append}
+use Rattle.std.specs.Option.{option_map}
+use Rattle.std.proofs.lemmas.Option.{slice_get-map}
+use Rattle.std.proofs.lemmas.List.{append-nil, length-append, length-map, map-append}
 use Rattle.l4_model.specs.Machine.{Machine}
 use Rattle.l4_core_model.specs.Local.{opening_local}
 use Rattle.l4_merge.specs.Pasts.{empty_past, HasWorked}
 use Rattle.l4_core.specs.Processor as cores
-use Rattle.l4_mail.specs.Fabrics.{AreFresh}
-use Rattle.l4_mail.specs.Ports.{place, kept_from, HasWayTo, IsApart}
+use Rattle.l4_mail.specs.Fabrics.{HaveRooms, AreFresh}
+use Rattle.l4_mail.specs.Ports.{AreOneFabric, place, kept_from, HasWayTo, IsApart}
 use Rattle.l4_mail.specs.declared.ports.Port.{Port}
 use Rattle.l4_proc.specs.declared.processor.Processor.{Processor}
-use Rattle.l4_proc.specs.Assembled.{IsOpening}
+use Rattle.l4_proc.specs.Assembled.{AreAssembled, IsOpening}
 use Rattle.l4_proc.specs.Logs.{events}
 use Rattle.l4_proc.specs.Whole.{has_way, IsFreshPort, IsPortOf}
 use Rattle.l4_proc.specs.Working.{past, turns_of}
@@ -32,13 +34,13 @@ pushed_at P (z ∷ zs) y each last (suc i) x is = pushed_at (λ i. P (suc i)) zs
 has : (port : Port) (to : ℕ) → HasWayTo port to → has_way port to ≡ true
 has port to w = ap is_some w.1
 
-pub next_number : (n : ℕ) (done rest : List Port) (port : Port) → AreFresh n (done ++ port ∷ rest) → port.cpu ≡ length done
+pub next_number : {room : ℕ} (n : ℕ) (done rest : List Port) (port : Port) → AreFresh room n (done ++ port ∷ rest) → port.cpu ≡ length done
 next_number n done rest port f = f.cpu (length done) port (seam done rest port)
 
-pub next_below : (n : ℕ) (done rest : List Port) (port : Port) → AreFresh n (done ++ port ∷ rest) → port.cpu < n
+pub next_below : {room : ℕ} (n : ℕ) (done rest : List Port) (port : Port) → AreFresh room n (done ++ port ∷ rest) → port.cpu < n
 next_below n done rest port f = omega (arith, next_number n done rest port f, f.count, length-append done (port ∷ rest))
 
-pub next_port_of : (n : ℕ) (done rest : List Port) (port : Port) (c : cores.Processor) → AreFresh n (done ++ port ∷ rest) → c.machine.cpus ≡ n →
+pub next_port_of : {room : ℕ} (n : ℕ) (done rest : List Port) (port : Port) (c : cores.Processor) → AreFresh room n (done ++ port ∷ rest) → c.machine.cpus ≡ n →
     c.cpu ≡ port.cpu → IsPortOf port c
 next_port_of n done rest port c f size number =
     let at = seam done rest port in
@@ -49,15 +51,15 @@ next_port_of n done rest port c f size number =
           ∙ sym (f.cpu (length done) port at) ∙ sym number)));
     }
 
-next_apart : (n : ℕ) (done rest : List Port) (port : Port) → AreFresh n (done ++ port ∷ rest) → IsApart (place port)
+next_apart : {room : ℕ} (n : ℕ) (done rest : List Port) (port : Port) → AreFresh room n (done ++ port ∷ rest) → IsApart (place port)
 next_apart n done rest port f = f.apart (length done) port (seam done rest port)
 
-pub next_fresh : (n : ℕ) (done rest : List Port) (port : Port) → AreFresh n (done ++ port ∷ rest) → IsFreshPort port
+pub next_fresh : {room : ℕ} (n : ℕ) (done rest : List Port) (port : Port) → AreFresh room n (done ++ port ∷ rest) → IsFreshPort port
 next_fresh n done rest port f =
     let at = seam done rest port in
     record { posted = f.posted (length done) port at; taken = f.taken (length done) port at }
 
-next_kept : (n : ℕ) (done rest : List Port) (port : Port) → AreFresh n (done ++ port ∷ rest) → (from : ℕ) → kept_from port from ≡ []
+next_kept : {room : ℕ} (n : ℕ) (done rest : List Port) (port : Port) → AreFresh room n (done ++ port ∷ rest) → (from : ℕ) → kept_from port from ≡ []
 next_kept n done rest port f = f.kept (length done) port (seam done rest port)
 
 pub one_more : (m : Machine) (ps : List Processor) (p : Processor) → ((cpu : ℕ) (q : Processor) → slice_get ps cpu ≡ Some q → IsOpening m cpu q) →
@@ -87,26 +89,49 @@ opened m n k p c core is number worked hand turns used apart fresh kept none =
     }
 
 -- What is kept while the ports get their processors.
-pub record HaveProcessors (m : Machine) (done rest : List Port) (ps : List Processor) : Type 0 where
-  pub fresh : AreFresh m.cpus (done ++ rest)
+pub record HaveProcessors (room : ℕ) (m : Machine) (done rest : List Port) (ps : List Processor) : Type 0 where
+  pub fresh : AreFresh room m.cpus (done ++ rest)
   pub ports : map (λ (p : Processor). p.port) ps ≡ done
   pub each : (cpu : ℕ) (p : Processor) → slice_get ps cpu ≡ Some p → IsOpening m cpu p
 
-pub next_has : (m : Machine) (done rest all : List Port) (ps news : List Processor) (port : Port) (p : Processor) (c : cores.Processor) (k : ℕ) →
-    HaveProcessors m done all ps → all ≡ port ∷ rest → news ≡ ps ++ p ∷ [] →
+pub next_has : (room : ℕ) (m : Machine) (done rest all : List Port) (ps news : List Processor) (port : Port) (p : Processor) (c : cores.Processor) (k : ℕ) →
+    HaveProcessors room m done all ps → all ≡ port ∷ rest → news ≡ ps ++ p ∷ [] →
     p.port ≡ port → p.worker.core ≡ c → c ≡ record { machine = m; cpu = k; local = opening_local m k } → k ≡ port.cpu →
     HasWorked c.machine c.cpu (empty_past c.local) (past p) → p.worker.hand ≡ None → turns_of p ≡ 0 →
-    p.worker.stop ≡ stop.Used → events p.worker.log ≡ [] → HaveProcessors m (done ++ port ∷ []) rest news
-next_has m done rest all ps news port p c k h is more same core at number worked hand turns used none =
-    let fresh = subst (λ (ls : List Port). AreFresh m.cpus (done ++ ls)) is h.fresh in
+    p.worker.stop ≡ stop.Used → events p.worker.log ≡ [] → HaveProcessors room m (done ++ port ∷ []) rest news
+next_has room m done rest all ps news port p c k h is more same core at number worked hand turns used none =
+    let fresh = subst (λ (ls : List Port). AreFresh room m.cpus (done ++ ls)) is h.fresh in
     let number_is : k ≡ length ps = number ∙ next_number m.cpus done rest port fresh ∙ ap length (sym h.ports) ∙ length-map ps (λ (q : Processor). q.port) in
     let new = subst IsFreshPort (sym same) (next_fresh m.cpus done rest port fresh) in
     let apart = subst (λ (q : Port). IsApart (place q)) (sym same) (next_apart m.cpus done rest port fresh) in
     let kept = subst (λ (q : Port). (from : ℕ) → kept_from q from ≡ []) (sym same) (next_kept m.cpus done rest port fresh) in
     record {
-      fresh = subst (AreFresh m.cpus) (sym (append_assoc done (port ∷ []) rest)) fresh;
+      fresh = subst (AreFresh room m.cpus) (sym (append_assoc done (port ∷ []) rest)) fresh;
       ports = ap (map (λ (q : Processor). q.port)) more ∙ map-append (λ (q : Processor). q.port) ps (p ∷ [])
           ∙ ap (λ (ls : List Port). ls ++ p.port ∷ []) h.ports ∙ ap (λ (q : Port). done ++ q ∷ []) same;
       each = λ cpu q e. one_more m ps p h.each (opened m (length ps) k p c core at number_is worked hand turns used apart new kept none) cpu q (ap (λ (ls : List Processor).
           slice_get ls cpu) (sym more) ∙ e);
+    }
+
+-- The rings of each processor have the room that those of its port have.
+rooms_of : (room n : ℕ) (ports : List Port) (ps : List Processor) → AreFresh room n ports → map (λ (p : Processor). p.port) ps ≡ ports →
+    (cpu : ℕ) (p : Processor) → slice_get ps cpu ≡ Some p → HaveRooms room (place p.port).outs
+rooms_of room n ports ps f are cpu p at =
+    f.rooms cpu p.port (ap (λ (ls : List Port). slice_get ls cpu) (sym are) ∙ slice_get-map (λ (q : Processor). q.port) ps cpu
+    ∙ ap (option_map (λ (q : Processor). q.port)) at)
+
+none_left : {A : Type 0} (xs : List A) → length xs ≡ 0 → xs ≡ []
+none_left [] none = refl
+none_left (x ∷ xs) none = absurd (omega arith)
+
+pub assembled : (room : ℕ) (m : Machine) (done rest : List Port) (ps : List Processor) → HaveProcessors room m done rest ps → length rest ≡ 0 →
+    AreAssembled room m ps
+assembled room m done rest ps h none =
+    let whole : done ++ rest ≡ done = ap (λ (ls : List Port). done ++ ls) (none_left rest none) ∙ append-nil done in
+    let fresh = subst (AreFresh room m.cpus) whole h.fresh in
+    record {
+      count = sym (length-map ps (λ (p : Processor). p.port)) ∙ ap length h.ports ∙ fresh.count;
+      rooms = rooms_of room m.cpus done ps fresh h.ports;
+      each = h.each;
+      one = subst AreOneFabric (sym h.ports) fresh.one;
     }

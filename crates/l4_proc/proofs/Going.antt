@@ -1,6 +1,6 @@
 -- A processor that goes on by itself: at its opening, by a tick, and turn by turn.
 use Rattle.std.proofs.Common.{◌≡◌, ℕ, ◌+◌, ◌<◌, ◌^◌, Some, None, List, [], ◌∷◌, ◌++◌, map, length, refl, ap, sym, ◌∙◌, subst, arith}
-use Rattle.std.specs.Prelude.{nat_lt}
+use Rattle.std.specs.Prelude.{nat_lt, OnErr, OnOk, Result, Ok, Err}
 use Rattle.std.specs.Option.{option_map}
 use Rattle.std.proofs.lemmas.List.{length-append, append-nil}
 use Rattle.l4_model.specs.Machine.{Machine}
@@ -10,23 +10,23 @@ use Rattle.l4_core_model.specs.Acts.{Work}
 use Rattle.l4_core_model.specs.Runs.{Event}
 use Rattle.l4_core_model.specs.Turns.{advance}
 use Rattle.l4_merge.specs.Deeds.{Deed, Ticked, letters_with}
-use Rattle.l4_merge.specs.Pasts.{empty_past, HasWorked, HasTurned}
-use Rattle.l4_merge.proofs.Worked.{worked_none, worked_one, worked_trans, turned_none, turned_trans}
+use Rattle.l4_merge.specs.Pasts.{AreDeedsBetween, empty_past, HasWorked, HasTurned}
+use Rattle.l4_merge.proofs.Worked.{worked_none, worked_one, worked_trans, turned_none, turned_trans, deeds_of_none, deeds_of_both}
 use Rattle.l4_types.specs.LetterView.{letter_of}
 use Rattle.l4_core.specs.Processor.{Processor as Core}
-use Rattle.l4_core.specs.Turning.{IsEvent, work}
+use Rattle.l4_core.specs.Turning.{work}
 use Rattle.l4_mail.specs.Ports.{posted_to, place}
 use Rattle.l4_mail.specs.declared.ports.Port.{Port}
-use Rattle.l4_proc.specs.Logs.{all_steps, events, HasBegun, HasEnded, IsClosed}
+use Rattle.l4_proc.specs.Logs.{all_steps, events, IsClosed}
 use Rattle.l4_proc.specs.Whole.{past_with, handled_from, IsFreshPort, IsPortOf, IsWhole}
-use Rattle.l4_proc.specs.Working.{past, HasGoneOn, HasTaken, HasTakenUpTo, HasTicked, IsIdle, IsStopped}
+use Rattle.l4_proc.specs.Working.{past, BeginWithMail, HasGoneOn, HasTaken, HasTakenUpTo, HasTicked, HasTickedTo, IsIdle, IsSameWorker, IsStopped, IsTicking}
 use Rattle.l4_proc.specs.declared.stops.Stop.{Stop}
 use Rattle.l4_proc.specs.declared.stops.Stop.TheVariants as stop
 use Rattle.l4_proc.specs.declared.log.End.{End}
 use Rattle.l4_proc.specs.declared.log.Log.{Log}
 use Rattle.l4_proc.specs.declared.processor.Processor.{Processor}
 use Rattle.l4_proc.specs.declared.worker.Worker.{Worker}
-use Rattle.l4_proc.proofs.Logging.{logged, IsLogged}
+use Rattle.l4_proc.proofs.Logging.{logged, same_closed, IsLogged}
 
 -- The opening
 
@@ -44,17 +44,6 @@ opened_past port w fresh ends hand = record {
 }
 
 -- A tick
-
--- The clock went on between the begin of an event and its end.
-pub record IsTicking (to : ℕ) (old new : Worker) (before after : Log) (stamp : ℕ) : Type 0 where
-  pub begun : HasBegun old.log before
-  pub event : IsEvent (advance old.core.machine old.core.cpu to old.core.local) old.core new.core before.told after.told stamp
-  pub hand : new.hand ≡ old.hand
-  pub stop : new.stop ≡ old.stop
-  pub cpu : after.cpu ≡ before.cpu
-  pub ends : after.ends ≡ before.ends
-  pub ticks : after.ticks ≡ before.ticks
-  pub ended : HasEnded after new.log stamp (after.ticks + 1)
 
 tick_logged : (to : ℕ) (old new : Worker) (before after : Log) (stamp : ℕ) → IsClosed old.log → IsTicking to old new before after stamp →
     IsLogged old.log new.log stamp after.told.steps
@@ -134,6 +123,26 @@ has_ticked to old new before after stamp port whole t =
       stop = t.stop;
     }
 
+-- The clock was to go on: it did, or nothing has changed.
+
+pub same_whole : (port : Port) (old new : Worker) → IsSameWorker old new → IsWhole port old → IsWhole port new
+same_whole port old new same whole = record {
+  port_of = subst (IsPortOf port) (sym same.core) whole.port_of;
+  log_of = same.log.cpu ∙ whole.log_of ∙ sym (ap (λ (c : Core). c.cpu) same.core);
+  closed = same_closed old.log new.log same.log whole.closed;
+  hand = rw (same.hand) whole.hand;
+}
+
+pub tried_whole : (to : ℕ) (port : Port) (old new : Worker) {A E : Type 0} (r : Result A E) → OnOk r (HasTickedTo to old new) → OnErr r (IsSameWorker old new) →
+    IsWhole port old → IsWhole port new
+tried_whole to port old new (Ok x) ticked same whole = tick_whole to port old new ticked.before ticked.after ticked.stamp whole ticked.is
+tried_whole to port old new (Err e) ticked same whole = same_whole port old new same whole
+
+pub has_tried : (to : ℕ) (old new : Processor) {A E : Type 0} (r : Result A E) → new.port ≡ old.port → IsWhole old.port old.worker →
+    OnOk r (HasTickedTo to old.worker new.worker) → OnOk r (HasTicked to old new)
+has_tried to old new (Ok x) port whole ticked = has_ticked to old new ticked.before ticked.after ticked.stamp port whole ticked.is
+has_tried to old new (Err e) port whole ticked = ticked
+
 -- Turns
 
 pub gone_trans : (old middle new : Processor) → HasGoneOn old middle → HasGoneOn middle new → HasGoneOn old new
@@ -153,9 +162,36 @@ gone_trans old middle new first then =
 pub next_turned : (old middle new : Processor) → HasGoneOn old middle →
     HasTurned middle.worker.core.machine middle.worker.core.cpu (past middle) (past new) →
     HasTurned old.worker.core.machine old.worker.core.cpu (past middle) (past new)
-next_turned old middle new on then =
-    subst (λ m. HasTurned m old.worker.core.cpu (past middle) (past new)) on.machine
-    (subst (λ cpu. HasTurned middle.worker.core.machine cpu (past middle) (past new)) on.cpu then)
+next_turned old middle new on then = record {
+  worked = record {
+    deeds = then.worked.deeds;
+    are = subst (λ m. AreDeedsBetween m old.worker.core.cpu (past middle) (past new) then.worked.deeds) on.machine
+        (subst (λ cpu. AreDeedsBetween middle.worker.core.machine cpu (past middle) (past new) then.worked.deeds) on.cpu then.worked.are);
+  };
+  turns = then.turns;
+}
+
+pub deeds_of_next : (old middle new : Processor) (on : HasGoneOn old middle)
+    (then : HasTurned middle.worker.core.machine middle.worker.core.cpu (past middle) (past new)) →
+    (next_turned old middle new on then).worked.deeds ≡ then.worked.deeds
+unfolding next_turned
+deeds_of_next old middle new on then = refl
+
+-- It has gone on twice by turns: which deeds these are.
+pub deeds_of_all : (old middle new : Processor) (on : HasGoneOn old middle)
+    (first : HasTurned old.worker.core.machine old.worker.core.cpu (past old) (past middle))
+    (then : HasTurned middle.worker.core.machine middle.worker.core.cpu (past middle) (past new)) →
+    (turned_trans old.worker.core.machine old.worker.core.cpu (past old) (past middle) (past new) first (next_turned old middle new on then)).worked.deeds
+    ≡ first.worked.deeds ++ then.worked.deeds
+deeds_of_all old middle new on first then =
+    deeds_of_both old.worker.core.machine old.worker.core.cpu (past old) (past middle) (past new) first (next_turned old middle new on then)
+    ∙ ap (λ ds. first.worked.deeds ++ ds) (deeds_of_next old middle new on then)
+
+-- Two lists of deeds, the second from where the first has led. Where the first has none, the processor is where it was.
+begin_both : (n : ℕ) (old middle : Processor) (ds es : List Deed) → length ds ≡ n → (n ≡ 0 → middle ≡ old) → BeginWithMail old ds →
+    BeginWithMail middle es → BeginWithMail old (ds ++ es)
+begin_both n old middle [] es many start first then = subst (λ p. BeginWithMail p es) (start (sym many)) then
+begin_both n old middle (d ∷ ds) es many start first then = first
 
 -- Before its first turn it has taken none.
 pub taken_none : (p : Processor) → HasTaken 0 p p
@@ -164,16 +200,30 @@ taken_none p = record {
   turned = turned_none p.worker.core.machine p.worker.core.cpu (past p);
   turns = omega arith;
   ticks = refl;
+  many = ap length (deeds_of_none p.worker.core.machine p.worker.core.cpu (past p));
+  first = subst (BeginWithMail p) (sym (deeds_of_none p.worker.core.machine p.worker.core.cpu (past p))) tt;
+  hand = λ none x is. is;
 }
 
-pub taken_more : (n k : ℕ) (old middle new : Processor) → HasTaken n old middle → HasTaken k middle new → HasTaken (n + k) old new
-taken_more n k old middle new first then = record {
+pub taken_more : (n k : ℕ) (old middle new : Processor) → (n ≡ 0 → middle ≡ old) → HasTaken n old middle → HasTaken k middle new → HasTaken (n + k) old new
+taken_more n k old middle new start first then = record {
   on = gone_trans old middle new first.on then.on;
   turned = turned_trans old.worker.core.machine old.worker.core.cpu (past old) (past middle) (past new) first.turned
       (next_turned old middle new first.on then.turned);
   turns = let a = first.turns in let b = then.turns in omega arith;
   ticks = then.ticks ∙ first.ticks;
+  many = ap length deeds ∙ length-append first.turned.worked.deeds then.turned.worked.deeds ∙ sum_of _ _ n k first.many then.many;
+  first = subst (BeginWithMail old) (sym deeds)
+      (begin_both n old middle first.turned.worked.deeds then.turned.worked.deeds first.many start first.first then.first);
+  hand = λ none x is. then.hand (omega arith) x (first.hand (omega arith) x is);
 }
+  where
+    deeds : (turned_trans old.worker.core.machine old.worker.core.cpu (past old) (past middle) (past new) first.turned
+        (next_turned old middle new first.on then.turned)).worked.deeds ≡ first.turned.worked.deeds ++ then.turned.worked.deeds
+    deeds = deeds_of_all old middle new first.on first.turned then.turned
+
+    sum_of : (a b n k : ℕ) → a ≡ n → b ≡ k → a + b ≡ n + k
+    sum_of a b n k same also = omega arith
 
 -- So many turns were taken, or it stopped before.
 
@@ -187,12 +237,14 @@ all_taken turns count old new all taken = record {
   ticks = taken.ticks;
   stopped = tt;
   nothing = λ is. absurd cc;
+  first = record { turned = taken.turned; many = let t = taken.turns in let n = taken.many in omega arith; first = taken.first };
+  hand = λ same. taken.hand (let t = taken.turns in omega arith);
 }
 
 pub some_taken : (turns count : ℕ) (old middle new : Processor) (why : Stop) → count < turns → HasTaken count old middle → HasTaken 0 middle new →
     (why ≡ stop.Used → ⊥) → IsStopped new why → (count ≡ 0 → middle ≡ old) → (why ≡ stop.Idle → IsIdle middle) → HasTakenUpTo turns old new why
 some_taken turns count old middle new why below first none unused stopped start nothing =
-    let taken = taken_more count 0 old middle new first none in
+    let taken = taken_more count 0 old middle new start first none in
     record {
       on = taken.on;
       turned = taken.turned;
@@ -202,4 +254,6 @@ some_taken turns count old middle new why below first none unused stopped start 
       ticks = taken.ticks;
       stopped = stopped;
       nothing = λ is same. subst IsIdle (start (let t = taken.turns in omega arith)) (nothing is);
+      first = record { turned = taken.turned; many = let t = taken.turns in let n = taken.many in omega arith; first = taken.first };
+      hand = λ same. taken.hand (let t = taken.turns in omega arith);
     }

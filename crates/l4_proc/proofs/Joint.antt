@@ -1,47 +1,76 @@
 -- Turns that a processor takes among others: those of several calls, with looks between them.
-use Rattle.std.proofs.Common.{◌≡◌, ℕ, ◌+◌, ◌<◌, ◌≤◌, refl, ◌∙◌, subst, sym, arith}
+use Rattle.std.proofs.Common.{◌≡◌, ℕ, ◌+◌, ◌<◌, ◌≤◌, Some, List, [], ◌∷◌, ◌++◌, length, refl, ap, ◌∙◌, subst, sym, arith, length-append}
 use Rattle.std.specs.Prelude.{◌≢◌}
+use Rattle.l4_merge.specs.Deeds.{Deed}
 use Rattle.l4_merge.specs.Pasts.{HasTurned}
+use Rattle.l4_types.specs.declared.letters.Letter.{Letter}
 use Rattle.l4_merge.proofs.Worked.{turned_trans}
-use Rattle.l4_proc.specs.Working.{IsIdle, past, turns_of, HasGoneOn, HasTakenUpTo, HasWorkedOn, IsStopped}
+use Rattle.l4_proc.specs.Working.{BeginWithMail, IsIdle, past, turns_of, HasGoneOn, HasTakenUpTo, HasTurnedMailFirst, HasWorkedOn, IsStopped}
 use Rattle.l4_proc.specs.declared.processor.Processor.{Processor}
 use Rattle.l4_proc.specs.declared.stops.Stop.{Stop}
 use Rattle.l4_proc.specs.declared.stops.Stop.TheVariants as stop
-use Rattle.l4_proc.proofs.Going.{gone_trans, next_turned, taken_none}
+use Rattle.l4_proc.proofs.Going.{gone_trans, next_turned, deeds_of_all, taken_none}
 
 -- It has gone on by turns, however many and whyever it stopped.
 record IsOnward (old new : Processor) : Type 0 where
   pub on : HasGoneOn old new
-  pub turned : HasTurned old.worker.core.machine old.worker.core.cpu (past old) (past new)
+  pub mail : HasTurnedMailFirst old new
   pub least : turns_of old ≤ turns_of new
   pub ticks : new.worker.log.ticks ≡ old.worker.log.ticks
 
 onward : (turns : ℕ) (old new : Processor) (why : Stop) → HasTakenUpTo turns old new why → IsOnward old new
-onward turns old new why up = record { on = up.on; turned = up.turned; least = up.least; ticks = up.ticks }
+onward turns old new why up = record { on = up.on; mail = up.first; least = up.least; ticks = up.ticks }
 
-onward_trans : (old middle new : Processor) → IsOnward old middle → IsOnward middle new → IsOnward old new
-onward_trans old middle new first then = record {
+-- Who was idle had no letter.
+idle_had_none : (old : Processor) → IsIdle old → (x : ℕ × Letter) → old.worker.hand ≡ Some x → ⊥
+idle_had_none old idle x is = absurd (let none = sym idle.refused.empty ∙ is in cc)
+
+begin_idle : (old : Processor) (ds es : List Deed) → (length ds ≡ 0 → IsIdle old) → BeginWithMail old ds → BeginWithMail old (ds ++ es)
+begin_idle old [] [] idle first = tt
+begin_idle old [] (e ∷ es) idle first = record {
+  hand = λ x is. absurd (idle_had_none old (idle refl) x is);
+  kept = λ from some. absurd (some ((idle refl).kept from));
+}
+begin_idle old (d ∷ ds) es idle first = first
+
+onward_trans : (old middle new : Processor) → (turns_of middle ≡ turns_of old → IsIdle old) → IsOnward old middle → IsOnward middle new → IsOnward old new
+onward_trans old middle new nothing first then = record {
   on = gone_trans old middle new first.on then.on;
-  turned = turned_trans old.worker.core.machine old.worker.core.cpu (past old) (past middle) (past new) first.turned
-      (next_turned old middle new first.on then.turned);
+  mail = record {
+    turned = turned_trans old.worker.core.machine old.worker.core.cpu (past old) (past middle) (past new) first.mail.turned
+        (next_turned old middle new first.on then.mail.turned);
+    many =
+        let a = first.mail.many in
+        let b = then.mail.many in
+        let size = ap length deeds ∙ length-append first.mail.turned.worked.deeds then.mail.turned.worked.deeds in
+        omega arith;
+    first = subst (BeginWithMail old) (sym deeds) (begin_idle old first.mail.turned.worked.deeds then.mail.turned.worked.deeds
+        (λ none. nothing (let a = first.mail.many in omega arith)) first.mail.first);
+  };
   least = let a = first.least in let b = then.least in omega arith;
   ticks = then.ticks ∙ first.ticks;
 }
+  where
+    deeds : (turned_trans old.worker.core.machine old.worker.core.cpu (past old) (past middle) (past new) first.mail.turned
+        (next_turned old middle new first.on then.mail.turned)).worked.deeds ≡ first.mail.turned.worked.deeds ++ then.mail.turned.worked.deeds
+    deeds = deeds_of_all old middle new first.on first.mail.turned then.mail.turned
 
 -- The turns that are left were its last.
 ended : (turns left : ℕ) (old middle new : Processor) (why : Stop) → IsOnward old middle → turns_of middle + left ≡ turns_of old + turns →
     (turns_of middle ≡ turns_of old → IsIdle old) → HasTakenUpTo left middle new why → HasTakenUpTo turns old new why
 ended turns left old middle new why first all nothing last =
-    let both = onward_trans old middle new first (onward left middle new why last) in
+    let both = onward_trans old middle new nothing first (onward left middle new why last) in
     record {
       on = both.on;
-      turned = both.turned;
+      turned = both.mail.turned;
       least = both.least;
       most = let m = last.most in omega arith;
       used = (λ is. let u = last.used.0 is in omega arith, λ is. last.used.1 (omega arith));
       ticks = both.ticks;
       stopped = last.stopped;
       nothing = λ is same. nothing (let a = first.least in let b = last.least in omega arith);
+      first = both.mail;
+      hand = λ same x is. absurd (idle_had_none old (nothing (let a = first.least in let b = last.least in omega arith)) x is);
     }
 
 -- What is left where it has found nothing.
@@ -66,6 +95,8 @@ looks_none p idle stopped =
       ticks = refl;
       stopped = subst (IsStopped p) (sym idle) stopped;
       nothing = λ is same. stopped;
+      first = record { turned = taken.turned; many = let n = taken.many in omega arith; first = taken.first };
+      hand = λ same x is. is;
     }
 
 pub no_turn_yet : (old new : Processor) → HasWorkedOn 1 old new → new.worker.stop ≡ stop.Idle → turns_of new ≡ turns_of old
@@ -88,26 +119,28 @@ looks_more old middle new why worked idle look is =
 pub looked_in_vain : (turns : ℕ) (old middle new : Processor) → HasWorkedOn turns old middle → middle.worker.stop ≡ stop.Idle → HasWorkedOn 1 middle new →
     (new.worker.stop ≡ stop.Used → ⊥) → HasWorkedOn turns old new
 looked_in_vain turns old middle new worked idle look unused =
-    let both = onward_trans old middle new (onward turns old middle _ worked) (onward 1 middle new _ look) in
+    let both = onward_trans old middle new (worked.nothing idle) (onward turns old middle _ worked) (onward 1 middle new _ look) in
     let no_turn : turns_of new ≢ turns_of middle + 1 = λ is. unused (look.used.1 is) in
     let same : turns_of new ≡ turns_of middle = (let a = look.least in let b = look.most in omega arith) in
     let not_all : turns_of middle ≢ turns_of old + turns = λ is. absurd (let used = worked.used.1 is in cc) in
     record {
       on = both.on;
-      turned = both.turned;
+      turned = both.mail.turned;
       least = both.least;
       most = let m = worked.most in omega arith;
       used = (λ is. absurd (unused is), λ is. absurd (not_all (omega arith)));
       ticks = both.ticks;
       stopped = look.stopped;
       nothing = λ is none. worked.nothing idle (omega arith);
+      first = both.mail;
+      hand = λ none x is. absurd (idle_had_none old (worked.nothing idle (omega arith)) x is);
     }
 
 -- It found something, and took the turns that were left.
 pub looked_and_worked : (turns left : ℕ) (old middle seen new : Processor) → HasWorkedOn turns old middle → HasWorkedOn 1 middle seen →
-    seen.worker.stop ≡ stop.Used → turns_of middle + left ≡ turns_of old + turns → 0 < left → (rest : ℕ) → rest + 1 ≡ left → HasWorkedOn rest seen new → HasWorkedOn turns old new
-looked_and_worked turns left old middle seen new worked look found all some rest is more =
+    seen.worker.stop ≡ stop.Used → middle.worker.stop ≡ stop.Idle → turns_of middle + left ≡ turns_of old + turns → 0 < left → (rest : ℕ) → rest + 1 ≡ left → HasWorkedOn rest seen new → HasWorkedOn turns old new
+looked_and_worked turns left old middle seen new worked look found idle all some rest is more =
     let one = look.used.0 found in
     ended turns rest old seen new new.worker.stop
-    (onward_trans old middle seen (onward turns old middle _ worked) (onward 1 middle seen _ look)) (omega arith)
+    (onward_trans old middle seen (worked.nothing idle) (onward turns old middle _ worked) (onward 1 middle seen _ look)) (omega arith)
     (λ same. absurd (let least = worked.least in omega arith)) more

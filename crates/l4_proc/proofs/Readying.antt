@@ -174,6 +174,9 @@ readied_full old reserved flushed was some first room flush = record {
   had = λ is. absurd (let none : is_some was ≡ false = ap is_some is in cc);
 }
 
+pub no_letter : (hand was : Option (ℕ × Letter)) → is_some was ≡ false → (x : ℕ × Letter) → was ≡ Some x → hand ≡ Some x
+no_letter hand was none x is = absurd (let some = ap is_some is in cc)
+
 -- Letters are posted
 
 pub letters_first : (k to : ℕ) (letter : Letter) (rest : List (ℕ × letters.Letter)) →

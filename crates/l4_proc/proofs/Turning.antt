@@ -1,15 +1,15 @@
 -- What a turn of a processor does to its past.
 use Rattle.std.proofs.Common.{◌≡◌, ℕ, ◌+◌, ◌-◌, ◌<◌, ◌≤◌, Bool, true, false, Option, Some, None, List, [], ◌∷◌, ◌++◌, map, length, take, refl, ap, sym, ◌∙◌, subst, arith, inl, inr}
-use Rattle.std.specs.Prelude.{◌≢◌, ◌⊎◌, is_some, nat_eq, slice_index_or, vec_len}
+use Rattle.std.specs.Prelude.{◌≢◌, ◌⊎◌, is_some, nat_eq, slice_index_or, vec_len, OnErr, OnOk, Result, Ok, Err}
 use Rattle.std.specs.List.{AllByRecursion}
 use Rattle.std.proofs.lemmas.List.{append-nil, map-append, take_all, length-append}
 use Rattle.l4_model.specs.Machine.{Machine}
 use Rattle.l4_core_model.specs.Letters as letters
 use Rattle.l4_core_model.specs.Runs.{Event, IsMachine}
 use Rattle.l4_core_model.proofs.Lists.{all-map}
-use Rattle.l4_merge.specs.Deeds.{Deed, is_turn, letter_of as letter_handled, letters_with, work_of}
+use Rattle.l4_merge.specs.Deeds.{Deed, Turned, is_turn, letter_of as letter_handled, letters_with, work_of}
 use Rattle.l4_merge.specs.Pasts.{Past, HasTurned}
-use Rattle.l4_merge.proofs.Worked.{turned_one}
+use Rattle.l4_merge.proofs.Worked.{IsNext, turned_one, deeds_of_one}
 use Rattle.l4_merge.proofs.Destinations.{letters_go_elsewhere, at_most_two_letters}
 use Rattle.l4_types.specs.LetterView.{letter_of}
 use Rattle.l4_types.specs.declared.letters.Letter.{Letter}
@@ -27,12 +27,13 @@ use Rattle.l4_core_model.specs.Turns.{turn}
 use Rattle.l4_proc.specs.Events.{event_in_hand, HasNone, HasPostedAll, IsRefused}
 use Rattle.l4_proc.specs.Logs.{all_steps, events, HasBegun, HasEnded, HasLetters, IsSameLog}
 use Rattle.l4_proc.specs.Whole.{hand_from, handled_from, has_way, IsInHand, IsPortOf, IsWhole}
-use Rattle.l4_proc.specs.Working.{past, HasDone, HasTaken, IsIdle, IsReady, IsSameWorker, IsStopped, IsUnready}
+use Rattle.l4_proc.specs.Working.{past, BeginWithMail, HasDone, HasTaken, HasTakenTurn, IsIdle, IsMailFirst, IsReady, IsSameWorker, IsStopped, IsUnready}
+use Rattle.l4_proc.proofs.Going.{same_whole}
 use Rattle.l4_proc.proofs.Logging.{begun_events, same_events, logged}
 
 -- Nothing was done
 
-turned_nothing : (m : Machine) (cpu : ℕ) (old new : Past) → new.events ≡ old.events → ((to : ℕ) → new.posted to ≡ old.posted to) → ((from : ℕ) →
+abbrev turned_nothing : (m : Machine) (cpu : ℕ) (old new : Past) → new.events ≡ old.events → ((to : ℕ) → new.posted to ≡ old.posted to) → ((from : ℕ) →
     new.handled from ≡ old.handled from) →
     new.local ≡ old.local → HasTurned m cpu old new
 turned_nothing m cpu old new events posted handled local = record {
@@ -77,6 +78,9 @@ unready_taken old new u =
       turned = turned;
       turns = same_turns _ _ _ _ (ap length ends.0) ends.1;
       ticks = ends.1;
+      many = refl;
+      first = tt;
+      hand = λ none x is. u.hand ∙ is;
     }
 
 pub refused_taken : (old ready new : Processor) → IsReady old ready → new.port ≡ ready.port → IsSameWorker ready.worker new.worker → HasTaken 0 old new
@@ -100,6 +104,9 @@ refused_taken old ready new r port s =
       turned = turned;
       turns = same_turns _ _ _ _ (ap length ends) ticks;
       ticks = ticks;
+      many = refl;
+      first = tt;
+      hand = λ none x is. s.hand ∙ r.hand x is;
     }
 
 pub refused_stopped : (old ready new : Processor) (why : Stop) → IsReady old ready → new.port ≡ ready.port → IsSameWorker ready.worker new.worker →
@@ -151,7 +158,7 @@ all_taken xs = take_all (length xs - 0) xs (omega arith)
 no_hand : (port : Port) → IsInHand port None
 no_hand port from = sym (append-nil _ ∙ all_taken (taken_from port from))
 
-pub done_whole : (old ready : Processor) (told : Worker) (log : Log) (stamp : ℕ) → IsReady old ready → IsWhole old.port old.worker →
+done_whole : (old ready : Processor) (told : Worker) (log : Log) (stamp : ℕ) → IsReady old ready → IsWhole old.port old.worker →
     IsWhole ready.port ready.worker → HasDone ready.worker told stamp →
     HasEnded told.log log stamp told.log.ticks → IsWhole ready.port (record { core = told.core; log = log; hand = told.hand; stop = told.stop })
 done_whole old ready told log stamp r was is d e = record {
@@ -160,6 +167,13 @@ done_whole old ready told log stamp r was is d e = record {
   closed = (logged old.worker.log ready.worker.log told.log log stamp told.log.ticks was.closed r.log d.cpu (ap (λ es. es.items) d.ends) d.event.kept e).closed;
   hand = subst (IsInHand ready.port) (sym d.hand) (no_hand ready.port);
 }
+
+-- A turn was tried.
+pub tried_turn : (old ready : Processor) (new : Worker) {A E : Type 0} (r : Result A E) → IsReady old ready → IsWhole old.port old.worker →
+    IsWhole ready.port ready.worker → OnOk r (HasTakenTurn ready.worker new) → OnErr r (IsSameWorker ready.worker new) → IsWhole ready.port new
+tried_turn old ready new (Ok x) r was is taken same =
+    subst (IsWhole ready.port) (sym taken.is) (done_whole old ready taken.told new.log taken.stamp r was is taken.done taken.ended)
+tried_turn old ready new (Err e) r was is taken same = same_whole ready.port ready.worker new same is
 
 way : (port : Port) (to : ℕ) → has_way port to ≡ true → HasWayTo port to
 way port to has = by (slice_index_or (place port).outs to None) refl has
@@ -205,6 +219,17 @@ one_more n o t u more ticks few = omega (arith, more, ticks, few)
 pub same_port : (p : Port) → IsAsBefore p p
 same_port p = record { place = refl; posted = λ to. refl; taken = λ from. refl; kept = λ from. refl; room = λ to. omega arith }
 
+-- Where no letter is in hand, none was there and none was kept.
+not_turned : (hand : Option (ℕ × Letter)) → (hand ≡ None → ⊥) → event_in_hand hand ≢ Turned
+not_turned None some = absurd (some refl)
+not_turned (Some p) some = λ is. absurd cc
+
+mail_first : (old ready : Processor) (d : Deed) → d.event ≡ event_in_hand ready.worker.hand → IsReady old ready → IsMailFirst old d
+mail_first old ready d event r = record {
+  hand = λ x is. event ∙ ap event_in_hand (r.hand x is);
+  kept = λ from some is. not_turned ready.worker.hand (λ none. some ((r.had none).kept from)) (sym event ∙ is);
+}
+
 pub turn_taken : (old ready posted new : Processor) (told : Worker) (log : Log) (stamp : ℕ) → IsWhole old.port old.worker →
     IsWhole ready.port ready.worker → old.worker.log.ticks ≤ vec_len old.worker.log.ends →
     IsReady old ready → HasDone ready.worker told stamp → HasEnded told.log log stamp told.log.ticks →
@@ -222,7 +247,7 @@ turn_taken old ready posted new told log stamp was is few r d e p core hand ls f
     ap (λ (x : Worker). x.log.ends.items) worker ∙ ap (λ es. es.items) ls.ends ∙ e.ends
     ∙ ap (λ es. es ++ record { stamp = stamp; place = length (all_steps told.log.told) } ∷ []) (ap (λ es. es.items) d.ends ∙ r.log.ends) in
     let ticks : new.worker.log.ticks ≡ w.log.ticks = ap (λ (x : Worker). x.log.ticks) worker ∙ ls.ticks ∙ e.ticks ∙ d.ticks ∙ r.log.ticks in
-    let turned = turned_one w.core.machine w.core.cpu (past old) (past new) deed (is_a_turn ready.worker.hand) (record {
+    let next : IsNext w.core.machine w.core.cpu (past old) (past new) deed = record {
       does = record {
         own = refl;
         work = subst (λ (c : cores.Processor). work_of c.machine c.cpu c.local (event_in_hand ready.worker.hand) ≡ Some (work told.core.local
@@ -235,7 +260,9 @@ turn_taken old ready posted new told log stamp was is few r d e p core hand ls f
           ∙ map-append letter_of (handled_from ready.port ready.worker.hand from) (hand_from ready.worker.hand from)
           ∙ rw (r.handled from, hand_handled ready.worker.hand from) refl;
       local = ap (λ (c : cores.Processor). c.local) (sym new_core);
-    }) in
+    } in
+    let turned = turned_one w.core.machine w.core.cpu (past old) (past new) deed (is_a_turn ready.worker.hand) next in
+    let one = deeds_of_one w.core.machine w.core.cpu (past old) (past new) deed (is_a_turn ready.worker.hand) next in
     record {
       on = record {
         machine = ap (λ (c : cores.Processor). c.machine) new_core ∙ d.event.machine ∙ ap (λ (c : cores.Processor). c.machine) rcore;
@@ -246,4 +273,7 @@ turn_taken old ready posted new told log stamp was is few r d e p core hand ls f
       turned = turned;
       turns = one_more _ _ _ _ (ap length ends ∙ length-append w.log.ends.items _) ticks (omega (arith, few, w.log.ends.ok.0));
       ticks = ticks;
+      many = ap length one;
+      first = subst (BeginWithMail old) (sym one) (mail_first old ready deed refl r);
+      hand = λ none. absurd (omega arith);
     }

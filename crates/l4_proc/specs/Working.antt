@@ -1,17 +1,19 @@
 -- A processor at work.
-use Rattle.std.specs.Prelude.{◌≡◌, ◌⊎◌, ◌↔◌, ℕ, ◌+◌, ◌-◌, ◌≤◌, List, [], Option, Some, None, length, slice_get}
+use Rattle.std.specs.Prelude.{◌≡◌, ◌≢◌, ◌∷◌, ◌⊎◌, ◌↔◌, ℕ, ◌+◌, ◌-◌, ◌≤◌, List, [], Option, Some, None, length, slice_get}
 use Rattle.std.specs.Option.{option_map}
 use Rattle.l4_core_model.specs.Turns.{advance}
-use Rattle.l4_merge.specs.Deeds.{work_of}
+use Rattle.l4_merge.specs.Deeds.{Deed, Handled, Turned, work_of}
 use Rattle.l4_merge.specs.Pasts as pasts
 use Rattle.l4_merge.specs.Pasts.{Past, HasWorked, HasTurned}
 use Rattle.l4_core.specs.Turning.{IsEvent}
+use Rattle.l4_types.specs.LetterView.{letter_of}
 use Rattle.l4_types.specs.declared.letters.Letter.{Letter}
 use Rattle.l4_mail.specs.declared.ports.Port.{Port}
 use Rattle.l4_mail.specs.Ports.{posted_to, taken_from, kept_from, room_to, place, HasWayTo}
 use Rattle.l4_proc.specs.Events.{event_in_hand, HasPostedAll, IsRefused}
-use Rattle.l4_proc.specs.Logs.{events, HasBegun, HasLetters, IsSameLog}
+use Rattle.l4_proc.specs.Logs.{events, HasBegun, HasEnded, HasLetters, IsSameLog}
 use Rattle.l4_proc.specs.Whole.{handled_from, past_with}
+use Rattle.l4_proc.specs.declared.log.Log.{Log}
 use Rattle.l4_proc.specs.declared.processor.Processor.{Processor}
 use Rattle.l4_proc.specs.declared.worker.Worker.{Worker}
 use Rattle.l4_proc.specs.declared.stops.Stop.{Stop}
@@ -31,12 +33,35 @@ pub record HasGoneOn (old new : Processor) : Type 0 where
   pub place : place new.port ≡ place old.port
   pub worked : HasWorked old.worker.core.machine old.worker.core.cpu (past old) (past new)
 
+-- The deed handles the letter that was in hand. Where none was, and a rest had put one by, it handles one.
+pub record IsMailFirst (old : Processor) (d : Deed) : Type 0 where
+  pub hand : (x : ℕ × Letter) → old.worker.hand ≡ Some x → d.event ≡ Handled x.0 (letter_of x.1)
+  pub kept : (from : ℕ) → kept_from old.port from ≢ [] → d.event ≢ Turned
+
+-- The first of its deeds is so.
+abbrev pub BeginWithMail : (old : Processor) → List Deed → Type 0
+BeginWithMail old [] = Unit {0}
+BeginWithMail old (d ∷ ds) = IsMailFirst old d
+
+-- It has gone on by turns alone: mail goes before the core's own, and a letter in hand before other mail.
+pub record HasTurnedMailFirst (old new : Processor) : Type 0 where
+  pub turned : HasTurned old.worker.core.machine old.worker.core.cpu (past old) (past new)
+  pub many : turns_of new ≡ turns_of old + length turned.worked.deeds
+  pub first : BeginWithMail old turned.worked.deeds
+
+-- A letter that was in hand still is.
+abbrev pub KeepsHand : (old new : Processor) → Type 0
+KeepsHand old new = (x : ℕ × Letter) → old.worker.hand ≡ Some x → new.worker.hand ≡ Some x
+
 -- It took so many turns, and no tick.
 pub record HasTaken (count : ℕ) (old new : Processor) : Type 0 where
   pub on : HasGoneOn old new
   pub turned : HasTurned old.worker.core.machine old.worker.core.cpu (past old) (past new)
   pub turns : turns_of new ≡ turns_of old + count
   pub ticks : new.worker.log.ticks ≡ old.worker.log.ticks
+  pub many : length turned.worked.deeds ≡ count
+  pub first : BeginWithMail old turned.worked.deeds
+  pub hand : count ≡ 0 → KeepsHand old new
 
 -- Nothing is to be done: there is no turn, no letter in hand, and none is kept.
 pub record IsIdle (p : Processor) : Type 0 where
@@ -62,6 +87,8 @@ pub record HasTakenUpTo (turns : ℕ) (old new : Processor) (why : Stop) : Type 
   pub stopped : IsStopped new why
   -- it finds nothing, and takes no turn, only where there was nothing to do and no letter was kept
   pub nothing : why ≡ stop.Idle → turns_of new ≡ turns_of old → IsIdle old
+  pub first : HasTurnedMailFirst old new
+  pub hand : turns_of new ≡ turns_of old → KeepsHand old new
 
 -- So it did, and it remembers why it stopped.
 abbrev pub HasWorkedOn : (turns : ℕ) → (old new : Processor) → Type 0
@@ -87,6 +114,7 @@ pub record IsReady (old new : Processor) : Type 0 where
   pub room : (to : ℕ) → HasWayTo new.port to → 2 ≤ room_to new.port to
   pub kept : new.worker.hand ≡ None → (from : ℕ) → kept_from new.port from ≡ []
   pub had : new.worker.hand ≡ None → HadNoLetter old.port old.worker.hand
+  pub hand : KeepsHand old new
 
 -- It has gone on by nothing.
 pub record IsUnready (old new : Processor) : Type 0 where
@@ -110,6 +138,31 @@ pub record IsSameWorker (old new : Worker) : Type 0 where
   pub core : new.core ≡ old.core
   pub hand : new.hand ≡ old.hand
   pub log : IsSameLog old.log new.log
+
+-- The letter in hand was handled, or the core's turn taken, and the event has ended.
+pub record HasTakenTurn (old new : Worker) : Type 0 where
+  pub told : Worker
+  pub stamp : ℕ
+  pub done : HasDone old told stamp
+  pub ended : HasEnded told.log new.log stamp told.log.ticks
+  pub is : new ≡ record { core = told.core; log = new.log; hand = told.hand; stop = told.stop }
+
+-- The clock went on between the begin of an event and its end.
+pub record IsTicking (to : ℕ) (old new : Worker) (before after : Log) (stamp : ℕ) : Type 0 where
+  pub begun : HasBegun old.log before
+  pub event : IsEvent (advance old.core.machine old.core.cpu to old.core.local) old.core new.core before.told after.told stamp
+  pub hand : new.hand ≡ old.hand
+  pub stop : new.stop ≡ old.stop
+  pub cpu : after.cpu ≡ before.cpu
+  pub ends : after.ends ≡ before.ends
+  pub ticks : after.ticks ≡ before.ticks
+  pub ended : HasEnded after new.log stamp (after.ticks + 1)
+
+pub record HasTickedTo (to : ℕ) (old new : Worker) : Type 0 where
+  pub before : Log
+  pub after : Log
+  pub stamp : ℕ
+  pub is : IsTicking to old new before after stamp
 
 -- The letters of the event under way were posted.
 pub record HasPostedOwn (old new : Processor) : Type 0 where

@@ -18,7 +18,7 @@ pub fn assemble<'m>(
     room: usize,
 ) -> Result<Vec<Processor<'m>>, NoMemory>
     requires { (0 < room) × (room ≤ most_room) }
-    ensures { IfOk result (λ processors. AreAssembled machine.now processors.items) }
+    ensures { IfOk result (λ processors. AreAssembled room machine.now processors.items) }
 {
     let cpus = machine.cpus();
     let ports = fabric(alloc, cpus, room)?;

@@ -1,4 +1,17 @@
-//! A theorem of runs and replays, as calls that do what it says: the trace of each is read back as its history, and this passes the audit.
+//! A theorem of runs and replays, as calls that do what it says: the trace of each is read back as
+//! its history, and passes its audit.
+//!
+//! `audited_run` and `audited_replay` run a machine, write its trace, read this and audit what was
+//! read. Contracts say that the only faults are those of the run: the trace is that of its history,
+//! no line of it is faulty, and no step is refused. Who wants a run that was checked in a second
+//! way takes these.
+//!
+//! They take memory for all four. That memory suffices is in no clause.
+//!
+//! ```rust
+//! let audited = audited_run(&rt, alloc, &machine, 1_000, &Open)?;
+//! assert!(rt; audited.audit.threads.len() == machine.threads().len());
+//! ```
 #![tactic(auto)]
 
 ghost use Rattle.std.specs.Prelude.{◌≡◌, ◌<◌, ◌↔◌, ◌⊎◌, List, IfOk, IfErr, IsErrOf, Some, Ok, map, length};

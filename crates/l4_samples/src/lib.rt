@@ -1,4 +1,16 @@
-//! Machine texts that several crates of tests use, with what comes of them.
+//! Machine texts that several crates of tests use, with what comes of them, and the marks between
+//! which memory is refused.
+//!
+//! `PING` is the smallest: one word goes from one thread to another. `ACROSS` and `CALLS` have two
+//! processors, `endless` as many as are asked for. The traces and the report of the first two stand
+//! beside them. The program does not use this crate.
+//!
+//! `call_begins` and `call_ends` print where a call stands that bench/refusals.sh tries with
+//! refused memory.
+//!
+//! ```rust
+//! let machine = Machine::parse(alloc, PING.as_bytes())?;
+//! ```
 #![tactic(auto)]
 
 use std::alloc::{AllocError, Global};

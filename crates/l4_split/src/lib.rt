@@ -1,4 +1,16 @@
-//! The law of several processors: what is true of every core run, whatever is done in which order.
+//! The law of several processors: what is true of every core run, whoever goes on next and
+//! whichever letter is handled first.
+//!
+//! Its events tell a history of the model. No letter under way is refused where it goes. Where the
+//! run is at rest, nothing but clocks can go on. On one processor, and elsewhere where no letter is
+//! under way and no thread is deleted, the world reached is what the processors have.
+//!
+//! All of it is definitions and proofs; the functions have an empty body and name no code. That
+//! code is a core run is proved above, so a change of representation does not touch this law.
+//!
+//! ```rust
+//! law_of_core_runs(); // from here on: the events of a core run tell a history
+//! ```
 #![tactic(auto)]
 
 ghost use Rattle.l4_model.specs.Machine.{Machine};

@@ -1,6 +1,19 @@
-//! One thread: its registers and its place in its script, and its thread control block.
+//! One thread: `Thread` has its registers and its place in its script; `Tcb`, its control block,
+//! has phase, send, order and wishes.
 //!
-//! No call of this crate takes memory.
+//! Each call is one effect of the model on one thread: an instruction runs, an Ipc begins, a
+//! message is received, an Ipc fails. Contracts see the model's context and thread, whole: what a
+//! call does not name stays. Which threads meet is decided above, by a processor (`l4_core`) and by
+//! the audit (`l4_audit`), each in its own way.
+//!
+//! No call of this crate takes memory. The words of a waiting send stay in the registers, and are
+//! set apart before these change: a contract sees the same words.
+//!
+//! ```rust
+//! let mut block = Tcb::new(thread);
+//! block.run(&Instr::Set(register, 10));
+//! assert!(rt; block.is_ready() && block.view().regs.words[1] == 10);
+//! ```
 #![tactic(auto)]
 
 pub mod changes;

@@ -4,4 +4,5 @@ pub mod Plain
 pub mod ReadSteps
 pub mod ReadTexts
 pub mod ReadingLines
+pub mod ReadingOn
 pub mod Spelled

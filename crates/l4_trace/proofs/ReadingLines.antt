@@ -1,10 +1,7 @@
 -- Reading a text line by line.
-use Rattle.std.proofs.Common.{◌≡◌, ℕ, ◌+◌, true, false, List, [], ◌∷◌, ◌++◌, length, Option, Some, None, Result, Err, refl, sym, ap, ◌∙◌}
+use Rattle.std.proofs.Common.{◌≡◌, ℕ, ◌+◌, List, [], ◌∷◌, ◌++◌, length, Some, None, Result, Err, sym, ap, ◌∙◌}
 use Rattle.l4_model.specs.Steps.{Step}
-use Rattle.std.specs.Prelude.{is_some}
-use Rattle.l4_history.specs.Rows.{Told}
 use Rattle.l4_trace.specs.Reading.{step_of_line, or_line, read_parts}
-use Rattle.l4_trace.specs.Telling.{told_onto}
 use Rattle.l4_words.specs.Lines.{parts_of}
 use Rattle.l4_words.proofs.Parts.{has_part}
 
@@ -28,20 +25,3 @@ module _ (line rest : List ℕ) (parts : List (List ℕ)) (steps : List Step) (t
   pub stops : step_of_line line ≡ None → total ≡ Err (length steps + 1)
   stops e =
       sym so_far ∙ read_line line rest parts steps cut ∙ ap (λ o. or_line (length steps + 1) o (λ step. read_parts (steps ++ step ∷ []) (parts_of rest))) e
-
-  -- The same for a history that was told the line.
-  pub told : (old new : Told) → old.steps ≡ steps → is_some (step_of_line line) ≡ true → new ≡ told_onto old (step_of_line line) → read_parts new.steps (parts_of rest) ≡ total
-  told old new same found is = by (step_of_line line) refl found is
-    where
-      by : (o : Option Step) → step_of_line line ≡ o → is_some o ≡ true → new ≡ told_onto old o → read_parts new.steps (parts_of rest) ≡ total
-      by None e found is = absurd cc
-      by (Some step) e found is =
-          let steps_are : new.steps ≡ steps ++ step ∷ [] = ap (λ (h : Told). h.steps) is ∙ ap (λ (ss : List Step). ss ++ step ∷ []) same in
-          rw steps_are (goes_on step e)
-
-  pub not_told : (old new : Told) → old.steps ≡ steps → is_some (step_of_line line) ≡ false → new ≡ told_onto old (step_of_line line) → total ≡ Err (length new.steps + 1)
-  not_told old new same found is = by (step_of_line line) refl found is
-    where
-      by : (o : Option Step) → step_of_line line ≡ o → is_some o ≡ false → new ≡ told_onto old o → total ≡ Err (length new.steps + 1)
-      by None e found is = let steps_are : new.steps ≡ steps = ap (λ (h : Told). h.steps) is ∙ same in rw steps_are (stops e)
-      by (Some step) e found is = absurd cc

@@ -1,3 +1,3 @@
+pub mod Forward
 pub mod Lines
 pub mod Reading
-pub mod Telling

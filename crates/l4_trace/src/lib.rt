@@ -1,9 +1,25 @@
-//! The lines of a trace, one for each step of a machine: written, and read back.
+//! Traces: the line of each step, written, and read back.
+//!
+//! `write_event` appends the one line of its step, `trace` those of a history. `read_events`
+//! answers the steps that a text spells, or its first faulty line, counted from 1. Contracts see
+//! lists of bytes and the model's steps: a text is the trace of one list of steps at most, and what
+//! is written is read back as the same steps. The keywords stand in one table, which reader and
+//! writer share.
+//!
+//! Whether the steps are possible is the audit's to say (`l4_audit`). Where memory is refused,
+//! `write_event` leaves no half line.
+//!
+//! ```rust
+//! let steps = read_events(alloc, b"wait 2.1\nlocal 1.1\n")?;
+//! let lines = trace(alloc, steps.as_slice())?;
+//! assert!(rt; lines.as_slice() == b"wait 2.1\nlocal 1.1\n".as_slice());
+//! ```
 #![tactic(auto)]
 
 pub mod fault;
 mod keywords;
 pub mod lines;
+pub mod reader;
 pub mod reading;
 mod steps;
 pub mod traces;

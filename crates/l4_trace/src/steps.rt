@@ -1,5 +1,5 @@
 //! The steps that lines spell.
-ghost use Rattle.std.specs.Prelude.{◌≡◌, ◌<◌, [], false, codes, length, is_some, MatchOption, None, Some};
+ghost use Rattle.std.specs.Prelude.{◌≡◌, ◌<◌, [], false, codes, length, MatchOption, None, Some};
 ghost use Rattle.std.specs.Option.{option_map};
 ghost use Rattle.std.specs.Str.{bytes_eq};
 ghost use Rattle.l4_model.specs.Words.{register_count};
@@ -7,14 +7,11 @@ ghost use Rattle.l4_model.specs.Steps.{Order as ModelOrder, Tick as ModelTick};
 ghost use Rattle.l4_types.specs.StepView.{seen, delivered as seen_delivery, what_of};
 ghost use Rattle.l4_words.specs.Words.{Finds};
 ghost use Rattle.l4_trace.specs.Reading.{message_words, delivered, delivery_of, what_of_word, order_of, tick_of, of_thread, of_name, step_behind, step_of_line};
-ghost use Rattle.l4_trace.specs.Telling.{told_onto};
 
 use crate::keywords::{DELIVER, by_keyword};
-use arrayvec::ArrayVec;
-use l4_history::history::History;
+use crate::reader::ReadWords;
 use l4_types::ids::GlobalId;
 use l4_types::message_ref::MessageRef;
-use l4_types::messages::MOST_WORDS;
 use l4_types::step_ref::{DeliveryRef, StepRef};
 use l4_types::steps::{Name, Step, Tick, What};
 use l4_types::tags::MsgTag;
@@ -30,9 +27,6 @@ const CANCEL_RECEIVE: &[u8] = b"R";
 const CANCEL_BOTH: &[u8] = b"SR";
 
 const DELETE: &[u8] = b"delete";
-
-/// The words of the last message that was read. One row serves all lines, since to make one costs more than to read a short line.
-pub(crate) type ReadWords = ArrayVec<u64, MOST_WORDS>;
 
 /// Reads the words of a message that are spelled behind its tag, at most 63, in the place of those that were read before.
 fn read_words(mut spelled: Words<'_>, words: &mut ReadWords) -> Option<()>
@@ -129,12 +123,10 @@ fn delivered(
     }
 }
 
-/// Tells what stands behind `deliver`.
+/// What stands behind `deliver`.
 #[tactic(auto, unfolding(crate::specs::Reading::delivery_of))]
-fn tell_delivery(operands: Words<'_>, words: &mut ReadWords, history: &mut History) -> Option<()>
-    requires { 0 < history.old.room }
-    ensures found { is_some result ≡ is_some (delivery_of operands.entry) }
-    ensures told { history.new ≡ told_onto history.old (delivery_of operands.entry) }
+fn delivery<'w>(operands: Words<'_>, words: &'w mut ReadWords) -> Option<DeliveryRef<'w>>
+    ensures { Finds seen_delivery result (delivery_of operands.entry) }
 {
     let (first, second, third, fourth, fifth, others) = operands.first_five()?;
     let name = name(first)?;
@@ -143,9 +135,7 @@ fn tell_delivery(operands: Words<'_>, words: &mut ReadWords, history: &mut Histo
     let actual = thread(fourth)?;
     let tag = hexadecimal(fifth)?;
     read_words(others, words)?;
-    let delivery = delivered(name, receiver, shown, actual, tag, words.as_slice())?;
-    history.push_delivery(&delivery);
-    Some(())
+    delivered(name, receiver, shown, actual, tag, words.as_slice())
 }
 
 // The step behind a word, by the row of its keyword.
@@ -164,40 +154,35 @@ macro_rules! read_rows {
 
 /// The step of a line that begins with this word, but a delivery.
 #[tactic(auto, unfolding(crate::specs::Reading::step_behind))]
-fn other_step(word: &[u8], operands: Words<'_>) -> Option<StepRef<'static>>
+fn other_step<'w>(word: &[u8], operands: Words<'_>) -> Option<StepRef<'w>>
     requires { bytes_eq word.now (codes "deliver") ≡ false }
     ensures { Finds seen result (step_behind word.now operands.entry) }
 {
     by_keyword!(read_rows(word, operands))
 }
 
-/// Tells the step of a line that begins with this word.
+/// The step of a line that begins with this word.
 #[tactic(auto, unfolding(crate::specs::Reading::step_behind))]
-fn tell_behind(
+fn step_behind<'w>(
     word: &[u8],
     operands: Words<'_>,
-    words: &mut ReadWords,
-    history: &mut History,
-) -> Option<()>
-    requires { 0 < history.old.room }
-    ensures found { is_some result ≡ is_some (step_behind word.now operands.entry) }
-    ensures told { history.new ≡ told_onto history.old (step_behind word.now operands.entry) }
+    words: &'w mut ReadWords,
+) -> Option<StepRef<'w>>
+    ensures { Finds seen result (step_behind word.now operands.entry) }
 {
     if word == DELIVER {
-        return tell_delivery(operands, words, history);
+        return Some(Step::Deliver(delivery(operands, words)?));
     }
-    history.push(other_step(word, operands)?);
-    Some(())
+    other_step(word, operands)
 }
 
-/// Tells the step that a line without its end spells. None where it spells none, and then nothing is told.
+/// The step that a line without its end spells. The words of its message are read into `words`, in
+/// the place of those before.
 #[tactic(auto, unfolding(crate::specs::Reading::step_of_line))]
-pub(crate) fn tell_line(line: &[u8], words: &mut ReadWords, history: &mut History) -> Option<()>
-    requires { 0 < history.old.room }
-    ensures found { is_some result ≡ is_some (step_of_line line.now) }
-    ensures told { history.new ≡ told_onto history.old (step_of_line line.now) }
+pub(crate) fn step_of_line<'w>(line: &[u8], words: &'w mut ReadWords) -> Option<StepRef<'w>>
+    ensures { Finds seen result (step_of_line line.now) }
 {
     let mut operands = Words::of(line);
     let word = operands.next()?;
-    tell_behind(word, operands, words, history)
+    step_behind(word, operands, words)
 }

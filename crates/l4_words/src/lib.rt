@@ -1,7 +1,19 @@
-//! Lines and their words, and the numbers, threads and names of sends that words spell, read and written: what all texts of a machine have in
-//! common.
+//! What the texts of a machine have in common: lines, their words, and the numbers, threads and
+//! names that words spell.
 //!
-//! No call of this crate but those of `spelling` takes memory.
+//! A word is read exactly where it spells a value, and each value is written as one word, which is
+//! read as that value again. Contracts see lists of bytes: `Words::of(line)` is the words between
+//! its spaces, `decimal(word)` the number that they spell. `pieces` fills a line from its end, so
+//! no digit is moved; `spelling` appends to a string.
+//!
+//! Only the calls of `spelling` take memory. That reading is fast is measured (docs/BENCHMARKS.md),
+//! in no clause.
+//!
+//! ```rust
+//! let mut words = Words::of(b"deliver 1.1#1 2.1");
+//! assert!(rt; words.next() == Some(b"deliver".as_slice()));
+//! assert!(rt; decimal(b"007").is_none() && hexadecimal(b"70001") == Some(0x70001));
+//! ```
 #![tactic(auto)]
 
 pub mod digits;

@@ -1,4 +1,18 @@
-//! The program `l4run`: runs machine texts and prints what happened, and audits what is said to have happened.
+//! The program `l4run`: hands the words of its command line and the system's streams to `l4_jobs`,
+//! and answers the exit status.
+//!
+//! It runs machine texts and prints what happened, and audits what is said to have happened. What
+//! is printed for which words is proved in `l4_jobs`. Here stands what needs a system: arguments
+//! that are not UTF-8 are refused with status 2, and refused memory is reported.
+//!
+//! No contract says what the system's files and streams do. `.ci/command-lines` tries them with the
+//! built program: a full device, a closed pipe, a folder for a file.
+//!
+//! ```text
+//! l4run run examples/first.l4
+//! l4run replay examples/first.l4 --schedule 0,0,0 --report
+//! l4run audit examples/first.l4 examples/first.trace
+//! ```
 #![tactic(auto)]
 
 use l4_jobs::fault::{Fault, report};
@@ -56,33 +70,4 @@ fn run_program<R: Files + Env + AllocGlobal + Threads + Sync, W: Sink, E: Sink>(
 
 fn main(rt: HostRuntime) -> ExitCode {
     ExitCode::from(run_program(&rt, &mut rt.stdout(), &mut rt.stderr()))
-}
-
-#[cfg(test)]
-mod tests {
-    use super::*;
-    use std::process::Abort;
-
-    // Tests that what the words ask for is refused with this line.
-    fn is_refused<R: Files + AllocGlobal + Threads + Sync + Abort>(
-        rt: &R,
-        words: &[&str],
-        line: &str,
-    ) {
-        let mut out = Vec::new(rt.alloc());
-        let mut faults = Vec::new(rt.alloc());
-        let status = on_words(rt, words, &mut out, &mut faults);
-        assert_eq!(rt; status, 1);
-        assert_eq!(rt; out.as_slice(), b"".as_slice());
-        assert_eq!(rt; faults.as_slice(), line.as_bytes());
-    }
-
-    #[test]
-    fn a_file_that_is_not_there_is_reported_by_its_name(rt: HostRuntime) {
-        let line = "l4run: cannot read no/such/file.l4\n";
-        is_refused(&rt, &["l4run", "run", "no/such/file.l4"], line);
-        // The machine text is opened before the trace.
-        let words = ["l4run", "audit", "no/such/file.l4", "no/such/trace"];
-        is_refused(&rt, &words, line);
-    }
 }

@@ -1,11 +1,27 @@
-//! The blocks of one processor in linked rings: for each block the sends that wait at it, the ready blocks, and those
-//! that are armed for a deadline.
+//! The lists of one processor, in linked rings: the sends that wait at each block, the ready
+//! blocks, and those armed for a deadline.
 //!
-//! No call but `Arena::new` takes memory. `Arena::first_accepted` looks at the sends before the one that it finds. `Arena::first_due`,
-//! `Arena::pop_due` and `Arena::least_deadline` look for the first armed block, but only where an earlier call has not left it, and the first two
-//! only once a deadline may be past. Armed blocks stand in 64 rings by the remainders of their deadlines; the look goes over the rings that have a
-//! block, and over the blocks of those where one may be earlier than the best so far. These are few where the deadlines have many remainders, and all
-//! armed blocks where they have one. Every other call takes the same few steps whatever stands in the lists.
+//! A *block* is a thread's place, a number from 0. Each call acts on plain lists in its contract,
+//! with their order; no link shows. A block waits in one list at most, and stands once at most
+//! among the ready and among the armed ones. `queue_send`, `push_ready` and `arm` ask for a block
+//! that is not there yet. The calls of `Wheel` say besides what becomes of each of its 64 rings.
+//!
+//! No call but `Arena::new` takes memory. How long a call takes is measured, in no clause:
+//!
+//! - `first_accepted` looks at the sends before the one that it finds;
+//! - `first_due`, `pop_due` and `least_deadline` look for the first armed block only where no
+//!   earlier call has left it, `first_due` and `pop_due` only once a deadline may be past. They go
+//!   over the rings that have a block, and over the blocks of those where one may be earlier than
+//!   the best so far: few where the deadlines have many remainders by 64, all armed ones where they
+//!   have one;
+//! - every other call takes the same few steps whatever stands in the lists.
+//!
+//! ```rust
+//! let mut arena = Arena::new(alloc, 2)?;
+//! arena.queue_send(1, Waiting { block: 0, shown: sender, local: true });
+//! assert!(rt; arena.first_accepted(1, &ThreadId::ANY) == Some(0));
+//! arena.unqueue_send(0);
+//! ```
 #![tactic(auto)]
 
 ghost use Rattle.std.specs.Prelude.{◌≡◌, ◌<◌, false, length, map, slice_get, All, IfOk, IfSome};

@@ -6,6 +6,7 @@ use Rattle.l4_merge.proofs.Ticking.{ends_ticked}
 use Rattle.l4_merge.proofs.ClocksOfEvents.{turned_clock}
 use Rattle.l4_merge.proofs.Permuted.{permuted}
 use Rattle.l4_merge.proofs.InRounds.{is_core_run}
+use Rattle.l4_merge.proofs.Shares.{at_most}
 use Rattle.l4_merge.proofs.CoreRuns.{stays_core_run}
 use Rattle.l4_merge.proofs.Rest.{rests, rested}
 use Rattle.l4_merge.proofs.law_merge.Goals as goal
@@ -42,6 +43,9 @@ returns-clause-permuted c = permuted
 
 pub returns-clause-in_rounds : goal.returns-clause-in_rounds
 returns-clause-in_rounds c = is_core_run
+
+pub returns-clause-shares : goal.returns-clause-shares
+returns-clause-shares c = at_most
 
 pub returns-clause-core_run : goal.returns-clause-core_run
 returns-clause-core_run c = stays_core_run

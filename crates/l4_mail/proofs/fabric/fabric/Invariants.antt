@@ -2,4 +2,4 @@ use Rattle.l4_mail.specs.Fabrics.{AreMembers}
 use Rattle.l4_mail.proofs.fabric.fabric.Given as goal
 
 abbrev pub invariant-loop-cpu : goal.invariant-loop-cpu
-invariant-loop-cpu l = AreMembers l.cpu l.ports.items
+invariant-loop-cpu l = AreMembers l.fn.room l.cpu l.ports.items

@@ -16,20 +16,20 @@ pub returns-then-ne-clause-worked : goal.returns-then-ne-clause-worked
 returns-then-ne-clause-worked g c =
     let e = c.work-stop.ensures in
     looks_more c.args.processor.now c.loop.processor c.work-stop.new.self c.work-stop.result c.loop.invariant.worked c.loop.invariant.idle
-    (record { on = e.on; turned = e.turned; least = e.least; most = e.most; used = e.used; ticks = e.ticks; stopped = e.stopped; nothing = e.nothing }) e.stop
+    (record { on = e.on; turned = e.turned; least = e.least; most = e.most; used = e.used; ticks = e.ticks; stopped = e.stopped; nothing = e.nothing; first = e.first; hand = e.hand }) e.stop
 
 pub returns-then-last_looks-eq-LAST_LOOKS-clause-worked : goal.returns-then-last_looks-eq-LAST_LOOKS-clause-worked
 returns-then-last_looks-eq-LAST_LOOKS-clause-worked g c =
     let e = c.work-stop.ensures in
     looks_more c.args.processor.now c.loop.processor c.work-stop.new.self c.work-stop.result c.loop.invariant.worked c.loop.invariant.idle
-    (record { on = e.on; turned = e.turned; least = e.least; most = e.most; used = e.used; ticks = e.ticks; stopped = e.stopped; nothing = e.nothing }) e.stop
+    (record { on = e.on; turned = e.turned; least = e.least; most = e.most; used = e.used; ticks = e.ticks; stopped = e.stopped; nothing = e.nothing; first = e.first; hand = e.hand }) e.stop
 
 pub loop-preserved : goal.loop-preserved
 loop-preserved g c =
     let e = c.work-stop.ensures in
     record {
       worked = looks_more c.args.processor.now c.loop.processor c.work-stop.new.self c.work-stop.result c.loop.invariant.worked c.loop.invariant.idle
-          (record { on = e.on; turned = e.turned; least = e.least; most = e.most; used = e.used; ticks = e.ticks; stopped = e.stopped; nothing = e.nothing }) e.stop;
+          (record { on = e.on; turned = e.turned; least = e.least; most = e.most; used = e.used; ticks = e.ticks; stopped = e.stopped; nothing = e.nothing; first = e.first; hand = e.hand }) e.stop;
       idle = e.stop ∙ same_true the_type (search rules) _ _ (is_true _ c.if-ne.ensures);
       few = elim c.if-load-gt0.branch [
         | then-load-gt0 w ↦ (let z = w.last_looks-is in omega arith)

@@ -19,7 +19,7 @@ loop-processor-preserved g c =
     let some = some_left c.args.turns c.loop-processor.left c.args.processor.now c.loop-processor.processor i.worked idle i.left in
     record {
       worked = looked_and_worked c.args.turns c.loop-processor.left c.args.processor.now c.loop-processor.processor c.look_on.new.processor
-          c.take_turns-left.new.processor i.worked c.look_on.ensures.worked found i.left some _ (omega arith) c.take_turns-left.ensures.worked;
+          c.take_turns-left.new.processor i.worked c.look_on.ensures.worked found idle i.left some _ (omega arith) c.take_turns-left.ensures.worked;
       left =
           let one = c.look_on.ensures.worked.used.0 found in
           let count = c.take_turns-left.ensures.count in

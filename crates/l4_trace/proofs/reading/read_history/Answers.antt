@@ -1,14 +1,25 @@
-use Rattle.std.proofs.Common.{sym}
-use Rattle.l4_trace.specs.Reading.{steps_of}
-use Rattle.l4_words.specs.Lines.{parts_of}
-use Rattle.l4_trace.proofs.ReadingLines.{told, not_told}
+use Rattle.std.proofs.lemmas.Result.{err_from_is_err_and}
+use Rattle.l4_types.specs.StepView.{seen}
+use Rattle.l4_trace.specs.Forward.{Ahead}
+use Rattle.l4_trace.proofs.ReadingOn.{one_more, ended, next_line, none_left, line_faulty}
 use Rattle.l4_trace.proofs.reading.read_history.Goals as goal
 
-pub returns-in-None : goal.returns-in-None
-returns-in-None c =
-    rw c.fault_behind.ensures
-    (not_told c.in-Some.line.now c.in-Some.others.now (parts_of c.lines.rest.now) c.lines.history.steps (steps_of c.args.text.now) c.in-Some.ensures.parts c.lines.invariant c.reserve.new.self c.tell_line.new.history c.in_ok-reserve.ensures.steps (sym c.in-None.ensures.found) c.in-None.ensures.told)
+pub returns-in_err-step : goal.returns-in_err-step
+returns-in_err-step c =
+    let p = err_from_is_err_and c.from_residual.result c.from_residual.ensures.1 in
+    let l = c.steps in
+    let e = c.in_err-step.ensures in
+    rw (p.1, p.2, e.0) (line_faulty c.args.text.now l.reader l.history.steps l.invariant e.1)
 
-pub lines-preserved : goal.lines-preserved
-lines-preserved c =
-    told c.in-Some.line.now c.in-Some.others.now (parts_of c.lines.rest.now) c.lines.history.steps (steps_of c.args.text.now) c.in-Some.ensures.parts c.lines.invariant c.reserve.new.self c.tell_line.new.history c.in_ok-reserve.ensures.steps (sym c.in-Some-tell_line.ensures.found) c.in-Some-tell_line.ensures.told
+pub steps-preserved : goal.steps-preserved
+steps-preserved c =
+    let l = c.steps in
+    let from : Ahead = record { read = 0; rest = c.args.text.now } in
+    rw (c.push.ensures, c.in_ok-reserve.ensures.steps)
+    (one_more from l.reader c.next.new.self l.history.steps (seen c.in-Some.step) l.invariant (next_line l.reader c.next.new.self c.in_ok-step.field-0 c.in-Some.step c.in_ok-step.ensures c.in-Some.is))
+
+pub returns : goal.returns
+returns c =
+    let l = c.steps in
+    let from : Ahead = record { read = 0; rest = c.args.text.now } in
+    ended from l.reader l.history.steps l.invariant (none_left l.reader c.next.new.self c.in_ok-step.field-0 c.in_ok-step.ensures c.in_default.is)

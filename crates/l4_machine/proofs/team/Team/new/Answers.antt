@@ -1,5 +1,6 @@
 use Rattle.std.proofs.Common.{◌∙◌, arith}
 use Rattle.l4_core_model.specs.Runs.{opening_run}
+use Rattle.l4_merge.proofs.InRounds.{opening_in_rounds}
 use Rattle.l4_machine.proofs.Members.{assembled_in_order, in_order_all}
 use Rattle.l4_machine.proofs.Opened.{come_same, opening_come, opening_count}
 use Rattle.l4_machine.proofs.Turned.{count_same}
@@ -18,6 +19,7 @@ returns-clause-team c =
       run = opening_run m;
       come = come_same m c.in_ok-processors.processors.items c.come_to_rest.new.processors.items (opening_run m) e.same e.one
           (opening_come m c.in_ok-processors.processors.items c.in_ok-processors.ensures);
+      rounds = opening_in_rounds m c.args.turns;
       whole = e.whole;
       handled = e.handled;
     }

@@ -6,7 +6,7 @@ loop-done-init g c =
     let fresh = c.requires.fresh in
     let some = c.cpus.ensures.some in
     let value = c.cpus.ensures.value in
-    record { team = c.requires.team; machine = refl; fewer = omega arith; some = omega arith }
+    record { team = c.requires.team; machine = refl; turns = refl; fewer = omega arith; some = omega arith }
 
 pub events-requires : goal.events-requires
 events-requires g c =

@@ -6,6 +6,7 @@ abbrev pub invariant-loop-done : goal.invariant-loop-done
 invariant-loop-done g l = record {
   team : IsTeam l.self;
   machine : l.self.machine ≡ l.fn.self.machine;
-  fewer : count_events l.self.processors.items < l.turns + l.fn.self.machine.now.cpus;
+  turns : l.self.turns ≡ l.fn.self.turns;
+  fewer : count_events l.self.processors.items < l.fn.self.turns + l.fn.self.machine.now.cpus;
   some : l.done ≤ count_events l.self.processors.items;
 }

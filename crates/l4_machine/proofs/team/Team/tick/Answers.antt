@@ -5,7 +5,7 @@ use Rattle.std.proofs.lemmas.Result.{on_ok_weaker}
 use Rattle.l4_core_model.specs.Schedules.{ticks}
 use Rattle.l4_mail.specs.Ports.{AreWhole}
 use Rattle.l4_machine.proofs.Founds.{count_is}
-use Rattle.l4_machine.proofs.Ticked.{all_come, all_counted, handled_same, more_ticked, ports_same, ticks_come}
+use Rattle.l4_machine.proofs.Ticked.{all_come, all_counted, handled_same, more_ticked, ports_same, tick_in_rounds, ticks_come}
 use Rattle.l4_machine.proofs.Turned.{can_stamp_here}
 use Rattle.l4_machine.proofs.team.Team.tick.Goals as goal
 
@@ -31,6 +31,8 @@ returns-clause-team c =
       run = ticks m r;
       come = ticks_come m c.args.deadline olds.items news r c.requires.team.come c.requires.team.whole c.requires.idle.0 c.requires.idle.1 c.requires.first
           c.requires.near come;
+      rounds = tick_in_rounds m c.args.self.now.turns olds.items r c.requires.team.rounds c.requires.team.come c.requires.team.whole c.requires.idle.0
+          c.requires.idle.1;
       whole = subst AreWhole (sym (ports_same c.args.deadline olds.items news come)) c.requires.team.whole;
       handled = (λ all. handled_same c.args.deadline olds.items news come c.requires.idle.1, λ all. c.requires.team.handled.1 c.requires.idle.1);
     })

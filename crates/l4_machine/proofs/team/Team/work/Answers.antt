@@ -1,11 +1,10 @@
 use Rattle.std.proofs.Common.{◌≡◌, ◌≢◌, ◌⊎◌, ◌-◌, ℕ, Some, ap, sym, subst, arith}
 use Rattle.std.specs.Prelude.{slice_get}
-use Rattle.l4_merge.proofs.InRounds.{is_core_run}
 use Rattle.l4_proc.specs.declared.processor.Processor.{Processor}
 use Rattle.l4_proc.specs.declared.stops.Stop.TheVariants as stop
 use Rattle.l4_machine.proofs.Founds.{count_is}
 use Rattle.l4_machine.proofs.Members.{in_order_all}
-use Rattle.l4_machine.proofs.Turned.{mids_are_one, mids_in_order, no_fault, round_come, round_fewer, round_more, round_of}
+use Rattle.l4_machine.proofs.Turned.{mids_are_one, mids_in_order, no_fault, round_come, round_fewer, round_in_rounds, round_more, round_of}
 use Rattle.l4_machine.proofs.team.Team.work.Goals as goal
 
 pub come_to_rest-requires-clause-one : goal.come_to_rest-requires-clause-one
@@ -29,15 +28,15 @@ check_stops-requires g c =
     c.as_mut_slice.ensures.value c.as_mut_slice.ensures.len c.work_together.ensures e.same e.one e.whole in
     let next = round_come m c.share-share.result olds.items c.work_together.new.processors c.come_to_rest.new.processors.items c.requires.team.run
     c.requires.team.come round in
-    let few = round_fewer m c.args.turns c.share-share.result _ _ olds.items c.work_together.new.processors c.come_to_rest.new.processors.items
-    c.requires.team.come.in_order round c.requires.left (ap (λ n. c.args.turns - n) c.events.ensures) c.cpus.ensures.value c.share-share.ensures.fewer in
+    let few = round_fewer m c.args.self.now.turns c.share-share.result _ _ olds.items c.work_together.new.processors c.come_to_rest.new.processors.items
+    c.requires.team.come.in_order round c.requires.left (ap (λ n. c.args.self.now.turns - n) c.events.ensures) c.cpus.ensures.value c.share-share.ensures.fewer in
     let value = c.cpus.ensures.value in
     let count = count_is m c.come_to_rest.new.processors.items next.run next.come in
     let limit = c.cpus.ensures.limit in
     let most = c.requires.few in
     subst (λ ps. (i : ℕ) (p : Processor) → slice_get ps i ≡ Some p → (p.worker.stop ≢ stop.Mail) × (p.worker.stop ≢ stop.Stamp)) (sym c.as_slice.ensures.value)
     (no_fault m c.share-share.result olds.items c.work_together.new.processors c.come_to_rest.new.processors.items next.run round next.come
-    (c.law_core_run.ensures.lawful m next.run c.cpus.ensures.lawful (is_core_run m next.run next.come.rounds)) (omega arith))
+    (c.law_core_run.ensures.lawful m next.run c.cpus.ensures.lawful next.come.core_run) (omega arith))
 
 pub returns-clause-team : goal.returns-clause-team
 returns-clause-team g c =
@@ -48,7 +47,11 @@ returns-clause-team g c =
     c.as_mut_slice.ensures.value c.as_mut_slice.ensures.len c.work_together.ensures e.same e.one e.whole in
     let next = round_come m c.share-share.result olds.items c.work_together.new.processors c.come_to_rest.new.processors.items c.requires.team.run
     c.requires.team.come round in
-    record { run = next.run; come = next.come; whole = e.whole; handled = e.handled }
+    let count = count_is m olds.items c.requires.team.run c.requires.team.come in
+    let rounds = round_in_rounds m c.args.self.now.turns c.share-share.result _ _ olds.items c.work_together.new.processors c.come_to_rest.new.processors.items
+    c.requires.team.run c.requires.team.rounds c.requires.team.come round (ap (λ n. c.args.self.now.turns - n) c.events.ensures) count c.cpus.ensures.value
+    c.share-share.ensures.fewer in
+    record { run = next.run; come = next.come; rounds = rounds; whole = e.whole; handled = e.handled }
 
 pub returns-clause-more : goal.returns-clause-more
 returns-clause-more g c =
@@ -58,8 +61,8 @@ returns-clause-more g c =
     let e = c.in_ok-all_handled.ensures in
     let round = round_of m c.share-share.result olds c.as_mut_slice.result.now c.work_together.new.processors news
     c.as_mut_slice.ensures.value c.as_mut_slice.ensures.len c.work_together.ensures e.same e.one e.whole in
-    round_more m c.args.turns c.share-share.result _ _ olds.items c.work_together.new.processors news round c.requires.left
-    (ap (λ n. c.args.turns - n) c.events.ensures) c.share-share.ensures.all c.requires.busy
+    round_more m c.args.self.now.turns c.share-share.result _ _ olds.items c.work_together.new.processors news round c.requires.left
+    (ap (λ n. c.args.self.now.turns - n) c.events.ensures) c.share-share.ensures.all c.requires.busy
     (subst (λ ps. (i : ℕ) (p : Processor) → slice_get ps i ≡ Some p → (p.worker.stop ≡ stop.Used) ⊎ (p.worker.stop ≡ stop.Idle)) c.as_slice.ensures.value
     c.in_ok-check_stops.ensures)
 
@@ -71,5 +74,5 @@ returns-clause-fewer g c =
     let e = c.in_ok-all_handled.ensures in
     let round = round_of m c.share-share.result olds c.as_mut_slice.result.now c.work_together.new.processors news
     c.as_mut_slice.ensures.value c.as_mut_slice.ensures.len c.work_together.ensures e.same e.one e.whole in
-    round_fewer m c.args.turns c.share-share.result _ _ olds.items c.work_together.new.processors news c.requires.team.come.in_order round c.requires.left
-    (ap (λ n. c.args.turns - n) c.events.ensures) c.cpus.ensures.value c.share-share.ensures.fewer
+    round_fewer m c.args.self.now.turns c.share-share.result _ _ olds.items c.work_together.new.processors news c.requires.team.come.in_order round c.requires.left
+    (ap (λ n. c.args.self.now.turns - n) c.events.ensures) c.cpus.ensures.value c.share-share.ensures.fewer

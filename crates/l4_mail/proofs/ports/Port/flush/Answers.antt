@@ -1,10 +1,20 @@
-use Rattle.std.proofs.Common.{refl}
+use Rattle.std.proofs.Common.{◌<◌, ◌≤◌, length, refl, arith}
 use Rattle.l4_mail.proofs.Rows.{set_as_before}
-use Rattle.l4_mail.proofs.Whole.{outlets_changed}
+use Rattle.l4_mail.proofs.Whole.{outlets_changed, moved_before, all_moved}
 use Rattle.l4_mail.proofs.ports.Port.flush.Goals as goal
 
 pub loop-end-preserved : goal.loop-end-preserved
-loop-end-preserved c = set_as_before _ _ _ _ c.end-item.result c.flush.ensures.ring c.flush.ensures.posted c.flush.ensures.room c.loop-end.invariant
+loop-end-preserved c =
+    let lt : c.loop-end.end-index < length c.loop-end.end-items = (let t = c.loop-end-test.true in let e = c.loop-end.auto.end-items in omega arith) in
+    record {
+      same = set_as_before _ _ _ _ c.end-item.result c.flush.ensures.ring c.flush.ensures.posted c.flush.ensures.room c.loop-end.invariant.same;
+      moved = moved_before _ _ _ lt c.flush.ensures.moved c.loop-end.invariant.moved;
+    }
 
-pub returns : goal.returns
-returns c = record { same = outlets_changed _ _ _ refl refl refl c.loop-end.invariant }
+pub returns-clause-same : goal.returns-clause-same
+returns-clause-same c = outlets_changed _ _ _ refl refl refl c.loop-end.invariant.same
+
+pub returns-clause-moved : goal.returns-clause-moved
+returns-clause-moved c =
+    let le : length c.loop-end.end-items ≤ c.loop-end.end-index = (let t = c.loop-end-test.false in let e = c.loop-end.auto.end-items in omega arith) in
+    all_moved c.args.self.now _ _ c.loop-end.invariant.same c.loop-end.invariant.moved le

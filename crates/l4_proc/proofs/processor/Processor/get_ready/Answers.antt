@@ -1,6 +1,6 @@
 use Rattle.std.proofs.Common.{◌∙◌, refl, subst, sym}
 use Rattle.l4_proc.proofs.Logging.{begun_closed}
-use Rattle.l4_proc.proofs.Readying.{as_before_then, next_taken, readied_empty, readied_full, readied_idle, whole_kept, whole_next}
+use Rattle.l4_proc.proofs.Readying.{as_before_then, next_taken, no_letter, readied_empty, readied_full, readied_idle, whole_kept, whole_next}
 use Rattle.l4_proc.specs.Working.{IsReady}
 use Rattle.l4_proc.proofs.processor.Processor.get_ready.Goals as goal
 use Rattle.l4_proc.proofs.processor.Processor.get_ready.Goals.{else-is_none-via-then-is_none+else-has_mail, else-is_none-via-else-is_none}
@@ -28,7 +28,17 @@ returns-then-has_mail-clause-ok c =
     let flush = as_before_then _ _ _ c.flush.ensures.same c.has_mail.ensures.same in
     let next = next_taken _ _ _ c.take-self.ensures.some c.take-self.ensures.none c.take-self.ensures.kept in
     let is = readied_empty _ _ _ _ _ _ c.if-is_none.ensures c.reserve.ensures.same c.in_ok-reserve.ensures.room flush next in
-    record { core = refl; place = is.place; posted = is.posted; handled = is.handled; log = c.in_ok-begin.ensures.ok; room = is.room; kept = is.kept; had = is.had }
+    record {
+      core = refl;
+      place = is.place;
+      posted = is.posted;
+      handled = is.handled;
+      log = c.in_ok-begin.ensures.ok;
+      room = is.room;
+      kept = is.kept;
+      had = is.had;
+      hand = no_letter _ _ c.if-is_none.ensures;
+    }
 
 pub returns-else-is_none-clause-ok : goal.returns-else-is_none-clause-ok
 returns-else-is_none-clause-ok c = elim c.else-is_none.branch [
@@ -37,9 +47,9 @@ returns-else-is_none-clause-ok c = elim c.else-is_none.branch [
       let is = readied_idle _ _ _ _ w.if-is_none.ensures c.reserve.ensures.same c.in_ok-reserve.ensures.room flush
       (λ from. w.has_mail.ensures.same.kept from ∙ w.has_mail.ensures.none w.if-has_mail.false from) in
       subst (IsReady c.args.self.now) (sym w.self-is)
-      (record { core = refl; place = is.place; posted = is.posted; handled = is.handled; log = c.in_ok-begin.ensures.ok; room = is.room; kept = is.kept; had = is.had })
+      (record { core = refl; place = is.place; posted = is.posted; handled = is.handled; log = c.in_ok-begin.ensures.ok; room = is.room; kept = is.kept; had = is.had; hand = λ x e. e })
   | else-is_none-via-else-is_none w ↦
       let is = readied_full _ _ _ _ w.if-is_none.ensures c.reserve.ensures.same c.in_ok-reserve.ensures.room c.flush.ensures.same in
       subst (IsReady c.args.self.now) (sym w.self-is)
-      (record { core = refl; place = is.place; posted = is.posted; handled = is.handled; log = c.in_ok-begin.ensures.ok; room = is.room; kept = is.kept; had = is.had })
+      (record { core = refl; place = is.place; posted = is.posted; handled = is.handled; log = c.in_ok-begin.ensures.ok; room = is.room; kept = is.kept; had = is.had; hand = λ x e. e })
 ]

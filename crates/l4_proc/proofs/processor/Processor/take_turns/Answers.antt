@@ -7,7 +7,7 @@ loop-init g c = (taken_none c.args.self.now, λ is. refl)
 
 pub loop-preserved : goal.loop-preserved
 loop-preserved g c = (
-  taken_more c.loop.counter 1 c.args.self.now c.loop.self c.take_turn.new.self c.loop.invariant.0 c.in_default.ensures.ok,
+  taken_more c.loop.counter 1 c.args.self.now c.loop.self c.take_turn.new.self c.loop.invariant.1 c.loop.invariant.0 c.in_default.ensures.ok,
   λ is. absurd (omega arith),
 )
 

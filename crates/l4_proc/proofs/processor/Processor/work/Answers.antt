@@ -14,3 +14,8 @@ returns-clause-on g c =
 
 pub returns-clause-stopped : goal.returns-clause-stopped
 returns-clause-stopped g c = still_stopped c.take_turns-stop.new.self _ _ refl refl refl c.take_turns-stop.ensures.stopped
+
+pub returns-clause-first : goal.returns-clause-first
+returns-clause-first g c =
+    let mail = c.take_turns-stop.ensures.first in
+    record { turned = mail.turned; many = mail.many; first = mail.first }

@@ -1,0 +1,14 @@
+-- What the clauses of the calls cite that this crate passes on.
+pub use Rattle.l4_model.specs.History
+pub use Rattle.l4_model.specs.Machine
+pub use Rattle.l4_model.specs.Steps
+pub use Rattle.l4_model.specs.World
+pub use Rattle.l4_types.specs.ReportView
+pub use Rattle.l4_types.specs.StepView
+pub use Rattle.l4_script.specs.Texts
+pub use Rattle.l4_machine.specs.Entries
+pub use Rattle.l4_machine.specs.Outcomes
+pub use Rattle.l4_audit.specs.Audits
+pub use Rattle.l4_trace.specs.Lines
+pub use Rattle.l4_trace.specs.Reading
+pub use Rattle.l4_round_trips.specs.RoundTrips

@@ -1,0 +1,49 @@
+//! An emulator of the L4 X.2 Ipc system call, for tests of servers: what a caller needs of the
+//! other crates, under one name.
+//!
+//! A machine text declares threads with their scripts, and `Machine::parse` reads it. `run` lets
+//! its processors work on host threads, `replay` in the order of a schedule. Both answer an
+//! `Outcome`: the history, the sends that wait, what each thread has come to, and whether anything
+//! was left to do. `trace` and `read_events` write a history and read it, `check` judges whether
+//! steps are a history at all.
+//!
+//! Contracts see the definitions of the model (docs/MODEL.md). An outcome's history is one of the
+//! machine, with the laws that hold of all, and `check` is Ok for histories alone. Which history a
+//! run of several processors takes is up to the host. The crate has no code of its own, and its
+//! `specs` pass on what these contracts cite. A server is asked like this (the whole
+//! of it is `crates/l4_host_tests/src/server.rt`):
+//!
+//! ```rust
+//! let machine = Machine::parse(alloc, text)?;
+//! let outcome = run(&rt, alloc, &machine, 1_000, &Open)?;
+//! assert!(rt; outcome.ending == Ending::Quiet && outcome.waiting.is_empty());
+//! assert!(rt; outcome.threads[0].regs.words[1] == 105); // the server's answer
+//! ```
+#![tactic(auto)]
+
+// Machine texts.
+pub use l4_script::instructions::{Instr, Ipc, Register, Source, To};
+pub use l4_script::machine::{Declaration, MOST_INSTRUCTIONS, MOST_THREADS, Machine};
+pub use l4_script::text::{MOST_BYTES, TextFault, TextFaultKind};
+pub use l4_types::times::Period;
+
+// Runs and replays.
+pub use l4_machine::{Entry, MOST_ENTRIES, MOST_TURNS, Outcome, RunFault, replay, run};
+pub use l4_proc::gate::{Gate, Open};
+pub use l4_types::reports::{Ending, State, ThreadView};
+
+// Audits.
+pub use l4_audit::audit::{Audit, AuditFault, check};
+pub use l4_round_trips::{AuditedOutcome, audited_replay, audited_run};
+
+// Steps and their traces.
+pub use l4_trace::fault::TraceFault;
+pub use l4_trace::lines::write_event;
+pub use l4_trace::reading::read_events;
+pub use l4_trace::traces::trace;
+pub use l4_types::errors::{IpcError, NoMemory};
+pub use l4_types::ids::{GlobalId, Kind, ThreadId};
+pub use l4_types::messages::{MOST_WORDS, Message};
+pub use l4_types::registers::{MESSAGE_REGISTERS, Regs};
+pub use l4_types::steps::{Delivery, Name, Step, Tick, What};
+pub use l4_types::tags::{MsgTag, TagFault};

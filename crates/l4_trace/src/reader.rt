@@ -1,0 +1,107 @@
+//! The text of a trace that is read forward, one step after another.
+ghost use Rattle.std.specs.Prelude.{◌≡◌, ◌<◌, ◌+◌, ◌∷◌, [], length};
+ghost use Rattle.l4_words.specs.Lines.{parts_of};
+ghost use Rattle.l4_trace.specs.declared.fault.TraceFault.TheVariants.{Line};
+ghost use Rattle.l4_trace.specs.Forward.{ReadsNext, ReadsOn};
+
+use crate::fault::TraceFault;
+use crate::steps::step_of_line;
+use arrayvec::ArrayVec;
+use l4_types::messages::MOST_WORDS;
+use l4_types::step_ref::StepRef;
+use l4_words::lines::split_line;
+use std::marker::Model;
+
+/// Where the words of a message are read, at most 63. One serves all lines, since to make one costs
+/// more than to read a short line.
+pub type ReadWords = ArrayVec<u64, MOST_WORDS>;
+
+/// Reads the text of a trace line by line, and keeps nothing of what it has read but the number of
+/// lines. It takes no memory.
+#[derive(Drop)]
+pub struct Reader<'t> {
+    // What stands behind the lines that were read.
+    rest: &'t [u8],
+    read: usize,
+}
+
+impl<'t> Model for Reader<'t> {
+    ghost use Rattle.std.specs.Prelude.{◌+◌, ◌<◌, ◌^◌, length};
+    ghost use Rattle.l4_trace.specs.Forward.{Ahead};
+
+    ghost Value = { Ahead };
+
+    ghost view = { λ r. record { read = r.read; rest = r.rest.now } };
+
+    ghost invariant = { λ r. r.read + length r.rest.now < 2 ^ 64 };
+}
+
+impl<'t> Reader<'t> {
+    /// A reader before the first line of a text.
+    pub fn of(text: &'t [u8]) -> Reader<'t>
+        ensures { result ≡ record { read = 0; rest = text.now } }
+    {
+        Reader {
+            rest: text,
+            read: 0,
+        }
+    }
+
+    /// How many lines it has read, each that of a step.
+    pub fn count(&self) -> usize
+        ensures { result ≡ self.now.read }
+    {
+        self.read
+    }
+
+    /// The step of the next line, or None behind the last one. The words of its message are read
+    /// into `words`, in the place of those before.
+    ///
+    /// `Line`: the next line, counted from 1 for the first of the text, is the line of no step, or
+    /// has no line end. Then the reader stays before it.
+    pub fn next<'w>(&mut self, words: &'w mut ReadWords) -> Result<Option<StepRef<'w>>, TraceFault>
+        ensures { ReadsNext self.old result self.new }
+    {
+        let Some((line, others)) = split_line(self.rest) else {
+            return self.end();
+        };
+        let Some(step) = step_of_line(line, words) else {
+            return Err(self.fault());
+        };
+        self.rest = others;
+        self.read += 1;
+        Ok(Some(step))
+    }
+
+    /// Reads on to the end of the text, for its faults alone: those of `next`.
+    pub fn read_on(self) -> Result<(), TraceFault>
+        ensures { ReadsOn self.entry result }
+    {
+        let mut reader = self;
+        let mut words = ReadWords::new();
+        'lines: while let Some(_) = reader.next(&mut words)? {}
+        Ok(())
+    }
+}
+
+impl Reader<'_> {
+    // What is left has no line end: it has to be nothing.
+    fn end<'w>(&self) -> Result<Option<StepRef<'w>>, TraceFault>
+        requires { parts_of self.now.rest ≡ self.now.rest ∷ [] }
+        ensures { ReadsNext self.now result self.now }
+    {
+        if self.rest.is_empty() {
+            Ok(None)
+        } else {
+            Err(self.fault())
+        }
+    }
+
+    // The fault of the next line.
+    fn fault(&self) -> TraceFault
+        requires { 0 < length self.now.rest }
+        ensures { result ≡ Line (self.now.read + 1) }
+    {
+        TraceFault::Line(self.read + 1)
+    }
+}

@@ -1,0 +1,108 @@
+"""Edits that plant a mistake: how they are read, and in which function they stand."""
+
+import pathlib
+import re
+
+TOP = pathlib.Path(__file__).resolve().parent.parent
+CRATES = TOP / "crates"
+DEFINITIONS = "definitions"
+FUNCTION = re.compile(r"\s*(?:pub(?:\([^)]*\))?\s+)?(?:const\s+)?fn\s+(\w+)")
+MODULE = re.compile(r"^[a-z_]\w*::")
+IMPL = re.compile(r"impl(?:<[^{]*?>)?\s+(?:[\w:<>', ]+\s+for\s+)?(\w+)")
+
+
+class Edit:
+    """A mistake: lines `why:` and `clause:`, and below a line `file:` pairs of an old text and what takes its place."""
+
+    def __init__(self, path, home):
+        self.path, self.home, self.name = path, home, path.stem
+        self.in_gate = path.parent.name == "must-fail"
+        self.why = self.clause = ""
+        self.pairs = []
+        self.read()
+
+    def read(self):
+        """Lines `new:` that follow one another are the lines of one text."""
+        file, old, last = None, None, None
+        for line in self.path.read_text().splitlines():
+            key, _, text = line.partition(":")
+            text = text.removeprefix(" ")
+            if key in ("why", "clause"):
+                setattr(self, key, text)
+            elif key == "file":
+                file = text
+            elif key == "old":
+                old = text
+            elif key == "new" and last == "new":
+                self.pairs[-1] = file, old, f"{self.pairs[-1][2]}\n{text}"
+            elif key == "new":
+                self.pairs.append((file, old, text))
+            last = key
+
+    def planted(self, texts):
+        """The files as it leaves them, of which `texts` has those that others have changed. None where it does not fit."""
+        changed = {}
+        for file, old, new in self.pairs:
+            text = changed.get(file) or texts.get(file) or (self.home / file).read_text()
+            if text.count(old) != 1:
+                return None
+            changed[file] = text.replace(old, new)
+        return changed
+
+    def fits(self):
+        return bool(self.pairs) and self.planted({}) is not None
+
+    def functions(self):
+        """The functions that it stands in. None is among them where a text stands in none, as in a constant."""
+        texts = {file: (self.home / file).read_text() for file, _, _ in self.pairs}
+        return {function_at(texts[file], texts[file].index(old)) for file, old, _ in self.pairs}
+
+    def place(self):
+        """Where it stands: the function of its first text, or for a definition its file."""
+        file, old, _ = self.pairs[0]
+        if self.path.parent.name == DEFINITIONS:
+            return f"{self.home.name}/{file}"
+        text = (self.home / file).read_text()
+        return function_at(text, text.index(old)) or file
+
+    def refusers(self):
+        """The functions that its line `clause:` names, without their modules."""
+        return {MODULE.sub("", part.split()[0]) for part in self.clause.split(",") if part.split()}
+
+    def judges(self):
+        """The functions one of which must be refused."""
+        return self.refusers() | self.functions() - {None}
+
+
+def function_at(text, at):
+    """The function around a place, as `Type::name` where it is one of a type, else its name."""
+    rows = text.split("\n")
+    row = text[:at].count("\n")
+    name = next((found.group(1) for line in rows[row::-1] if (found := FUNCTION.match(line))), None)
+    if not rows[row].startswith((" ", "fn", "pub fn", "pub(")):
+        return name
+    for line in rows[row::-1]:
+        if line.startswith("impl"):
+            return f"{IMPL.match(line).group(1)}::{name}"
+        if line.startswith("}"):
+            return name
+    return name
+
+
+def edits_of(crate):
+    """Those of a crate: first those that the gate tries. Or those of definitions."""
+    if crate == DEFINITIONS:
+        return [Edit(path, home_of(path)) for path in sorted((TOP / "mistakes" / DEFINITIONS).glob("*.edit"))]
+    folders = CRATES / crate / "must-fail", TOP / "mistakes" / crate
+    return [Edit(path, CRATES / crate) for folder in folders for path in sorted(folder.glob("*.edit"))]
+
+
+def home_of(path):
+    """The crate of a wrong definition: the first that has its file and its first text."""
+    file, old, _ = Edit(path, None).pairs[0]
+    homes = [home for home in sorted(CRATES.iterdir()) if (home / file).exists()]
+    return next((home for home in homes if old in (home / file).read_text()), homes[0])
+
+
+def crates_with_edits():
+    return [path.name for path in sorted(CRATES.iterdir()) if path.is_dir() and edits_of(path.name)]

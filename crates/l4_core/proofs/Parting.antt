@@ -134,6 +134,30 @@ pub none_refusable : (m : Machine) (l : Local) (i : ℕ) → first_zero l (plain
 none_refusable m l i e =
     find_fewer (λ w. is_zero_send (thread l w.block).send) (λ w. zero_refusable m (held m l i) (thread l w.block).send) (plain.list_of l.lists i) (λ w. not_zero m (held m l i) (thread l w.block).send) e
 
+-- A ready thread, at which no send of timeout zero waits, has no duty but a retarget that is kept beside it.
+pub ready_owes : (m : Machine) (cpu : ℕ) (l : Local) (i : ℕ) → (thread l i).phase ≡ Ready → plain.is_queued l.lists i ≡ false → first_zero l (plain.list_of l.lists i) ≡ None →
+    is_some (duty_at m cpu l i) ≡ is_some (owed_beside l i)
+ready_owes m cpu l i ready free none =
+    let t : Thread = thread l i in
+    let ws : List plain.Waiting = plain.list_of l.lists i in
+    let of_phase : Phase → Option Duty = λ p.
+    cond (is_deleted p) (deleted_duty (plain.is_queued l.lists i) ws (untold_of m cpu l i))
+    (cond (t.cancel_send && plain.is_queued l.lists i) (Some CancelsOwn) (or_refuse (receive_duty (names_nobody m l) t.cancel_receive ws (receive_now p)) (first_refusable m l i))) in
+    let idle : of_phase t.phase ≡ None =
+    ap of_phase ready
+    ∙ ap (λ b. cond (t.cancel_send && b) (Some CancelsOwn) (or_refuse None (first_refusable m l i))) free
+    ∙ ap (λ o. cond (t.cancel_send && false) (Some CancelsOwn) (or_refuse None o)) (none_refusable m l i none)
+    ∙ never t.cancel_send in
+    ap is_some (duty_is m cpu l i ∙ ap (after_retarget (owed_beside l i)) idle) ∙ owes (owed_beside l i)
+  where
+    never : (b : Bool) → cond (b && false) (Some CancelsOwn) None ≡ None
+    never true = refl
+    never false = refl
+
+    owes : (o : Option Owed) → is_some (after_retarget o None) ≡ is_some o
+    owes None = refl
+    owes (Some owed) = refl
+
 -- The first block that passes a test is that of the first send that does.
 pub find_blocks : (test : ℕ → Bool) (ws : List plain.Waiting) → find test (map (λ w. w.block) ws) ≡ option_map (λ w. w.block) (find (λ w. test w.block) ws)
 find_blocks test [] = refl

@@ -75,6 +75,7 @@ impl<S: Sink> Told<S> {
     }
 
     /// One more step is told.
+    #[inline(always)]
     pub(crate) fn tell(&mut self, step: StepRef<'_>)
         requires { 0 < self.old.room }
         ensures { self.new ≡ with_step (seen step.entry) self.old }

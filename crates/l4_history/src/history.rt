@@ -108,7 +108,9 @@ impl History {
         Ok(())
     }
 
-    /// Appends a step. It takes no memory, since there is room.
+    /// Appends a step. It takes no memory, since there is room. It is inlined: where the kind
+    /// of step is known, little of it is left.
+    #[inline(always)]
     pub fn push(&mut self, step: StepRef<'_>)
         requires { 0 < self.old.room }
         ensures { self.new ≡ record { steps = self.old.steps ++ seen step.entry ∷ []; room = self.old.room - 1 } }
@@ -120,6 +122,7 @@ impl History {
     }
 
     // Appends a step that is no delivery.
+    #[inline(always)]
     fn push_whole(&mut self, whole: Record)
         requires room { 0 < self.old.room }
         requires no_delivery { delivery_in whole ≡ None }
@@ -130,6 +133,7 @@ impl History {
     }
 
     /// Appends a delivery. Its words are copied once, and no larger value moves.
+    #[inline(always)]
     pub fn push_delivery(&mut self, delivery: &DeliveryRef<'_>)
         requires { 0 < self.old.room }
         ensures { self.new ≡ record { steps = self.old.steps ++ delivered delivery.now ∷ []; room = self.old.room - 1 } }

@@ -51,6 +51,7 @@ impl Sink for History {
         History::reserve(self)
     }
 
+    #[inline(always)]
     fn push(&mut self, step: StepRef<'_>) {
         History::push(self, step);
     }

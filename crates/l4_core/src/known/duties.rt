@@ -211,21 +211,45 @@ impl Known<'_> {
     }
 
     /// Whether a thread of this processor has a duty, or a send of timeout zero may wait at it, as `may_have_zero` says.
+    #[inline(always)]
     pub(crate) fn may_have_duty(&self, place: usize, may_have_zero: bool) -> bool
         requires own { IsOwnOf self.now place }
         requires zeros { may_have_zero ≡ false → first_zero self.now.local (list_of self.now.local.lists place) ≡ None }
         ensures { result ≡ (may_have_zero || is_some (duty_at self.now.machine self.now.cpu self.now.local place)) }
     {
+        let _ = &self.machine;
         if may_have_zero {
             return true;
+        }
+        if self.tcb(place).is_ready() {
+            return self.keeps_owed(place);
         }
         self.duty_at(place, false).is_some()
     }
 }
 
 /// The first place with a duty. Of the places that may have one, those before it are taken out, so that a place without a duty is
-/// looked at once, and of those where a send of timeout zero may wait, those of them where none does.
+/// looked at once, and of those where a send of timeout zero may wait, those of them where none does. Mostly there is none.
+#[inline(always)]
 pub(crate) fn first_duty(
+    known: &Known<'_>,
+    duties: &mut Places,
+    zeros: &mut Places,
+) -> Option<(usize, Duty)>
+    requires covered { Covers duties.old known.now.machine known.now.cpu known.now.local }
+    requires zeros { CoversZeros zeros.old known.now.local }
+    ensures covered { Covers duties.new known.now.machine known.now.cpu known.now.local }
+    ensures zeros { CoversZeros zeros.new known.now.local }
+    ensures found { IsFound result known.now }
+{
+    match duties.first() {
+        None => None,
+        Some(_) => first_duty_among(known, duties, zeros),
+    }
+}
+
+// The same, where some places may have a duty.
+fn first_duty_among(
     known: &Known<'_>,
     duties: &mut Places,
     zeros: &mut Places,

@@ -1,6 +1,6 @@
 use Rattle.l4_core.specs.Places.{count}
 use Rattle.l4_core.specs.Covered.{Covers, CoversZeros}
-use Rattle.l4_core.proofs.known.duties.first_duty.Given as goal
+use Rattle.l4_core.proofs.known.duties.first_duty_among.Given as goal
 
 abbrev pub invariant-places : goal.invariant-places
 invariant-places l = Covers l.duties l.known.machine l.known.cpu l.known.local × CoversZeros l.zeros l.known.local

@@ -1,3 +1,4 @@
+mod InTurn
 pub mod Joined
 pub mod LineRows
 pub mod Plain

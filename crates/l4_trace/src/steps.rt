@@ -18,8 +18,7 @@ use l4_types::messages::MOST_WORDS;
 use l4_types::step_ref::{DeliveryRef, StepRef};
 use l4_types::steps::{Name, Step, Tick, What};
 use l4_types::tags::MsgTag;
-use l4_words::names::name;
-use l4_words::numbers::{decimal, hexadecimal};
+use l4_words::numbers::decimal;
 use l4_words::threads::thread;
 use l4_words::words::Words;
 
@@ -91,7 +90,7 @@ fn tick(operands: Words<'_>) -> Option<Tick>
 fn of_thread(operands: Words<'_>) -> Option<GlobalId>
     ensures { result ≡ of_thread operands.entry }
 {
-    thread(operands.one()?)
+    operands.one_thread()
 }
 
 /// The name that stands alone behind a word.
@@ -99,7 +98,7 @@ fn of_thread(operands: Words<'_>) -> Option<GlobalId>
 fn of_name(operands: Words<'_>) -> Option<Name>
     ensures { result ≡ of_name operands.entry }
 {
-    name(operands.one()?)
+    operands.one_name()
 }
 
 /// The delivery with this tag, where one has it.
@@ -130,19 +129,18 @@ fn delivered(
 }
 
 /// Tells what stands behind `deliver`.
-#[tactic(auto, unfolding(crate::specs::Reading::delivery_of))]
-fn tell_delivery(operands: Words<'_>, words: &mut ReadWords, history: &mut History) -> Option<()>
+#[tactic(auto, using(crate::proofs::InTurn::delivery_in_turn))]
+fn tell_delivery(mut operands: Words<'_>, words: &mut ReadWords, history: &mut History) -> Option<()>
     requires { 0 < history.old.room }
     ensures found { is_some result ≡ is_some (delivery_of operands.entry) }
     ensures told { history.new ≡ told_onto history.old (delivery_of operands.entry) }
 {
-    let (first, second, third, fourth, fifth, others) = operands.first_five()?;
-    let name = name(first)?;
-    let receiver = thread(second)?;
-    let shown = thread(third)?;
-    let actual = thread(fourth)?;
-    let tag = hexadecimal(fifth)?;
-    read_words(others, words)?;
+    let name = operands.next_name()?;
+    let receiver = operands.next_thread()?;
+    let shown = operands.next_thread()?;
+    let actual = operands.next_thread()?;
+    let tag = operands.next_hexadecimal()?;
+    read_words(operands, words)?;
     let delivery = delivered(name, receiver, shown, actual, tag, words.as_slice())?;
     history.push_delivery(&delivery);
     Some(())

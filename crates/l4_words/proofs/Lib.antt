@@ -1,4 +1,5 @@
 pub mod Above
+pub mod Begins
 pub mod Dots
 mod Faces
 mod Few

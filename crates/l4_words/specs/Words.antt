@@ -13,6 +13,11 @@ abbrev pub words_left : Option (List ℕ) → List (List ℕ)
 words_left None = []
 words_left (Some rest) = words_in rest
 
+-- What follows a word, with these words behind a space, or without a space where there are none.
+abbrev pub behind_word : Option (List ℕ) → List ℕ
+behind_word None = []
+behind_word (Some rest) = 32 ∷ rest
+
 -- So many words, and no more.
 abbrev pub one : List (List ℕ) → Option (List ℕ)
 one (a ∷ []) = Some a
@@ -45,6 +50,17 @@ first_hexadecimal [] = None
 first_hexadecimal (word ∷ others) = do
   number ← number_of 16 word
   Some (number, others)
+
+-- The first word as what it spells, and the words behind it.
+abbrev pub first_as : {X : Type 0} → (List ℕ → Option X) → List (List ℕ) → Option (X × List (List ℕ))
+first_as spelled [] = None
+first_as spelled (word ∷ others) = do
+  found ← spelled word
+  Some (found, others)
+
+-- The one word that is left as what it spells.
+abbrev pub one_as : {X : Type 0} → (List ℕ → Option X) → List (List ℕ) → Option X
+one_as spelled words = one words >>= spelled
 
 -- What was found, seen by a view, is what the definition gives.
 abbrev pub Finds : {X Y : Type 0} → (X → Y) → Option X → Option Y → Type 0

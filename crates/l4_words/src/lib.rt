@@ -5,6 +5,7 @@
 #![tactic(auto)]
 
 pub mod digits;
+mod fronts;
 pub mod lines;
 pub mod names;
 pub mod numbers;

@@ -1,5 +1,6 @@
 //! Numbers below 2^64 as words spell them.
-ghost use Rattle.std.specs.Prelude.{◌≡◌, ◌<◌, ◌≤◌, ◌+◌, ◌*◌, ◌^◌, IfSome, Some, None, is_some, length, slice_index, take, IfNone};
+ghost use Rattle.std.specs.Prelude.{◌≡◌, ◌<◌, ◌≤◌, ◌+◌, ◌*◌, ◌^◌, ◌++◌, IfSome, Some, None, is_some, length, slice_index, take, IfNone};
+ghost use Rattle.std.specs.Prelude.{decimal as written_decimal};
 ghost use Rattle.std.specs.List.{prefix_len};
 ghost use Rattle.l4_words.specs.Numbers.{digit_of, with_digit, number_onto, value_of, has_leading_zero, number_of, padded_of};
 
@@ -35,6 +36,7 @@ fn digit(byte: u8, radix: u64) -> Option<u64>
 }
 
 /// A number with one more digit behind it.
+#[inline(always)]
 fn with_digit(value: u64, byte: u8, radix: u64) -> Option<u64>
     requires { radix ≤ 16 }
     ensures { result ≡ with_digit radix value byte }
@@ -179,6 +181,30 @@ pub(crate) fn hexadecimal_in_front(text: &[u8]) -> (Option<u64>, usize)
     ensures value { result.0 ≡ number_of 16 (take result.1 text.now) }
 {
     number_in_front(text, 16)
+}
+
+/// The number in decimal in front of a text, and what follows its digits. None also where it is 0,
+/// which few texts begin with. It ends where one more digit would make it 2^64 or more.
+#[inline(always)]
+pub(crate) fn split_decimal(text: &[u8]) -> Option<(u64, &[u8])>
+    ensures { IfSome result (λ found. text.now ≡ written_decimal found.0 ++ found.1.now) }
+{
+    if text.is_empty() {
+        return None;
+    }
+    let mut value = with_digit(0, text[0], 10)?;
+    if value == 0 {
+        return None;
+    }
+    let mut count = 1;
+    while count < text.len() {
+        let Some(more) = with_digit(value, text[count], 10) else {
+            return Some((value, &text[count..]));
+        };
+        value = more;
+        count += 1;
+    }
+    Some((value, &text[count..]))
 }
 
 /// The number of decimal digits without a leading zero. None where it is 2^64 or more.

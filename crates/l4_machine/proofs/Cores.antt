@@ -173,6 +173,6 @@ pub send_there : (m : Machine) (cores : List Core) (i : ℕ) (c : Core) (k : ℕ
 send_there m cores i c k to at begun goes =
     ap₂ (λ (k : ℕ) (to : Option Id). record { k = k; to = to }) begun goes ∙ ap last_send (sym (home_there m cores i c at))
 
-pub cores_mapped : (ss : List program.Station) → map (λ (s : program.Station). s.core) ss ≡ map (λ (s : Station). s.core) (map station_of ss)
+pub cores_mapped : (ss : List program.Station) → map (λ (s : program.Station). s.worker.core) ss ≡ map (λ (s : Station). s.core) (map station_of ss)
 cores_mapped [] = refl
-cores_mapped (s ∷ ss) = ap (λ (cores : List Core). s.core ∷ cores) (cores_mapped ss)
+cores_mapped (s ∷ ss) = ap (λ (cores : List Core). s.worker.core ∷ cores) (cores_mapped ss)

@@ -201,7 +201,7 @@ count_merged f (e ∷ es) =
     let was = ap length (filter_map-append f e.steps (told es)) ∙ length-append (filter_map f e.steps) (filter_map f (told es)) in
     omega (arith, count_put f e (merged es), count_merged f es, was)
 
-count-append : {A : Type 0} (f : Step → Option A) (xs ys : List Event) → count_sought f (xs ++ ys) ≡ count_sought f xs + count_sought f ys
+pub count-append : {A : Type 0} (f : Step → Option A) (xs ys : List Event) → count_sought f (xs ++ ys) ≡ count_sought f xs + count_sought f ys
 count-append f [] ys = let zero : count_sought f [] ≡ 0 = refl in omega (arith, zero)
 count-append f (x ∷ xs) ys =
     let all = ap length (filter_map-append f x.steps (told (xs ++ ys))) ∙ length-append (filter_map f x.steps) (filter_map f (told (xs ++ ys))) in
@@ -228,7 +228,7 @@ counted f most (l ∷ ls) =
       count-append f (at_end most l) (joined (map (at_end most) ls)),
     )
 
-none : {A : Type 0} (xs : List A) → length xs ≡ 0 → xs ≡ []
+pub none : {A : Type 0} (xs : List A) → length xs ≡ 0 → xs ≡ []
 none [] is = refl
 none (x ∷ xs) is = absurd cc
 

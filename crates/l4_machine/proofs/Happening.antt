@@ -1,14 +1,13 @@
 -- What a station does is what happens in the core run.
-use Rattle.std.proofs.Common.{◌≡◌, ◌≢◌, ℕ, zero, suc, ◌+◌, ◌<◌, ◌≤◌, ◌^◌, Bool, true, false, cond, Option, Some, None, List, [], ◌∷◌, ◌++◌, map, length, drop, get_or, set, refl, ap, sym, ◌∙◌, subst, arith, inl, inr, append_assoc, append-nil, length-append}
-use Rattle.std.specs.Prelude.{slice_get, ◌==◌, IsSomeAnd}
+use Rattle.std.proofs.Common.{◌≡◌, ◌≢◌, ℕ, zero, suc, ◌+◌, ◌<◌, ◌≤◌, ◌^◌, Bool, true, false, cond, Option, Some, None, List, [], ◌∷◌, ◌++◌, map, length, get_or, set, refl, ap, sym, ◌∙◌, subst, arith, inl, inr}
+use Rattle.std.specs.Prelude.{slice_get, ◌==◌, IsSomeAnd, OnOk, Result, Ok, Err}
 use Rattle.std.specs.List.{AllByRecursion, range_with_len}
 use Rattle.std.specs.Option.{option_map}
 use Rattle.std.proofs.lemmas.Bool.{eqb-true, eqb-false}
 use Rattle.std.proofs.lemmas.Bool.Decides.{nat_tests}
-use Rattle.std.proofs.lemmas.List.{map-append, length-map, get_or-map, take-append-le, take_all}
-use Rattle.std.proofs.lemmas.Option.{slice_get_within, slice_get-get_or, slice_get-map}
+use Rattle.std.proofs.lemmas.List.{length-map, get_or-map, get_or-set_same, map-set}
+use Rattle.std.proofs.lemmas.Option.{slice_get_within, slice_get-map}
 use Rattle.l4_model.specs.Machine.{Machine}
-use Rattle.l4_model.specs.Steps.{Step}
 use Rattle.l4_model.specs.World.{changed}
 use Rattle.l4_model.proofs.Chains.{get-changed_same, set_changed, length-changed}
 use Rattle.l4_core_model.specs.Letters.{Letter}
@@ -16,23 +15,21 @@ use Rattle.l4_core_model.specs.Local.{Local}
 use Rattle.l4_core_model.specs.Acts.{Work}
 use Rattle.l4_core_model.specs.Turns.{can_stamp, turn, advance}
 use Rattle.l4_core_model.specs.Mail.{handle}
-use Rattle.l4_core_model.specs.Runs.{System, letters, posted, taken, Happening, Handles, Turns, Ticks, Happened, Event, done, happens, Run, then_event, core_run, opening_run, told, is_empty, IsMachine}
+use Rattle.l4_core_model.specs.Runs.{System, letters, posted, taken, Happening, Handles, Turns, Ticks, Happened, Event, done, happens, Run, then_event, core_run, opening_run, is_empty, IsMachine}
 use Rattle.l4_core_model.specs.Schedules.{first_poster, turn_of, next_turn, or_stays, attempts}
 use Rattle.l4_core_model.specs.Laws.{IsCoreRun}
 use Rattle.l4_split.specs.Laws.{IsLawfulLetter, IsLawfulRun}
-use Rattle.l4_merge.specs.Deeds.{Handled, Turned, Ticked}
 use Rattle.l4_merge.proofs.CoreRuns.{core_run-append}
-use Rattle.l4_merge.proofs.Destinations.{at_most_two_letters}
-use Rattle.l4_merge.proofs.Lists.{all-append}
-use Rattle.l4_core.specs.Tellings.{Told, IsBegun}
-use Rattle.l4_core.specs.Turning.{work}
-use Rattle.l4_machine.specs.declared.events.Part.{Part}
-use Rattle.l4_machine.specs.Parts.{event_of, events_of}
+use Rattle.l4_core.specs.Processor.{Processor}
+use Rattle.l4_machine.specs.declared.scheduler.Scheduler.{Scheduler}
 use Rattle.l4_machine.specs.declared.station.Station as program
-use Rattle.l4_machine.specs.Stations.{Station, station_of, letters_from, without_letter, HasNoMail, IsFirstPoster, CanGoOn, IsHandling, IsOwnTurn, TakesTurn, IsTick, IsNoTick}
-use Rattle.l4_machine.specs.UnderWay.{UnderWay, letters_at, with_letters, CanPost, IsStation, IsSystem, IsRun}
+use Rattle.l4_machine.specs.Stations.{Station, station_of, event_of, events_at, letters_from, letters_out, without_letter, HasNoMail, IsFirstPoster, CanGoOn, HasDone, IsHandling, IsOwnTurn, IsNoTurn, IsSameStation, TakesTurn, IsTick, IsNoTick}
+use Rattle.l4_machine.specs.UnderWay.{UnderWay, letters_at, letters_of, with_letters, CanPost, under_way, GoesOn, HasDelivered, HasEndedEvent, IsSystem, IsRun}
 use Rattle.l4_machine.proofs.Stamps.{local_stamp, letter_stamp}
+use Rattle.l4_machine.proofs.Delivered.{events_same, stations_same, IsRead}
+use Rattle.l4_machine.proofs.Stations.{station_there}
 use Rattle.l4_machine.proofs.Systems.{taken_system, IsSame, done_system, can_post}
+use Rattle.l4_machine.proofs.Told.{logs_more}
 
 -- The laws of core runs, as they are called.
 abbrev pub AllLawful : Type 0
@@ -103,97 +100,125 @@ can_go_on law m r u cpu s i few at =
 
 -- What a station did is what happens
 
-pub record Happens (m : Machine) (g : System) (e : Happening) (cpu : ℕ) (ss : List Station) (new : Station) (told : Told) (stamp : ℕ) : Type 0 where
+pub record Happens (m : Machine) (g : System) (e : Happening) (cpu : ℕ) (ss : List Station) (new : Station) (x : Work) : Type 0 where
   -- all processors, less the letter that is handled
   pub before : System
   pub stations : List Station
   pub old : Station
-  pub is : happens m g e ≡ Some (done cpu before (work new.core.local told))
+  pub is : happens m g e ≡ Some (done cpu before x)
   pub system : IsSystem m before stations
   pub at : slice_get stations cpu ≡ Some old
-  pub same : IsSame old new new.core.local
+  pub same : IsSame old new x.local
   pub written : changed (λ s. new) stations cpu ≡ changed (λ s. new) ss cpu
-  pub stamped : stamp ≡ new.core.local.stamp
 
 changed_twice : {A : Type 0} (f : A → A) (y : A) (xs : List A) (i : ℕ) → changed (λ x. y) (changed f xs i) i ≡ changed (λ x. y) xs i
 changed_twice f y [] i = refl
 changed_twice f y (x ∷ xs) zero = refl
 changed_twice f y (x ∷ xs) (suc i) = ap (λ ys. x ∷ ys) (changed_twice f y xs i)
 
-own_happens : (m : Machine) (g : System) (ss : List Station) (cpu : ℕ) (old new : Station) (before told : Told) (stamp : ℕ) → IsSystem m g ss → slice_get ss cpu ≡ Some old →
-    IsOwnTurn old new before told (Some stamp) → Happens m g (next_turn m g cpu) cpu ss new told stamp
-own_happens m g ss cpu old new before told stamp i at t =
-    let it = i.each cpu old at in
-    let here = local_at m g ss cpu old i at in
-    let does : turn m cpu old.core.local ≡ Some (work new.core.local told) = rw (← it.machine, ← it.cpu_is) t.turn.is in
+-- It happens, and a station of the program has told it.
+pub record HasHappened (m : Machine) (g : System) (e : Happening) (cpu : ℕ) (ss : List Station) (old new : program.Station) : Type 0 where
+  pub work : Work
+  pub done : HasDone work old new
+  pub happens : Happens m g e cpu ss (station_of new) work
+
+same_by : (old new : program.Station) (inbox : List (List Letter)) (x : Work) → HasDone x old new → (station_of new).inbox ≡ inbox →
+    IsSame (record { core = old.worker.core; inbox = inbox }) (station_of new) x.local
+same_by old new inbox x d rest = record {
+  machine = ap (λ (c : Processor). c.machine) d.core;
+  cpu = ap (λ (c : Processor). c.cpu) d.core;
+  local = ap (λ (c : Processor). c.local) d.core;
+  inbox = rest;
+}
+
+own_happens : (m : Machine) (g : System) (ss : List Station) (cpu : ℕ) (old new : program.Station) → IsSystem m g ss → slice_get ss cpu ≡ Some (station_of old) →
+    IsOwnTurn old new → HasHappened m g (next_turn m g cpu) cpu ss old new
+own_happens m g ss cpu old new i at t =
+    let s = station_of old in
+    let it = i.each cpu s at in
+    let here = local_at m g ss cpu s i at in
+    let does : turn m cpu old.worker.core.local ≡ Some t.work = rw (← it.machine, ← it.cpu_is) t.is in
     record {
-      before = g;
-      stations = ss;
-      old = old;
-      is = ap (happens m g) (next_is_own m g ss cpu old i at t.no_mail) ∙ rw (here, does) refl;
-      system = i;
-      at = at;
-      same = record { machine = t.turn.machine; cpu = t.turn.cpu; local = refl; inbox = t.rest };
-      written = refl;
-      stamped = t.turn.stamped;
+      work = t.work;
+      done = t.done;
+      happens = record {
+        before = g;
+        stations = ss;
+        old = s;
+        is = ap (happens m g) (next_is_own m g ss cpu s i at t.no_mail) ∙ rw (here, does) refl;
+        system = i;
+        at = at;
+        same = same_by old new s.inbox t.work t.done t.rest;
+        written = refl;
+      };
     }
 
-mail_happens : (m : Machine) (g : System) (ss : List Station) (cpu : ℕ) (old new : Station) (before told : Told) (stamp : ℕ) → IsSystem m g ss → slice_get ss cpu ≡ Some old →
-    IsHandling old new before told stamp → Happens m g (next_turn m g cpu) cpu ss new told stamp
-mail_happens m g ss cpu old new before told stamp i at t =
-    let it = i.each cpu old at in
-    let here = local_at m g ss cpu old i at in
-    let first = ap (λ ls. slice_get ls 0) (letters_here m g ss t.from cpu old i at) ∙ t.first in
-    let does : handle m cpu old.core.local t.letter ≡ Some (work new.core.local told) = rw (← it.machine, ← it.cpu_is) t.event.is in
+mail_happens : (m : Machine) (g : System) (ss : List Station) (cpu : ℕ) (old new : program.Station) → IsSystem m g ss → slice_get ss cpu ≡ Some (station_of old) →
+    IsHandling old new → HasHappened m g (next_turn m g cpu) cpu ss old new
+mail_happens m g ss cpu old new i at t =
+    let s = station_of old in
+    let it = i.each cpu s at in
+    let here = local_at m g ss cpu s i at in
+    let first = ap (λ ls. slice_get ls 0) (letters_here m g ss t.from cpu s i at) ∙ t.first in
+    let does : handle m cpu old.worker.core.local t.letter ≡ Some t.work = rw (← it.machine, ← it.cpu_is) t.is in
     record {
-      before = taken t.from cpu g;
-      stations = changed (without_letter t.from) ss cpu;
-      old = without_letter t.from old;
-      is = ap (happens m g) (next_is_mail m g ss cpu t.from old i at t.poster) ∙ rw (here, first, does) refl;
-      system = taken_system m g ss t.from cpu old t.letter i at t.poster.within t.first;
-      at = get-changed_same (without_letter t.from) ss cpu ∙ ap (option_map (without_letter t.from)) at;
-      same = record { machine = t.event.machine; cpu = t.event.cpu; local = refl; inbox = t.rest };
-      written = changed_twice (without_letter t.from) new ss cpu;
-      stamped = t.event.stamped;
+      work = t.work;
+      done = t.done;
+      happens = record {
+        before = taken t.from cpu g;
+        stations = changed (without_letter t.from) ss cpu;
+        old = without_letter t.from s;
+        is = ap (happens m g) (next_is_mail m g ss cpu t.from s i at t.poster) ∙ rw (here, first, does) refl;
+        system = taken_system m g ss t.from cpu s t.letter i at t.poster.within t.first;
+        at = get-changed_same (without_letter t.from) ss cpu ∙ ap (option_map (without_letter t.from)) at;
+        same = same_by old new (without_letter t.from s).inbox t.work t.done t.rest;
+        written = changed_twice (without_letter t.from) (station_of new) ss cpu;
+      };
     }
 
-pub turn_happens : (m : Machine) (g : System) (ss : List Station) (cpu : ℕ) (old new : Station) (before told : Told) (stamp : ℕ) → IsSystem m g ss → slice_get ss cpu ≡ Some old →
-    TakesTurn old new before told (Some stamp) → Happens m g (next_turn m g cpu) cpu ss new told stamp
-turn_happens m g ss cpu old new before told stamp i at (inl t) = mail_happens m g ss cpu old new before told stamp i at t
-turn_happens m g ss cpu old new before told stamp i at (inr t) = own_happens m g ss cpu old new before told stamp i at t
+pub turn_happens : (m : Machine) (g : System) (ss : List Station) (cpu : ℕ) (old new : program.Station) → IsSystem m g ss → slice_get ss cpu ≡ Some (station_of old) →
+    TakesTurn true old new → HasHappened m g (next_turn m g cpu) cpu ss old new
+turn_happens m g ss cpu old new i at (inl t) = mail_happens m g ss cpu old new i at t
+turn_happens m g ss cpu old new i at (inr t) = own_happens m g ss cpu old new i at t
 
-pub no_turn_happens : (m : Machine) (g : System) (ss : List Station) (cpu : ℕ) (old new : Station) (before told : Told) → IsSystem m g ss → slice_get ss cpu ≡ Some old →
-    TakesTurn old new before told None → happens m g (next_turn m g cpu) ≡ None
-no_turn_happens m g ss cpu old new before told i at t =
-    let it = i.each cpu old at in
-    let here = local_at m g ss cpu old i at in
-    let none : turn m cpu old.core.local ≡ None = rw (← it.machine, ← it.cpu_is) t.turn.none in
-    ap (happens m g) (next_is_own m g ss cpu old i at t.no_mail) ∙ rw (here, none) refl
+pub no_turn_happens : (m : Machine) (g : System) (ss : List Station) (cpu : ℕ) (old new : program.Station) → IsSystem m g ss → slice_get ss cpu ≡ Some (station_of old) →
+    IsNoTurn old new → happens m g (next_turn m g cpu) ≡ None
+no_turn_happens m g ss cpu old new i at t =
+    let s = station_of old in
+    let it = i.each cpu s at in
+    let here = local_at m g ss cpu s i at in
+    let none : turn m cpu old.worker.core.local ≡ None = rw (← it.machine, ← it.cpu_is) t.none in
+    ap (happens m g) (next_is_own m g ss cpu s i at t.no_mail) ∙ rw (here, none) refl
 
-pub tick_happens : (m : Machine) (g : System) (ss : List Station) (cpu clock : ℕ) (old new : Station) (before told : Told) (stamp : ℕ) → IsSystem m g ss → slice_get ss cpu ≡ Some old →
-    IsTick clock old new before told stamp → Happens m g (Ticks cpu clock) cpu ss new told stamp
-tick_happens m g ss cpu clock old new before told stamp i at t =
-    let it = i.each cpu old at in
-    let here = local_at m g ss cpu old i at in
-    let does : advance m cpu clock old.core.local ≡ Some (work new.core.local told) = ap (λ c. advance m c clock old.core.local) (sym it.cpu_is) ∙ t.event.is in
+pub tick_happens : (m : Machine) (g : System) (ss : List Station) (cpu clock : ℕ) (old new : program.Station) → IsSystem m g ss → slice_get ss cpu ≡ Some (station_of old) →
+    IsTick clock old new → HasHappened m g (Ticks cpu clock) cpu ss old new
+tick_happens m g ss cpu clock old new i at t =
+    let s = station_of old in
+    let it = i.each cpu s at in
+    let here = local_at m g ss cpu s i at in
+    let does : advance m cpu clock old.worker.core.local ≡ Some t.work = ap (λ c. advance m c clock old.worker.core.local) (sym it.cpu_is) ∙ t.is in
     record {
-      before = g;
-      stations = ss;
-      old = old;
-      is = rw (here, does) refl;
-      system = i;
-      at = at;
-      same = record { machine = t.event.machine; cpu = t.event.cpu; local = refl; inbox = t.rest };
-      written = refl;
-      stamped = t.event.stamped;
+      work = t.work;
+      done = t.done;
+      happens = record {
+        before = g;
+        stations = ss;
+        old = s;
+        is = rw (here, does) refl;
+        system = i;
+        at = at;
+        same = same_by old new s.inbox t.work t.done t.rest;
+        written = refl;
+      };
     }
 
-pub no_tick_happens : (m : Machine) (g : System) (ss : List Station) (cpu clock : ℕ) (old new : Station) (before told : Told) → IsSystem m g ss → slice_get ss cpu ≡ Some old →
-    IsNoTick clock old new before told → happens m g (Ticks cpu clock) ≡ None
-no_tick_happens m g ss cpu clock old new before told i at t =
-    let it = i.each cpu old at in
-    let here = local_at m g ss cpu old i at in
-    let none : advance m cpu clock old.core.local ≡ None = ap (λ c. advance m c clock old.core.local) (sym it.cpu_is) ∙ t.none in
+pub no_tick_happens : (m : Machine) (g : System) (ss : List Station) (cpu clock : ℕ) (old new : program.Station) → IsSystem m g ss → slice_get ss cpu ≡ Some (station_of old) →
+    IsNoTick clock old new → happens m g (Ticks cpu clock) ≡ None
+no_tick_happens m g ss cpu clock old new i at t =
+    let s = station_of old in
+    let it = i.each cpu s at in
+    let here = local_at m g ss cpu s i at in
+    let none : advance m cpu clock old.worker.core.local ≡ None = ap (λ c. advance m c clock old.worker.core.local) (sym it.cpu_is) ∙ t.none in
     rw (here, none) refl
 
 -- The letters go to processors that there are
@@ -215,203 +240,145 @@ posted_within : (m : Machine) (g : System) (n cpu : ℕ) (ls : List (ℕ × Lett
 posted_within m g n cpu [] size a = tt
 posted_within m g n cpu (l ∷ ls) size a = (let lt = some_within _ g.locals l.0 (slice_get g.locals l.0) refl a.0 in omega arith, posted_within m g n cpu ls size a.1)
 
-pub can_post_all : AllLawful → (m : Machine) (r : Run) (u : UnderWay) (e : Happening) (cpu : ℕ) (new : Station) (told : Told) (stamp : ℕ) → IsRun m r u → cpu < m.cpus →
-    Happens m r.system e cpu u.stations new told stamp → CanPost cpu told.letters (changed (λ s. new) u.stations cpu)
-can_post_all law m r u e cpu new told stamp i lt h =
-    let x : Work = work new.core.local told in
+pub can_post_all : AllLawful → (m : Machine) (r : Run) (u : UnderWay) (e : Happening) (cpu : ℕ) (new : Station) (x : Work) → IsRun m r u → cpu < m.cpus →
+    Happens m r.system e cpu u.stations new x → CanPost cpu x.letters (changed (λ s. new) u.stations cpu)
+can_post_all law m r u e cpu new x i lt h =
     let after : Happened = done cpu h.before x in
     let lawful = (law m (then_event r after) i.lawful (then_is m r e after i.core_run h.is)).letters.all in
     let size : length after.system.locals ≡ m.cpus = let a = length-changed (λ (l : Local). x.local) h.before.locals cpu in let b = ap length h.system.locals in let c = length-map h.stations (λ (s : Station). s.core.local) in let d = h.system.for_each in omega arith in
-    subst (CanPost cpu told.letters) h.written
+    subst (CanPost cpu x.letters) h.written
     (can_post m h.before h.stations cpu h.old new x h.system h.at h.same lt
-    (posted_within m after.system m.cpus cpu told.letters size (second_part (IsLawfulLetter m after.system) h.before.mail (map (posted cpu) told.letters) lawful)))
+    (posted_within m after.system m.cpus cpu x.letters size (second_part (IsLawfulLetter m after.system) h.before.mail (map (posted cpu) x.letters) lawful)))
 
 -- One more event
 
-events_kept : (steps more : List Step) (parts : List Part) → AllByRecursion (λ p. p.end ≤ length steps) parts → events_of (steps ++ more) parts ≡ events_of steps parts
-events_kept steps more [] a = refl
-events_kept steps more (p ∷ ps) a =
-    ap (λ ss. record { cpu = p.cpu; stamp = p.stamp; steps = drop p.start ss } ∷ events_of (steps ++ more) ps) (take-append-le p.end steps more a.0)
-    ∙ ap (λ (es : List Event). event_of steps p ∷ es) (events_kept steps more ps a.1)
-
-drop_first : {A : Type 0} (xs ys : List A) → drop (length xs) (xs ++ ys) ≡ ys
-drop_first [] ys = refl
-drop_first (x ∷ xs) ys = drop_first xs ys
-
-told-last : (events : List Event) (e : Event) → told (events ++ e ∷ []) ≡ told events ++ e.steps
-told-last [] e = append-nil e.steps
-told-last (x ∷ events) e = ap (λ ys. x.steps ++ ys) (told-last events e) ∙ sym (append_assoc x.steps (told events) e.steps)
-
-all_weaker : {A : Type 0} (P Q : A → Type 0) → ((x : A) → P x → Q x) → (xs : List A) → AllByRecursion P xs → AllByRecursion Q xs
-all_weaker P Q f [] a = tt
-all_weaker P Q f (x ∷ xs) a = (f x a.0, all_weaker P Q f xs a.1)
-
 -- The event was told.
-pub record IsTold (cpu stamp : ℕ) (told : Told) (old new : UnderWay) (s : Station) : Type 0 where
+pub record IsTold (m : Machine) (cpu : ℕ) (x : Work) (old new : UnderWay) (s : Station) : Type 0 where
   pub machine : new.machine ≡ old.machine
-  pub stations : new.stations ≡ with_letters cpu told.letters (changed (λ x. s) old.stations cpu)
-  pub steps : new.steps ≡ old.steps ++ told.steps
-  pub parts : new.parts ≡ old.parts ++ record { stamp = stamp; cpu = cpu; start = length old.steps; end = length new.steps } ∷ []
+  pub stations : new.stations ≡ with_letters cpu x.letters (changed (λ x. s) old.stations cpu)
+  pub logs : new.logs ≡ changed (λ log. log ++ event_of (record { machine = m; cpu = cpu; local = x.local }) x ∷ []) old.logs cpu
+  pub order : new.order ≡ old.order ++ cpu ∷ []
 
-pub run_done : (m : Machine) (r : Run) (old new : UnderWay) (e : Happening) (cpu stamp : ℕ) (s : Station) (told : Told) → IsRun m r old →
-    Happens m r.system e cpu old.stations s told stamp → CanPost cpu told.letters (changed (λ x. s) old.stations cpu) → IsTold cpu stamp told old new s →
+run_done : (m : Machine) (r : Run) (old new : UnderWay) (e : Happening) (cpu : ℕ) (s : Station) (x : Work) → IsRun m r old → cpu < length old.logs →
+    Happens m r.system e cpu old.stations s x → CanPost cpu x.letters (changed (λ x. s) old.stations cpu) → IsTold m cpu x old new s →
     IsRun m (attempts m r e) new
-run_done m r old new e cpu stamp s told i h can t = subst (λ q. IsRun m q new) (sym (ap (or_stays r) h.is)) (record {
-  machine = t.machine ∙ i.machine;
-  lawful = i.lawful;
-  core_run = then_is m r e after i.core_run h.is;
-  system = subst (IsSystem m after.system) (ap (with_letters cpu told.letters) h.written ∙ sym t.stations)
-      (done_system m h.before h.stations cpu h.old s x h.system h.at h.same (subst (CanPost cpu told.letters) (sym h.written) can));
-  events = events;
-  told = t.steps ∙ ap (λ xs. xs ++ told.steps) i.told ∙ sym (told-last r.events after.event);
-  within = within;
-})
-  where
-    x : Work
-    x = work s.core.local told
-
-    after : Happened
-    after = done cpu h.before x
-
-    part : Part
-    part = record { stamp = stamp; cpu = cpu; start = length old.steps; end = length new.steps }
-
-    longer : length old.steps ≤ length new.steps
-    longer = let a = ap length t.steps in let b = length-append old.steps told.steps in omega arith
-
-    within : AllByRecursion (λ p. p.end ≤ length new.steps) new.parts
-    within = subst (AllByRecursion (λ p. p.end ≤ length new.steps)) (sym t.parts)
-        (all-append (λ (p : Part). p.end ≤ length new.steps) old.parts (part ∷ [])
-        (all_weaker (λ (p : Part). p.end ≤ length old.steps) (λ p. p.end ≤ length new.steps) (λ p h. let a = longer in omega arith) old.parts i.within) (omega arith, tt))
-
-    last : event_of new.steps part ≡ after.event
-    last = ap (λ xs. record { cpu = cpu; stamp = stamp; steps = drop (length old.steps) xs }) (take_all (length new.steps) new.steps (omega arith) ∙ t.steps)
-        ∙ ap (λ xs. record { cpu = cpu; stamp = stamp; steps = xs }) (drop_first old.steps told.steps)
-        ∙ ap (λ n. record { cpu = cpu; stamp = n; steps = told.steps }) h.stamped
-
-    events : events_of new.steps new.parts ≡ r.events ++ after.event ∷ []
-    events = ap (events_of new.steps) t.parts ∙ map-append (event_of new.steps) old.parts (part ∷ [])
-        ∙ ap (λ e. events_of new.steps old.parts ++ e ∷ []) last
-        ∙ ap (λ es. es ++ after.event ∷ []) (ap (λ ss. events_of ss old.parts) t.steps ∙ events_kept old.steps told.steps old.parts i.within ∙ i.events)
+run_done m r old new e cpu s x i lt h can t =
+    let after : Happened = done cpu h.before x in
+    subst (λ q. IsRun m q new) (sym (ap (or_stays r) h.is)) (record {
+      machine = t.machine ∙ i.machine;
+      lawful = i.lawful;
+      core_run = then_is m r e after i.core_run h.is;
+      system = subst (IsSystem m after.system) (ap (with_letters cpu x.letters) h.written ∙ sym t.stations)
+          (done_system m h.before h.stations cpu h.old s x h.system h.at h.same (subst (CanPost cpu x.letters) (sym h.written) can));
+      events = rw (t.order, t.logs) (logs_more r.events old.order old.logs after.event i.events lt);
+    })
 
 -- Nothing was done.
 pub run_stays : (m : Machine) (r : Run) (old new : UnderWay) (e : Happening) → IsRun m r old → happens m r.system e ≡ None → new ≡ old → IsRun m (attempts m r e) new
 run_stays m r old new e i none same = subst (λ q. IsRun m q new) (sym (ap (or_stays r) none)) (subst (IsRun m r) (sym same) i)
 
--- The events of the program
-
-pub here : (m : Machine) (r : Run) (v : UnderWay) (cpu i : ℕ) (s : Station) → IsRun m r v → i ≡ cpu → cpu < v.machine.cpus → s ≡ get_or v.stations i s → slice_get v.stations cpu ≡ Some s
-here m r v cpu i s is same lt at =
-    let size = is.system.for_each in
-    let cpus = ap (λ (m : Machine). m.cpus) is.machine in
-    ap (slice_get v.stations) (sym same) ∙ slice_get-get_or v.stations i s (omega arith) ∙ ap Some (sym at)
-
-written : (v : UnderWay) (cpu i : ℕ) (new : Station) → i ≡ cpu → cpu < length v.stations → set v.stations i new ≡ changed (λ x. new) v.stations cpu
-written v cpu i new same lt = set_changed (λ x. new) v.stations i new new (omega arith) refl ∙ ap (changed (λ x. new) v.stations) same
-
-pub within : (m : Machine) (r : Run) (v : UnderWay) (cpu : ℕ) → IsRun m r v → cpu < v.machine.cpus → (cpu < length v.stations) × (cpu < m.cpus)
-within m r v cpu is lt =
-    let size = is.system.for_each in
-    let cpus = ap (λ (m : Machine). m.cpus) is.machine in
-    (omega arith, omega arith)
-
-pub can_post_event : AllLawful → (m : Machine) (r : Run) (v : UnderWay) → IsRun m r v → (e : Happening) (cpu i stamp : ℕ) (new : Station) (told : Told) → i ≡ cpu → cpu < v.machine.cpus →
-    Happens m r.system e cpu v.stations new told stamp → CanPost cpu told.letters (set v.stations i new)
-can_post_event law m r v is e cpu i stamp new told same lt h =
-    let w = within m r v cpu is lt in
-    subst (CanPost cpu told.letters) (sym (written v cpu i new same w.0)) (can_post_all law m r v e cpu new told stamp is w.1 h)
-
-event_told : AllLawful → (m : Machine) (r : Run) (v w : UnderWay) → IsRun m r v → (e : Happening) (cpu i stamp : ℕ) (new : Station) (told : Told) → i ≡ cpu → cpu < v.machine.cpus →
-    Happens m r.system e cpu v.stations new told stamp → w.machine ≡ v.machine → w.stations ≡ with_letters cpu told.letters (set v.stations i new) → w.steps ≡ v.steps ++ told.steps →
-    w.parts ≡ v.parts ++ record { stamp = stamp; cpu = cpu; start = length v.steps; end = length w.steps } ∷ [] → IsRun m (attempts m r e) w
-event_told law m r v w is e cpu i stamp new told same lt h machine stations steps parts =
-    let fits = within m r v cpu is lt in
-    run_done m r v w e cpu stamp new told is h (can_post_all law m r v e cpu new told stamp is fits.1 h)
-    (record { machine = machine; stations = stations ∙ ap (with_letters cpu told.letters) (written v cpu i new same fits.0); steps = steps; parts = parts })
-
-set_same : (ss : List Station) (i : ℕ) (x : Station) → x ≡ get_or ss i x → set ss i x ≡ ss
-set_same [] i x at = refl
-set_same (s ∷ ss) zero x at = ap (λ y. y ∷ ss) at
-set_same (s ∷ ss) (suc i) x at = ap (λ ys. s ∷ ys) (set_same ss i x at)
-
-same_run : (a b : UnderWay) → a.machine ≡ b.machine → a.stations ≡ b.stations → a.steps ≡ b.steps → a.parts ≡ b.parts → a ≡ b
-same_run a b machine stations steps parts =
-    let run : Machine → List Station → List Step → List Part → UnderWay = λ m ss xs ps. record { machine = m; stations = ss; steps = xs; parts = ps } in
-    ap (λ m. run m a.stations a.steps a.parts) machine ∙ ap (λ ss. run b.machine ss a.steps a.parts) stations ∙ ap (λ xs. run b.machine b.stations xs a.parts) steps ∙ ap (run b.machine b.stations b.steps) parts
-
--- Where an event begins, nothing is told yet.
-begun_steps : (old begun : Told) → IsBegun old begun → begun.before ++ begun.steps ≡ old.before ++ old.steps
-begun_steps old begun b = ap (λ xs. begun.before ++ xs) b.opened.steps ∙ append-nil begun.before ∙ b.before
-
-pub nothing_told : (m : Machine) (r : Run) (v w : UnderWay) → IsRun m r v → (e : Happening) (i : ℕ) (old new : Station) (told begun after : Told) → old ≡ get_or v.stations i old → new ≡ old → happens m r.system e ≡ None →
-    v.steps ≡ told.before ++ told.steps → IsBegun told begun → after ≡ begun → w.machine ≡ v.machine → w.stations ≡ set v.stations i new → w.steps ≡ after.before ++ after.steps → w.parts ≡ v.parts → IsRun m (attempts m r e) w
-nothing_told m r v w is e i old new told begun after at same none steps begins stays machine stations now parts =
-    run_stays m r v w e is none
-    (same_run w v machine (stations ∙ ap (set v.stations i) same ∙ set_same v.stations i old at) (now ∙ ap (λ (t : Told). t.before ++ t.steps) stays ∙ begun_steps told begun begins ∙ sym steps) parts)
-
--- The event was told behind what was told before, and noted.
-pub event_ended : AllLawful → (m : Machine) (r : Run) (v w : UnderWay) → IsRun m r v → (e : Happening) (cpu i stamp : ℕ) (new : Station) (old begun told posted : Told) (parts : List Part) → i ≡ cpu → cpu < v.machine.cpus →
-    Happens m r.system e cpu v.stations new told stamp → v.steps ≡ old.before ++ old.steps → IsBegun old begun → told.before ≡ begun.before → posted.before ≡ told.before → posted.steps ≡ told.steps → parts ≡ v.parts →
-    w.machine ≡ v.machine → w.stations ≡ with_letters cpu told.letters (set v.stations i new) → w.steps ≡ posted.before ++ posted.steps →
-    w.parts ≡ parts ++ record { stamp = stamp; cpu = cpu; start = length posted.before; end = length (posted.before ++ posted.steps) } ∷ [] → IsRun m (attempts m r e) w
-event_ended law m r v w is e cpu i stamp new old begun told posted parts same lt h steps begins kept before after first machine stations now noted =
-    let part : ℕ → ℕ → Part = λ start end. record { stamp = stamp; cpu = cpu; start = start; end = end } in
-    let start : posted.before ≡ v.steps = before ∙ kept ∙ begins.before ∙ sym steps in
-    event_told law m r v w is e cpu i stamp new told same lt h machine stations
-    (now ∙ ap (λ xs. xs ++ posted.steps) start ∙ ap (λ xs. v.steps ++ xs) after)
-    (noted ∙ ap (λ ps. ps ++ part (length posted.before) (length (posted.before ++ posted.steps)) ∷ []) first ∙ ap (λ xs. v.parts ++ part (length xs) (length (posted.before ++ posted.steps)) ∷ []) start
-    ∙ ap (λ xs. v.parts ++ part (length v.steps) (length xs) ∷ []) (sym now))
-
-pub turn_kept : (old new : Station) (before after : Told) (stamp : ℕ) → TakesTurn old new before after (Some stamp) → after.before ≡ before.before
-turn_kept old new before after stamp (inl t) = t.event.kept
-turn_kept old new before after stamp (inr t) = t.turn.kept
-
-pub same_station : (a b : Station) → a.core ≡ b.core → a.inbox ≡ b.inbox → a ≡ b
-same_station a b core inbox = ap (λ c. record { core = c; inbox = a.inbox }) core ∙ ap (λ i. record { core = b.core; inbox = i }) inbox
-
-pub few_events : (m : Machine) (r : Run) (v : UnderWay) → IsRun m r v → length v.parts < 2 ^ 61 → length r.events < 2 ^ 61
-few_events m r v is few = let a = length-map v.parts (event_of v.steps) in let b = ap length is.events in omega arith
-
 -- Where the program's station stands
 
--- Room was made at the stations, and one of them is read.
+-- A station is read.
 pub record IsHere (m : Machine) (r : Run) (v : UnderWay) (cpu i : ℕ) (ss : List program.Station) (s : program.Station) : Type 0 where
-  pub run : IsRun m r v
-  pub within : i < length ss
-  pub read : station_of s ≡ get_or v.stations i (station_of s)
+  pub read : IsRead ss i s
+  pub below : cpu < m.cpus
   pub at : slice_get v.stations cpu ≡ Some (station_of s)
 
-pub stands : (m : Machine) (r : Run) (u : UnderWay) (cpu i : ℕ) (ss : List program.Station) (s : program.Station) → IsRun m r u → map station_of ss ≡ u.stations → i ≡ cpu → cpu < u.machine.cpus → s ≡ get_or ss i s →
-    IsHere m r (record u { stations = map station_of ss }) cpu i ss s
-stands m r u cpu i ss s is same_stations same lt at = record {
-  run = run;
-  within = fits;
-  read = read;
-  at = here m r (record u { stations = map station_of ss }) cpu i (station_of s) run same lt read;
+pub stands : (m : Machine) (r : Run) (v : UnderWay) (cpu i : ℕ) (ss : List program.Station) (s : program.Station) → IsRun m r v → v.stations ≡ map station_of ss → i ≡ cpu → cpu < v.machine.cpus → s ≡ get_or ss i s →
+    IsHere m r v cpu i ss s
+stands m r v cpu i ss s is same_stations same lt at = record {
+  read = record { within = within; at = at };
+  below = below;
+  at = ap (λ ss. slice_get ss cpu) same_stations ∙ ap (slice_get (map station_of ss)) (sym same) ∙ station_there ss i s within at;
 }
   where
-    run : IsRun m r (record u { stations = map station_of ss })
-    run = subst (λ stations. IsRun m r (record u { stations = stations })) (sym same_stations) is
+    below : cpu < m.cpus
+    below = let cpus = ap (λ (m : Machine). m.cpus) is.machine in omega (arith, cpus, lt)
 
-    fits : i < length ss
-    fits = let w = within m r (record u { stations = map station_of ss }) cpu run lt in let a = w.0 in let e = length-map ss station_of in omega arith
+    within : i < length ss
+    within = let size = is.system.for_each in let e = length-map ss station_of in let f = ap length same_stations in let b = below in omega arith
 
-    read : station_of s ≡ get_or (map station_of ss) i (station_of s)
-    read = ap station_of at ∙ sym (get_or-map station_of ss i s (station_of s) fits)
+set_station : (ss : List program.Station) (i cpu : ℕ) (old new : program.Station) → IsRead ss i old → i ≡ cpu → map station_of (set ss i new) ≡ changed (λ s. station_of new) (map station_of ss) cpu
+set_station ss i cpu old new r same =
+    let size = length-map ss station_of in
+    let within = r.within in
+    map-set station_of ss i new
+    ∙ set_changed (λ (s : Station). station_of new) (map station_of ss) i (station_of new) (station_of new) (omega arith) refl
+    ∙ ap (changed (λ s. station_of new) (map station_of ss)) same
 
--- An event posts few letters
+set_log : (ss : List program.Station) (i cpu : ℕ) (old new : program.Station) (e : Event) → IsRead ss i old → i ≡ cpu → events_at new ≡ events_at old ++ e ∷ [] →
+    map events_at (set ss i new) ≡ changed (λ log. log ++ e ∷ []) (map events_at ss) cpu
+set_log ss i cpu old new e r same more =
+    let size = length-map ss events_at in
+    let within = r.within in
+    map-set events_at ss i new
+    ∙ set_changed (λ log. log ++ e ∷ []) (map events_at ss) i (events_at old) (events_at new) (omega arith)
+    (more ∙ ap (λ log. log ++ e ∷ []) (ap events_at r.at ∙ sym (get_or-map events_at ss i old (events_at old) within)))
+    ∙ ap (changed (λ log. log ++ e ∷ []) (map events_at ss)) same
 
-pub turn_posts_few : (m : Machine) (cpu : ℕ) (old new : Station) (before after : Told) (stamp : ℕ) → IsMachine m → cpu < m.cpus → IsStation m cpu old → TakesTurn old new before after (Some stamp) →
-    length after.letters ≤ 2
-turn_posts_few m cpu old new before after stamp machine lt it (inl t) =
-    let does : handle m cpu old.core.local t.letter ≡ Some (work new.core.local after) = rw (← it.machine, ← it.cpu_is) t.event.is in
-    at_most_two_letters m cpu old.core.local (Handled t.from t.letter) (work new.core.local after) machine lt does
-turn_posts_few m cpu old new before after stamp machine lt it (inr t) =
-    let does : turn m cpu old.core.local ≡ Some (work new.core.local after) = rw (← it.machine, ← it.cpu_is) t.turn.is in
-    at_most_two_letters m cpu old.core.local Turned (work new.core.local after) machine lt does
+-- The letters of the station that has done it.
+out_of : (ss : List program.Station) (i cpu : ℕ) (old new : program.Station) → IsRead ss i old → i ≡ cpu → letters_of (set ss i new) cpu ≡ letters_out new
+out_of ss i cpu old new r same =
+    let size = length-map ss letters_out in
+    let within = r.within in
+    ap (λ ls. get_or ls cpu []) (map-set letters_out ss i new) ∙ ap (λ k. get_or (set (map letters_out ss) i (letters_out new)) k []) (sym same)
+    ∙ get_or-set_same (map letters_out ss) i (letters_out new) [] (omega arith)
 
-pub tick_posts_few : (m : Machine) (cpu clock : ℕ) (old new : Station) (before after : Told) (stamp : ℕ) → IsMachine m → cpu < m.cpus → IsStation m cpu old → IsTick clock old new before after stamp →
-    length after.letters ≤ 2
-tick_posts_few m cpu clock old new before after stamp machine lt it t =
-    let does : advance m cpu clock old.core.local ≡ Some (work new.core.local after) = ap (λ c. advance m c clock old.core.local) (sym it.cpu_is) ∙ ap (λ (o : Machine). advance o old.core.cpu clock old.core.local) (sym it.machine) ∙ t.event.is in
-    at_most_two_letters m cpu old.core.local (Ticked clock) (work new.core.local after) machine lt does
+-- What it posted can be posted.
+pub can_deliver : AllLawful → (m : Machine) (r : Run) (v : UnderWay) (e : Happening) (cpu i : ℕ) (ss : List program.Station) (old new : program.Station) → IsRun m r v → v.stations ≡ map station_of ss →
+    i ≡ cpu → IsHere m r v cpu i ss old → HasHappened m r.system e cpu v.stations old new → CanPost cpu (letters_of (set ss i new) cpu) (map station_of (set ss i new))
+can_deliver law m r v e cpu i ss old new is stations same here h =
+    let out : letters_of (set ss i new) cpu ≡ h.work.letters = out_of ss i cpu old new here.read same ∙ h.done.letters in
+    let written = set_station ss i cpu old new here.read same ∙ ap (λ ss. changed (λ s. station_of new) ss cpu) (sym stations) in
+    subst (λ ls. CanPost cpu ls (map station_of (set ss i new))) (sym out)
+    (subst (CanPost cpu h.work.letters) (sym written) (can_post_all law m r v e cpu (station_of new) h.work is here.below h.happens))
+
+-- The event has ended, and its letters have come to the others.
+pub event_ended : AllLawful → (m : Machine) (r : Run) (v w : UnderWay) (e : Happening) (cpu i : ℕ) (ss after : List program.Station) (old new : program.Station) → IsRun m r v → v.stations ≡ map station_of ss →
+    v.logs ≡ map events_at ss → i ≡ cpu → IsHere m r v cpu i ss old → HasHappened m r.system e cpu v.stations old new → HasDelivered cpu (set ss i new) after →
+    w.machine ≡ v.machine → w.stations ≡ map station_of after → w.logs ≡ map events_at after → w.order ≡ v.order ++ cpu ∷ [] → IsRun m (attempts m r e) w
+event_ended law m r v w e cpu i ss after old new is stations logs same here h d machine now told order =
+    let x = h.work in
+    let it = is.system.each cpu (station_of old) here.at in
+    let out : letters_of (set ss i new) cpu ≡ x.letters = out_of ss i cpu old new here.read same ∙ h.done.letters in
+    let event : Event = event_of (record { machine = m; cpu = cpu; local = x.local }) x in
+    let one : events_at new ≡ events_at old ++ event ∷ [] =
+    h.done.events ∙ ap (λ c. events_at old ++ record { cpu = c; stamp = x.local.stamp; steps = x.steps } ∷ []) it.cpu_is in
+    let size : length v.logs ≡ length ss = ap length logs ∙ length-map ss events_at in
+    let within = here.read.within in
+    run_done m r v w e cpu (station_of new) x is (omega arith) h.happens (can_post_all law m r v e cpu (station_of new) x is here.below h.happens) (record {
+      machine = machine;
+      stations = now ∙ d.stations ∙ ap (λ ls. with_letters cpu ls (map station_of (set ss i new))) out
+          ∙ ap (with_letters cpu x.letters) (set_station ss i cpu old new here.read same ∙ ap (λ ss. changed (λ s. station_of new) ss cpu) (sym stations));
+      logs = told ∙ d.events ∙ set_log ss i cpu old new event here.read same one ∙ ap (λ ls. changed (λ log. log ++ event ∷ []) ls cpu) (sym logs);
+      order = order;
+    })
+
+-- So it is where memory was there for it.
+pub ended : AllLawful → (e : Machine → Run → Happening) → (first told last : Scheduler) (cpu i : ℕ) (old new : program.Station) {A E : Type 0} (result : Result A E) →
+    told.machine.now ≡ first.machine.now → told.order.items ≡ first.order.items → told.stations.items ≡ set first.stations.items i new → i ≡ cpu →
+    ((m : Machine) (r : Run) → IsRun m r (under_way first) → IsHere m r (under_way first) cpu i first.stations.items old × HasHappened m r.system (e m r) cpu (under_way first).stations old new) →
+    OnOk result (HasEndedEvent cpu told last) → OnOk result (GoesOn (λ m r. attempts m r (e m r)) (under_way first) (under_way last))
+ended law e first told last cpu i old new (Err x) machine order stations same happens done = done
+ended law e first told last cpu i old new (Ok x) machine order stations same happens done = λ m r is.
+    let both = happens m r is in
+    event_ended law m r (under_way first) (under_way last) (e m r) cpu i first.stations.items last.stations.items old new is refl refl same both.0 both.1
+    (subst (λ ss. HasDelivered cpu ss last.stations.items) stations done.delivered)
+    (done.machine ∙ machine) refl refl (done.order ∙ ap (λ ns. ns ++ cpu ∷ []) order)
+
+same_run : (a b : UnderWay) → a.machine ≡ b.machine → a.stations ≡ b.stations → a.logs ≡ b.logs → a.order ≡ b.order → a ≡ b
+same_run a b machine stations logs order =
+    let run : Machine → List Station → List (List Event) → List ℕ → UnderWay = λ m ss ls ns. record { machine = m; stations = ss; logs = ls; order = ns } in
+    ap (λ m. run m a.stations a.logs a.order) machine ∙ ap (λ ss. run b.machine ss a.logs a.order) stations ∙ ap (λ ls. run b.machine b.stations ls a.order) logs ∙ ap (run b.machine b.stations b.logs) order
+
+-- There was nothing to do.
+pub nothing_told : (m : Machine) (r : Run) (v w : UnderWay) (e : Happening) (i : ℕ) (ss : List program.Station) (old new : program.Station) → IsRun m r v → v.stations ≡ map station_of ss → v.logs ≡ map events_at ss →
+    IsRead ss i old → happens m r.system e ≡ None → IsSameStation old new →
+    w.machine ≡ v.machine → w.stations ≡ map station_of (set ss i new) → w.logs ≡ map events_at (set ss i new) → w.order ≡ v.order → IsRun m (attempts m r e) w
+nothing_told m r v w e i ss old new is stations logs read none same machine now told order =
+    run_stays m r v w e is none (same_run w v machine
+    (now ∙ stations_same ss i old new read same ∙ sym stations) (told ∙ events_same ss i old new read same ∙ sym logs) order)
+
+pub few_events : (m : Machine) (r : Run) (v : UnderWay) → IsRun m r v → length v.order < 2 ^ 61 → length r.events < 2 ^ 61
+few_events m r v is few = let a = length-map r.events (λ (e : Event). e.cpu) in let b = ap length is.events.order in omega arith

@@ -6,6 +6,7 @@ pub mod InOneHand
 pub mod Happening
 pub mod Cores
 pub mod InLogs
+pub mod InOrder
 pub mod Inboxes
 pub mod Members
 pub mod Opened
@@ -14,9 +15,11 @@ pub mod Outcomes
 pub mod Posting
 pub mod Replays
 pub mod Rising
-pub mod Rooms
 pub mod Stamps
+pub mod Stations
 pub mod Systems
+pub mod Delivered
+pub mod Told
 pub mod Ticked
 pub mod Turned
 pub mod Sought

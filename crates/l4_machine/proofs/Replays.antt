@@ -7,9 +7,8 @@ use Rattle.std.proofs.lemmas.Bool.Decides.{nat_tests}
 use Rattle.std.proofs.lemmas.List.{length-map}
 use Rattle.l4_model.specs.Machine.{Machine}
 use Rattle.l4_model.specs.Conditions.{◌>>=◌}
-use Rattle.l4_core_model.specs.Runs.{Happening, Happened, Ticks, happens, Run}
+use Rattle.l4_core_model.specs.Runs.{Event, Happening, Happened, Ticks, happens, Run}
 use Rattle.l4_core_model.specs.Schedules.{Entry, TickOf, attempts, entry_event, or_stays, replays}
-use Rattle.l4_machine.specs.Parts.{event_of}
 use Rattle.l4_machine.specs.declared.entries.Entry as code
 use Rattle.l4_machine.specs.declared.outcome.RunFault.TheVariants.{Turns, Schedule}
 use Rattle.l4_machine.specs.Entries.{after_entry, entries_fault, entry_from, is_entry, first_stranger, most_entries}
@@ -17,9 +16,9 @@ use Rattle.l4_machine.specs.UnderWay.{UnderWay, deadline_at, IsSystem, IsRun, Go
 use Rattle.l4_machine.specs.Stations.{Station}
 use Rattle.l4_machine.proofs.Endings.{deadline_here}
 
--- There are as many parts as events.
-pub as_many : (m : Machine) (r : Run) (u : UnderWay) → IsRun m r u → length u.parts ≡ length r.events
-as_many m r u i = sym (length-map u.parts (event_of u.steps)) ∙ ap length i.events
+-- The order has as many as there are events.
+pub as_many : (m : Machine) (r : Run) (u : UnderWay) → IsRun m r u → length u.order ≡ length r.events
+as_many m r u i = ap length i.events.order ∙ length-map r.events (λ (e : Event). e.cpu)
 
 -- What is tried adds one event at most.
 one_more : (m : Machine) (r : Run) (e : Happening) → length (attempts m r e).events ≤ length r.events + 1
@@ -35,7 +34,7 @@ pub record IsReplaying (m : Machine) (schedule : List Entry) (first : Run) (u : 
   pub goes_on : replays m first schedule ≡ replays m run (drop place schedule)
   pub count : length run.events ≤ place
 
-pub replaying_start : (m : Machine) (schedule : List Entry) (first : Run) (u : UnderWay) → IsRun m first u → length u.parts ≡ 0 → IsReplaying m schedule first u 0
+pub replaying_start : (m : Machine) (schedule : List Entry) (first : Run) (u : UnderWay) → IsRun m first u → length u.order ≡ 0 → IsReplaying m schedule first u 0
 replaying_start m schedule first u i fresh = record {
   run = first;
   is = i;

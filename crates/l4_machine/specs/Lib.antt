@@ -5,8 +5,9 @@ pub mod Gathered
 pub mod Gathers
 pub mod Homes
 pub mod Outcomes
-pub mod Parts
 pub mod Rising
+pub mod InOrder
+pub mod Inboxes
 pub mod Stations
 pub mod Teams
 pub mod UnderWay

@@ -1,23 +1,29 @@
 -- A core run under way in the program, and the core run of the definitions that it is.
-use Rattle.std.specs.Prelude.{◌≡◌, ℕ, ◌<◌, ◌≤◌, Option, Some, None, List, [], ◌∷◌, map, length, slice_get, slice_index_or}
+use Rattle.std.specs.Prelude.{◌≡◌, ℕ, ◌==◌, ◌<◌, Option, Some, None, List, [], ◌∷◌, ◌++◌, filter, map, length, slice_get, slice_index_or}
 use Rattle.std.specs.List.{AllByRecursion}
 use Rattle.l4_model.specs.Machine.{Machine}
-use Rattle.l4_model.specs.Steps.{Step}
 use Rattle.l4_model.specs.World.{changed}
 use Rattle.l4_core_model.specs.Letters.{Letter}
-use Rattle.l4_core_model.specs.Runs.{System, letters, Run, IsMachine, told}
+use Rattle.l4_core_model.specs.Runs.{Event, System, letters, Run, IsMachine}
 use Rattle.l4_core_model.specs.Laws.{IsCoreRun}
-use Rattle.l4_machine.specs.declared.events.Part.{Part}
+use Rattle.l4_machine.specs.declared.scheduler.Scheduler.{Scheduler}
 use Rattle.l4_machine.specs.declared.station.Station as program
-use Rattle.l4_machine.specs.Parts.{events_of}
-use Rattle.l4_machine.specs.Stations.{Station, station_of, room_for, letters_from, with_letter, deadline_of, HasNoMail, IsResting}
+use Rattle.l4_machine.specs.Stations.{Station, events_at, letters_from, letters_out, station_of, with_letter, deadline_of, HasNoMail, IsResting}
 
--- The processors with the letters that have come to them, and the events so far, as parts of their steps.
+-- The processors with the letters that have come to them, the log of each, and the processor of each event in the order told.
 pub record UnderWay : Type 0 where
   pub machine : Machine
   pub stations : List Station
-  pub steps : List Step
-  pub parts : List Part
+  pub logs : List (List Event)
+  pub order : List ℕ
+
+abbrev pub under_way : Scheduler → UnderWay
+under_way r = record {
+  machine = r.machine.now;
+  stations = map station_of r.stations.items;
+  logs = map events_at r.stations.items;
+  order = r.order.items;
+}
 
 -- One processor's letters have come to the others, each with the processor that it goes to.
 abbrev pub with_letters : (from : ℕ) → List (ℕ × Letter) → List Station → List Station
@@ -32,25 +38,25 @@ KnowPoster from ss = (to : ℕ) (s : Station) → slice_get ss to ≡ Some s →
 abbrev pub CanPost : (from : ℕ) → List (ℕ × Letter) → List Station → Type 0
 CanPost from ps ss = AllByRecursion (λ p. p.0 < length ss) ps × KnowPoster from ss
 
--- For how many letters more of one poster there is room at a processor.
-abbrev pub room_at : (from : ℕ) → Option program.Station → ℕ
-room_at from None = 0
-room_at from (Some s) = room_for from s
-
--- By poster, for how many letters more each processor has room at least.
-pub record AreRoomy (spare : List ℕ) (ss : List program.Station) : Type 0 where
-  pub size : length spare ≡ length ss
-  pub room : (from to : ℕ) → to < length ss → slice_index_or spare from 0 ≤ room_at from (slice_get ss to)
-
--- The same processors, each with no less room.
-pub record HaveGrown (old new : List program.Station) : Type 0 where
-  pub same : map station_of new ≡ map station_of old
-  pub room : (from to : ℕ) → room_at from (slice_get old to) ≤ room_at from (slice_get new to)
-
 -- The letters of a pair of processors.
 abbrev pub letters_at : (from : ℕ) → Option Station → List Letter
 letters_at from None = []
 letters_at from (Some s) = letters_from from s
+
+-- The letters that the last event of a processor posted, and that are still to be taken.
+abbrev pub letters_of : List program.Station → (cpu : ℕ) → List (ℕ × Letter)
+letters_of ss cpu = slice_index_or (map letters_out ss) cpu []
+
+-- All of them have come to the others, and nothing else has changed.
+pub record HasDelivered (from : ℕ) (old new : List program.Station) : Type 0 where
+  pub stations : map station_of new ≡ with_letters from (letters_of old from) (map station_of old)
+  pub events : map events_at new ≡ map events_at old
+
+-- The event of a processor has ended: it is the last one, and what it posted has come to the others.
+pub record HasEndedEvent (cpu : ℕ) (old new : Scheduler) : Type 0 where
+  pub machine : new.machine.now ≡ old.machine.now
+  pub order : new.order.items ≡ old.order.items ++ cpu ∷ []
+  pub delivered : HasDelivered cpu old.stations.items new.stations.items
 
 -- The least deadline of a processor.
 abbrev pub deadline_at : Option Station → Option ℕ
@@ -78,15 +84,19 @@ pub record IsSystem (m : Machine) (g : System) (ss : List Station) : Type 0 wher
   pub locals : g.locals ≡ map (λ s. s.core.local) ss
   pub mail : (from to : ℕ) → letters g.mail from to ≡ letters_at from (slice_get ss to)
 
+-- Each event stands in the log of its processor, in order, and these are the processors.
+pub record AreLogsOf (events : List Event) (cpus : List ℕ) (logs : List (List Event)) : Type 0 where
+  pub order : cpus ≡ map (λ e. e.cpu) events
+  pub within : AllByRecursion (λ e. e.cpu < length logs) events
+  pub each : (cpu : ℕ) (log : List Event) → slice_get logs cpu ≡ Some log → log ≡ filter (λ e. e.cpu == cpu) events
+
 -- It is this core run of the machine.
 pub record IsRun (m : Machine) (r : Run) (u : UnderWay) : Type 0 where
   pub machine : u.machine ≡ m
   pub lawful : IsMachine m
   pub core_run : IsCoreRun m r
   pub system : IsSystem m r.system u.stations
-  pub events : events_of u.steps u.parts ≡ r.events
-  pub told : u.steps ≡ told r.events
-  pub within : AllByRecursion (λ p. p.end ≤ length u.steps) u.parts
+  pub events : AreLogsOf r.events u.order u.logs
 
 -- It is some core run.
 abbrev pub HasRun : UnderWay → Type 0

@@ -36,7 +36,7 @@ pub struct Outcome {
     pub turns: u64,
 }
 
-/// An outcome with its history in compact form, 24 bytes for a step, or in the logs of several processors, which are merged only where somebody
+/// An outcome with its history in compact form, 24 bytes for a step, or in the logs of its processors, from which it is told only where somebody
 /// asks for it.
 #[derive(Drop)]
 pub struct CompactOutcome<'m> {

@@ -4,6 +4,7 @@ ghost use Rattle.l4_machine.specs.Outcomes.{steps_of};
 ghost use Rattle.l4_machine.specs.Waiting.{sought, AreBegunOnce, IsSearch};
 
 use crate::logs::Logs;
+use crate::ordered::OrderedLogs;
 use crate::waiting::Search;
 use l4_history::history::History;
 use l4_types::errors::NoMemory;
@@ -11,17 +12,20 @@ use l4_types::ids::ThreadId;
 use l4_types::steps::Name;
 use std::alloc::Global;
 
-/// The history of an outcome: its steps, or the logs that they are merged from where somebody asks for them.
+/// The history of an outcome: its steps, or the logs that they are told from where somebody asks for them.
 #[derive(Drop)]
 pub enum RunHistory<'m> {
     /// The steps in compact form.
     Steps(History),
     /// The logs of several processors.
     Logs(Logs<'m>),
+    /// The logs of a replay, with the order of their events.
+    Ordered(OrderedLogs<'m>),
 }
 
 impl RunHistory<'_> {
-    /// The steps in compact form. Those of logs come in order of stamp, and of equal ones by processor. `NoMemory`: memory was refused, and the
+    /// The steps in compact form. Those of several logs come in order of stamp, and of equal ones by processor, and those of a
+    /// replay in the order told. `NoMemory`: memory was refused, and the
     /// history is gone.
     pub fn into_history(self, alloc: Global) -> Result<History, NoMemory>
         ensures { IfOk result (λ history. history.steps ≡ steps_of self.entry) }
@@ -29,6 +33,7 @@ impl RunHistory<'_> {
         match self {
             RunHistory::Steps(history) => Ok(history),
             RunHistory::Logs(logs) => logs.merge(alloc),
+            RunHistory::Ordered(logs) => logs.tell(alloc),
         }
     }
 
@@ -45,6 +50,7 @@ impl RunHistory<'_> {
         match self {
             RunHistory::Steps(history) => search.of_history(alloc, history),
             RunHistory::Logs(logs) => logs.waiting(alloc, search),
+            RunHistory::Ordered(logs) => logs.waiting(alloc, search),
         }
     }
 }

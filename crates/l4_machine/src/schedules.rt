@@ -3,13 +3,13 @@ ghost use Rattle.std.specs.Prelude.{◌≡◌, ◌<◌, ◌≤◌, ◌↔◌, �
 ghost use Rattle.l4_core_model.specs.Schedules.{replays};
 ghost use Rattle.l4_machine.specs.Entries.{after_entry, entries_fault, entry_from, first_stranger, is_entry, most_entries, schedule_fault};
 ghost use Rattle.l4_machine.specs.Outcomes.{IsCompactReplay, IsReplayed};
-ghost use Rattle.l4_machine.specs.UnderWay.{GoesOn, HasRun};
+ghost use Rattle.l4_machine.specs.UnderWay.{under_way, GoesOn, HasRun};
 
-use crate::core_run::CoreRun;
 use crate::entries::{Entry, entries_of};
 use crate::laws::law_core_run;
 use crate::outcome::{CompactOutcome, Outcome, RunFault, outcome_of};
 use crate::run_history::RunHistory;
+use crate::scheduler::Scheduler;
 use l4_script::machine::Machine;
 use l4_types::errors::NoMemory;
 use std::alloc::Global;
@@ -18,11 +18,11 @@ use std::alloc::Global;
 pub const MOST_ENTRIES: usize = 1_000_000;
 
 // Does what an entry asks for, where there is something to do.
-fn take(run: &mut CoreRun<'_>, entry: Entry) -> Result<(), NoMemory>
-    requires run { HasRun run.old }
-    requires few { length run.old.parts < 2 ^ 61 }
-    requires processor { is_entry run.old.machine (entry_from entry) ≡ true }
-    ensures { OnOk result (GoesOn (after_entry (entry_from entry)) run.old run.new) }
+fn take(run: &mut Scheduler<'_>, entry: Entry) -> Result<(), NoMemory>
+    requires run { HasRun (under_way run.old) }
+    requires few { length (under_way run.old).order < 2 ^ 61 }
+    requires processor { is_entry run.old.machine.now (entry_from entry) ≡ true }
+    ensures { OnOk result (GoesOn (after_entry (entry_from entry)) (under_way run.old) (under_way run.new)) }
 {
     match entry {
         Entry::Turn(cpu) => run.take_turn(cpu),
@@ -34,12 +34,12 @@ fn take(run: &mut CoreRun<'_>, entry: Entry) -> Result<(), NoMemory>
 }
 
 // Takes the turns and ticks of a schedule, one for each entry where there is something to do.
-fn take_all(run: &mut CoreRun<'_>, machine: &Machine, entries: &[Entry]) -> Result<(), RunFault>
-    requires run { HasRun run.old }
-    requires machine { run.old.machine ≡ machine.now }
-    requires fresh { length run.old.parts ≡ 0 }
+fn take_all(run: &mut Scheduler<'_>, machine: &Machine, entries: &[Entry]) -> Result<(), RunFault>
+    requires run { HasRun (under_way run.old) }
+    requires machine { run.old.machine.now ≡ machine.now }
+    requires fresh { length (under_way run.old).order ≡ 0 }
     requires few { length entries.now ≤ most_entries }
-    ensures ok { OnOk result (GoesOn (λ m r. replays m r (map entry_from entries.now)) run.old run.new) }
+    ensures ok { OnOk result (GoesOn (λ m r. replays m r (map entry_from entries.now)) (under_way run.old) (under_way run.new)) }
     ensures lawful { OnOk result (first_stranger machine.now 1 (map entry_from entries.now) ≡ None) }
     ensures err { IfErr result (λ fault. (fault ≡ RunFault.NoMemory) ⊎ (entries_fault machine.now (map entry_from entries.now) ≡ Some fault)) }
 {
@@ -63,17 +63,17 @@ fn outcome_of_entries<'m>(
     ensures err { IfErr result (λ fault. (fault ≡ RunFault.NoMemory) ⊎ (entries_fault machine.now (map entry_from entries.now) ≡ Some fault)) }
 {
     law_core_run();
-    let mut run = CoreRun::new(alloc, machine)?;
+    let mut run = Scheduler::new(alloc, machine)?;
     take_all(&mut run, machine, entries)?;
     let turns = run.events();
     let ending = run.ending();
     let all_handled = run.has_handled_all();
     let at_home = run.at_home(alloc)?;
-    let history = run.into_history();
+    let logs = run.into_logs();
     Ok(outcome_of(
         alloc,
         machine,
-        RunHistory::Steps(history),
+        RunHistory::Ordered(logs),
         at_home,
         all_handled,
         ending,

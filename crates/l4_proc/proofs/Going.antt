@@ -1,6 +1,6 @@
 -- A processor that goes on by itself: at its opening, by a tick, and turn by turn.
 use Rattle.std.proofs.Common.{◌≡◌, ℕ, ◌+◌, ◌<◌, ◌^◌, Some, None, List, [], ◌∷◌, ◌++◌, map, length, refl, ap, sym, ◌∙◌, subst, arith}
-use Rattle.std.specs.Prelude.{nat_lt}
+use Rattle.std.specs.Prelude.{nat_lt, OnErr, OnOk, Result, Ok, Err}
 use Rattle.std.specs.Option.{option_map}
 use Rattle.std.proofs.lemmas.List.{length-append, append-nil}
 use Rattle.l4_model.specs.Machine.{Machine}
@@ -14,19 +14,19 @@ use Rattle.l4_merge.specs.Pasts.{empty_past, HasWorked, HasTurned}
 use Rattle.l4_merge.proofs.Worked.{worked_none, worked_one, worked_trans, turned_none, turned_trans}
 use Rattle.l4_types.specs.LetterView.{letter_of}
 use Rattle.l4_core.specs.Processor.{Processor as Core}
-use Rattle.l4_core.specs.Turning.{IsEvent, work}
+use Rattle.l4_core.specs.Turning.{work}
 use Rattle.l4_mail.specs.Ports.{posted_to, place}
 use Rattle.l4_mail.specs.declared.ports.Port.{Port}
-use Rattle.l4_proc.specs.Logs.{all_steps, events, HasBegun, HasEnded, IsClosed}
+use Rattle.l4_proc.specs.Logs.{all_steps, events, IsClosed}
 use Rattle.l4_proc.specs.Whole.{past_with, handled_from, IsFreshPort, IsPortOf, IsWhole}
-use Rattle.l4_proc.specs.Working.{past, HasGoneOn, HasTaken, HasTakenUpTo, HasTicked, IsIdle, IsStopped}
+use Rattle.l4_proc.specs.Working.{past, HasGoneOn, HasTaken, HasTakenUpTo, HasTicked, HasTickedTo, IsIdle, IsSameWorker, IsStopped, IsTicking}
 use Rattle.l4_proc.specs.declared.stops.Stop.{Stop}
 use Rattle.l4_proc.specs.declared.stops.Stop.TheVariants as stop
 use Rattle.l4_proc.specs.declared.log.End.{End}
 use Rattle.l4_proc.specs.declared.log.Log.{Log}
 use Rattle.l4_proc.specs.declared.processor.Processor.{Processor}
 use Rattle.l4_proc.specs.declared.worker.Worker.{Worker}
-use Rattle.l4_proc.proofs.Logging.{logged, IsLogged}
+use Rattle.l4_proc.proofs.Logging.{logged, same_closed, IsLogged}
 
 -- The opening
 
@@ -44,17 +44,6 @@ opened_past port w fresh ends hand = record {
 }
 
 -- A tick
-
--- The clock went on between the begin of an event and its end.
-pub record IsTicking (to : ℕ) (old new : Worker) (before after : Log) (stamp : ℕ) : Type 0 where
-  pub begun : HasBegun old.log before
-  pub event : IsEvent (advance old.core.machine old.core.cpu to old.core.local) old.core new.core before.told after.told stamp
-  pub hand : new.hand ≡ old.hand
-  pub stop : new.stop ≡ old.stop
-  pub cpu : after.cpu ≡ before.cpu
-  pub ends : after.ends ≡ before.ends
-  pub ticks : after.ticks ≡ before.ticks
-  pub ended : HasEnded after new.log stamp (after.ticks + 1)
 
 tick_logged : (to : ℕ) (old new : Worker) (before after : Log) (stamp : ℕ) → IsClosed old.log → IsTicking to old new before after stamp →
     IsLogged old.log new.log stamp after.told.steps
@@ -133,6 +122,26 @@ has_ticked to old new before after stamp port whole t =
       turns = omega (arith, longer, ticks);
       stop = t.stop;
     }
+
+-- The clock was to go on: it did, or nothing has changed.
+
+pub same_whole : (port : Port) (old new : Worker) → IsSameWorker old new → IsWhole port old → IsWhole port new
+same_whole port old new same whole = record {
+  port_of = subst (IsPortOf port) (sym same.core) whole.port_of;
+  log_of = same.log.cpu ∙ whole.log_of ∙ sym (ap (λ (c : Core). c.cpu) same.core);
+  closed = same_closed old.log new.log same.log whole.closed;
+  hand = rw (same.hand) whole.hand;
+}
+
+pub tried_whole : (to : ℕ) (port : Port) (old new : Worker) {A E : Type 0} (r : Result A E) → OnOk r (HasTickedTo to old new) → OnErr r (IsSameWorker old new) →
+    IsWhole port old → IsWhole port new
+tried_whole to port old new (Ok x) ticked same whole = tick_whole to port old new ticked.before ticked.after ticked.stamp whole ticked.is
+tried_whole to port old new (Err e) ticked same whole = same_whole port old new same whole
+
+pub has_tried : (to : ℕ) (old new : Processor) {A E : Type 0} (r : Result A E) → new.port ≡ old.port → IsWhole old.port old.worker →
+    OnOk r (HasTickedTo to old.worker new.worker) → OnOk r (HasTicked to old new)
+has_tried to old new (Ok x) port whole ticked = has_ticked to old new ticked.before ticked.after ticked.stamp port whole ticked.is
+has_tried to old new (Err e) port whole ticked = ticked
 
 -- Turns
 

@@ -1,6 +1,6 @@
 -- What a turn of a processor does to its past.
 use Rattle.std.proofs.Common.{◌≡◌, ℕ, ◌+◌, ◌-◌, ◌<◌, ◌≤◌, Bool, true, false, Option, Some, None, List, [], ◌∷◌, ◌++◌, map, length, take, refl, ap, sym, ◌∙◌, subst, arith, inl, inr}
-use Rattle.std.specs.Prelude.{◌≢◌, ◌⊎◌, is_some, nat_eq, slice_index_or, vec_len}
+use Rattle.std.specs.Prelude.{◌≢◌, ◌⊎◌, is_some, nat_eq, slice_index_or, vec_len, OnErr, OnOk, Result, Ok, Err}
 use Rattle.std.specs.List.{AllByRecursion}
 use Rattle.std.proofs.lemmas.List.{append-nil, map-append, take_all, length-append}
 use Rattle.l4_model.specs.Machine.{Machine}
@@ -27,7 +27,8 @@ use Rattle.l4_core_model.specs.Turns.{turn}
 use Rattle.l4_proc.specs.Events.{event_in_hand, HasNone, HasPostedAll, IsRefused}
 use Rattle.l4_proc.specs.Logs.{all_steps, events, HasBegun, HasEnded, HasLetters, IsSameLog}
 use Rattle.l4_proc.specs.Whole.{hand_from, handled_from, has_way, IsInHand, IsPortOf, IsWhole}
-use Rattle.l4_proc.specs.Working.{past, HasDone, HasTaken, IsIdle, IsReady, IsSameWorker, IsStopped, IsUnready}
+use Rattle.l4_proc.specs.Working.{past, HasDone, HasTaken, HasTakenTurn, IsIdle, IsReady, IsSameWorker, IsStopped, IsUnready}
+use Rattle.l4_proc.proofs.Going.{same_whole}
 use Rattle.l4_proc.proofs.Logging.{begun_events, same_events, logged}
 
 -- Nothing was done
@@ -151,7 +152,7 @@ all_taken xs = take_all (length xs - 0) xs (omega arith)
 no_hand : (port : Port) → IsInHand port None
 no_hand port from = sym (append-nil _ ∙ all_taken (taken_from port from))
 
-pub done_whole : (old ready : Processor) (told : Worker) (log : Log) (stamp : ℕ) → IsReady old ready → IsWhole old.port old.worker →
+done_whole : (old ready : Processor) (told : Worker) (log : Log) (stamp : ℕ) → IsReady old ready → IsWhole old.port old.worker →
     IsWhole ready.port ready.worker → HasDone ready.worker told stamp →
     HasEnded told.log log stamp told.log.ticks → IsWhole ready.port (record { core = told.core; log = log; hand = told.hand; stop = told.stop })
 done_whole old ready told log stamp r was is d e = record {
@@ -160,6 +161,13 @@ done_whole old ready told log stamp r was is d e = record {
   closed = (logged old.worker.log ready.worker.log told.log log stamp told.log.ticks was.closed r.log d.cpu (ap (λ es. es.items) d.ends) d.event.kept e).closed;
   hand = subst (IsInHand ready.port) (sym d.hand) (no_hand ready.port);
 }
+
+-- A turn was tried.
+pub tried_turn : (old ready : Processor) (new : Worker) {A E : Type 0} (r : Result A E) → IsReady old ready → IsWhole old.port old.worker →
+    IsWhole ready.port ready.worker → OnOk r (HasTakenTurn ready.worker new) → OnErr r (IsSameWorker ready.worker new) → IsWhole ready.port new
+tried_turn old ready new (Ok x) r was is taken same =
+    subst (IsWhole ready.port) (sym taken.is) (done_whole old ready taken.told new.log taken.stamp r was is taken.done taken.ended)
+tried_turn old ready new (Err e) r was is taken same = same_whole ready.port ready.worker new same is
 
 way : (port : Port) (to : ℕ) → has_way port to ≡ true → HasWayTo port to
 way port to has = by (slice_index_or (place port).outs to None) refl has

@@ -10,8 +10,9 @@ use Rattle.l4_types.specs.declared.letters.Letter.{Letter}
 use Rattle.l4_mail.specs.declared.ports.Port.{Port}
 use Rattle.l4_mail.specs.Ports.{posted_to, taken_from, kept_from, room_to, place, HasWayTo}
 use Rattle.l4_proc.specs.Events.{event_in_hand, HasPostedAll, IsRefused}
-use Rattle.l4_proc.specs.Logs.{events, HasBegun, HasLetters, IsSameLog}
+use Rattle.l4_proc.specs.Logs.{events, HasBegun, HasEnded, HasLetters, IsSameLog}
 use Rattle.l4_proc.specs.Whole.{handled_from, past_with}
+use Rattle.l4_proc.specs.declared.log.Log.{Log}
 use Rattle.l4_proc.specs.declared.processor.Processor.{Processor}
 use Rattle.l4_proc.specs.declared.worker.Worker.{Worker}
 use Rattle.l4_proc.specs.declared.stops.Stop.{Stop}
@@ -110,6 +111,31 @@ pub record IsSameWorker (old new : Worker) : Type 0 where
   pub core : new.core ≡ old.core
   pub hand : new.hand ≡ old.hand
   pub log : IsSameLog old.log new.log
+
+-- The letter in hand was handled, or the core's turn taken, and the event has ended.
+pub record HasTakenTurn (old new : Worker) : Type 0 where
+  pub told : Worker
+  pub stamp : ℕ
+  pub done : HasDone old told stamp
+  pub ended : HasEnded told.log new.log stamp told.log.ticks
+  pub is : new ≡ record { core = told.core; log = new.log; hand = told.hand; stop = told.stop }
+
+-- The clock went on between the begin of an event and its end.
+pub record IsTicking (to : ℕ) (old new : Worker) (before after : Log) (stamp : ℕ) : Type 0 where
+  pub begun : HasBegun old.log before
+  pub event : IsEvent (advance old.core.machine old.core.cpu to old.core.local) old.core new.core before.told after.told stamp
+  pub hand : new.hand ≡ old.hand
+  pub stop : new.stop ≡ old.stop
+  pub cpu : after.cpu ≡ before.cpu
+  pub ends : after.ends ≡ before.ends
+  pub ticks : after.ticks ≡ before.ticks
+  pub ended : HasEnded after new.log stamp (after.ticks + 1)
+
+pub record HasTickedTo (to : ℕ) (old new : Worker) : Type 0 where
+  pub before : Log
+  pub after : Log
+  pub stamp : ℕ
+  pub is : IsTicking to old new before after stamp
 
 -- The letters of the event under way were posted.
 pub record HasPostedOwn (old new : Processor) : Type 0 where

@@ -8,7 +8,6 @@ use crate::worker::Worker;
 use l4_core::processor::Core;
 use l4_mail::ports::Port;
 use l4_types::errors::NoMemory;
-use l4_types::steps::CLOCKS;
 use std::alloc::Global;
 
 /// A processor of a machine: its port to the others, and what does its work.
@@ -39,15 +38,9 @@ impl<'m> Processor<'m> {
         ensures log { events result.worker.log ≡ [] }
         ensures stop { result.worker.stop ≡ Stop.Used }
     {
-        let log = Log::new(alloc, core.cpu());
         Processor {
             port,
-            worker: Worker {
-                core,
-                log,
-                hand: None,
-                stop: Stop::Used,
-            },
+            worker: Worker::new(alloc, core),
         }
     }
 
@@ -62,7 +55,7 @@ impl<'m> Processor<'m> {
     pub fn core(&self) -> &Core<'m>
         ensures { result.now ≡ self.now.worker.core }
     {
-        &self.worker.core
+        self.worker.core()
     }
 
     /// The events so far.
@@ -70,14 +63,14 @@ impl<'m> Processor<'m> {
         ensures log { result.now ≡ self.now.worker.log }
         ensures closed { IsClosed result.now }
     {
-        &self.worker.log
+        self.worker.log()
     }
 
     /// Whether a letter was taken and is not yet handled.
     pub fn in_hand(&self) -> bool
         ensures { result ≡ is_some self.now.worker.hand }
     {
-        self.worker.hand.is_some()
+        self.worker.in_hand()
     }
 
     /// How many turns `work` took, below 2^63. Ticks are none.
@@ -173,8 +166,7 @@ impl<'m> Processor<'m> {
         ensures unused { IfErr result (λ stop. stop ≡ Stop.Used → ⊥) }
     {
         self.get_ready()?;
-        let stamp = self.worker.go_on()?;
-        self.worker.log.end_turn(stamp);
+        self.worker.take_turn()?;
         self.send_all();
         Ok(())
     }
@@ -227,15 +219,6 @@ impl<'m> Processor<'m> {
         ensures stamp { IsErrOf result ProcFault.Stamp ↔
             (IsSome (advance self.old.worker.core.machine self.old.worker.core.cpu to self.old.worker.core.local) × (can_stamp self.old.worker.core.local 0 ≡ false)) }
     {
-        if to <= self.worker.core.clock() || to >= CLOCKS {
-            return Err(ProcFault::Clock);
-        }
-        if !self.worker.core.can_stamp(0) {
-            return Err(ProcFault::Stamp);
-        }
-        self.worker.log.begin()?;
-        let stamp = self.worker.advance(to);
-        self.worker.log.end_tick(stamp);
-        Ok(())
+        self.worker.tick(to)
     }
 }

@@ -7,11 +7,14 @@ ghost use Rattle.l4_core.specs.Tellings.{IsOpen};
 ghost use Rattle.l4_core.specs.Turning.{IsEvent};
 
 use crate::log::Log;
-use crate::stops::Stop;
+use crate::stops::{ProcFault, Stop};
 use l4_core::processor::{Core, Fault};
 use l4_core::told::Told;
 use l4_history::history::History;
+use l4_types::errors::NoMemory;
 use l4_types::letters::Letter;
+use l4_types::steps::CLOCKS;
+use std::alloc::Global;
 
 /// A processor without its port: what it knows, and the log of its events.
 #[derive(Drop)]
@@ -59,17 +62,97 @@ fn turn(core: &mut Core<'_>, told: &mut Told<History>) -> Result<u64, Stop>
     }
 }
 
-impl Worker<'_> {
-    ghost use Rattle.std.specs.Prelude.{◌≡◌, ◌<◌, true, IfErr, IfOk, IsSome, OnErr};
+impl<'m> Worker<'m> {
+    ghost use Rattle.std.specs.Prelude.{◌≡◌, ◌↔◌, ◌++◌, ◌<◌, [], false, true, IfErr, IfNone, IfOk, IsErrOf, IsSome, None, OnErr, OnOk, is_some, vec_len};
+    ghost use Rattle.std.specs.Option.{option_map, option_to_list};
+    ghost use Rattle.std.specs.Vec.{vec_capacity};
     ghost use Rattle.l4_core_model.specs.Runs.{IsMachine};
     ghost use Rattle.l4_core_model.specs.Turns.{advance, can_stamp};
-    ghost use Rattle.l4_core.specs.Tellings.{IsOpen};
+    ghost use Rattle.l4_core.specs.Tellings.{posted_of, IsOpen};
     ghost use Rattle.l4_core.specs.Turning.{IsEvent};
     ghost use Rattle.l4_proc.specs.Events.{IsRefused};
-    ghost use Rattle.l4_proc.specs.Working.{HasDone, IsSameWorker};
+    ghost use Rattle.l4_proc.specs.Logs.{all_steps, HasBegun, HasLetters, IsSameLog};
+    ghost use Rattle.l4_proc.specs.Working.{HasDone, HasTakenTurn, HasTickedTo, IsSameWorker};
+
+    /// A processor that has done nothing, without a port. It takes no memory.
+    pub fn new(alloc: Global, core: Core<'m>) -> Worker<'m>
+        ensures core { result.core ≡ core.entry }
+        ensures cpu { result.log.cpu ≡ core.entry.cpu }
+        ensures ends { result.log.ends.items ≡ [] }
+        ensures ticks { result.log.ticks ≡ 0 }
+        ensures told { all_steps result.log.told ≡ [] }
+        ensures hand { result.hand ≡ None }
+        ensures stop { result.stop ≡ Stop.Used }
+    {
+        let log = Log::new(alloc, core.cpu());
+        Worker {
+            core,
+            log,
+            hand: None,
+            stop: Stop::Used,
+        }
+    }
+
+    /// What the processor knows.
+    pub fn core(&self) -> &Core<'m>
+        ensures { result.now ≡ self.now.core }
+    {
+        &self.core
+    }
+
+    /// The events so far.
+    pub fn log(&self) -> &Log
+        ensures { result.now ≡ self.now.log }
+    {
+        &self.log
+    }
+
+    /// Whether a letter was taken and is not yet handled.
+    pub fn in_hand(&self) -> bool
+        ensures { result ≡ is_some self.now.hand }
+    {
+        self.hand.is_some()
+    }
+
+    /// Makes room for an event, and begins it.
+    pub fn begin(&mut self) -> Result<(), NoMemory>
+        ensures core { self.new.core ≡ self.old.core }
+        ensures hand { self.new.hand ≡ self.old.hand }
+        ensures stop { self.new.stop ≡ self.old.stop }
+        ensures ok { OnOk result (HasBegun self.old.log self.new.log) }
+        ensures err { OnErr result (IsSameLog self.old.log self.new.log) }
+    {
+        self.log.begin()
+    }
+
+    /// Takes the letter that is next in hand, where there is one, with the processor that posted it. The next turn handles it.
+    pub fn take_in_hand(&mut self, next: Option<(u8, Letter)>)
+        requires { self.old.hand ≡ None }
+        ensures core { self.new.core ≡ self.old.core }
+        ensures hand { self.new.hand ≡ next }
+        ensures stop { self.new.stop ≡ self.old.stop }
+        ensures log { self.new.log ≡ self.old.log }
+    {
+        self.hand = next;
+    }
+
+    /// The event that has begun is a turn: the letter in hand is handled, or it is the core's turn. Where it is not taken, core and letter stay.
+    pub fn take_turn(&mut self) -> Result<(), Stop>
+        requires open { IsOpen self.old.log.told }
+        requires room { vec_len self.old.log.ends < vec_capacity self.old.log.ends }
+        ensures ok { OnOk result (HasTakenTurn self.old self.new) }
+        ensures err { OnErr result (IsSameWorker self.old self.new) }
+        ensures why { IfErr result (λ stop. IsRefused self.old.core self.old.hand stop) }
+        ensures machine { IsMachine self.old.core.machine }
+        ensures cpu { self.old.core.cpu < self.old.core.machine.cpus }
+    {
+        let stamp = self.go_on()?;
+        self.log.end_turn(stamp);
+        Ok(())
+    }
 
     // The letter in hand is handled, or it is the core's turn.
-    pub(crate) fn go_on(&mut self) -> Result<u64, Stop>
+    fn go_on(&mut self) -> Result<u64, Stop>
         requires open { IsOpen self.old.log.told }
         ensures ok { IfOk result (λ stamp. HasDone self.old self.new stamp) }
         ensures err { OnErr result (IsSameWorker self.old self.new) }
@@ -88,8 +171,44 @@ impl Worker<'_> {
         }
     }
 
+    /// The next letter that the last event posted, with the processor that it goes to. Each is given once.
+    pub fn take_letter(&mut self) -> Option<(u8, Letter)>
+        ensures core { self.new.core ≡ self.old.core }
+        ensures hand { self.new.hand ≡ self.old.hand }
+        ensures stop { self.new.stop ≡ self.old.stop }
+        ensures letters { self.old.log.told.letters ≡ option_to_list (option_map posted_of result) ++ self.new.log.told.letters }
+        ensures none { IfNone result (self.new.log.told.letters ≡ []) }
+        ensures log { HasLetters self.old.log self.new.log }
+    {
+        self.log.take_letter()
+    }
+
+    /// The clock goes on to this value, in ticks: one event more, which posts and takes no letter.
+    ///
+    /// `Clock`: the value is not above the clock, or not below 2^62. `Stamp`: else, where the next stamp would reach 2^62. `NoMemory`: else,
+    /// where memory is refused. Nothing is changed then.
+    pub fn tick(&mut self, to: u64) -> Result<(), ProcFault>
+        ensures ok { OnOk result (HasTickedTo to self.old self.new) }
+        ensures err { OnErr result (IsSameWorker self.old self.new) }
+        ensures stop { self.new.stop ≡ self.old.stop }
+        ensures clock { IsErrOf result ProcFault.Clock ↔ (advance self.old.core.machine self.old.core.cpu to self.old.core.local ≡ None) }
+        ensures stamp { IsErrOf result ProcFault.Stamp ↔
+            (IsSome (advance self.old.core.machine self.old.core.cpu to self.old.core.local) × (can_stamp self.old.core.local 0 ≡ false)) }
+    {
+        if to <= self.core.clock() || to >= CLOCKS {
+            return Err(ProcFault::Clock);
+        }
+        if !self.core.can_stamp(0) {
+            return Err(ProcFault::Stamp);
+        }
+        self.log.begin()?;
+        let stamp = self.advance(to);
+        self.log.end_tick(stamp);
+        Ok(())
+    }
+
     // The clock goes on to this value, where it may.
-    pub(crate) fn advance(&mut self, to: u64) -> u64
+    fn advance(&mut self, to: u64) -> u64
         requires open { IsOpen self.old.log.told }
         requires can { IsSome (advance self.old.core.machine self.old.core.cpu to self.old.core.local) }
         requires stamp { can_stamp self.old.core.local 0 ≡ true }

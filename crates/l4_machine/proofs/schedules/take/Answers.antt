@@ -4,19 +4,21 @@ use Rattle.l4_core_model.specs.Schedules.{TickOf, attempts}
 use Rattle.l4_core_model.specs.Runs.{Ticks}
 use Rattle.l4_machine.specs.declared.entries.Entry.{Entry}
 use Rattle.l4_machine.specs.Entries.{after_entry, entry_from}
-use Rattle.l4_machine.specs.UnderWay.{IsRun, GoesOn}
+use Rattle.l4_machine.specs.UnderWay.{under_way, IsRun, GoesOn}
 use Rattle.l4_machine.proofs.Replays.{on_ok, tick_entry, no_tick_entry}
 use Rattle.l4_machine.proofs.schedules.take.Goals as goal
 
 pub returns-in-Some : goal.returns-in-Some
 returns-in-Some c =
     let cpu = c.in-Tick.cpu in
-    let new = c.tick.new.self in
-    subst (λ (e : Entry). OnOk c.tick.result (GoesOn (after_entry (entry_from e)) c.args.run.now new)) (sym c.in-Tick.is)
-    (on_ok c.tick.result (GoesOn (λ m r. attempts m r (Ticks cpu c.in-Some.deadline)) c.args.run.now new) (GoesOn (after_entry (TickOf cpu)) c.args.run.now new)
-    (λ h m r is. subst (λ q. IsRun m q new) (sym (tick_entry m r c.args.run.now.stations cpu c.in-Some.deadline is.system (sym c.in-Some.ensures))) (h m r is)) c.tick.ensures.ok)
+    let old = under_way c.args.run.now in
+    let new = under_way c.tick.new.self in
+    subst (λ (e : Entry). OnOk c.tick.result (GoesOn (after_entry (entry_from e)) old new)) (sym c.in-Tick.is)
+    (on_ok c.tick.result (GoesOn (λ m r. attempts m r (Ticks cpu c.in-Some.deadline)) old new) (GoesOn (after_entry (TickOf cpu)) old new)
+    (λ h m r is. subst (λ q. IsRun m q new) (sym (tick_entry m r old.stations cpu c.in-Some.deadline is.system (sym c.in-Some.ensures))) (h m r is)) c.tick.ensures)
 
 pub returns-in-None : goal.returns-in-None
 returns-in-None c =
-    subst (λ (e : Entry). GoesOn (after_entry (entry_from e)) c.args.run.now c.args.run.now) (sym c.in-Tick.is)
-    (λ m r is. subst (λ q. IsRun m q c.args.run.now) (sym (no_tick_entry m r c.args.run.now.stations c.in-Tick.cpu is.system (sym c.in-None.ensures))) is)
+    let run = under_way c.args.run.now in
+    subst (λ (e : Entry). GoesOn (after_entry (entry_from e)) run run) (sym c.in-Tick.is)
+    (λ m r is. subst (λ q. IsRun m q run) (sym (no_tick_entry m r run.stations c.in-Tick.cpu is.system (sym c.in-None.ensures))) is)

@@ -4,6 +4,7 @@ use Rattle.std.specs.Prelude.{slice_index_or}
 use Rattle.l4_machine.specs.declared.entries.Entry.TheVariants.{Turn}
 use Rattle.l4_machine.specs.Entries.{entry_from, is_entry}
 use Rattle.l4_machine.proofs.Replays.{IsReplaying, entry_at, replaying_start, replaying_next, replaying_end, lawful-next, stranger_here}
+use Rattle.l4_machine.specs.UnderWay.{under_way}
 use Rattle.l4_machine.proofs.Replays.{as_many}
 use Rattle.l4_machine.proofs.schedules.take_all.Goals as goal
 
@@ -49,4 +50,4 @@ pub returns-clause-ok : goal.returns-clause-ok
 returns-clause-ok c = λ m r is.
     let entries = map entry_from c.args.entries.now in
     let all : c.loop-place.place ≡ length entries = omega (arith, length-map c.args.entries.now entry_from) in
-    replaying_end m entries r c.loop-place.run (subst (λ k. IsReplaying m entries r c.loop-place.run k) all (c.loop-place.invariant.run m r is))
+    replaying_end m entries r (under_way c.loop-place.run) (subst (λ k. IsReplaying m entries r (under_way c.loop-place.run) k) all (c.loop-place.invariant.run m r is))

@@ -9,3 +9,6 @@ of_history-requires-clause-once c = subst (λ (history : RunHistory). AreBegunOn
 
 pub waiting-requires-clause-once : goal.waiting-requires-clause-once
 waiting-requires-clause-once c = subst (λ (history : RunHistory). AreBegunOnce (steps_of history)) c.in-Logs.is c.requires.once
+
+pub waiting-2-requires-clause-once : goal.waiting-2-requires-clause-once
+waiting-2-requires-clause-once c = subst (λ (history : RunHistory). AreBegunOnce (steps_of history)) c.in-Ordered.is c.requires.once

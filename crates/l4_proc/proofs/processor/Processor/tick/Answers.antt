@@ -1,32 +1,9 @@
 use Rattle.std.proofs.Common.{refl}
-use Rattle.l4_proc.proofs.Going.{tick_whole, has_ticked}
+use Rattle.l4_proc.proofs.Going.{tried_whole, has_tried}
 use Rattle.l4_proc.proofs.processor.Processor.tick.Goals as goal
 
-pub invariant_of-self-2 : goal.invariant_of-self-2
-invariant_of-self-2 c = record {
-  whole = tick_whole c.args.to c.args.self.now.port c.args.self.now.worker _ c.begin.new.self c.advance-stamp.new.self.log c.advance-stamp.result c.args.self.now.whole
-      (record {
-        begun = c.in_ok-begin.ensures.ok;
-        event = c.advance-stamp.ensures.event;
-        hand = c.advance-stamp.ensures.hand;
-        stop = c.advance-stamp.ensures.stop;
-        cpu = c.advance-stamp.ensures.log.0;
-        ends = c.advance-stamp.ensures.log.1;
-        ticks = c.advance-stamp.ensures.log.2;
-        ended = c.end_tick.ensures;
-      });
-}
+pub invariant_of-self : goal.invariant_of-self
+invariant_of-self c = record { whole = tried_whole c.args.to c.args.self.now.port c.args.self.now.worker _ c.tick.result c.tick.ensures.ok c.tick.ensures.err c.args.self.now.whole }
 
 pub returns-clause-ok : goal.returns-clause-ok
-returns-clause-ok c =
-    has_ticked c.args.to c.args.self.now _ c.begin.new.self c.advance-stamp.new.self.log c.advance-stamp.result refl c.args.self.now.whole
-    (record {
-      begun = c.in_ok-begin.ensures.ok;
-      event = c.advance-stamp.ensures.event;
-      hand = c.advance-stamp.ensures.hand;
-      stop = c.advance-stamp.ensures.stop;
-      cpu = c.advance-stamp.ensures.log.0;
-      ends = c.advance-stamp.ensures.log.1;
-      ticks = c.advance-stamp.ensures.log.2;
-      ended = c.end_tick.ensures;
-    })
+returns-clause-ok c = has_tried c.args.to c.args.self.now _ c.tick.result refl c.args.self.now.whole c.tick.ensures.ok

@@ -1,0 +1,234 @@
+-- What a station does with the letter that it takes.
+use Rattle.std.proofs.Common.{◌≡◌, ℕ, ◌<◌, true, false, Option, Some, None, List, [], ◌∷◌, ◌++◌, map, length, get_or, refl, ap, sym, ◌∙◌, subst, inl, inr}
+use Rattle.std.specs.Prelude.{◌+◌, slice_get, is_some, IfErr, OnErr, OnOk, Result, Ok, Err}
+use Rattle.std.specs.Option.{option_map}
+use Rattle.std.proofs.lemmas.Option.{slice_get-get_or, slice_get-map}
+use Rattle.l4_core_model.specs.Acts.{Work}
+use Rattle.l4_core_model.specs.Letters.{Letter}
+use Rattle.l4_core_model.specs.Mail.{handle}
+use Rattle.l4_core_model.specs.Runs.{Event}
+use Rattle.l4_core_model.specs.Turns.{can_stamp, turn}
+use Rattle.l4_merge.specs.Deeds.{work_of}
+use Rattle.l4_types.specs.declared.letters.Letter as letters
+use Rattle.l4_types.specs.LetterView.{letter_of}
+use Rattle.l4_core.specs.Processor.{Processor}
+use Rattle.l4_core.specs.Turning.{work}
+use Rattle.l4_proc.specs.declared.stops.Stop.{Stop}
+use Rattle.l4_proc.specs.declared.stops.Stop.TheVariants as stop
+use Rattle.l4_proc.specs.declared.worker.Worker.{Worker}
+use Rattle.l4_proc.specs.Events.{event_in_hand, stamp_in_hand, IsRefused}
+use Rattle.l4_proc.specs.Logs.{events, HasBegun, HasLetters, IsClosed}
+use Rattle.l4_proc.specs.Working.{HasTakenTurn, HasTickedTo, IsSameWorker}
+use Rattle.l4_proc.proofs.Logging.{begun_closed, begun_events, logged, same_closed, same_events, IsLogged}
+use Rattle.l4_machine.specs.declared.station.Station as program
+use Rattle.l4_machine.specs.Inboxes.{letters_in, TakesFirst}
+use Rattle.l4_machine.specs.Stations.{station_of, event_of, CanGoOn, IsSameStation, IsTick, TakesTurn}
+
+-- What the worker of a station has told.
+pub record Keeps (w : Worker) : Type 0 where
+  pub empty : w.hand ≡ None
+  pub closed : IsClosed w.log
+  pub own : w.log.cpu ≡ w.core.cpu
+
+-- A worker of which an event has begun.
+pub record IsAtHand (old w : Worker) (hand : Option (ℕ × letters.Letter)) : Type 0 where
+  pub core : w.core ≡ old.core
+  pub held : w.hand ≡ hand
+  pub log : HasBegun old.log w.log
+
+core_is : (p : Processor) (c : Processor) → p.machine ≡ c.machine → p.cpu ≡ c.cpu → p ≡ record { machine = c.machine; cpu = c.cpu; local = p.local }
+core_is p c machine cpu =
+    ap (λ m. record { machine = m; cpu = p.cpu; local = p.local }) machine
+    ∙ ap (λ (n : ℕ). record { machine = c.machine; cpu = n; local = p.local }) cpu
+
+module _ (old w new : Worker) (hand : Option (ℕ × letters.Letter)) (k : Keeps old) (h : IsAtHand old w hand) (t : HasTakenTurn w new) where
+  turned_log : IsLogged old.log new.log t.stamp t.told.log.told.steps
+  turned_log = logged old.log w.log t.told.log new.log t.stamp t.told.log.ticks k.closed h.log t.done.cpu (ap (λ ends. ends.items) t.done.ends) t.done.event.kept t.ended
+
+  turned_core : new.core ≡ t.told.core
+  turned_core = ap (λ (w : Worker). w.core) t.is
+
+  abbrev turned_work : Work
+  turned_work = work t.told.core.local t.told.log.told
+
+  turned_kept : Keeps new
+  turned_kept = record {
+    empty = ap (λ (w : Worker). w.hand) t.is ∙ t.done.hand;
+    closed = turned_log.closed;
+    own = t.ended.cpu ∙ t.done.cpu ∙ h.log.cpu ∙ k.own ∙ sym (ap (λ (c : Processor). c.cpu) (turned_core ∙ core_is t.told.core w.core t.done.event.machine t.done.event.cpu ∙ ap (λ (c : Processor). record c { local = t.told.core.local }) h.core));
+  }
+
+  turned_event : work_of old.core.machine old.core.cpu old.core.local (event_in_hand hand) ≡ Some turned_work
+  turned_event =
+      subst (λ (c : Processor). work_of c.machine c.cpu c.local (event_in_hand hand) ≡ Some turned_work) h.core
+      (subst (λ (o : Option (ℕ × letters.Letter)). work_of w.core.machine w.core.cpu w.core.local (event_in_hand o) ≡ Some turned_work) h.held t.done.event.is)
+
+  turned_core_is : new.core ≡ record { machine = old.core.machine; cpu = old.core.cpu; local = turned_work.local }
+  turned_core_is =
+      turned_core ∙ core_is t.told.core w.core t.done.event.machine t.done.event.cpu
+      ∙ ap (λ (c : Processor). record { machine = c.machine; cpu = c.cpu; local = t.told.core.local }) h.core
+
+  turned_events : events new.log ≡ events old.log ++ event_of old.core turned_work ∷ []
+  turned_events =
+      let event : ℕ → ℕ → List Event = λ c s. record { cpu = c; stamp = s; steps = t.told.log.told.steps } ∷ [] in
+      turned_log.events
+      ∙ ap (λ c. events old.log ++ event c t.stamp) k.own
+      ∙ ap (λ s. events old.log ++ event old.core.cpu s) t.done.event.stamped
+
+-- A turn of a station.
+pub station_turned : (old new : program.Station) (w : Worker) (hand : Option (ℕ × letters.Letter)) → Keeps old.worker → IsAtHand old.worker w hand →
+    TakesFirst (letters_in old.inbox) hand (letters_in new.inbox) → HasTakenTurn w new.worker → TakesTurn true old new
+station_turned old new w None k h taken t = inr (record {
+  work = turned_work old.worker w new.worker None k h t;
+  no_mail = taken.0;
+  is = turned_event old.worker w new.worker None k h t;
+  done = record {
+    core = turned_core_is old.worker w new.worker None k h t;
+    events = turned_events old.worker w new.worker None k h t;
+    letters = ap (λ told. told.letters) t.ended.told;
+  };
+  rest = taken.1;
+})
+station_turned old new w (Some p) k h taken t = inl (record {
+  letter = letter_of p.1;
+  from = p.0;
+  work = turned_work old.worker w new.worker (Some p) k h t;
+  poster = taken.poster;
+  first = taken.first;
+  is = turned_event old.worker w new.worker (Some p) k h t;
+  done = record {
+    core = turned_core_is old.worker w new.worker (Some p) k h t;
+    events = turned_events old.worker w new.worker (Some p) k h t;
+    letters = ap (λ told. told.letters) t.ended.told;
+  };
+  rest = taken.rest;
+})
+
+-- There was nothing to do.
+pub station_idle : (old new : program.Station) (w : Worker) (hand : Option (ℕ × letters.Letter)) → Keeps old.worker → IsAtHand old.worker w hand →
+    TakesFirst (letters_in old.inbox) hand (letters_in new.inbox) → IsSameWorker w new.worker → IsRefused w.core w.hand stop.Idle → TakesTurn false old new
+station_idle old new w None k h taken same why = record {
+  no_mail = taken.0;
+  none = subst (λ (c : Processor). turn c.machine c.cpu c.local ≡ None) h.core why.none;
+  same = record {
+    station = ap (λ c. record { core = c; inbox = letters_in new.inbox }) (same.core ∙ h.core) ∙ ap (λ i. record { core = old.worker.core; inbox = i }) taken.1;
+    events = same_events w.log new.worker.log same.log ∙ begun_events old.worker.log w.log h.log;
+  };
+}
+station_idle old new w (Some p) k h taken same why = absurd (let none : w.hand ≡ None = why.empty in let some = h.held in cc)
+
+pub idle_kept : (old w new : Worker) (hand : Option (ℕ × letters.Letter)) → Keeps old → IsAtHand old w hand → IsSameWorker w new → IsRefused w.core w.hand stop.Idle → Keeps new
+idle_kept old w new hand k h same why = record {
+  empty = same.hand ∙ why.empty;
+  closed = same_closed w.log new.log same.log (begun_closed old.log w.log h.log k.closed);
+  own = same.log.cpu ∙ h.log.cpu ∙ k.own ∙ sym (ap (λ (c : Processor). c.cpu) (same.core ∙ h.core));
+}
+
+-- A letter that can be handled is not refused, and neither is the core's turn.
+pub not_refused : (old : program.Station) (w : Worker) (hand : Option (ℕ × letters.Letter)) (after : List (List Letter)) (why : Stop) → CanGoOn (station_of old) → IsAtHand old.worker w hand →
+    TakesFirst (letters_in old.inbox) hand after → IsRefused w.core w.hand why → why ≡ stop.Idle
+not_refused old w hand after stop.Idle can h taken why = refl
+not_refused old w hand after stop.Used can h taken why = absurd why
+not_refused old w hand after stop.NoMemory can h taken why = absurd why
+not_refused old w None after stop.Mail can h taken why = absurd (let some = why.here in let none = h.held in cc)
+not_refused old w (Some p) after stop.Mail can h taken why =
+    let same : p ≡ why.letter = some_is_same p why.letter (sym h.held ∙ why.here) in
+    let core : Processor → Type 0 = λ c. handle c.machine c.cpu c.local (letter_of p.1) ≡ None in
+    let none = subst core h.core (subst (λ (l : ℕ × letters.Letter). handle w.core.machine w.core.cpu w.core.local (letter_of l.1) ≡ None) (sym same) why.unlawful) in
+    let lawful = (can.letters p.0 (letter_of p.1) taken.first).lawful in
+    absurd (let is = ap is_some none in cc)
+  where
+    some_is_same : {A : Type 0} (a b : A) → Some a ≡ Some b → a ≡ b
+    some_is_same a b is = cc
+not_refused old w None after stop.Stamp can h taken why =
+    let core : Processor → Type 0 = λ c. can_stamp c.local 0 ≡ false in
+    let full = subst core h.core (subst (λ (o : Option (ℕ × letters.Letter)). can_stamp w.core.local (stamp_in_hand o) ≡ false) h.held why.full) in
+    absurd (let own = can.own in cc)
+not_refused old w (Some p) after stop.Stamp can h taken why =
+    let core : Processor → Type 0 = λ c. can_stamp c.local p.1.stamp ≡ false in
+    let full = subst core h.core (subst (λ (o : Option (ℕ × letters.Letter)). can_stamp w.core.local (stamp_in_hand o) ≡ false) h.held why.full) in
+    let stamp = (can.letters p.0 (letter_of p.1) taken.first).stamp in
+    absurd cc
+
+-- The clock of a station goes on.
+pub station_ticked : (clock : ℕ) (old new : program.Station) → Keeps old.worker → letters_in new.inbox ≡ letters_in old.inbox → HasTickedTo clock old.worker new.worker → IsTick clock old new
+station_ticked clock old new k inbox t =
+    let x : Work = work new.worker.core.local t.after.told in
+    let l = ticked_log clock old.worker new.worker k t in
+    let event : ℕ → ℕ → List Event = λ c s. record { cpu = c; stamp = s; steps = t.after.told.steps } ∷ [] in
+    record {
+      work = x;
+      is = t.is.event.is;
+      done = record {
+        core = core_is new.worker.core old.worker.core t.is.event.machine t.is.event.cpu;
+        events = l.events ∙ ap (λ c. events old.worker.log ++ event c t.stamp) k.own ∙ ap (λ s. events old.worker.log ++ event old.worker.core.cpu s) t.is.event.stamped;
+        letters = ap (λ told. told.letters) t.is.ended.told;
+      };
+      rest = inbox;
+    }
+  where
+    ticked_log : (clock : ℕ) (old new : Worker) → Keeps old → (t : HasTickedTo clock old new) → IsLogged old.log new.log t.stamp t.after.told.steps
+    ticked_log clock old new k t =
+        logged old.log t.before t.after new.log t.stamp (t.after.ticks + 1) k.closed t.is.begun t.is.cpu (ap (λ ends. ends.items) t.is.ends) t.is.event.kept t.is.ended
+
+pub ticked_kept : (clock : ℕ) (old new : Worker) → Keeps old → HasTickedTo clock old new → Keeps new
+ticked_kept clock old new k t = record {
+  empty = t.is.hand ∙ k.empty;
+  closed = (logged old.log t.before t.after new.log t.stamp (t.after.ticks + 1) k.closed t.is.begun t.is.cpu (ap (λ ends. ends.items) t.is.ends) t.is.event.kept t.is.ended).closed;
+  own = t.is.ended.cpu ∙ t.is.cpu ∙ t.is.begun.cpu ∙ k.own ∙ sym t.is.event.cpu;
+}
+
+pub same_kept : (old new : Worker) → Keeps old → IsSameWorker old new → Keeps new
+same_kept old new k same = record {
+  empty = same.hand ∙ k.empty;
+  closed = same_closed old.log new.log same.log k.closed;
+  own = same.log.cpu ∙ k.own ∙ sym (ap (λ (c : Processor). c.cpu) same.core);
+}
+
+pub same_station : (old new : program.Station) → letters_in new.inbox ≡ letters_in old.inbox → IsSameWorker old.worker new.worker → IsSameStation old new
+same_station old new inbox same = record {
+  station = ap (λ c. record { core = c; inbox = letters_in new.inbox }) same.core ∙ ap (λ i. record { core = old.worker.core; inbox = i }) inbox;
+  events = same_events old.worker.log new.worker.log same.log;
+}
+
+-- Letters were taken out of its log.
+pub letters_taken : (old new : program.Station) → letters_in new.inbox ≡ letters_in old.inbox → new.worker.core ≡ old.worker.core → HasLetters old.worker.log new.worker.log → IsSameStation old new
+letters_taken old new inbox core l = record {
+  station = ap (λ c. record { core = c; inbox = letters_in new.inbox }) core ∙ ap (λ i. record { core = old.worker.core; inbox = i }) inbox;
+  events = rw (l.cpu, l.ends, l.told) refl;
+}
+
+pub letters_kept : (old new : Worker) → Keeps old → new.core ≡ old.core → new.hand ≡ old.hand → HasLetters old.log new.log → Keeps new
+letters_kept old new k core hand l = record {
+  empty = hand ∙ k.empty;
+  closed = rw (l.told, l.ends) k.closed;
+  own = l.cpu ∙ k.own ∙ sym (ap (λ (c : Processor). c.cpu) core);
+}
+
+-- What stands at a place of a list.
+pub station_there : (ss : List program.Station) (i : ℕ) (s : program.Station) → i < length ss → s ≡ get_or ss i s → slice_get (map station_of ss) i ≡ Some (station_of s)
+station_there ss i s lt at = slice_get-map station_of ss i ∙ ap (option_map station_of) (slice_get-get_or ss i s lt ∙ ap Some (sym at))
+
+-- What is kept, whatever was answered.
+
+pub keeps : (s : program.Station) → Keeps s.worker
+keeps s = record { empty = s.empty; closed = s.closed; own = s.own }
+
+pub at_hand : (old begun w : Worker) (hand : Option (ℕ × letters.Letter)) → begun.core ≡ old.core → HasBegun old.log begun.log → w.core ≡ begun.core → w.hand ≡ hand → w.log ≡ begun.log →
+    IsAtHand old w hand
+at_hand old begun w hand core log same held told = record {
+  core = same ∙ core;
+  held = held;
+  log = subst (HasBegun old.log) (sym told) log;
+}
+
+pub tried_tick : (clock : ℕ) (old new : Worker) {A E : Type 0} (r : Result A E) → Keeps old → OnOk r (HasTickedTo clock old new) → OnErr r (IsSameWorker old new) → Keeps new
+tried_tick clock old new (Ok x) k ticked same = ticked_kept clock old new k ticked
+tried_tick clock old new (Err e) k ticked same = same_kept old new k same
+
+pub tried_turn : (old : program.Station) (w new : Worker) (hand : Option (ℕ × letters.Letter)) (after : List (List Letter)) {A : Type 0} (r : Result A Stop) → CanGoOn (station_of old) →
+    IsAtHand old.worker w hand → TakesFirst (letters_in old.inbox) hand after →
+    OnOk r (HasTakenTurn w new) → OnErr r (IsSameWorker w new) → IfErr r (λ why. IsRefused w.core w.hand why) → Keeps new
+tried_turn old w new hand after (Ok x) can h taken turned same why = turned_kept old.worker w new hand (keeps old) h turned
+tried_turn old w new hand after (Err e) can h taken turned same why =
+    idle_kept old.worker w new hand (keeps old) h same (subst (IsRefused w.core w.hand) (not_refused old w hand after e can h taken why) why)

@@ -1,7 +1,0 @@
-use Rattle.std.proofs.Common.{◌≡◌, [], map}
-use Rattle.std.specs.Prelude.{replicate}
-use Rattle.l4_types.specs.LetterView.{letter_of}
-use Rattle.l4_machine.proofs.station.empty_inbox.Given as goal
-
-abbrev pub invariant-loop-from : goal.invariant-loop-from
-invariant-loop-from l = map (λ letters. map letter_of letters.items) l.inbox.items ≡ replicate l.from []

@@ -1,0 +1,198 @@
+//! The processors of a machine, moved one by one, with the letters under way between them.
+ghost use Rattle.std.specs.Prelude.{ℕ, ◌≡◌, ◌<◌, ◌↔◌, ◌^◌, [], IfOk, IsTrue, OnOk, length, map, replicate, slice_get};
+ghost use Rattle.l4_model.specs.Machine.{Machine as MachineOfModel};
+ghost use Rattle.l4_core_model.specs.Runs.{IsMachine, Run, Ticks, opening_run, opening_system, told};
+ghost use Rattle.l4_core_model.specs.Schedules.{attempts, next_turn};
+ghost use Rattle.l4_types.specs.declared.reports.Ending.TheVariants.{Quiet};
+ghost use Rattle.l4_machine.specs.Stations.{events_at, station_of};
+ghost use Rattle.l4_machine.specs.Homes.{IsAtHome};
+ghost use Rattle.l4_machine.specs.InOrder.{steps_in_order};
+ghost use Rattle.l4_machine.specs.UnderWay.{deadline_at, letters_of, AreResting, CanPost, HasDelivered, HaveNoMail, IsSystem};
+
+use crate::homes::AtHome;
+use crate::laws::law_core_run;
+use crate::ordered::OrderedLogs;
+use crate::station::Station;
+use l4_core::processor::Core;
+use l4_script::machine::Machine;
+use l4_types::errors::NoMemory;
+use l4_types::reports::Ending;
+use std::alloc::Global;
+
+/// The processors of a machine with the letters under way between them.
+#[derive(Drop)]
+pub(crate) struct Scheduler<'m> {
+    machine: &'m Machine,
+    stations: Vec<Station<'m>>,
+    // The processor of each event, in the order told.
+    order: Vec<u8>,
+}
+
+impl<'m> Scheduler<'m> {
+    ghost use Rattle.l4_machine.specs.UnderWay.{letters_of, under_way, CanPost, GoesOn, HasEndedEvent, HasRun, IsRun};
+
+    /// The processors of a machine where nothing has happened.
+    pub(crate) fn new(alloc: Global, machine: &'m Machine) -> Result<Scheduler<'m>, NoMemory>
+        ensures { IfOk result (λ scheduler. IsRun machine.now (opening_run machine.now) (under_way scheduler)) }
+    {
+        Ok(Scheduler {
+            machine,
+            stations: opening_stations(alloc, machine)?,
+            order: Vec::new(alloc),
+        })
+    }
+
+    /// How many events there were.
+    pub(crate) fn events(&self) -> usize
+        ensures { result ≡ length (under_way self.now).order }
+    {
+        self.order.len()
+    }
+
+    /// A turn of a processor, where it has something to do: mail first, and of it that of the lowest poster, else the core's turn.
+    pub(crate) fn take_turn(&mut self, cpu: u8) -> Result<(), NoMemory>
+        requires run { HasRun (under_way self.old) }
+        requires cpu { cpu < self.old.machine.now.cpus }
+        requires few { length (under_way self.old).order < 2 ^ 61 }
+        ensures { OnOk result (GoesOn (λ m r. attempts m r (next_turn m r.system cpu)) (under_way self.old) (under_way self.new)) }
+    {
+        law_core_run();
+        if !self.stations[usize::from(cpu)].take_turn()? {
+            return Ok(());
+        }
+        self.end_event(cpu)
+    }
+
+    /// The clock of a processor goes on to this value, in ticks, where it may.
+    pub(crate) fn tick(&mut self, cpu: u8, clock: u64) -> Result<(), NoMemory>
+        requires run { HasRun (under_way self.old) }
+        requires cpu { cpu < self.old.machine.now.cpus }
+        requires few { length (under_way self.old).order < 2 ^ 61 }
+        ensures { OnOk result (GoesOn (λ m r. attempts m r (Ticks cpu clock)) (under_way self.old) (under_way self.new)) }
+    {
+        law_core_run();
+        if !self.stations[usize::from(cpu)].tick(clock)? {
+            return Ok(());
+        }
+        self.end_event(cpu)
+    }
+
+    // The event of a processor is the last one, and what it posted comes to the others.
+    fn end_event(&mut self, cpu: u8) -> Result<(), NoMemory>
+        requires within { cpu < length self.old.stations.items }
+        requires posted { CanPost cpu (letters_of self.old.stations.items cpu) (map station_of self.old.stations.items) }
+        ensures { OnOk result (HasEndedEvent cpu self.old self.new) }
+    {
+        self.order.push(cpu)?;
+        deliver(&mut self.stations, cpu)
+    }
+
+    /// The least deadline that a thread of a processor is armed for, in ticks.
+    pub(crate) fn least_deadline(&self, cpu: u8) -> Option<u64>
+        requires run { HasRun (under_way self.now) }
+        requires cpu { cpu < self.now.machine.now.cpus }
+        ensures { result ≡ deadline_at (slice_get (under_way self.now).stations cpu) }
+    {
+        self.stations[usize::from(cpu)].least_deadline()
+    }
+
+    /// `Quiet` where nothing is to be done, armed or under way.
+    pub(crate) fn ending(&self) -> Ending
+        ensures { (result ≡ Quiet) ↔ AreResting (under_way self.now).stations }
+    {
+        if are_at_rest(self.stations.as_slice()) {
+            Ending::Quiet
+        } else {
+            Ending::Spent
+        }
+    }
+
+    /// Whether no letter is under way.
+    pub(crate) fn has_handled_all(&self) -> bool
+        ensures { IsTrue result → HaveNoMail (under_way self.now).stations }
+    {
+        have_no_mail(self.stations.as_slice())
+    }
+
+    /// What the threads have come to, as their own processors have them.
+    pub(crate) fn at_home(&self, alloc: Global) -> Result<AtHome, NoMemory>
+        requires { HasRun (under_way self.now) }
+        ensures { (m : MachineOfModel) (r : Run) → IsRun m r (under_way self.now) → IfOk result (IsAtHome m r.system.locals) }
+    {
+        let _ = self.machine.cpus();
+        let cores = cores_of(alloc, self.stations.as_slice())?;
+        AtHome::new(alloc, self.machine, cores.as_slice())
+    }
+
+    /// What the processors have in their logs, in the order told. Nothing is copied.
+    pub(crate) fn into_logs(self) -> OrderedLogs<'m>
+        requires { HasRun (under_way self) }
+        ensures { (m : MachineOfModel) (r : Run) → IsRun m r (under_way self.entry) →
+            steps_in_order result.order.items (map events_at result.stations.items) ≡ told r.events }
+    {
+        OrderedLogs::new(self.stations, self.order)
+    }
+}
+
+// The processors of a machine where nothing has happened.
+fn opening_stations<'m>(alloc: Global, machine: &'m Machine) -> Result<Vec<Station<'m>>, NoMemory>
+    ensures system { IfOk result (λ stations. IsSystem machine.now (opening_system machine.now) (map station_of stations.items)) }
+    ensures events { IfOk result (λ stations. map events_at stations.items ≡ replicate machine.now.cpus []) }
+    ensures lawful { IfOk result (λ stations. IsMachine machine.now) }
+{
+    let mut stations = Vec::with_capacity(alloc, usize::from(machine.cpus()))?;
+    for cpu in 0..machine.cpus() {
+        stations.push(Station::new(alloc, machine, cpu)?)?;
+    }
+    Ok(stations)
+}
+
+// What the last event of a processor posted comes to the others.
+fn deliver(stations: &mut [Station<'_>], from: u8) -> Result<(), NoMemory>
+    requires within { from < length stations.old }
+    requires posted { CanPost from (letters_of stations.old from) (map station_of stations.old) }
+    ensures { OnOk result (HasDelivered from stations.old stations.new) }
+{
+    'letters: while let Some((to, letter)) = stations[usize::from(from)].take_letter() {
+        stations[usize::from(to)].put(from, letter)?;
+    }
+    Ok(())
+}
+
+// Whether none of these processors has anything to do, a deadline or a letter.
+fn are_at_rest(stations: &[Station<'_>]) -> bool
+    ensures { IsTrue result ↔ AreResting (map station_of stations.now) }
+{
+    for station in stations {
+        if !station.is_at_rest() {
+            return false;
+        }
+    }
+    true
+}
+
+// Whether none of these processors has a letter.
+fn have_no_mail(stations: &[Station<'_>]) -> bool
+    ensures { IsTrue result → HaveNoMail (map station_of stations.now) }
+{
+    for station in stations {
+        if !station.has_no_mail() {
+            return false;
+        }
+    }
+    true
+}
+
+// The processors themselves.
+fn cores_of<'a, 'm>(
+    alloc: Global,
+    stations: &'a [Station<'m>],
+) -> Result<Vec<&'a Core<'m>>, NoMemory>
+    ensures { IfOk result (λ cores. map (λ c. c.now) cores.items ≡ map (λ s. s.worker.core) stations.now) }
+{
+    let mut cores = Vec::new(alloc);
+    for station in stations {
+        cores.push(station.core())?;
+    }
+    Ok(cores)
+}

@@ -22,5 +22,6 @@ pub mod audit;
 pub mod auditor;
 mod found;
 mod periods;
+pub mod possible;
 pub mod reasons;
 mod world;

@@ -1,6 +1,6 @@
 -- The possible steps of a world are listed as the definition has them.
 use Rattle.std.proofs.Common.{◌≡◌, ℕ, ◌<◌, ◌+◌, true, false, Option, Some, None, List, [], ◌∷◌, ◌++◌, length, get_or, map, take, refl, ap, sym, ◌∙◌, append_assoc, arith}
-use Rattle.std.specs.Prelude.{filter_map, flat_map, is_some, is_none}
+use Rattle.std.specs.Prelude.{filter_map, flat_map, is_some, is_none, option_map, MatchOption, IsSomeAnd}
 use Rattle.std.specs.List.{cons_option}
 use Rattle.std.specs.Option.{option_to_list}
 use Rattle.std.proofs.lemmas.Grind.{flat_map-append}
@@ -60,3 +60,10 @@ turns_more f ds start xs ys n d lt at so_far more =
 pub turns_are : {A B C : Type 0} (f : B → Option C) (g : A → B) {Z : Type 0} (h : Z → A) (os : List Z) → filter_map (λ o. f (g (h o))) os ≡ filter_map f (map g (map h os))
 turns_are f g h [] = refl
 turns_are f g h (o ∷ os) = ap (cons_option (f (g (h o)))) (turns_are f g h os)
+
+-- What a function makes of a value, where there is one.
+pub mapped : {A B C : Type 0} (view : B → C) (f : A → C) (post : A → B → Type 0) (o : Option A) (r : Option B) → ((x : A) (y : B) → post x y → view y ≡ f x) → MatchOption o (r ≡ None) (λ x. IsSomeAnd r (post x)) →
+    option_map view r ≡ option_map f o
+mapped view f post None r each h = ap (option_map view) h
+mapped view f post (Some x) None each h = absurd h
+mapped view f post (Some x) (Some y) each h = ap Some (each x y h)

@@ -1,16 +1,17 @@
 //! What is possible in a world.
-ghost use Rattle.std.specs.Prelude.{◌≡◌, Some, IfOk, OnOk, filter_map, map, option_map};
+ghost use Rattle.std.specs.Prelude.{◌≡◌, Some, IfOk, OnOk, filter_map, map};
+ghost use Rattle.std.specs.Option.{option_map};
 ghost use Rattle.l4_model.specs.Conditions.{act_of, found};
-ghost use Rattle.l4_model.specs.Steps.{Begin, Queue, SendTimeout, SendNobody, SendCancel, order_of};
-ghost use Rattle.l4_model.specs.Steps.{Drop as Drops};
+ghost use Rattle.l4_model.specs.Steps.{order_of};
 ghost use Rattle.l4_types.specs.OwedView.{owed_of};
-ghost use Rattle.l4_types.specs.StepView.{delivered, seen, step_of};
+ghost use Rattle.l4_types.specs.StepView.{seen, step_of};
 ghost use Rattle.l4_audit.specs.Possible.{Adds, Appends, coming_name, delivery, last_name, order};
 ghost use Rattle.l4_audit.specs.Possible.{possible, possible_of, turn, where_possible};
 
 use crate::found::Found;
 use crate::world::World;
 use crate::world::deliveries::is_cross;
+use l4_script::machine::Machine;
 use l4_types::errors::NoMemory;
 use l4_types::ids::GlobalId;
 use l4_types::owed::Owed;
@@ -50,140 +51,23 @@ impl World<'_> {
             (possible_of self.now.machine self.now.world (Some thread.now))) }
     {
         let id = thread.id();
-        self.push_where(&StepRef::Local(id), steps)?;
-        self.push_begin(coming_name(thread), steps)?;
-        self.push_queue(last_name(thread), steps)?;
-        self.push_delivery(last_name(thread), steps)?;
-        self.push_where(&StepRef::Wait(id), steps)?;
-        self.push_send_timeout(last_name(thread), steps)?;
-        self.push_where(&StepRef::ReceiveTimeout(id), steps)?;
-        self.push_send_nobody(last_name(thread), steps)?;
-        self.push_where(&StepRef::ReceiveNobody(id), steps)?;
-        self.push_send_cancel(last_name(thread), steps)?;
-        self.push_where(&StepRef::ReceiveCancel(id), steps)?;
-        self.push_drop(last_name(thread), steps)?;
-        self.push_order(thread, steps)?;
-        self.push_where(&StepRef::Obey(id), steps)?;
-        self.push_turns(thread.id(), steps)
-    }
-
-    // Appends a step, where it is possible.
-    fn push_where(&self, step: &StepRef<'_>, steps: &mut Vec<Step>) -> Result<(), NoMemory>
-        ensures { OnOk result (Adds self.now steps.old.items steps.new.items
-            (Some (seen step.now))) }
-    {
-        if self.reason(step).is_none() {
-            steps.push(step.to_step())?;
-        }
-        Ok(())
-    }
-
-    // The same of the steps of a send, where it has a name.
-
-    fn push_begin(&self, name: Option<Name>, steps: &mut Vec<Step>) -> Result<(), NoMemory>
-        ensures { OnOk result (Adds self.now steps.old.items steps.new.items
-            (option_map Begin name)) }
-    {
-        match name {
-            Some(name) => self.push_where(&StepRef::Begin(name), steps),
-            None => Ok(()),
-        }
-    }
-
-    fn push_queue(&self, name: Option<Name>, steps: &mut Vec<Step>) -> Result<(), NoMemory>
-        ensures { OnOk result (Adds self.now steps.old.items steps.new.items
-            (option_map Queue name)) }
-    {
-        match name {
-            Some(name) => self.push_where(&StepRef::Queue(name), steps),
-            None => Ok(()),
-        }
-    }
-
-    fn push_send_timeout(&self, name: Option<Name>, steps: &mut Vec<Step>) -> Result<(), NoMemory>
-        ensures { OnOk result (Adds self.now steps.old.items steps.new.items
-            (option_map SendTimeout name)) }
-    {
-        match name {
-            Some(name) => self.push_where(&StepRef::SendTimeout(name), steps),
-            None => Ok(()),
-        }
-    }
-
-    fn push_send_nobody(&self, name: Option<Name>, steps: &mut Vec<Step>) -> Result<(), NoMemory>
-        ensures { OnOk result (Adds self.now steps.old.items steps.new.items
-            (option_map SendNobody name)) }
-    {
-        match name {
-            Some(name) => self.push_where(&StepRef::SendNobody(name), steps),
-            None => Ok(()),
-        }
-    }
-
-    fn push_send_cancel(&self, name: Option<Name>, steps: &mut Vec<Step>) -> Result<(), NoMemory>
-        ensures { OnOk result (Adds self.now steps.old.items steps.new.items
-            (option_map SendCancel name)) }
-    {
-        match name {
-            Some(name) => self.push_where(&StepRef::SendCancel(name), steps),
-            None => Ok(()),
-        }
-    }
-
-    fn push_drop(&self, name: Option<Name>, steps: &mut Vec<Step>) -> Result<(), NoMemory>
-        ensures { OnOk result (Adds self.now steps.old.items steps.new.items
-            (option_map Drops name)) }
-    {
-        match name {
-            Some(name) => self.push_where(&StepRef::Drop(name), steps),
-            None => Ok(()),
-        }
-    }
-
-    // Appends the delivery of a send, where it is possible.
-    fn push_delivery(&self, send: Option<Name>, steps: &mut Vec<Step>) -> Result<(), NoMemory>
-        ensures { OnOk result (Adds self.now steps.old.items steps.new.items
-            (delivery self.now.machine self.now.world send)) }
-    {
-        match self.delivery(send) {
-            Some(delivery) => self.push_where(&StepRef::Deliver(delivery), steps),
-            None => Ok(()),
-        }
-    }
-
-    // The delivery of a send, told as it was sent.
-    fn delivery(&self, send: Option<Name>) -> Option<DeliveryRef<'_>>
-        ensures { option_map delivered result
-            ≡ delivery self.now.machine self.now.world send }
-    {
-        let name = send?;
-        let pending = self.undecided(name)?;
-        let receiver = self.receiver_of(&pending)?;
-        let message = pending.send().message();
-        let to = receiver.id();
-        let cross = is_cross(self.machine, &pending, &receiver, message.actual(), to);
-        Some(DeliveryRef {
-            name,
-            receiver: to,
-            message,
-            cross,
-        })
-    }
-
-    // Appends what a thread may ask of another, where it is possible.
-    fn push_order(&self, thread: &Found, steps: &mut Vec<Step>) -> Result<(), NoMemory>
-        ensures { OnOk result (Adds self.now steps.old.items steps.new.items
-            (order thread.now.declared.id (order_of (act_of self.now.machine thread.now)))) }
-    {
-        let Some(asked) = thread.order(self.machine) else {
-            return Ok(());
-        };
-        let order = StepRef::Order {
-            caller: thread.id(),
-            target: asked.target(),
-            what: asked.what(),
-        };
-        self.push_where(&order, steps)
+        let coming = coming_name(thread);
+        let last = last_name(thread);
+        self.push(Some(Step::Local(id)), steps)?;
+        self.push(coming.map(Step::Begin), steps)?;
+        self.push(last.map(Step::Queue), steps)?;
+        self.push(self.delivery(last), steps)?;
+        self.push(Some(Step::Wait(id)), steps)?;
+        self.push(last.map(Step::SendTimeout), steps)?;
+        self.push(Some(Step::ReceiveTimeout(id)), steps)?;
+        self.push(last.map(Step::SendNobody), steps)?;
+        self.push(Some(Step::ReceiveNobody(id)), steps)?;
+        self.push(last.map(Step::SendCancel), steps)?;
+        self.push(Some(Step::ReceiveCancel(id)), steps)?;
+        self.push(last.map(Step::Drop), steps)?;
+        self.push(order(self.machine, thread), steps)?;
+        self.push(Some(Step::Obey(id)), steps)?;
+        self.push_turns(id, steps)
     }
 
     // Appends the retargets by which a thread is to turn, where they are possible.
@@ -193,20 +77,74 @@ impl World<'_> {
             (map (turn id) self.now.world.owed))) }
     {
         for owed in &self.owed {
-            self.push_turn(id, owed, steps)?;
+            self.push(turn(id, owed), steps)?;
         }
         Ok(())
     }
 
-    // Appends a retarget, where a thread is to turn by it and it is possible.
-    fn push_turn(&self, id: GlobalId, owed: &Owed, steps: &mut Vec<Step>) -> Result<(), NoMemory>
+    // Appends a step, where it is possible.
+    fn push(&self, step: Option<StepRef<'_>>, steps: &mut Vec<Step>) -> Result<(), NoMemory>
         ensures { OnOk result (Adds self.now steps.old.items steps.new.items
-            (turn id (owed_of owed.now))) }
+            (option_map seen step)) }
     {
-        if id != owed.originator {
-            return Ok(());
+        if let Some(step) = self.where_possible(step) {
+            steps.push(step)?;
         }
-        self.push_where(&StepRef::Retarget(owed.send), steps)
+        Ok(())
+    }
+
+    // A step, where it is possible.
+    fn where_possible(&self, step: Option<StepRef<'_>>) -> Option<Step>
+        ensures { option_map step_of result
+            ≡ where_possible self.now.machine self.now.world (option_map seen step) }
+    {
+        let step = step?;
+        match self.reason(&step) {
+            Some(_) => None,
+            None => Some(step.to_step()),
+        }
+    }
+
+    // The delivery of a send, told as it was sent.
+    fn delivery(&self, send: Option<Name>) -> Option<StepRef<'_>>
+        ensures { option_map seen result ≡ delivery self.now.machine self.now.world send }
+    {
+        let name = send?;
+        let pending = self.undecided(name)?;
+        let receiver = self.receiver_of(&pending)?;
+        let message = pending.send().message();
+        let to = receiver.id();
+        let cross = is_cross(self.machine, &pending, &receiver, message.actual(), to);
+        Some(Step::Deliver(DeliveryRef {
+            name,
+            receiver: to,
+            message,
+            cross,
+        }))
+    }
+}
+
+// What a thread may ask of another.
+fn order(machine: &Machine, thread: &Found) -> Option<StepRef<'static>>
+    ensures { option_map seen result
+        ≡ order thread.now.declared.id (order_of (act_of machine.now thread.now)) }
+{
+    let asked = thread.order(machine)?;
+    Some(Step::Order {
+        caller: thread.id(),
+        target: asked.target(),
+        what: asked.what(),
+    })
+}
+
+// The retarget by which a thread is to turn.
+fn turn(id: GlobalId, owed: &Owed) -> Option<StepRef<'static>>
+    ensures { option_map seen result ≡ turn id (owed_of owed.now) }
+{
+    if id == owed.originator {
+        Some(Step::Retarget(owed.send))
+    } else {
+        None
     }
 }
 

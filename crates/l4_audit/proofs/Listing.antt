@@ -17,7 +17,7 @@ use Rattle.l4_audit.proofs.Reasoning.{tells_why}
 
 -- Appending one candidate after another is what a list of them gives.
 pub push_then : {A B : Type 0} (f : A → Option B) (acc new final : List B) (raw c : A) (cs : List A) → new ≡ acc ++ option_to_list (f raw) → raw ≡ c → final ≡ new ++ filter_map f cs → final ≡ acc ++ filter_map f (c ∷ cs)
-push_then f acc new final raw c cs one same rest =
+push_then {B = B} f acc new final raw c cs one same rest =
     rest ∙ ap (λ xs. xs ++ filter_map f cs) (one ∙ ap (λ x. acc ++ option_to_list (f x)) same) ∙ by acc (f c)
   where
     by : (xs : List B) (o : Option B) → (xs ++ option_to_list o) ++ filter_map f cs ≡ xs ++ cons_option o (filter_map f cs)

@@ -4,7 +4,7 @@ ghost use Rattle.std.specs.Option.{option_map};
 ghost use Rattle.l4_model.specs.Conditions.{act_of, found};
 ghost use Rattle.l4_model.specs.Steps.{order_of};
 ghost use Rattle.l4_types.specs.OwedView.{owed_of};
-ghost use Rattle.l4_types.specs.StepView.{seen, step_of};
+ghost use Rattle.l4_types.specs.StepView.{step_of};
 ghost use Rattle.l4_audit.specs.Possible.{Adds, Appends, coming_name, delivery, last_name, order};
 ghost use Rattle.l4_audit.specs.Possible.{possible, possible_of, turn, where_possible};
 
@@ -51,20 +51,18 @@ impl World<'_> {
             (possible_of self.now.machine self.now.world (Some thread.now))) }
     {
         let id = thread.id();
-        let coming = coming_name(thread);
-        let last = last_name(thread);
         self.push(Some(Step::Local(id)), steps)?;
-        self.push(coming.map(Step::Begin), steps)?;
-        self.push(last.map(Step::Queue), steps)?;
-        self.push(self.delivery(last), steps)?;
+        self.push(coming_name(thread).map(Step::Begin), steps)?;
+        self.push(last_name(thread).map(Step::Queue), steps)?;
+        self.push(self.delivery(last_name(thread)), steps)?;
         self.push(Some(Step::Wait(id)), steps)?;
-        self.push(last.map(Step::SendTimeout), steps)?;
+        self.push(last_name(thread).map(Step::SendTimeout), steps)?;
         self.push(Some(Step::ReceiveTimeout(id)), steps)?;
-        self.push(last.map(Step::SendNobody), steps)?;
+        self.push(last_name(thread).map(Step::SendNobody), steps)?;
         self.push(Some(Step::ReceiveNobody(id)), steps)?;
-        self.push(last.map(Step::SendCancel), steps)?;
+        self.push(last_name(thread).map(Step::SendCancel), steps)?;
         self.push(Some(Step::ReceiveCancel(id)), steps)?;
-        self.push(last.map(Step::Drop), steps)?;
+        self.push(last_name(thread).map(Step::Drop), steps)?;
         self.push(order(self.machine, thread), steps)?;
         self.push(Some(Step::Obey(id)), steps)?;
         self.push_turns(id, steps)
@@ -83,9 +81,9 @@ impl World<'_> {
     }
 
     // Appends a step, where it is possible.
-    fn push(&self, step: Option<StepRef<'_>>, steps: &mut Vec<Step>) -> Result<(), NoMemory>
+    fn push(&self, step: Option<Step>, steps: &mut Vec<Step>) -> Result<(), NoMemory>
         ensures { OnOk result (Adds self.now steps.old.items steps.new.items
-            (option_map seen step)) }
+            (option_map step_of step)) }
     {
         if let Some(step) = self.where_possible(step) {
             steps.push(step)?;
@@ -94,20 +92,20 @@ impl World<'_> {
     }
 
     // A step, where it is possible.
-    fn where_possible(&self, step: Option<StepRef<'_>>) -> Option<Step>
+    fn where_possible(&self, step: Option<Step>) -> Option<Step>
         ensures { option_map step_of result
-            ≡ where_possible self.now.machine self.now.world (option_map seen step) }
+            ≡ where_possible self.now.machine self.now.world (option_map step_of step) }
     {
         let step = step?;
-        match self.reason(&step) {
+        match self.reason(&StepRef::from(&step)) {
             Some(_) => None,
-            None => Some(step.to_step()),
+            None => Some(step),
         }
     }
 
     // The delivery of a send, told as it was sent.
-    fn delivery(&self, send: Option<Name>) -> Option<StepRef<'_>>
-        ensures { option_map seen result ≡ delivery self.now.machine self.now.world send }
+    fn delivery(&self, send: Option<Name>) -> Option<Step>
+        ensures { option_map step_of result ≡ delivery self.now.machine self.now.world send }
     {
         let name = send?;
         let pending = self.undecided(name)?;
@@ -115,18 +113,19 @@ impl World<'_> {
         let message = pending.send().message();
         let to = receiver.id();
         let cross = is_cross(self.machine, &pending, &receiver, message.actual(), to);
-        Some(Step::Deliver(DeliveryRef {
+        let delivery = DeliveryRef {
             name,
             receiver: to,
             message,
             cross,
-        }))
+        };
+        Some(Step::Deliver(delivery.to_delivery()))
     }
 }
 
 // What a thread may ask of another.
-fn order(machine: &Machine, thread: &Found) -> Option<StepRef<'static>>
-    ensures { option_map seen result
+fn order(machine: &Machine, thread: &Found) -> Option<Step>
+    ensures { option_map step_of result
         ≡ order thread.now.declared.id (order_of (act_of machine.now thread.now)) }
 {
     let asked = thread.order(machine)?;
@@ -138,8 +137,8 @@ fn order(machine: &Machine, thread: &Found) -> Option<StepRef<'static>>
 }
 
 // The retarget by which a thread is to turn.
-fn turn(id: GlobalId, owed: &Owed) -> Option<StepRef<'static>>
-    ensures { option_map seen result ≡ turn id (owed_of owed.now) }
+fn turn(id: GlobalId, owed: &Owed) -> Option<Step>
+    ensures { option_map step_of result ≡ turn id (owed_of owed.now) }
 {
     if id == owed.originator {
         Some(Step::Retarget(owed.send))

@@ -3,6 +3,7 @@ use Rattle.std.specs.Prelude.{flat_map}
 use Rattle.l4_model.specs.Machine.{Declaration}
 use Rattle.l4_model.specs.Conditions.{found}
 use Rattle.l4_types.specs.StepView.{step_of}
+use Rattle.l4_audit.specs.Audited.{Audited}
 use Rattle.l4_audit.specs.Possible.{possible_of}
 use Rattle.l4_audit.proofs.Listing.{possible_more}
 use Rattle.l4_audit.proofs.Replaying.{take_whole}
@@ -20,4 +21,4 @@ pub returns : goal.returns
 returns c =
     let a = c.args.self.now in
     let l = c.loop-declared in
-    l.invariant ∙ ap (flat_map (λ (d : Declaration). possible_of a.machine a.world (found a.machine a.world d.id))) (take_whole _ l.declared-index (omega arith) ∙ ?)
+    l.invariant ∙ ap (flat_map (λ (d : Declaration). possible_of a.machine a.world (found a.machine a.world d.id))) (take_whole _ l.declared-index (omega arith) ∙ c.threads-declared-items.ensures.value ∙ ap (λ (x : Audited). x.machine.threads) c.self.view_is)

@@ -1,6 +1,6 @@
 -- Each possible step but a tick is listed, and no other, and none twice.
-use Rattle.std.proofs.Common.{◌≡◌, ℕ, ◌<◌, ◌≤◌, ◌+◌, ◌^◌, zero, suc, Bool, true, false, cond, Option, Some, None, List, [], ◌∷◌, ◌++◌, map, length, get_or, refl, ap, sym, ◌∙◌, subst, arith}
-use Rattle.std.specs.Prelude.{slice_get, filter_map, flat_map, is_some, option_map, ◌==◌, ◌&&◌, find, ◌↔◌}
+use Rattle.std.proofs.Common.{◌≡◌, ℕ, ◌≤◌, ◌+◌, zero, suc, Bool, true, false, cond, Option, Some, None, List, [], ◌∷◌, ◌++◌, map, refl, ap, sym, ◌∙◌, subst, arith}
+use Rattle.std.specs.Prelude.{slice_get, filter_map, flat_map, is_some, option_map, ◌==◌, find, ◌↔◌}
 use Rattle.std.specs.List.{cons_option, AllByRecursion}
 use Rattle.std.proofs.lemmas.Bool.{eqb-true}
 use Rattle.std.proofs.lemmas.Option.{slice_get_within, get_or_from_slice_get}
@@ -11,7 +11,6 @@ use Rattle.l4_model.specs.World.{Name, Owed, Asked, World, same_name}
 use Rattle.l4_model.specs.Rules.{received_tag, is_cross}
 use Rattle.l4_model.specs.Conditions.{◌>>=◌, ◌>>◌, Found, Pending, found, undecided, receiver_of, act_of}
 use Rattle.l4_model.specs.Steps.{Step, Local, Begin, Queue, Deliver, Wait, SendTimeout, ReceiveTimeout, SendNobody, ReceiveNobody, SendCancel, ReceiveCancel, Drop, Order, Obey, Tick, Retarget, order_of, next, what_code}
-use Rattle.l4_model.specs.History.{reached}
 use Rattle.l4_model.specs.Reached.{AreNamedOnce}
 use Rattle.l4_model.specs.Still.{is_tick}
 use Rattle.l4_model.proofs.Chains.{bind_then, guard_then, some_is, get-map}

@@ -1,12 +1,16 @@
 -- Every step but ticks that is possible, in order of declaration of threads, then of the table of
 -- steps.
-use Rattle.std.specs.Prelude.{ℕ, ◌≡◌, ◌+◌, ◌^◌, ◌↔◌, Bool, true, false, ◌&&◌, nat_lt, if◌then◌else◌, Option, Some, None, is_some, List, [], ◌∷◌, ◌++◌, map, filter_map, flat_map, option_map, option_to_list, slice_get}
+use Rattle.std.specs.Prelude.{ℕ, ◌≡◌, ◌+◌, ◌^◌, ◌↔◌, Bool, true, false, ◌&&◌, nat_lt, if◌then◌else◌}
+use Rattle.std.specs.Prelude.{Option, Some, None, is_some, List, [], ◌∷◌, ◌++◌, map, filter_map}
+use Rattle.std.specs.Prelude.{flat_map, option_map, option_to_list, slice_get}
 use Rattle.l4_model.specs.Words.{GlobalId, same_id}
 use Rattle.l4_model.specs.Machine.{Machine}
 use Rattle.l4_model.specs.World.{Name, Message, Asked, Owed, World}
 use Rattle.l4_model.specs.Rules.{received_tag, is_cross}
 use Rattle.l4_model.specs.Conditions.{◌>>=◌, ◌>>◌, Found, found, undecided, receiver_of, act_of}
-use Rattle.l4_model.specs.Steps.{Step, Local, Begin, Queue, Deliver, Wait, SendTimeout, ReceiveTimeout, SendNobody, ReceiveNobody, SendCancel, ReceiveCancel, Drop, Order, Obey, Retarget, order_of, next}
+use Rattle.l4_model.specs.Steps.{Step, Local, Begin, Queue, Deliver, Wait, SendTimeout}
+use Rattle.l4_model.specs.Steps.{ReceiveTimeout, SendNobody, ReceiveNobody, SendCancel}
+use Rattle.l4_model.specs.Steps.{ReceiveCancel, Drop, Order, Obey, Retarget, order_of, next}
 use Rattle.l4_model.specs.History.{reached}
 use Rattle.l4_model.specs.Still.{is_tick}
 use Rattle.l4_core_model.specs.Runs.{IsMachine}

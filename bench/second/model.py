@@ -1,9 +1,10 @@
 """Which steps are possible at a world, and what they make of it: judges traces without any processor, letter or order of turns."""
 
+import copy
 import dataclasses
 
 from second import machines, threads, traces, words
-from second.threads import Context, Phase, Send
+from second.threads import Context, Name, Phase, Send
 from second.words import ErrorCode
 
 DELETED = "deleted"
@@ -41,6 +42,10 @@ class Member:
     period: int | None = None
     receive_wish: bool = False
     waiting: list = dataclasses.field(default_factory=list)
+
+    def state(self):
+        """What a report says that it is about."""
+        return self.phase.value if self.alive else DELETED
 
     def receives(self):
         return self.alive and self.phase is Phase.RECEIVING
@@ -104,6 +109,11 @@ class World:
         """Whether a thread is receiving, and nobody whom it accepts waits at it."""
         return thread in self.members and self.members[thread].receives() and self.first_accepted(thread) is None
 
+    def told(self, name):
+        """What the delivery of a send tells besides its name: the receiver, the senders, the tag and the words."""
+        send = self.sends[name]
+        return send.destination, send.shown, send.actual, threads.received_tag(self.machine, send), send.message
+
     # Whether steps are possible. The clock of a thread is asked of a function.
 
     def can_queue(self, name):
@@ -118,10 +128,12 @@ class World:
         return self.members[receiver].receives() and self.first_accepted(receiver) == name
 
     def can_stimeout(self, name, clock):
-        send = self.sends.get(name)
-        if send is None or send.period is None or clock(name.thread) < send.begun + send.period:
-            return False
-        if self.must_wait(name):
+        return name in self.sends and not self.must_wait(name) and self.is_timed_out(name, clock)
+
+    def is_timed_out(self, name, clock):
+        """Whether the time of an undecided send is over, and it may be refused for that."""
+        send = self.sends[name]
+        if send.period is None or clock(name.thread) < send.begun + send.period:
             return False
         return self.waits(name) if send.period else self.may_refuse(send)
 
@@ -149,14 +161,18 @@ class World:
         return self.waits(name) and not self.members[name.thread].alive
 
     def can_rtimeout(self, thread, clock):
-        if not self.receives_from_none(thread):
-            return False
+        return self.receives_from_none(thread) and self.has_passed(thread, clock)
+
+    def has_passed(self, thread, clock):
+        """Whether the time of a receive phase is over."""
         member = self.members[thread]
         return member.period is not None and clock(thread) >= member.since + member.period
 
     def can_rnobody(self, thread):
-        if not self.receives_from_none(thread):
-            return False
+        return self.receives_from_none(thread) and self.is_closed_for_nobody(thread)
+
+    def is_closed_for_nobody(self, thread):
+        """Whether a receive phase is closed for an id that nobody has."""
         source = self.members[thread].source
         return words.is_local(source) or words.is_global(source) and self.is_nobody(source)
 
@@ -208,8 +224,9 @@ class World:
     def do_deliver(self, name, *said):
         need(self.can_deliver(name))
         send = self.sends[name]
-        tag = threads.received_tag(self.machine, send)
-        need(said == (send.destination, send.shown, send.actual, tag, send.message))
+        told = self.told(name)
+        need(said == told)
+        *_, tag, _ = told
         receiver, sender = self.members[send.destination], self.members[name.thread]
         receiver.context.receive(send, tag)
         receiver.phase = Phase.READY
@@ -305,6 +322,47 @@ class World:
         need(cpu < self.machine.cpus and clock > self.clocks[cpu])
         self.clocks[cpu] = clock
 
+    # Which steps are possible.
+
+    def copy(self):
+        """Another world of the same machine, in which all is as it is here."""
+        shared = [self.machine, self.machine.format, *self.machine.threads.values()]
+        return copy.deepcopy(self, {id(part): part for part in shared})
+
+    def is_possible(self, step):
+        """Whether a copy of the world takes a step."""
+        try:
+            self.copy().take(*step)
+        except Impossible:
+            return False
+        return True
+
+    def candidates(self, thread):
+        """The steps but ticks that a thread may be in for, in the order of the table of steps."""
+        context = self.members[thread].context
+        last, instruction = Name(thread, context.begun), context.instruction()
+        yield "local", thread
+        yield "begin", Name(thread, context.begun + 1)
+        yield "queue", last
+        if self.waits(last):
+            yield "deliver", last, *self.told(last)
+        yield "wait", thread
+        yield "stimeout", last
+        yield "rtimeout", thread
+        yield "snobody", last
+        yield "rnobody", thread
+        yield "scancel", last
+        yield "rcancel", thread
+        yield "drop", last
+        if isinstance(instruction, machines.Order):
+            yield "order", thread, instruction.target, instruction.what
+        yield "obey", thread
+        yield from [("retarget", owed.name) for owed in self.owed.values() if owed.originator == thread]
+
+    def possible(self):
+        """Every step but ticks that is possible, in order of declaration of threads, then of the table of steps. A retarget is its originator's."""
+        return [step for thread in self.members for step in self.candidates(thread) if self.is_possible(step)]
+
     # What is said of a world.
 
     def is_still(self):
@@ -328,11 +386,10 @@ class World:
 def thread_line(member):
     """The line of a report for a thread, with its registers up to the last that is not 0."""
     context = member.context
-    state = member.phase.value if member.alive else DELETED
     last = max((register for register, word in enumerate(context.registers) if word), default=0)
     thread, shown, actual = map(words.spelled, (context.thread, context.last, context.actual))
     registers = " ".join(f"{word:x}" for word in context.registers[: last + 1])
-    return f"thread {thread} {state} {context.error:d} {shown} {actual} {registers}"
+    return f"thread {thread} {member.state()} {context.error:d} {shown} {actual} {registers}"
 
 
 def world_of(machine, history):

@@ -4,6 +4,7 @@ pub mod Audits
 pub mod Delivering
 pub mod Owing
 pub mod Phases
+pub mod Possible
 pub mod Reasons
 pub mod Starting
 pub mod Stillness

@@ -1,11 +1,13 @@
 //! An audit that is under way.
-ghost use Rattle.std.specs.Prelude.{◌≡◌, ◌↔◌, ◌++◌, ◌∷◌, [], Some, true, IfOk, OnOk, OnErr, map, filter_map};
+ghost use Rattle.std.specs.Prelude.{◌≡◌, ◌↔◌, ◌++◌, ◌∷◌, [], Some, true, IfOk, OnOk, OnErr};
+ghost use Rattle.std.specs.Prelude.{filter_map, map};
 ghost use Rattle.l4_model.specs.History.{begun_name, view};
 ghost use Rattle.l4_model.specs.Still.{IsStill, late};
 ghost use Rattle.l4_types.specs.ReportView.{report_of_view};
-ghost use Rattle.l4_types.specs.StepView.{seen};
+ghost use Rattle.l4_types.specs.StepView.{seen, step_of};
 ghost use Rattle.l4_audit.specs.Auditing.{Judges, begins, waiting_send};
 ghost use Rattle.l4_audit.specs.Audits.{is_quiet};
+ghost use Rattle.l4_audit.specs.Possible.{possible};
 ghost use Rattle.l4_audit.specs.Reasons.{reason};
 ghost use Rattle.l4_audit.specs.Stillness.{is_still_now};
 
@@ -16,12 +18,12 @@ use l4_types::errors::NoMemory;
 use l4_types::ids::ThreadId;
 use l4_types::reports::{Ending, ThreadView};
 use l4_types::step_ref::StepRef;
-use l4_types::steps::Name;
+use l4_types::steps::{Name, Step};
 use std::alloc::Global;
 use std::marker::Model;
 
-/// Judges the steps of a machine as they are given. No history is kept: a step costs memory only where it begins a send, for its name, and where a
-/// delivery leaves a retarget owed.
+/// Judges the steps of a machine as they are given. No history is kept: a step costs memory only
+/// where it begins a send, for its name, and where a delivery leaves a retarget owed.
 #[derive(Drop)]
 pub struct Auditor<'m> {
     world: World<'m>,
@@ -49,7 +51,8 @@ impl<'m> Auditor<'m> {
         Ok(Auditor { world, begun })
     }
 
-    /// Judges the next step. Where it is not possible, or memory is refused, nothing changes: what the auditor tells is of the world before it.
+    /// Judges the next step. Where it is not possible, or memory is refused, nothing changes: what
+    /// the auditor tells is of the world before it.
     pub fn step(&mut self, step: &StepRef<'_>) -> Result<(), StepFault>
         ensures { Judges self.old (seen step.now) result self.new }
     {
@@ -75,7 +78,8 @@ impl<'m> Auditor<'m> {
         }
     }
 
-    /// Why a step is not possible here: the first condition of its rule that is false. None where it is possible.
+    /// Why a step is not possible here: the first condition of its rule that is false. None where
+    /// it is possible.
     pub fn reason(&self, step: &StepRef<'_>) -> Option<Reason>
         ensures { result ≡ reason self.now.at.machine self.now.at.world (seen step.now) }
     {
@@ -84,21 +88,33 @@ impl<'m> Auditor<'m> {
 
     /// The report of each thread here, in order of declaration.
     pub fn threads(&self, alloc: Global) -> Result<Vec<ThreadView>, NoMemory>
-        ensures { IfOk result (λ views. map report_of_view views.items ≡ view self.now.at.machine self.now.at.world) }
+        ensures { IfOk result (λ views. map report_of_view views.items
+            ≡ view self.now.at.machine self.now.at.world) }
     {
         self.world.threads(alloc)
     }
 
     /// The sends that are undecided here, in order of beginning, each with its destination.
     pub fn waiting(&self, alloc: Global) -> Result<Vec<(Name, ThreadId)>, NoMemory>
-        ensures { IfOk result (λ sends. sends.items ≡ filter_map (waiting_send self.now.at.machine self.now.at.world) self.now.begun) }
+        ensures { IfOk result (λ sends. sends.items
+            ≡ filter_map (waiting_send self.now.at.machine self.now.at.world) self.now.begun) }
     {
         self.world.waiting(alloc, self.begun.as_slice())
     }
 
+    /// Every step but ticks that is possible here, in order of declaration of threads, then of the
+    /// table of steps (docs/MODEL.md, *Steps*). A retarget is its originator's.
+    pub fn possible(&self, alloc: Global) -> Result<Vec<Step>, NoMemory>
+        ensures { IfOk result (λ steps. map step_of steps.items
+            ≡ possible self.now.at.machine self.now.at.world) }
+    {
+        self.world.possible(alloc)
+    }
+
     /// How the audit ends: `Quiet` where no step but a tick is possible, now or after any ticks.
     pub fn ending(self) -> Result<Ending, NoMemory>
-        ensures { IfOk result (λ ending. (is_quiet ending ≡ true) ↔ IsStill self.entry.at.machine self.entry.at.world) }
+        ensures { IfOk result (λ ending. (is_quiet ending ≡ true)
+            ↔ IsStill self.entry.at.machine self.entry.at.world) }
     {
         ending(self.world)
     }
@@ -125,7 +141,8 @@ fn begun_name(step: &StepRef<'_>) -> Option<Name>
 
 // Whether nothing but clocks can go on in a world.
 fn ending(world: World) -> Result<Ending, NoMemory>
-    ensures { IfOk result (λ ending. is_quiet ending ≡ is_still_now world.entry.machine (late world.entry.world)) }
+    ensures { IfOk result (λ ending. is_quiet ending
+        ≡ is_still_now world.entry.machine (late world.entry.world)) }
 {
     let mut world = world;
     world.stop_clocks()?;

@@ -3,8 +3,9 @@
 //!
 //! `check` and `check_history` judge a whole trace, `Auditor` one step after another. Ok is
 //! answered exactly for histories, with the threads and undecided sends of the world reached, and
-//! whether anything but clocks can go on. After a refused step nothing has changed, and
-//! `Auditor::reason` is the first condition of the step's rule that is false.
+//! whether anything but clocks can go on. After a refused step nothing has changed. Then
+//! `Auditor::reason` is the first condition of the step's rule that is false, and
+//! `Auditor::possible` lists the steps that are possible there.
 //!
 //! It shares no choice with a processor: each step is written in the lines of its rule. A step
 //! takes memory only where it begins a send or leaves a retarget owed.
@@ -22,5 +23,6 @@ pub mod audit;
 pub mod auditor;
 mod found;
 mod periods;
+pub mod possible;
 pub mod reasons;
 mod world;

@@ -6,6 +6,7 @@ mod deliveries;
 mod effects;
 mod looks;
 mod opening;
+mod possible;
 mod receives;
 mod retargets;
 mod sends;
@@ -23,8 +24,9 @@ use l4_types::steps::Name;
 use std::marker::Model;
 use tcb_arena::Arena;
 
-/// A machine, and its threads in order of declaration, for each the senders that wait at it by their places, the clocks of the processors,
-/// and the owed retargets in order of delivery. Of the lists only those of the waiting senders are used.
+/// A machine, and its threads in order of declaration, for each the senders that wait at it by
+/// their places, the clocks of the processors, and the owed retargets in order of delivery. Of the
+/// lists only those of the waiting senders are used.
 #[derive(Drop)]
 pub struct World<'m> {
     machine: &'m Machine,

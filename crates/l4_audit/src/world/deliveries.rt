@@ -1,5 +1,5 @@
 //! The step that delivers a send.
-ghost use Rattle.std.specs.Prelude.{◌≡◌, ◌<◌, Some, IfOk, IfErr, OnOk, OnErr, length, not};
+ghost use Rattle.std.specs.Prelude.{◌≡◌, ◌<◌, Some, IfOk, length, not};
 ghost use Rattle.std.specs.Option.{option_map};
 ghost use Rattle.std.specs.Result.{result_err};
 ghost use Rattle.l4_model.specs.Machine.{same_cpu};
@@ -23,8 +23,9 @@ use l4_types::owed::Owed;
 use l4_types::step_ref::DeliveryRef;
 use l4_types::steps::Name;
 
-// Whether two threads are of different processors, or not declared. They may be those of a send and its receiver, which were found already.
-fn is_cross(
+/// Whether two threads are of different processors, or not declared. They may be those of a send
+/// and its receiver, which were found already.
+pub fn is_cross(
     machine: &Machine,
     pending: &Pending,
     receiver: &Found,
@@ -51,7 +52,8 @@ fn tells(
 ) -> Result<(), Reason>
     requires sender { IsFound machine.now pending.now.sender }
     requires receiver { IsFound machine.now receiver.now }
-    ensures { result_err result ≡ first_false (of_telling machine.now delivery.now pending.now receiver.now) }
+    ensures { result_err result
+        ≡ first_false (of_telling machine.now delivery.now pending.now receiver.now) }
 {
     let sent = pending.send().message();
     let id = receiver.id();
@@ -91,9 +93,12 @@ impl World<'_> {
         &self,
         delivery: &DeliveryRef<'_>,
     ) -> Result<(Pending<'_>, Found<'_>), Reason>
-        ensures send { IfOk result (λ x. undecided self.now.machine self.now.world delivery.now.name ≡ Some x.0) }
-        ensures receiver { IfOk result (λ x. receiver_of self.now.machine self.now.world x.0 ≡ Some x.1) }
-        ensures reason { result_err result ≡ reason self.now.machine self.now.world (delivered delivery.now) }
+        ensures send { IfOk result (λ x.
+            undecided self.now.machine self.now.world delivery.now.name ≡ Some x.0) }
+        ensures receiver { IfOk result (λ x.
+            receiver_of self.now.machine self.now.world x.0 ≡ Some x.1) }
+        ensures reason { result_err result
+            ≡ reason self.now.machine self.now.world (delivered delivery.now) }
     {
         let pending = need(self.undecided(delivery.name), Reason::NotUndecided)?;
         let to = pending.send().to();
@@ -108,7 +113,8 @@ impl World<'_> {
         Ok((pending, receiver))
     }
 
-    /// A receiver takes the message of the first waiting sender that it accepts, and the sender goes on. A retarget may be owed.
+    /// A receiver takes the message of the first waiting sender that it accepts, and the sender
+    /// goes on. A retarget may be owed.
     pub fn deliver(&mut self, delivery: &DeliveryRef<'_>) -> Result<(), StepFault>
         ensures { Judged self.old (delivered delivery.now) result self.new }
     {
@@ -130,7 +136,8 @@ impl World<'_> {
     fn take_over(&mut self, sender: usize, receiver: usize, delivery: &DeliveryRef<'_>, now: u64)
         requires sender { sender < length self.old.world.threads }
         requires receiver { receiver < length self.old.world.threads }
-        ensures { self.new ≡ with_world self.old (taken_over sender receiver delivery.now now self.old.world) }
+        ensures { self.new ≡ with_world self.old
+            (taken_over sender receiver delivery.now now self.old.world) }
     {
         self.unqueue(sender);
         self.receive(receiver, delivery);

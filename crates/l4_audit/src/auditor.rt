@@ -20,8 +20,8 @@ use l4_types::steps::Name;
 use std::alloc::Global;
 use std::marker::Model;
 
-/// Judges the steps of a machine as they are given. No history is kept: a step costs memory only where it begins a send, for its name, and where a
-/// delivery leaves a retarget owed.
+/// Judges the steps of a machine as they are given. It keeps no history. A step takes memory only
+/// for the name of a send that it begins, and for a retarget that a delivery leaves owed.
 #[derive(Drop)]
 pub struct Auditor<'m> {
     world: World<'m>,
@@ -49,7 +49,8 @@ impl<'m> Auditor<'m> {
         Ok(Auditor { world, begun })
     }
 
-    /// Judges the next step. Where it is not possible, or memory is refused, nothing changes: what the auditor tells is of the world before it.
+    /// Judges the next step. Where it is not possible, or memory is refused, nothing changes: all
+    /// calls then answer for the world before it.
     pub fn step(&mut self, step: &StepRef<'_>) -> Result<(), StepFault>
         ensures { Judges self.old (seen step.now) result self.new }
     {
@@ -75,7 +76,8 @@ impl<'m> Auditor<'m> {
         }
     }
 
-    /// Why a step is not possible here: the first condition of its rule that is false. None where it is possible.
+    /// Why a step is not possible here: the first condition of its rule that is false. None where
+    /// it is possible.
     pub fn reason(&self, step: &StepRef<'_>) -> Option<Reason>
         ensures { result ≡ reason self.now.at.machine self.now.at.world (seen step.now) }
     {
@@ -104,7 +106,7 @@ impl<'m> Auditor<'m> {
     }
 }
 
-// One more name is kept.
+// Appends a name.
 fn keep(names: &mut Vec<Name>, name: Name) -> Result<(), NoMemory>
     ensures ok { OnOk result (names.new.items ≡ names.old.items ++ name ∷ []) }
     ensures err { OnErr result (names.new.items ≡ names.old.items) }
@@ -123,7 +125,7 @@ fn begun_name(step: &StepRef<'_>) -> Option<Name>
     }
 }
 
-// Whether nothing but clocks can go on in a world.
+// Whether no step but a tick is possible in a world.
 fn ending(world: World) -> Result<Ending, NoMemory>
     ensures { IfOk result (λ ending. is_quiet ending ≡ is_still_now world.entry.machine (late world.entry.world)) }
 {

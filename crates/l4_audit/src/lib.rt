@@ -1,10 +1,10 @@
 //! The audit: whether steps are a history of a machine, and if not, which step is the first that is
 //! not possible, and why.
 //!
-//! `check` and `check_history` judge a whole trace, `Auditor` one step after another. Ok is
-//! answered exactly for histories, with the threads and undecided sends of the world reached, and
-//! whether anything but clocks can go on. After a refused step nothing has changed, and
-//! `Auditor::reason` is the first condition of the step's rule that is false.
+//! `check` and `check_history` judge a whole trace, `Auditor` one step after another. They return
+//! Ok exactly for histories, with the threads and undecided sends of the world reached, and whether
+//! any step but a tick is possible. After a refused step nothing has changed, and `Auditor::reason`
+//! is the first condition of the step's rule that is false.
 //!
 //! It shares no choice with a processor: each step is written in the lines of its rule. A step
 //! takes memory only where it begins a send or leaves a retarget owed.

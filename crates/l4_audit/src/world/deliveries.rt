@@ -23,7 +23,8 @@ use l4_types::owed::Owed;
 use l4_types::step_ref::DeliveryRef;
 use l4_types::steps::Name;
 
-// Whether two threads are of different processors, or not declared. They may be those of a send and its receiver, which were found already.
+// Whether two threads are of different processors, or not declared. Where they are the sender and
+// the receiver at hand, as in most traces, nothing is looked up.
 fn is_cross(
     machine: &Machine,
     pending: &Pending,
@@ -42,7 +43,8 @@ fn is_cross(
     }
 }
 
-// That a delivery tells this send to this receiver: the senders, the tag and the words.
+// Ok where a delivery has this receiver, and the senders, the tag and the words of this send. Else
+// the first that differs.
 fn tells(
     delivery: &DeliveryRef<'_>,
     machine: &Machine,
@@ -108,7 +110,8 @@ impl World<'_> {
         Ok((pending, receiver))
     }
 
-    /// A receiver takes the message of the first waiting sender that it accepts, and the sender goes on. A retarget may be owed.
+    /// Delivers the message of the first waiting sender that a receiver accepts, and ends its send.
+    /// A retarget may be owed.
     pub fn deliver(&mut self, delivery: &DeliveryRef<'_>) -> Result<(), StepFault>
         ensures { Judged self.old (delivered delivery.now) result self.new }
     {
@@ -126,7 +129,7 @@ impl World<'_> {
         Ok(())
     }
 
-    // A message goes over from its sender to its receiver.
+    // Hands a message to its receiver, and ends its send.
     fn take_over(&mut self, sender: usize, receiver: usize, delivery: &DeliveryRef<'_>, now: u64)
         requires sender { sender < length self.old.world.threads }
         requires receiver { receiver < length self.old.world.threads }

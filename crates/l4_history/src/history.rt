@@ -15,14 +15,14 @@ use l4_types::steps::{Name, Step};
 use std::alloc::Global;
 use std::marker::Model;
 
-/// An event has at most so many steps.
+/// An event has at most this many steps.
 pub const EVENT_STEPS: usize = 3;
 
-// Room is made for so many steps at once, since to ask each time costs more than a push.
+// Room is reserved for this many steps at once: to ask each time costs more than a push.
 const CHUNK_STEPS: usize = 64;
 
-/// The steps of a machine in order, in compact form, and room for more of them. The words of a delivery lie in a row with those of all
-/// others.
+/// The steps of a machine in order, in compact form, and room for more of them. The words of all
+/// deliveries lie in one row.
 #[derive(Drop)]
 pub struct History {
     records: Vec<Record>,
@@ -66,7 +66,7 @@ impl History {
         Ok(history)
     }
 
-    /// Its steps, with words of their own.
+    /// Its steps, with copies of the words.
     pub fn to_steps(&self, alloc: Global) -> Result<Vec<Step>, NoMemory>
         ensures { IfOk result (λ steps. map step_of steps.items ≡ self.now.steps) }
     {
@@ -92,7 +92,8 @@ impl History {
         self.records.is_empty()
     }
 
-    /// Makes room for the steps of an event, each of which may be a delivery of 63 words. Where memory is refused, nothing is changed.
+    /// Makes room for the steps of an event, each of which may be a delivery of 63 words. Where
+    /// memory is refused, nothing is changed.
     pub fn reserve(&mut self) -> Result<(), NoMemory>
         ensures steps { self.new.steps ≡ self.old.steps }
         ensures room { self.old.room ≤ self.new.room }
@@ -108,8 +109,8 @@ impl History {
         Ok(())
     }
 
-    /// Appends a step. It takes no memory, since there is room. It is inlined: where the kind
-    /// of step is known, little of it is left.
+    /// Appends a step. It takes no memory: the caller has reserved room. It is inlined, since
+    /// little of it is left where the kind of step is known.
     #[inline(always)]
     pub fn push(&mut self, step: StepRef<'_>)
         requires { 0 < self.old.room }
@@ -172,7 +173,8 @@ impl History {
         Ok(())
     }
 
-    /// Appends steps of another history. Where memory is refused, some of them may have been appended.
+    /// Appends steps of another history. Where memory is refused, some of them may have been
+    /// appended.
     pub fn extend(&mut self, steps: &Steps<'_>) -> Result<(), NoMemory>
         ensures ok { OnOk result (self.new.steps ≡ self.old.steps ++ steps.now) }
         ensures err { OnErr result (HasMore self.old.steps self.new.steps) }
@@ -199,7 +201,7 @@ impl History {
         }
     }
 
-    /// The send that the i-th step begins, counted from 0. None where it begins none.
+    /// The send that the i-th step begins, i from 0. None where the step begins none.
     pub fn begun(&self, i: usize) -> Option<Name>
         requires { i < length self.now.steps }
         ensures { IfSome (slice_get self.now.steps i) (λ step. result ≡ begun_name step) }

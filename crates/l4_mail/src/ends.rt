@@ -1,4 +1,4 @@
-//! The ends of ways by the other processor. A port has none for its own.
+//! The ends of rings, by the other processor. A port has none to itself.
 ghost use Rattle.std.specs.Prelude.{◌≡◌, ◌↔◌, ◌≤◌, ◌<◌, ◌+◌, [], ◌∷◌, ◌++◌, false, OnOk, IfSome, IfNone, IsTrue, Option, None, ◌⊎◌};
 ghost use Rattle.l4_mail.specs.Ends.{ring_out, posted, waiting, free, room, ring_in, taken, kept, here, keeps};
 

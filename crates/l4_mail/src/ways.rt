@@ -1,4 +1,4 @@
-//! A way from one processor to another, with both of its ends in hand.
+//! A ring from one processor to another, with both of its ends in hand.
 ghost use Rattle.std.specs.Prelude.{◌≡◌, ◌≤◌, ◌<◌, ◌+◌, [], ◌∷◌, ◌++◌, length, IfOk, OnOk, Some};
 ghost use Rattle.std.specs.VecDeque.{deque_len, deque_capacity};
 ghost use Rattle.rtrb.specs.Ring.{sent, received, known_items, producer_capacity, IsPair, SameProducer, SameConsumer};
@@ -11,7 +11,7 @@ use rtrb::{Consumer, Producer, RingBuffer};
 use std::alloc::{AllocError, Global};
 use std::collections::VecDeque;
 
-/// A new way, whose ring has room for some letters.
+/// The two ends of a new ring with room for some letters.
 pub fn open(alloc: Global, room: usize) -> Result<(Outlet, Inlet), AllocError>
     requires { 0 < room }
     ensures ring { IfOk result (λ way. outlet_ring way.0 ≡ inlet_ring way.1) }
@@ -31,7 +31,7 @@ pub fn open(alloc: Global, room: usize) -> Result<(Outlet, Inlet), AllocError>
     Ok((outlet, inlet))
 }
 
-// The letters in the ring go behind those that are kept.
+// Moves the letters of the ring behind those that are kept.
 fn pull(ring: &mut Consumer<Letter>, kept: &mut VecDeque<Letter>, count: usize)
     requires count { count ≡ length (known_items ring.old) }
     requires room { deque_len kept.old + count ≤ deque_capacity kept.old }
@@ -49,7 +49,7 @@ fn pull(ring: &mut Consumer<Letter>, kept: &mut VecDeque<Letter>, count: usize)
     }
 }
 
-// One letter goes through the empty ring.
+// Moves one letter through the empty ring.
 fn pass(
     producer: &mut Producer<Letter>,
     consumer: &mut Consumer<Letter>,
@@ -74,7 +74,7 @@ fn pass(
     pull(consumer, kept, count);
 }
 
-// The letters of the ring and then those of the outbox go behind those that are kept.
+// Moves the letters of the ring and then those of the outbox behind those that are kept.
 fn settle(
     producer: &mut Producer<Letter>,
     outbox: &mut VecDeque<Letter>,
@@ -102,7 +102,7 @@ fn settle(
     Ok(())
 }
 
-// Puts all letters of the way by at the inlet.
+// Moves all letters under way to the inlet, which keeps them.
 fn rest_way(outlet: &mut Outlet, inlet: &mut Inlet) -> Result<(), AllocError>
     requires { outlet_ring outlet.old ≡ inlet_ring inlet.old }
     ensures ring { (outlet_ring outlet.new ≡ outlet_ring outlet.old) × (inlet_ring inlet.new ≡ inlet_ring inlet.old) }
@@ -118,7 +118,8 @@ fn rest_way(outlet: &mut Outlet, inlet: &mut Inlet) -> Result<(), AllocError>
     )
 }
 
-/// Puts all letters of the way by at its inlet. Where memory is refused, none is lost.
+/// Moves all letters under way to the inlet, which keeps them. Where memory is refused, none is
+/// lost.
 pub fn rest(outlet: &mut Option<Outlet>, inlet: &mut Option<Inlet>) -> Result<(), AllocError>
     requires { (ring : RingId) × (ring_out outlet.old ≡ Some ring) × (ring_in inlet.old ≡ Some ring) }
     ensures ring { (ring_out outlet.new ≡ ring_out outlet.old) × (ring_in inlet.new ≡ ring_in inlet.old) }

@@ -6,7 +6,8 @@ use l4_types::errors::NoMemory;
 use std::alloc::Global;
 use std::collections::HashMap;
 
-/// As many as there can be threads: those whose numbers follow one another have slots of their own.
+/// One for each thread that a machine may have, so threads with consecutive numbers never share
+/// one.
 const SLOTS: u32 = 1024;
 
 /// The number of a thread, and its place.
@@ -21,7 +22,7 @@ struct Placed {
 pub(crate) struct Places {
     // The threads in the slots of their numbers, up to the last slot that is taken.
     slots: Vec<Option<Placed>>,
-    // The places of the others by their numbers: their slots were taken before.
+    // The places of threads whose slot was taken already, by their numbers.
     others: HashMap<u32, u16>,
 }
 
@@ -53,7 +54,7 @@ impl Places {
         }
     }
 
-    /// A thread of a number that none had has a place.
+    /// Adds the place of a thread. Its number is not in the table yet.
     pub(crate) fn insert(&mut self, number: u32, place: u16) -> Result<(), NoMemory>
         requires { place_by self.old number ≡ None }
         ensures ok { OnOk result ((other : ℕ) → place_by self.new other ≡ (if other == number then Some place else place_by self.old other)) }

@@ -37,7 +37,8 @@ impl Model for Receive {
 }
 
 impl Receive {
-    /// A receive phase that accepts these senders, and lasts a period that a time has: below 2^42 ticks.
+    /// A receive phase with this specifier. `period` is below 2^42 ticks, as a time can spell no
+    /// longer one.
     pub fn new(from: ThreadId, period: Period) -> Receive
         requires { IsTimely period }
         ensures { result ≡ record { from = from; period = period_of period } }
@@ -60,7 +61,7 @@ impl Receive {
         self.period
     }
 
-    /// The same, but for the new partner where it is for the old one alone.
+    /// The same receive phase. If its specifier is the old partner, it becomes the new one.
     pub(crate) fn turned(&self, old_partner: GlobalId, new_partner: GlobalId) -> Receive
         ensures { result ≡ turned_from old_partner new_partner self.now }
     {
@@ -88,7 +89,8 @@ pub fn is_id_of(id: ThreadId, thread: GlobalId) -> bool
 /// Where the words of a message are while its send is undecided.
 #[derive(Clone, Copy, PartialEq, Eq, Debug)]
 pub enum Words {
-    /// In the sender's message registers 1 to this number, which is below 64 (manual: Messages and Message Registers).
+    /// In the sender's message registers 1 to this number, which is below 64 (manual: Messages and
+    /// Message Registers).
     InRegisters(u8),
     /// Apart from the sender's registers.
     Apart,
@@ -119,7 +121,8 @@ impl Model for Head {
 }
 
 impl Head {
-    /// Of a message whose words are in message registers 1 to `count` of the thread that sends it. The label is below 2^48.
+    /// The head of a message whose words are in message registers 1 to `count` of its sender. The
+    /// label is below 2^48.
     pub(crate) fn in_registers(
         label: u64,
         count: u8,
@@ -140,7 +143,7 @@ impl Head {
         }
     }
 
-    /// Of a message whose words are apart.
+    /// The head of a message whose words are copied.
     pub(crate) fn apart(message: &MessageRef<'_>) -> Head
         ensures { result ≡ record { label = message.now.label; words = Apart; propagated = message.now.propagated; shown = message.now.shown; actual = message.now.actual } }
     {
@@ -161,7 +164,7 @@ impl Head {
         self.words
     }
 
-    // The words are apart now.
+    // Notes that the words are copied.
     fn set_apart(&mut self)
         ensures { self.new ≡ record self.old { words = Apart } }
     {
@@ -199,8 +202,8 @@ impl Model for Send {
 }
 
 impl Send {
-    /// A send to an id, that may wait for a period that a time has, below 2^42 ticks, from the clock at its beginning on. `receive` is the
-    /// receive phase of the same Ipc.
+    /// A send to an id, that may wait for a period that a time has, below 2^42 ticks, from the
+    /// clock at its beginning on. `receive` is the receive phase of the same Ipc.
     pub(crate) fn new(
         to: ThreadId,
         head: Head,
@@ -263,7 +266,7 @@ impl Send {
         self.receive
     }
 
-    /// The receive phase of the same Ipc is for the new partner where it was for the old one alone.
+    /// If the specifier of the Ipc's receive phase is the old partner, it becomes the new one.
     pub(crate) fn turn_to(&mut self, old_partner: GlobalId, new_partner: GlobalId)
         ensures { self.new ≡ record self.old { receive = option_map (turned_from old_partner new_partner) self.old.receive } }
     {
@@ -273,7 +276,7 @@ impl Send {
     }
 }
 
-/// An undecided send, which is only looked at (manual: Ipc). The words of its message stay where they are.
+/// A borrowed undecided send (manual: Ipc). The words of its message stay where they are.
 #[derive(Drop)]
 pub struct SendRef<'a> {
     send: &'a Send,

@@ -83,21 +83,22 @@ impl Thread {
         self.begun
     }
 
-    /// Whether a send of it asks for propagation: bit 12 of message register 0 (manual: MsgTag, `p`).
+    /// Whether a send of it asks for propagation: bit 12 of message register 0 (manual: MsgTag,
+    /// `p`).
     pub fn propagates(&self) -> bool
         ensures { result ≡ propagates self.now.context }
     {
         MsgTag::propagates_in(self.regs.words[0])
     }
 
-    /// It has begun so many sends: it stands for a thread of another processor.
+    /// Sets how many sends a stand-in began.
     pub(crate) fn begin_at(&mut self, k: u64)
         ensures { self.new ≡ record self.old { context = record self.old.context { begun = k } } }
     {
         self.begun = k;
     }
 
-    // The next instruction is at hand.
+    // Goes on to the next instruction.
     fn advance(&mut self)
         requires { self.old.context.place + 1 < 2 ^ 64 }
         ensures { self.new ≡ record self.old { context = advanced self.old.context } }
@@ -105,14 +106,14 @@ impl Thread {
         self.place += 1;
     }
 
-    // A message register becomes a word.
+    // Sets a message register to a word.
     fn set(&mut self, register: Register, word: u64)
         ensures { self.new ≡ record self.old { context = with_register register word self.old.context } }
     {
         self.regs.words[usize::from(register.number())] = word;
     }
 
-    // What a message register has.
+    // The word in a message register.
     fn register(&self, number: u8) -> u64
         requires { number < register_count }
         ensures { result ≡ register self.now.context number }
@@ -120,7 +121,7 @@ impl Thread {
         self.regs.words[usize::from(number)]
     }
 
-    // A message register becomes its sum with a word, as a format counts it.
+    // Adds a word to a message register, as a format counts it.
     fn add(&mut self, format: Format, to: Register, word: u64)
         ensures { self.new ≡ record self.old { context = with_register to ((register self.old.context to + word) % word_limit (format_of format)) self.old.context } }
     {
@@ -128,15 +129,16 @@ impl Thread {
         self.set(to, sum);
     }
 
-    // It goes on at a place of the script.
+    // Goes on at a place of the script.
     fn jump(&mut self, place: u64)
         ensures { self.new ≡ record self.old { context = record self.old.context { place = place } } }
     {
         self.place = place as usize;
     }
 
-    /// Runs an instruction that concerns nobody else (manual: Messages and Message Registers, Thread Control Registers), and tells
-    /// whether the script ends with it. An Ipc is then one without phases, and what is asked of another thread is refused.
+    /// Runs an instruction that concerns nobody else (manual: Messages and Message Registers,
+    /// Thread Control Registers), and returns whether the script ends with it. An Ipc has no phases
+    /// then, and an order is refused (ErrorCode 2).
     pub fn local(&mut self, instr: &Instr) -> bool
         requires room { is_end (instr_of instr.now) ≡ false → self.old.context.place + 1 < 2 ^ 64 }
         ensures context { self.new ≡ record self.old { context = ran (instr_of instr.now) self.old.context } }
@@ -166,8 +168,9 @@ impl Thread {
         false
     }
 
-    /// Begins the phases of an Ipc (manual: Ipc), of which there may be none. `permitted` says whether the thread may show the
-    /// originator that its VirtualSender names. Other instructions have no phases.
+    /// Begins the phases of an Ipc (manual: Ipc), of which there may be none. `permitted` says
+    /// whether the thread may show the originator that its VirtualSender names. Other instructions
+    /// have no phases.
     pub fn request(&mut self, instr: &Instr, permitted: bool) -> Request
         requires room { is_end (instr_of instr.now) ≡ false → self.old.context.place + 1 < 2 ^ 64 }
         requires count { asks_to_send self.old.context (instr_of instr.now) ≡ true → self.old.context.begun + 1 < 2 ^ 64 }
@@ -187,7 +190,7 @@ impl Thread {
         }
     }
 
-    /// The same, where the words of the message stay in the registers, which no phase changes where it begins.
+    /// The same, with the words left in the registers: no phase changes these when it begins.
     pub(crate) fn begin_phases(&mut self, instr: &Instr, permitted: bool) -> Begun
         requires room { is_end (instr_of instr.now) ≡ false → self.old.context.place + 1 < 2 ^ 64 }
         requires count { asks_to_send self.old.context (instr_of instr.now) ≡ true → self.old.context.begun + 1 < 2 ^ 64 }
@@ -202,14 +205,16 @@ impl Thread {
         }
     }
 
-    /// An Ipc received a message, with this tag in message register 0. Registers past its words keep their contents.
+    /// Ends an Ipc that received a message, with this tag in message register 0. Registers past its
+    /// words keep their contents.
     pub fn received(&mut self, message: &Message, tag: MsgTag)
         ensures { self.new ≡ record self.old { context = received message.now (word_of_tag tag) self.old.context } }
     {
         self.received_words(message.words(), message.shown(), message.actual(), tag);
     }
 
-    /// The same of a message of these words, at most 63, which shows one sender, and which another one may have sent.
+    /// Ends an Ipc that received a message of these words, at most 63. It shows one sender, and
+    /// another one may have sent it.
     pub(crate) fn received_words(
         &mut self,
         words: &[u64],
@@ -228,7 +233,7 @@ impl Thread {
         self.regs.actual = actual.id();
     }
 
-    /// An Ipc ended well and received nothing.
+    /// Ends an Ipc that succeeded without a receive phase.
     pub fn sent(&mut self)
         ensures { self.new ≡ record self.old { context = sent self.old.context } }
     {
@@ -237,7 +242,7 @@ impl Thread {
         self.regs.from = ThreadId::NIL;
     }
 
-    /// An Ipc failed.
+    /// Ends an Ipc that failed.
     pub fn fail(&mut self, error: IpcError)
         ensures { self.new ≡ record self.old { context = failed (code_of error) self.old.context } }
     {
@@ -246,7 +251,8 @@ impl Thread {
         self.regs.from = ThreadId::NIL;
     }
 
-    /// What the thread asked of another was done, ErrorCode 0, or refused, ErrorCode 2 (manual: ExchangeRegisters, ThreadControl).
+    /// Ends an order: it was done, ErrorCode 0, or refused, ErrorCode 2 (manual: ExchangeRegisters,
+    /// ThreadControl).
     pub fn ordered(&mut self, code: u64)
         requires { self.old.context.place + 1 < 2 ^ 64 }
         ensures { self.new ≡ record self.old { context = ordered code self.old.context } }
@@ -283,7 +289,7 @@ impl Thread {
         }
     }
 
-    /// One more send was begun.
+    /// Counts one more send.
     pub(crate) fn count(&mut self)
         requires room { self.old.context.place + 1 < 2 ^ 64 }
         requires count { self.old.context.begun + 1 < 2 ^ 64 }
@@ -303,8 +309,8 @@ impl Thread {
         }
     }
 
-    // The originator that a send of this thread shows, where bit 12 of message register 0 asks for propagation and the
-    // thread may show it.
+    // The originator that a send of this thread shows, where bit 12 of message register 0 asks for
+    // propagation and the thread may show it.
     fn originator(&self, permitted: bool) -> Option<GlobalId>
         ensures { result ≡ originator_if permitted self.now.context }
     {
@@ -315,7 +321,7 @@ impl Thread {
         }
     }
 
-    /// So many words from message register 1 on.
+    /// The first `count` words from message register 1 on.
     pub(crate) fn words(&self, count: u8) -> &[u64]
         requires { count < register_count }
         ensures value { result.now ≡ take count (drop 1 self.now.context.words) }

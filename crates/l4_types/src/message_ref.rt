@@ -1,4 +1,4 @@
-//! A message that is only looked at.
+//! A borrowed message.
 ghost use Rattle.std.specs.Prelude.{◌≡◌, ◌<◌, length, false};
 ghost use Rattle.l4_model.specs.Words.{label_limit, register_count};
 ghost use Rattle.l4_types.specs.Flags.{flags_of};
@@ -9,8 +9,8 @@ use crate::tags::MsgTag;
 use arrayvec::ArrayVec;
 use std::marker::Model;
 
-/// A message whose words stay where they are: in a message, in a history, or in message registers 1 to u of its sender (manual: Messages
-/// and Message Registers).
+/// A message whose words stay where they are: in a message, in a history, or in message registers 1
+/// to u of its sender (manual: Messages and Message Registers).
 #[derive(Drop)]
 pub struct MessageRef<'a> {
     label: u64,
@@ -47,8 +47,8 @@ impl<'a> From<&'a Message> for MessageRef<'a> {
 }
 
 impl<'a> MessageRef<'a> {
-    /// A message of a label below 2^48 and at most 63 words. `shown` is the sender that its receiver is shown, `actual` the thread that
-    /// sends it.
+    /// A message of this label and these words: the label is below 2^48, and there are at most 63
+    /// words. `shown` is the sender that the receiver sees, `actual` the thread that sends.
     pub fn new(
         label: u64,
         propagated: bool,
@@ -92,7 +92,8 @@ impl<'a> MessageRef<'a> {
         self.words
     }
 
-    /// The sender that the receiver is shown: with propagation the originator, else the actual sender.
+    /// The sender that the receiver is shown: with propagation the originator, else the actual
+    /// sender.
     pub fn shown(&self) -> GlobalId
         ensures { result ≡ self.now.shown }
     {
@@ -113,7 +114,7 @@ impl<'a> MessageRef<'a> {
         MsgTag::new(self.label, self.words.len() as u8, self.propagated).unwrap()
     }
 
-    /// The message with words of its own.
+    /// The message with a copy of the words.
     pub fn to_message(&self) -> Message
         ensures { result ≡ self.now }
     {

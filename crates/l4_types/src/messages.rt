@@ -8,7 +8,7 @@ use crate::tags::{LABELS, MsgTag};
 use arrayvec::ArrayVec;
 use std::marker::Model;
 
-/// A message has at most so many untyped words, since message register 0 has its tag.
+/// A message has at most this many untyped words, since message register 0 has its tag.
 pub const MOST_WORDS: usize = 63;
 
 /// A message as it was fixed when its send began.
@@ -36,8 +36,9 @@ impl Model for Message {
 }
 
 impl Message {
-    /// A message of a label below 2^48 and at most 63 words. `shown` is the sender that its receiver is shown, `actual`
-    /// the thread that sends it. None where the label is 2^48 or above.
+    /// A message of this label and these words: the label is below 2^48, and there are at most 63
+    /// words. `shown` is the sender that the receiver sees, `actual` the thread that sends. None
+    /// where the label is 2^48 or above.
     pub fn new(
         label: u64,
         propagated: bool,
@@ -83,7 +84,8 @@ impl Message {
         self.words.as_slice()
     }
 
-    /// The sender that the receiver is shown: with propagation the originator, else the actual sender.
+    /// The sender that the receiver is shown: with propagation the originator, else the actual
+    /// sender.
     pub fn shown(&self) -> GlobalId
         ensures { result ≡ self.now.shown }
     {
@@ -104,7 +106,7 @@ impl Message {
         MsgTag::of(self.label, false, self.propagated, self.words.len() as u8)
     }
 
-    /// The same message again.
+    /// A copy of the message.
     pub fn copy(&self) -> Message
         ensures { result ≡ self.now }
     {

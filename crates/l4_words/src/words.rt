@@ -10,7 +10,7 @@ use std::marker::Model;
 /// The words of a line that are still to be read.
 #[derive(Drop)]
 pub struct Words<'a> {
-    // What follows the words that were read, and the space behind the last of them.
+    // What follows the words that were read and the space after the last of them.
     rest: Option<&'a [u8]>,
 }
 
@@ -71,7 +71,8 @@ impl<'a> Words<'a> {
         }
     }
 
-    /// The next word, as a hexadecimal number. None where no word is left, and where the next one spells none.
+    /// The next word, as a hexadecimal number. None where no word is left, and where the next one
+    /// spells none.
     pub fn next_hexadecimal(&mut self) -> Option<u64>
         ensures { MatchOption result (first_hexadecimal self.old ≡ None) (λ number. first_hexadecimal self.old ≡ Some (number, self.new)) }
     {
@@ -147,7 +148,7 @@ impl<'a> Words<'a> {
         }
     }
 
-    /// The next five words, and those behind them. None where there are fewer.
+    /// The next five words, and the rest. None where there are fewer than five.
     pub fn first_five(mut self) -> Option<FiveAndMore<'a>>
         ensures { Finds (λ words. (words.0.now, words.1.now, words.2.now, words.3.now, words.4.now, words.5)) result (first_five self.entry) }
     {
@@ -166,7 +167,7 @@ impl<'a> Words<'a> {
     }
 }
 
-// The first word as a hexadecimal number, where it spells one, and what follows the space behind it.
+// The first word as a hexadecimal number, where it spells one, and what follows the space after it.
 fn split_hexadecimal(line: &[u8]) -> (Option<u64>, Option<&[u8]>)
     ensures { first_hexadecimal (words_in line.now) ≡ option_map (λ number. (number, words_left (option_copied result.1))) result.0 }
 {

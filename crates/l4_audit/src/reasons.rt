@@ -57,7 +57,7 @@ pub enum Reason {
     OtherTag(u64),
     /// The message has other words.
     OtherWords,
-    /// The send may not time out at this clock of its sender's processor.
+    /// The send may not time out yet: this is the clock of its sender's processor.
     NotTimedOut(u64),
     /// The destination of the send is a living thread.
     HasDestination(ThreadId),

@@ -53,7 +53,7 @@ pub(crate) struct Known<'m> {
     cpu: u8,
     threads: Vec<Tcb>,
     lists: Arena,
-    // For each thread: the processors below this one have been notified of its deletion.
+    // For each thread: all processors below this number have been notified of its deletion.
     told: Vec<u8>,
     // For each thread the retarget that is owed since it received a message. Empty in profile 1.
     owed: Vec<Option<Owed>>,
@@ -391,8 +391,8 @@ impl<'m> Known<'m> {
         }
     }
 
-    /// The thread that is asked, where the order is admitted: it is declared, and for a
-    /// cancellation of the caller's space.
+    /// The target of an order, where that is admitted: it is declared, and for a cancellation of
+    /// the caller's space.
     pub(crate) fn admitted(&self, place: usize, target: ThreadId, what: What) -> Option<GlobalId>
         requires { place < length self.now.machine.threads }
         ensures { ask_act self.now.machine (declared self.now.machine place).id target (what_of what) ≡ admitted_act (what_of what) result }

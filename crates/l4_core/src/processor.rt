@@ -161,7 +161,7 @@ impl<'m> Core<'m> {
     }
 
     /// The report of the thread at this place, as far as it is known here: of a thread of this
-    /// processor, its report.
+    /// processor, its whole report.
     pub fn view(&self, place: usize) -> ThreadView
         requires { place < length self.now.machine.threads }
         ensures { report_of_view result ≡ report_of (declared self.now.machine place).id (thread self.now.local place) }

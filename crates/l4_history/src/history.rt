@@ -189,7 +189,7 @@ impl History {
         self.steps_between(0, self.len())
     }
 
-    /// The steps from one place up to another, counted from 0.
+    /// The steps from `start` to `end`, counted from 0.
     pub fn steps_between(&self, start: usize, end: usize) -> Steps<'_>
         requires { end ≤ length self.now.steps }
         ensures { result ≡ drop start (take end self.now.steps) }

@@ -1,6 +1,7 @@
 // Calls on whole machines and processors, and on the program, to which memory may be refused. Each
-// is made, and where it was refused made again: then it gives what it would have given. The work of
-// processors and their outcome, which may be refused too, are tested by their rows.
+// call is made, and made again where memory was refused: the second gives what the first would have
+// given. The work of processors and their outcome, which may be refused too, are tested by their
+// rows.
 ghost use Rattle.std.specs.Prelude.{map};
 ghost use Rattle.l4_mail.specs.Ports.{AreOneFabric};
 

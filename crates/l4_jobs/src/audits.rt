@@ -29,7 +29,7 @@ pub struct PassedTrace {
 /// `Trace`: this line, counted from 1, is the first that spells no step, or has no line end, also
 /// where a step before it is not possible: the text is read to its end in any case. `Refused`: no
 /// line is faulty, and this step, counted from 1, is the first that is not possible. `NoMemory`
-/// comes only where memory was refused, and then whatever the text says.
+/// only where memory was refused; then it says nothing of the text.
 pub fn audit_text<'a>(
     alloc: Global,
     machine: &Machine,

@@ -17,7 +17,7 @@ use std::marker::Model;
 /// The entries of a schedule, one for each item of its list.
 ///
 /// `Turns`: the list has more than 1,000,000 items. `Schedule`: this item, counted from 1, is the
-/// first that spells no entry, or one of no processor of the machine. `NoMemory`: memory was
+/// first that spells no entry, or names no processor of the machine. `NoMemory`: memory was
 /// refused, which may come in the place of `Schedule`.
 pub fn schedule_of(alloc: Global, machine: &Machine, list: &str) -> Result<Vec<Entry>, RunFault>
     ensures ok { IfOk result (λ entries. schedule_of machine.now list.now ≡ Ok (map entry_from entries.items)) }

@@ -48,7 +48,7 @@ impl<R: Read> Source for R {
 #[derive(Clone, Copy, Debug, PartialEq, Eq)]
 pub struct NotWritten;
 
-/// What lines are written to.
+/// A sink of lines.
 pub trait Sink {
     // What writing these bytes may do to it. `all` says whether all of them were written.
     ghost takes: { (old new : Self) → (bytes : List ℕ) → (all : Bool) → Type 0 };
@@ -88,7 +88,7 @@ impl<W: Write> Sink for W {
     }
 }
 
-/// Where files are opened by their names.
+/// A folder, in which files are opened by their names.
 pub trait Folder {
     type File: Source + Drop;
 

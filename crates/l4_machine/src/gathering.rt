@@ -147,8 +147,8 @@ fn cores_of<'a, 'm>(
     Ok(cores)
 }
 
-/// `Quiet` where nothing is to be done, armed or under way. Whether all letters are handled was
-/// found by a rest.
+/// `Quiet` where nothing is to be done, armed or under way. `all_handled` says whether a rest found
+/// all letters handled.
 pub(crate) fn ending(processors: &[Processor<'_>], all_handled: bool) -> Ending
     requires { IsTrue all_handled ↔ HaveHandledAll processors.now }
     ensures { (result ≡ Quiet) ↔ AreResting processors.now }

@@ -124,7 +124,7 @@ impl<'a> Search<'a> {
         Ok(())
     }
 
-    /// Whether the steps of a history from one place up to another begin one.
+    /// Whether the steps from `start` to `end` begin one.
     pub(crate) fn finds_between(&self, history: &History, start: usize, end: usize) -> bool
         requires search { IsSearch self.now }
         requires within { end ≤ length history.now.steps }

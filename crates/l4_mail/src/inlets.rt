@@ -8,7 +8,7 @@ use rtrb::Consumer;
 use std::collections::VecDeque;
 
 /// The end of a ring that letters are popped from, and the letters that a rest popped and that are
-/// not given yet.
+/// not taken yet.
 #[derive(Drop)]
 pub struct Inlet {
     pub ring: Consumer<Letter>,

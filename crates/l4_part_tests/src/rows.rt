@@ -5,7 +5,7 @@
 // makes the processor: `cpu` and its number. The other questions:
 //
 //     turn              the next turn
-//     advance CLOCK     its clock goes on
+//     advance CLOCK     its clock advances
 //     letter STAMP ..   a letter comes that was posted with this stamp
 //     stands            whether there is something to do, the clock and the least deadline
 //     can STAMP         whether it has a stamp for the event of a letter of this one, or 0
@@ -136,7 +136,8 @@ fn told(first: &str, words: &str) -> Option<Content> {
 
 // The content of a letter:
 //
-//     waits LINE, now LINE    a send has begun, for ever or without time; the line is the one that a trace has where it is delivered
+//     waits LINE, now LINE    a send has begun, for ever or without time; the line is the one
+//                             that a trace has where it is delivered
 //     done SEND HOW
 //     withdraw SEND RECEIVER WHY
 //     gone THREAD

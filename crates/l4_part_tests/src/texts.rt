@@ -53,7 +53,7 @@ fn a_text_that_is_cut_or_spoilt_names_the_line(rt: HostRuntime) {
     assert!(rt; PING.len() == start && fault_of(rt.alloc(), PING.as_bytes()).is_none());
 }
 
-// The fault of a text of this length, whose third line is one long comment. Behind it the lines are
+// The fault of a text of this length, whose third line is one long comment. After it the lines are
 // empty.
 fn fault_of_length(alloc: Global, length: usize) -> Option<Option<TextFault>> {
     let mut text = b"l4 1 64\ncpus 1\n".to_vec(alloc).ok()?;

@@ -192,8 +192,7 @@ pub enum Instr {
     Vs(ThreadId),
     /// The system call (manual: Ipc).
     Ipc(Ipc),
-    /// Asks for a cancellation or the deletion of a thread (manual: ExchangeRegisters,
-    /// ThreadControl).
+    /// An order to cancel or delete a thread (manual: ExchangeRegisters, ThreadControl).
     Order(ThreadId, What),
     /// Goes on at this place of the script, counted from 0.
     Jump(u64),

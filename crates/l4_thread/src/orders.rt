@@ -43,7 +43,7 @@ impl Asked {
         self.target
     }
 
-    /// Whether to cancel or to delete it.
+    /// Whether to cancel phases of it, or to delete it.
     pub fn what(&self) -> What
         ensures { what_of result ≡ self.now.what }
     {

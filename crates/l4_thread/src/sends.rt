@@ -202,8 +202,8 @@ impl Model for Send {
 }
 
 impl Send {
-    /// A send to an id, that may wait for a period that a time has, below 2^42 ticks, from the
-    /// clock at its beginning on. `receive` is the receive phase of the same Ipc.
+    /// A send to an id. It may wait for a period from the clock at its beginning on, below 2^42
+    /// ticks, as a time can spell no longer one. `receive` is the receive phase of the same Ipc.
     pub(crate) fn new(
         to: ThreadId,
         head: Head,

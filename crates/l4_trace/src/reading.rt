@@ -12,7 +12,7 @@ use std::alloc::Global;
 /// The steps whose trace a text is.
 ///
 /// `Line`: this line, counted from 1, is the first that spells no step, or has no line end.
-/// `NoMemory` comes only where memory was refused, and then whatever the text says.
+/// `NoMemory` only where memory was refused; then it says nothing of the text.
 pub fn read_events(alloc: Global, text: &[u8]) -> Result<Vec<Step>, TraceFault>
     ensures { Reads (λ steps. map step_of steps.items) result (steps_of text.now) }
 {

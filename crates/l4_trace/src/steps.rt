@@ -177,8 +177,7 @@ fn step_behind<'w>(
     other_step(word, operands)
 }
 
-/// The step that a line without its end spells. The words of its message are read into `words`, in
-/// the place of those before.
+/// The step that a line without its end spells. The words of its message replace those in `words`.
 #[tactic(auto, unfolding(crate::specs::Reading::step_of_line))]
 pub(crate) fn step_of_line<'w>(line: &[u8], words: &'w mut ReadWords) -> Option<StepRef<'w>>
     ensures { Finds seen result (step_of_line line.now) }

@@ -4,7 +4,7 @@ ghost use Rattle.l4_model.specs.Words.{NilThread, register_count};
 
 use crate::ids::ThreadId;
 
-/// A thread has this many message registers, MR0 to MR63: the numbers of registers are below it.
+/// A thread has this many message registers, MR0 to MR63: the numbers of registers are below this.
 pub const MESSAGE_REGISTERS: usize = 64;
 
 /// What a thread reads and an Ipc writes (manual: Messages and Message Registers; Thread Control

@@ -65,8 +65,8 @@ impl Name {
     }
 }
 
-/// What one thread may ask of another: a cancellation, by the bits S and R of ExchangeRegisters, or
-/// a deletion (manual: ExchangeRegisters, ThreadControl).
+/// What an order asks for: a cancellation, by the bits S and R of ExchangeRegisters, or a deletion
+/// (manual: ExchangeRegisters, ThreadControl).
 #[derive(Clone, Copy, PartialEq, Eq, Debug)]
 pub enum What {
     /// Bit S: the send that is under way is cancelled.
@@ -177,7 +177,7 @@ pub enum Step<D = Delivery> {
     ReceiveTimeout(GlobalId),
     /// The send was refused, since nobody has the id that it goes to.
     SendNobody(Name),
-    /// The receive phase was refused, since nobody has the id that it is closed for.
+    /// The receive phase was refused, since nobody has the id that it names.
     ReceiveNobody(GlobalId),
     /// The send was cancelled.
     SendCancel(Name),

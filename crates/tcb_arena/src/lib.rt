@@ -121,7 +121,7 @@ impl Arena {
         self.waiting.is_linked(block)
     }
 
-    /// Appends a send to the list that waits at a receiver. The sender's block is not queued
+    /// Appends a send to the waiting list of a receiver. The sender's block is not queued
     /// (`is_queued`).
     pub fn queue_send(&mut self, receiver: usize, waiting: Waiting)
         requires receiver { receiver < length self.old.waiting }
@@ -179,7 +179,7 @@ impl Arena {
         self.ready.is_linked(block)
     }
 
-    /// Appends a block to the ready list. It is not among them (`is_ready`).
+    /// Appends a block to the ready list. It does not stand there (`is_ready`).
     pub fn push_ready(&mut self, block: usize)
         requires block { block < length self.old.waiting }
         requires free { is_ready self.old block ≡ false }

@@ -32,7 +32,7 @@ pub(crate) enum Duty {
     CancelReceive,
     /// It gets the first send that it accepts, that of this thread.
     DeliverFirst(usize),
-    /// Its receive phase is closed for nobody.
+    /// Nobody has the id that its receive phase names.
     CloseReceive,
     /// The send of this thread waits at it, has timeout zero, and may be refused.
     RefuseZero(usize),

@@ -47,8 +47,8 @@ impl Known<'_> {
         self.place_of(id.as_global()?)
     }
 
-    // Whether a thread waits, and accepts an ordinary message of another one before those that wait
-    // at it.
+    // Whether a thread is receiving, accepts an ordinary message of another one, and accepts none
+    // of those that wait at it.
     fn takes_at_once(&self, receiver: usize, sender: usize) -> bool
         requires receiver { receiver < length self.now.machine.threads }
         requires sender { sender < length self.now.machine.threads }
@@ -73,8 +73,8 @@ impl Known<'_> {
         Name::new(self.id(place), self.begun(place) + 1).unwrap()
     }
 
-    /// The message that a thread sends: that of its undecided send, else that of a send that it
-    /// begins now and that shows no originator.
+    /// The message that a thread sends: that of its undecided send. Where there is none, that of a
+    /// send that it would begin now without propagation.
     pub(crate) fn outgoing(&self, sender: usize) -> MessageRef<'_>
         requires { sender < length self.now.machine.threads }
         ensures { result ≡ outgoing (declared self.now.machine sender).id (thread self.now.local sender) }

@@ -152,7 +152,8 @@ impl Core<'_> {
         self.known.forget_order(place);
     }
 
-    /// Notes that a foreign thread was deleted. Those that are closed for it have a duty then.
+    /// Notes that a foreign thread was deleted. Threads whose receive phase names it have a duty
+    /// then.
     pub(super) fn note_gone(&mut self, place: usize)
         requires { IsForeign self.old place }
         ensures { self.new ≡ with_local self.old (changes place is_gone_now self.old.local) }
@@ -187,8 +188,8 @@ impl Core<'_> {
         self.known.pop_due();
     }
 
-    /// Cancels a phase of a thread of this processor, or deletes the thread. Those that are closed
-    /// for a deleted thread have a duty then.
+    /// Cancels a phase of a thread of this processor, or deletes the thread. Threads whose receive
+    /// phase names a deleted thread have a duty then.
     pub(super) fn ask(&mut self, place: usize, what: What)
         requires { IsOwnOf self.old place }
         ensures { self.new ≡ with_local self.old (asks (what_of what) place self.old.local) }

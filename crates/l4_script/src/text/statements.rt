@@ -163,7 +163,7 @@ fn source(word: &[u8]) -> Result<Source, TextFaultKind>
     Source::new(number as u8).ok_or(TextFaultKind::BadNumber)
 }
 
-/// The instruction that follows `set`.
+/// The instruction `set` with these operands.
 #[inline(never)]
 #[tactic(auto, unfolding(crate::specs::Statements::set_of))]
 fn set(format: Format, operands: Words<'_>) -> Result<Instr, TextFaultKind>
@@ -175,7 +175,7 @@ fn set(format: Format, operands: Words<'_>) -> Result<Instr, TextFaultKind>
     Ok(Instr::Set(register, word))
 }
 
-/// The instruction that follows `copy`.
+/// The instruction `copy` with these operands.
 #[inline(never)]
 #[tactic(auto, unfolding(crate::specs::Statements::copy_of))]
 fn copy(operands: Words<'_>) -> Result<Instr, TextFaultKind>
@@ -187,7 +187,7 @@ fn copy(operands: Words<'_>) -> Result<Instr, TextFaultKind>
     Ok(Instr::Copy(register, source))
 }
 
-/// The instruction that follows `add`.
+/// The instruction `add` with these operands.
 #[inline(never)]
 #[tactic(auto, unfolding(crate::specs::Statements::add_of))]
 fn add(format: Format, operands: Words<'_>) -> Result<Instr, TextFaultKind>
@@ -202,7 +202,7 @@ fn add(format: Format, operands: Words<'_>) -> Result<Instr, TextFaultKind>
     }
 }
 
-/// The instruction that follows `tag`.
+/// The instruction `tag` with these operands.
 #[inline(never)]
 #[tactic(auto, unfolding(crate::specs::Statements::tag_of, crate::specs::Numbers::word_from))]
 fn tag(format: Format, operands: Words<'_>) -> Result<Instr, TextFaultKind>
@@ -222,7 +222,7 @@ fn thread_id(format: Format, word: &[u8]) -> Result<ThreadId, TextFaultKind>
     id(format, word).ok_or(TextFaultKind::BadId)
 }
 
-/// The instruction that follows `vs`.
+/// The instruction `vs` with these operands.
 #[inline(never)]
 #[tactic(auto, unfolding(crate::specs::Statements::vs_of))]
 fn vs(format: Format, operands: Words<'_>) -> Result<Instr, TextFaultKind>
@@ -242,7 +242,7 @@ fn destination(format: Format, word: &[u8]) -> Result<To, TextFaultKind>
     }
 }
 
-/// The instruction that follows `ipc`.
+/// The instruction `ipc` with these operands.
 #[inline(never)]
 #[tactic(auto, unfolding(crate::specs::Statements::ipc_of))]
 fn ipc(format: Format, operands: Words<'_>) -> Result<Instr, TextFaultKind>
@@ -269,7 +269,7 @@ fn bits(word: &[u8]) -> Option<What>
     }
 }
 
-/// The instruction that follows `exregs`.
+/// The instruction `exregs` with these operands.
 #[inline(never)]
 #[tactic(auto, unfolding(crate::specs::Statements::exregs_of))]
 fn exregs(format: Format, operands: Words<'_>) -> Result<Instr, TextFaultKind>
@@ -280,7 +280,7 @@ fn exregs(format: Format, operands: Words<'_>) -> Result<Instr, TextFaultKind>
     Ok(Instr::Order(thread_id(format, target)?, what))
 }
 
-/// The instruction that follows `delete`.
+/// The instruction `delete` with these operands.
 #[inline(never)]
 #[tactic(auto, unfolding(crate::specs::Statements::delete_of))]
 fn delete(format: Format, operands: Words<'_>) -> Result<Instr, TextFaultKind>

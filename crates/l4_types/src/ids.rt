@@ -195,7 +195,8 @@ impl ThreadId {
     /// version.
     pub fn global_in(format: Format, number: u32, version: u32) -> Option<ThreadId>
         ensures some { IfSome result (λ id. id ≡ GlobalThread (global_id number version)) }
-        ensures when { IsSome result ↔ (is_global_in (format_of format) (global_id number version) ≡ true) }
+        ensures when { IsSome result ↔
+            (is_global_in (format_of format) (global_id number version) ≡ true) }
     {
         let global = GlobalId::new(number, version)?;
         if global.is_in(format) {

@@ -98,7 +98,10 @@ impl Default for Letter {
     ghost use Rattle.l4_model.specs.Words.{global_id};
     ghost use Rattle.l4_types.specs.declared.letters.Content.TheVariants.{OrderDone};
 
-    ghost is_default = { λ letter. letter ≡ record { stamp = 0; content = OrderDone (global_id 0 1) } };
+    ghost is_default = { λ letter. letter ≡ record {
+      stamp = 0;
+      content = OrderDone (global_id 0 1);
+    } };
 
     /// The value of an unused slot in an array.
     fn default() -> Letter {

@@ -27,7 +27,13 @@ impl<'a> Model for MessageRef<'a> {
 
     ghost Value = { ModelMessage };
 
-    ghost view = { λ m. record { label = m.label; words = m.words.now; propagated = m.propagated; shown = m.shown; actual = m.actual } };
+    ghost view = { λ m. record {
+      label = m.label;
+      words = m.words.now;
+      propagated = m.propagated;
+      shown = m.shown;
+      actual = m.actual;
+    } };
 
     ghost invariant = { λ m. (m.label < label_limit) × (length m.words.now < register_count) };
 }
@@ -58,7 +64,13 @@ impl<'a> MessageRef<'a> {
     ) -> MessageRef<'a>
         requires label { label < label_limit }
         requires words { length words.now < register_count }
-        ensures { result ≡ record { label = label; words = words.now; propagated = propagated; shown = shown; actual = actual } }
+        ensures { result ≡ record {
+          label = label;
+          words = words.now;
+          propagated = propagated;
+          shown = shown;
+          actual = actual;
+        } }
     {
         MessageRef {
             label,
@@ -109,7 +121,11 @@ impl<'a> MessageRef<'a> {
 
     /// The tag of the message: its label, its number of words, and whether it is propagated.
     pub fn tag(&self) -> MsgTag
-        ensures { result ≡ record { label = self.now.label; flags = flags_of false self.now.propagated; untyped = length self.now.words } }
+        ensures { result ≡ record {
+          label = self.now.label;
+          flags = flags_of false self.now.propagated;
+          untyped = length self.now.words;
+        } }
     {
         MsgTag::new(self.label, self.words.len() as u8, self.propagated).unwrap()
     }

@@ -28,11 +28,23 @@ impl Model for Message {
 
     ghost Value = { ModelMessage };
 
-    ghost view = { λ m. record { label = m.label; words = m.words.items; propagated = m.propagated; shown = m.shown; actual = m.actual } };
+    ghost view = { λ m. record {
+      label = m.label;
+      words = m.words.items;
+      propagated = m.propagated;
+      shown = m.shown;
+      actual = m.actual;
+    } };
 
     ghost invariant = { λ m. m.label < label_limit };
 
-    ghost inverse = { λ m. record { label = m.label; propagated = m.propagated; words = record { items = m.words }; shown = m.shown; actual = m.actual } };
+    ghost inverse = { λ m. record {
+      label = m.label;
+      propagated = m.propagated;
+      words = record { items = m.words };
+      shown = m.shown;
+      actual = m.actual;
+    } };
 }
 
 impl Message {
@@ -46,7 +58,13 @@ impl Message {
         shown: GlobalId,
         actual: GlobalId,
     ) -> Option<Message>
-        ensures some { IfSome result (λ m. m ≡ record { label = label; words = words.items; propagated = propagated; shown = shown; actual = actual }) }
+        ensures some { IfSome result (λ m. m ≡ record {
+          label = label;
+          words = words.items;
+          propagated = propagated;
+          shown = shown;
+          actual = actual;
+        }) }
         ensures when { IsSome result ↔ (label < label_limit) }
     {
         if label >= LABELS {
@@ -101,7 +119,11 @@ impl Message {
 
     /// The tag of the message: its label, its number of words, and whether it is propagated.
     pub fn tag(&self) -> MsgTag
-        ensures { result ≡ record { label = self.now.label; flags = flags_of false self.now.propagated; untyped = length self.now.words } }
+        ensures { result ≡ record {
+          label = self.now.label;
+          flags = flags_of false self.now.propagated;
+          untyped = length self.now.words;
+        } }
     {
         MsgTag::of(self.label, false, self.propagated, self.words.len() as u8)
     }

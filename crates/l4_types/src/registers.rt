@@ -26,7 +26,12 @@ pub struct Regs {
 impl Regs {
     /// The registers of a thread that has run nothing: all words 0 and all ids nilthread.
     pub fn new() -> Regs
-        ensures { result ≡ record { words = replicate register_count 0; error = 0; from = NilThread; actual = NilThread } }
+        ensures { result ≡ record {
+          words = replicate register_count 0;
+          error = 0;
+          from = NilThread;
+          actual = NilThread;
+        } }
     {
         Regs {
             words: [0; MESSAGE_REGISTERS],
@@ -38,7 +43,12 @@ impl Regs {
 }
 
 impl Default for Regs {
-    ghost is_default = { λ regs. regs ≡ record { words = replicate register_count 0; error = 0; from = NilThread; actual = NilThread } };
+    ghost is_default = { λ regs. regs ≡ record {
+      words = replicate register_count 0;
+      error = 0;
+      from = NilThread;
+      actual = NilThread;
+    } };
 
     fn default() -> Regs {
         Regs::new()

@@ -131,7 +131,8 @@ impl Tick {
     /// ranges.
     pub fn new(cpu: u8, clock: u64) -> Option<Tick>
         ensures some { IfSome result (λ t. t ≡ record { cpu = cpu; clock = clock }) }
-        ensures when { IsSome result ↔ ((cpu < most_processors) × (0 < clock) × (clock < clock_limit)) }
+        ensures when { IsSome result ↔
+            ((cpu < most_processors) × (0 < clock) × (clock < clock_limit)) }
     {
         if cpu >= MOST_PROCESSORS || clock == 0 || clock >= CLOCKS {
             return None;
@@ -220,7 +221,8 @@ impl<D> Step<D> {
     /// delivery.
     #[inline(always)]
     pub fn as_delivery<E>(&self) -> Result<&D, Step<E>>
-        ensures { MatchResult result (λ delivery. self.now ≡ Step.Deliver delivery.now) (IsSameOther self.now) }
+        ensures { MatchResult result (λ delivery. self.now ≡ Step.Deliver delivery.now)
+            (IsSameOther self.now) }
     {
         Err(match self {
             Step::Deliver(delivery) => return Ok(delivery),

@@ -60,7 +60,11 @@ impl MsgTag {
     /// The tag of a label, a number of untyped words and a wish to propagate (bit 12). None where
     /// the label is 2^48 or above, or there are more than 63 words.
     pub fn new(label: u64, untyped: u8, propagate: bool) -> Option<MsgTag>
-        ensures some { IfSome result (λ tag. tag ≡ record { label = label; flags = flags_of false propagate; untyped = untyped }) }
+        ensures some { IfSome result (λ tag. tag ≡ record {
+          label = label;
+          flags = flags_of false propagate;
+          untyped = untyped;
+        }) }
         ensures when { IsSome result ↔ ((label < label_limit) × (untyped < register_count)) }
     {
         if label >= LABELS || usize::from(untyped) > MOST_WORDS {
@@ -71,8 +75,13 @@ impl MsgTag {
 
     /// The same of a format. None where the format has no such label: for 32 bits, from 2^16 on.
     pub fn new_in(format: Format, label: u64, untyped: u8, propagate: bool) -> Option<MsgTag>
-        ensures some { IfSome result (λ tag. tag ≡ record { label = label; flags = flags_of false propagate; untyped = untyped }) }
-        ensures when { IsSome result ↔ ((label < label_limit_in (format_of format)) × (untyped < register_count)) }
+        ensures some { IfSome result (λ tag. tag ≡ record {
+          label = label;
+          flags = flags_of false propagate;
+          untyped = untyped;
+        }) }
+        ensures when { IsSome result ↔
+            ((label < label_limit_in (format_of format)) × (untyped < register_count)) }
     {
         match format {
             Format::W32 if label >= SHORT_LABELS => None,
@@ -173,7 +182,11 @@ impl MsgTag {
     pub(crate) fn of(label: u64, cross: bool, propagated: bool, untyped: u8) -> MsgTag
         requires label { label < label_limit }
         requires untyped { untyped < register_count }
-        ensures { result ≡ record { label = label; flags = flags_of cross propagated; untyped = untyped } }
+        ensures { result ≡ record {
+          label = label;
+          flags = flags_of cross propagated;
+          untyped = untyped;
+        } }
     {
         let flags = u64::from(cross) * 4 + u64::from(propagated);
         MsgTag {

@@ -72,8 +72,10 @@ pub fn has_mail(end: &mut Option<Inlet>) -> bool
 
 pub fn take_kept(end: &mut Option<Inlet>) -> Option<Letter>
     ensures ring { ring_in end.new ≡ ring_in end.old }
-    ensures some { IfSome result (λ x. (taken end.new ≡ taken end.old ++ x ∷ []) × (kept end.old ≡ x ∷ kept end.new)) }
-    ensures none { IfNone result ((taken end.new ≡ taken end.old) × (kept end.old ≡ []) × (kept end.new ≡ [])) }
+    ensures some { IfSome result (λ x. (taken end.new ≡ taken end.old ++ x ∷ []) ×
+        (kept end.old ≡ x ∷ kept end.new)) }
+    ensures none { IfNone result ((taken end.new ≡ taken end.old) × (kept end.old ≡ []) ×
+        (kept end.new ≡ [])) }
 {
     match end {
         Some(inlet) => inlet.take_kept(),

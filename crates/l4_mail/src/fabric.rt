@@ -48,8 +48,10 @@ fn join(alloc: Global, ports: &mut [Port], cpu: u8, room: usize) -> Result<Port,
 // Lays a ring from the one to the other.
 fn lay(alloc: Global, room: usize, from: &mut Port, to: &mut Port) -> Result<(), AllocError>
     requires room { 0 < room }
-    requires few { (vec_len from.old.outlets < most_processors) × (vec_len to.old.inlets < most_processors) }
-    ensures { OnOk result ((ring : RingId) × (ring.capacity ≡ room) × GainsOutlet from.old from.new (Some ring) × GainsInlet to.old to.new (Some ring)) }
+    requires few { (vec_len from.old.outlets < most_processors) ×
+        (vec_len to.old.inlets < most_processors) }
+    ensures { OnOk result ((ring : RingId) × (ring.capacity ≡ room) ×
+        GainsOutlet from.old from.new (Some ring) × GainsInlet to.old to.new (Some ring)) }
 {
     let (outlet, inlet) = ways::open(alloc, room)?;
     from.outlets.push(Some(outlet))?;

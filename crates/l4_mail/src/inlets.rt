@@ -41,8 +41,10 @@ impl Inlet {
     /// The first letter that is kept.
     pub fn take_kept(&mut self) -> Option<Letter>
         ensures ring { inlet_ring self.new ≡ inlet_ring self.old }
-        ensures some { IfSome result (λ x. (inlet_taken self.new ≡ inlet_taken self.old ++ x ∷ []) × (inlet_kept self.old ≡ x ∷ inlet_kept self.new)) }
-        ensures none { IfNone result ((inlet_taken self.new ≡ inlet_taken self.old) × (inlet_kept self.old ≡ []) × (inlet_kept self.new ≡ [])) }
+        ensures some { IfSome result (λ x. (inlet_taken self.new ≡ inlet_taken self.old ++ x ∷ []) ×
+            (inlet_kept self.old ≡ x ∷ inlet_kept self.new)) }
+        ensures none { IfNone result ((inlet_taken self.new ≡ inlet_taken self.old) ×
+            (inlet_kept self.old ≡ []) × (inlet_kept self.new ≡ [])) }
     {
         self.kept.pop_front()
     }

@@ -96,7 +96,9 @@ fn kept_between(alloc: Global, ports: &[Port], from: u8, to: u8) -> Result<Vec<L
 // Appends what is under way from a processor to the list.
 fn list_from(alloc: Global, ports: &[Port], from: u8, list: &mut Rest) -> Result<(), AllocError>
     requires { length ports.now ≤ most_processors }
-    ensures { OnOk result (map (λ r. (r.0, r.1, r.2.items)) list.new.items ≡ map (λ r. (r.0, r.1, r.2.items)) list.old.items ++ under_way_from ports.now from (length ports.now)) }
+    ensures { OnOk result (map (λ r. (r.0, r.1, r.2.items)) list.new.items ≡
+        map (λ r. (r.0, r.1, r.2.items)) list.old.items ++
+        under_way_from ports.now from (length ports.now)) }
 {
     for to in 0..ports.len() as u8 {
         if from != to {
@@ -109,7 +111,8 @@ fn list_from(alloc: Global, ports: &[Port], from: u8, list: &mut Rest) -> Result
 /// What all ports of a fabric keep.
 pub fn list(alloc: Global, ports: &[Port]) -> Result<Rest, AllocError>
     requires { length ports.now ≤ most_processors }
-    ensures { IfOk result (λ list. map (λ r. (r.0, r.1, r.2.items)) list.items ≡ under_way ports.now) }
+    ensures { IfOk result (λ list. map (λ r. (r.0, r.1, r.2.items)) list.items ≡
+        under_way ports.now) }
 {
     let mut all = Vec::new(alloc);
     for from in 0..ports.len() as u8 {

@@ -137,7 +137,8 @@ pub fn rest(alloc: Global, ports: &mut [Port]) -> Result<Rest, RestFault>
     ensures unchanged { are_all ports.old ≡ false → ports.new ≡ ports.old }
     ensures same { map account ports.new ≡ map account ports.old }
     ensures whole { OnOk result (AreWhole ports.new) }
-    ensures list { IfOk result (λ list. map (λ r. (r.0, r.1, r.2.items)) list.items ≡ under_way ports.new) }
+    ensures list { IfOk result (λ list. map (λ r. (r.0, r.1, r.2.items)) list.items ≡
+        under_way ports.new) }
 {
     if !are_all(ports) {
         return Err(RestFault::Numbers);

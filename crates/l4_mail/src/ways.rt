@@ -87,8 +87,10 @@ fn settle(
     ensures producer { SameProducer producer.old producer.new }
     ensures consumer { SameConsumer consumer.old consumer.new }
     ensures posted { sent producer.new ++ outbox.new.items ≡ sent producer.old ++ outbox.old.items }
-    ensures all { OnOk result ((outbox.new.items ≡ []) × (received consumer.new ≡ sent producer.new)) }
-    ensures kept { (more : _) × (received consumer.new ≡ received consumer.old ++ more) × (kept.new.items ≡ kept.old.items ++ more) }
+    ensures all { OnOk result ((outbox.new.items ≡ []) ×
+        (received consumer.new ≡ sent producer.new)) }
+    ensures kept { (more : _) × (received consumer.new ≡ received consumer.old ++ more) ×
+        (kept.new.items ≡ kept.old.items ++ more) }
 {
     let count = consumer.slots_beside(producer);
     let Some(total) = count.checked_add(outbox.len()) else {
@@ -105,10 +107,12 @@ fn settle(
 // Moves all letters under way to the inlet, which keeps them.
 fn rest_way(outlet: &mut Outlet, inlet: &mut Inlet) -> Result<(), AllocError>
     requires { outlet_ring outlet.old ≡ inlet_ring inlet.old }
-    ensures ring { (outlet_ring outlet.new ≡ outlet_ring outlet.old) × (inlet_ring inlet.new ≡ inlet_ring inlet.old) }
+    ensures ring { (outlet_ring outlet.new ≡ outlet_ring outlet.old) ×
+        (inlet_ring inlet.new ≡ inlet_ring inlet.old) }
     ensures posted { outlet_posted outlet.new ≡ outlet_posted outlet.old }
     ensures taken { inlet_taken inlet.new ≡ inlet_taken inlet.old }
-    ensures all { OnOk result (outlet_posted outlet.new ≡ inlet_taken inlet.new ++ inlet_kept inlet.new) }
+    ensures all { OnOk result (outlet_posted outlet.new ≡
+        inlet_taken inlet.new ++ inlet_kept inlet.new) }
 {
     settle(
         &mut outlet.ring,
@@ -121,8 +125,10 @@ fn rest_way(outlet: &mut Outlet, inlet: &mut Inlet) -> Result<(), AllocError>
 /// Moves all letters under way to the inlet, which keeps them. Where memory is refused, none is
 /// lost.
 pub fn rest(outlet: &mut Option<Outlet>, inlet: &mut Option<Inlet>) -> Result<(), AllocError>
-    requires { (ring : RingId) × (ring_out outlet.old ≡ Some ring) × (ring_in inlet.old ≡ Some ring) }
-    ensures ring { (ring_out outlet.new ≡ ring_out outlet.old) × (ring_in inlet.new ≡ ring_in inlet.old) }
+    requires { (ring : RingId) × (ring_out outlet.old ≡ Some ring) ×
+        (ring_in inlet.old ≡ Some ring) }
+    ensures ring { (ring_out outlet.new ≡ ring_out outlet.old) ×
+        (ring_in inlet.new ≡ ring_in inlet.old) }
     ensures posted { posted outlet.new ≡ posted outlet.old }
     ensures taken { taken inlet.new ≡ taken inlet.old }
     ensures all { OnOk result (posted outlet.new ≡ taken inlet.new ++ kept inlet.new) }

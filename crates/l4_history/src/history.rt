@@ -39,9 +39,15 @@ impl Model for History {
 
     ghost Value = { Told };
 
-    ghost view = { λ h. record { steps = told h.records.items h.heads.items h.words.items; room = h.room } };
+    ghost view = { λ h. record {
+      steps = told h.records.items h.heads.items h.words.items;
+      room = h.room;
+    } };
 
-    ghost invariant = { λ h. AreRows h.records.items h.heads.items h.words.items × (vec_len h.records + h.room ≤ vec_capacity h.records) × (vec_len h.heads + h.room ≤ vec_capacity h.heads) × (vec_len h.words + MOST_WORDS * h.room ≤ vec_capacity h.words) };
+    ghost invariant = { λ h. AreRows h.records.items h.heads.items h.words.items ×
+        (vec_len h.records + h.room ≤ vec_capacity h.records) ×
+        (vec_len h.heads + h.room ≤ vec_capacity h.heads) ×
+        (vec_len h.words + MOST_WORDS * h.room ≤ vec_capacity h.words) };
 }
 
 impl History {
@@ -114,7 +120,10 @@ impl History {
     #[inline(always)]
     pub fn push(&mut self, step: StepRef<'_>)
         requires { 0 < self.old.room }
-        ensures { self.new ≡ record { steps = self.old.steps ++ seen step.entry ∷ []; room = self.old.room - 1 } }
+        ensures { self.new ≡ record {
+          steps = self.old.steps ++ seen step.entry ∷ [];
+          room = self.old.room - 1;
+        } }
     {
         match step.as_delivery() {
             Ok(delivery) => self.push_delivery(delivery),
@@ -127,7 +136,10 @@ impl History {
     fn push_whole(&mut self, whole: Record)
         requires room { 0 < self.old.room }
         requires no_delivery { delivery_in whole ≡ None }
-        ensures { self.new ≡ record { steps = self.old.steps ++ step_at [] [] whole ∷ []; room = self.old.room - 1 } }
+        ensures { self.new ≡ record {
+          steps = self.old.steps ++ step_at [] [] whole ∷ [];
+          room = self.old.room - 1;
+        } }
     {
         self.records.push_reserved(whole);
         self.room -= 1;
@@ -137,7 +149,10 @@ impl History {
     #[inline(always)]
     pub fn push_delivery(&mut self, delivery: &DeliveryRef<'_>)
         requires { 0 < self.old.room }
-        ensures { self.new ≡ record { steps = self.old.steps ++ delivered delivery.now ∷ []; room = self.old.room - 1 } }
+        ensures { self.new ≡ record {
+          steps = self.old.steps ++ delivered delivery.now ∷ [];
+          room = self.old.room - 1;
+        } }
     {
         self.records
             .push_reserved(Record::Deliver(self.heads.len()));
@@ -152,7 +167,10 @@ impl History {
     fn push_stored(&mut self, other: &History, place: usize)
         requires room { 0 < self.old.room }
         requires within { place < length other.now.steps }
-        ensures { IfSome (slice_get other.now.steps place) (λ step. self.new ≡ record { steps = self.old.steps ++ step ∷ []; room = self.old.room - 1 }) }
+        ensures { IfSome (slice_get other.now.steps place) (λ step. self.new ≡ record {
+          steps = self.old.steps ++ step ∷ [];
+          room = self.old.room - 1;
+        }) }
     {
         match other.records[place].as_delivery() {
             Ok(at) => self.push_delivery(&delivery(&other.heads, &other.words, *at)),
@@ -163,7 +181,8 @@ impl History {
     // Appends the steps from one place of another history up to another, counted from 0.
     fn extend_between(&mut self, other: &History, start: usize, end: usize) -> Result<(), NoMemory>
         requires { end ≤ length other.now.steps }
-        ensures ok { OnOk result (self.new.steps ≡ self.old.steps ++ drop start (take end other.now.steps)) }
+        ensures ok { OnOk result (self.new.steps ≡ self.old.steps ++
+            drop start (take end other.now.steps)) }
         ensures err { OnErr result (HasMore self.old.steps self.new.steps) }
     {
         for place in start..end {

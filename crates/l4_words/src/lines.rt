@@ -28,7 +28,8 @@ fn split_at(byte: u8, bytes: &[u8], place: Option<usize>) -> Option<(&[u8], &[u8
     requires { place ≡ position (λ other. other == byte) bytes.now }
     ensures parts { MatchOption result
         (slice_split (λ other. other == byte) bytes.now ≡ bytes.now ∷ [])
-        (λ split. slice_split (λ other. other == byte) bytes.now ≡ split.0.now ∷ slice_split (λ other. other == byte) split.1.now) }
+        (λ split. slice_split (λ other. other == byte) bytes.now ≡
+        split.0.now ∷ slice_split (λ other. other == byte) split.1.now) }
     ensures shorter { IfSome result (λ split. length split.1.now < length bytes.now) }
 {
     let end = place?;
@@ -39,7 +40,8 @@ fn split_at(byte: u8, bytes: &[u8], place: Option<usize>) -> Option<(&[u8], &[u8
 pub fn split_once(byte: u8, bytes: &[u8]) -> Option<(&[u8], &[u8])>
     ensures parts { MatchOption result
         (slice_split (λ other. other == byte) bytes.now ≡ bytes.now ∷ [])
-        (λ split. slice_split (λ other. other == byte) bytes.now ≡ split.0.now ∷ slice_split (λ other. other == byte) split.1.now) }
+        (λ split. slice_split (λ other. other == byte) bytes.now ≡
+        split.0.now ∷ slice_split (λ other. other == byte) split.1.now) }
     ensures shorter { IfSome result (λ split. length split.1.now < length bytes.now) }
 {
     split_at(byte, bytes, find_byte(byte, bytes))

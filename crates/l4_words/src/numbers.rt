@@ -137,7 +137,8 @@ fn few_in_front(text: &[u8], radix: u64) -> (u64, usize)
     requires radix { radix ≤ 16 }
     ensures count { result.1 ≤ length text.now }
     ensures value { number_onto radix 0 (take result.1 text.now) ≡ Some result.0 }
-    ensures end { result.1 < length text.now → digit_of radix (slice_index text.now result.1) ≡ None }
+    ensures end { result.1 < length text.now →
+        digit_of radix (slice_index text.now result.1) ≡ None }
 {
     let mut value = 0;
     let mut count = 0;

@@ -105,7 +105,8 @@ pub fn write_words(words: &[u64], line: &mut [u8], end: usize) -> usize
     requires within { end ≤ length line.old }
     ensures room { end ≤ result + WORD_BYTES * length words.now }
     ensures within { result ≤ end }
-    ensures written { drop result line.new ≡ flat_map (λ word. codes " " ++ hexadecimal word) words.now ++ drop end line.old }
+    ensures written { drop result line.new ≡
+        flat_map (λ word. codes " " ++ hexadecimal word) words.now ++ drop end line.old }
     ensures spelled { list_all is_word words.now ≡ true }
 {
     let mut at = end;

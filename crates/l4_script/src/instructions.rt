@@ -119,11 +119,21 @@ impl Model for Ipc {
 
     ghost Value = { Call };
 
-    ghost view = { λ i. record { to = i.to; from = i.from; send_period = i.send_period; receive_period = i.receive_period } };
+    ghost view = { λ i. record {
+      to = i.to;
+      from = i.from;
+      send_period = i.send_period;
+      receive_period = i.receive_period;
+    } };
 
     ghost invariant = { λ i. IsTimely i.send_period × IsTimely i.receive_period };
 
-    ghost inverse = { λ i. record { to = i.to; from = i.from; send_period = i.send_period; receive_period = i.receive_period } };
+    ghost inverse = { λ i. record {
+      to = i.to;
+      from = i.from;
+      send_period = i.send_period;
+      receive_period = i.receive_period;
+    } };
 }
 
 impl Ipc {
@@ -132,7 +142,12 @@ impl Ipc {
     pub(crate) fn new(to: To, from: ThreadId, send_period: Period, receive_period: Period) -> Ipc
         requires send { IsTimely send_period }
         requires receive { IsTimely receive_period }
-        ensures { result ≡ record { to = to; from = from; send_period = send_period; receive_period = receive_period } }
+        ensures { result ≡ record {
+          to = to;
+          from = from;
+          send_period = send_period;
+          receive_period = receive_period;
+        } }
     {
         Ipc {
             to,

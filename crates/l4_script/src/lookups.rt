@@ -15,7 +15,8 @@ impl Declaration {
     /// The instruction at a place of the script, counted from 0. None past its end, which is an
     /// `end`.
     pub fn instruction(&self, place: usize) -> Option<Instr>
-        ensures value { unwrap_or (option_map instr_of result) End ≡ instruction_at self.now.script place }
+        ensures value { unwrap_or (option_map instr_of result) End ≡
+            instruction_at self.now.script place }
         ensures within { IsSome result → place < most_instructions }
     {
         self.script().get(place).copied()

@@ -35,7 +35,12 @@ impl Model for Declaration {
 
     ghost use Rattle.l4_script.specs.Scripts.{instr_of};
 
-    ghost view = { λ d. record { id = d.id; cpu = d.cpu; space = d.space; script = map instr_of d.script.items } };
+    ghost view = { λ d. record {
+      id = d.id;
+      cpu = d.cpu;
+      space = d.space;
+      script = map instr_of d.script.items;
+    } };
 
     ghost use Rattle.l4_model.specs.Machine.{most_instructions};
 

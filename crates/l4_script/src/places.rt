@@ -57,8 +57,10 @@ impl Places {
     /// Adds the place of a thread. Its number is not in the table yet.
     pub(crate) fn insert(&mut self, number: u32, place: u16) -> Result<(), NoMemory>
         requires { place_by self.old number ≡ None }
-        ensures ok { OnOk result ((other : ℕ) → place_by self.new other ≡ (if other == number then Some place else place_by self.old other)) }
-        ensures err { OnErr result ((other : ℕ) → place_by self.new other ≡ place_by self.old other) }
+        ensures ok { OnOk result ((other : ℕ) → place_by self.new other ≡
+            (if other == number then Some place else place_by self.old other)) }
+        ensures err { OnErr result ((other : ℕ) →
+            place_by self.new other ≡ place_by self.old other) }
     {
         let slot = slot_of(number);
         if slot >= self.slots.len() {
@@ -74,7 +76,8 @@ impl Places {
 
     /// A copy.
     pub(crate) fn try_clone(&self) -> Result<Places, NoMemory>
-        ensures { IfOk result (λ copy. (number : ℕ) → place_by copy number ≡ place_by self.now number) }
+        ensures { IfOk result (λ copy. (number : ℕ) →
+            place_by copy number ≡ place_by self.now number) }
     {
         Ok(Places {
             slots: self.slots.clone()?,

@@ -56,7 +56,11 @@ impl Model for Reading {
 
     ghost Value = { ReadSoFar };
 
-    ghost view = { λ r. record { format = format_of r.format; machine = r.machine; targets = r.targets.items } };
+    ghost view = { λ r. record {
+      format = format_of r.format;
+      machine = r.machine;
+      targets = r.targets.items;
+    } };
 }
 
 /// What comes next in a text.
@@ -214,7 +218,8 @@ impl Stage {
         alloc: Global,
         words: Words<'_>,
     ) -> Result<(), TextFaultKind>
-        ensures { Leads result (stage_of self.new) (after_words line (stage_of self.old) words.entry) }
+        ensures { Leads result (stage_of self.new)
+            (after_words line (stage_of self.old) words.entry) }
     {
         match self {
             Stage::Start => {

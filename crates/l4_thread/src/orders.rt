@@ -25,7 +25,8 @@ impl Model for Asked {
 
     ghost inverse = { λ a. record { target = a.target; what = what_from a.what } };
 
-    ghost inverse_ok = { λ a h. ap (λ what. record { target = a.target; what = what }) (what_from_of a.what) };
+    ghost inverse_ok = { λ a h. ap (λ what. record { target = a.target; what = what })
+        (what_from_of a.what) };
 }
 
 impl Asked {

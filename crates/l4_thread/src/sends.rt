@@ -33,7 +33,8 @@ impl Model for Receive {
 
     ghost inverse = { λ r. record { from = r.from; period = period_from r.period } };
 
-    ghost inverse_ok = { λ r h. ap (λ period. record { from = r.from; period = period }) (period_from_of r.period h) };
+    ghost inverse_ok = { λ r h. ap (λ period. record { from = r.from; period = period })
+        (period_from_of r.period h) };
 }
 
 impl Receive {
@@ -113,11 +114,23 @@ impl Model for Head {
 
     ghost Value = { Headed };
 
-    ghost view = { λ h. record { label = h.label; words = h.words; propagated = h.propagated; shown = h.shown; actual = h.actual } };
+    ghost view = { λ h. record {
+      label = h.label;
+      words = h.words;
+      propagated = h.propagated;
+      shown = h.shown;
+      actual = h.actual;
+    } };
 
     ghost invariant = { λ h. (h.label < label_limit) × AreFew h.words };
 
-    ghost inverse = { λ h. record { label = h.label; words = h.words; propagated = h.propagated; shown = h.shown; actual = h.actual } };
+    ghost inverse = { λ h. record {
+      label = h.label;
+      words = h.words;
+      propagated = h.propagated;
+      shown = h.shown;
+      actual = h.actual;
+    } };
 }
 
 impl Head {
@@ -132,7 +145,13 @@ impl Head {
     ) -> Head
         requires label { label < label_limit }
         requires count { count < register_count }
-        ensures { result ≡ record { label = label; words = InRegisters count; propagated = propagated; shown = shown; actual = actual } }
+        ensures { result ≡ record {
+          label = label;
+          words = InRegisters count;
+          propagated = propagated;
+          shown = shown;
+          actual = actual;
+        } }
     {
         Head {
             label,
@@ -145,7 +164,13 @@ impl Head {
 
     /// The head of a message whose words are copied.
     pub(crate) fn apart(message: &MessageRef<'_>) -> Head
-        ensures { result ≡ record { label = message.now.label; words = Apart; propagated = message.now.propagated; shown = message.now.shown; actual = message.now.actual } }
+        ensures { result ≡ record {
+          label = message.now.label;
+          words = Apart;
+          propagated = message.now.propagated;
+          shown = message.now.shown;
+          actual = message.now.actual;
+        } }
     {
         Head {
             label: message.label(),
@@ -196,7 +221,13 @@ impl Model for Send {
 
     ghost Value = { Held };
 
-    ghost view = { λ s. record { to = s.to; head = s.head; period = period_of s.period; since = s.since; receive = s.receive } };
+    ghost view = { λ s. record {
+      to = s.to;
+      head = s.head;
+      period = period_of s.period;
+      since = s.since;
+      receive = s.receive;
+    } };
 
     ghost invariant = { λ s. IsTimely s.period };
 }
@@ -212,7 +243,13 @@ impl Send {
         receive: Option<Receive>,
     ) -> Send
         requires { IsTimely period }
-        ensures { result ≡ record { to = to; head = head; period = period_of period; since = since; receive = receive } }
+        ensures { result ≡ record {
+          to = to;
+          head = head;
+          period = period_of period;
+          since = since;
+          receive = receive;
+        } }
     {
         Send {
             to,
@@ -268,7 +305,9 @@ impl Send {
 
     /// If the specifier of the Ipc's receive phase is the old partner, it becomes the new one.
     pub(crate) fn turn_to(&mut self, old_partner: GlobalId, new_partner: GlobalId)
-        ensures { self.new ≡ record self.old { receive = option_map (turned_from old_partner new_partner) self.old.receive } }
+        ensures { self.new ≡ record self.old {
+          receive = option_map (turned_from old_partner new_partner) self.old.receive;
+        } }
     {
         if let Some(receive) = self.receive {
             self.receive = Some(receive.turned(old_partner, new_partner));

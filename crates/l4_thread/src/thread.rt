@@ -39,7 +39,17 @@ impl Model for Thread {
 
     ghost Value = { Part };
 
-    ghost view = { λ t. record { id = t.id; context = record { words = t.regs.words; error = t.regs.error; from = t.regs.from; actual = t.regs.actual; place = t.place; begun = t.begun } } };
+    ghost view = { λ t. record {
+      id = t.id;
+      context = record {
+        words = t.regs.words;
+        error = t.regs.error;
+        from = t.regs.from;
+        actual = t.regs.actual;
+        place = t.place;
+        begun = t.begun;
+      };
+    } };
 }
 
 impl Thread {
@@ -64,7 +74,12 @@ impl Thread {
 
     /// The registers.
     pub fn regs(&self) -> &Regs
-        ensures { result.now ≡ record { words = self.now.context.words; error = self.now.context.error; from = self.now.context.from; actual = self.now.context.actual } }
+        ensures { result.now ≡ record {
+          words = self.now.context.words;
+          error = self.now.context.error;
+          from = self.now.context.from;
+          actual = self.now.context.actual;
+        } }
     {
         &self.regs
     }
@@ -108,7 +123,9 @@ impl Thread {
 
     // Sets a message register to a word.
     fn set(&mut self, register: Register, word: u64)
-        ensures { self.new ≡ record self.old { context = with_register register word self.old.context } }
+        ensures { self.new ≡ record self.old {
+          context = with_register register word self.old.context;
+        } }
     {
         self.regs.words[usize::from(register.number())] = word;
     }
@@ -123,7 +140,11 @@ impl Thread {
 
     // Adds a word to a message register, as a format counts it.
     fn add(&mut self, format: Format, to: Register, word: u64)
-        ensures { self.new ≡ record self.old { context = with_register to ((register self.old.context to + word) % word_limit (format_of format)) self.old.context } }
+        ensures { self.new ≡ record self.old {
+          context = with_register to
+              ((register self.old.context to + word) % word_limit (format_of format))
+              self.old.context;
+        } }
     {
         let sum = format.sum(self.register(to.number()), word);
         self.set(to, sum);
@@ -131,7 +152,9 @@ impl Thread {
 
     // Goes on at a place of the script.
     fn jump(&mut self, place: u64)
-        ensures { self.new ≡ record self.old { context = record self.old.context { place = place } } }
+        ensures { self.new ≡ record self.old {
+          context = record self.old.context { place = place };
+        } }
     {
         self.place = place as usize;
     }
@@ -141,7 +164,9 @@ impl Thread {
     /// then, and an order is refused (ErrorCode 2).
     pub fn local(&mut self, instr: &Instr) -> bool
         requires room { is_end (instr_of instr.now) ≡ false → self.old.context.place + 1 < 2 ^ 64 }
-        ensures context { self.new ≡ record self.old { context = ran (instr_of instr.now) self.old.context } }
+        ensures context { self.new ≡ record self.old {
+          context = ran (instr_of instr.now) self.old.context;
+        } }
         ensures ends { result ≡ is_end (instr_of instr.now) }
     {
         match instr {
@@ -173,10 +198,16 @@ impl Thread {
     /// have no phases.
     pub fn request(&mut self, instr: &Instr, permitted: bool) -> Request
         requires room { is_end (instr_of instr.now) ≡ false → self.old.context.place + 1 < 2 ^ 64 }
-        requires count { asks_to_send self.old.context (instr_of instr.now) ≡ true → self.old.context.begun + 1 < 2 ^ 64 }
-        ensures phases { phases_from result ≡ phases_of permitted self.old.id self.old.context (instr_of instr.now) }
+        requires count { asks_to_send self.old.context (instr_of instr.now) ≡ true →
+            self.old.context.begun + 1 < 2 ^ 64 }
+        ensures phases { phases_from result ≡
+            phases_of permitted self.old.id self.old.context (instr_of instr.now) }
         ensures timely { AreTimely result }
-        ensures context { self.new ≡ record self.old { context = phases_begun (phases_of permitted self.old.id self.old.context (instr_of instr.now)) self.old.context } }
+        ensures context { self.new ≡ record self.old {
+          context = phases_begun
+              (phases_of permitted self.old.id self.old.context (instr_of instr.now))
+              self.old.context;
+        } }
     {
         let begun = self.begin_phases(instr, permitted);
         let receive = begun.receive;
@@ -193,11 +224,18 @@ impl Thread {
     /// The same, with the words left in the registers: no phase changes these when it begins.
     pub(crate) fn begin_phases(&mut self, instr: &Instr, permitted: bool) -> Begun
         requires room { is_end (instr_of instr.now) ≡ false → self.old.context.place + 1 < 2 ^ 64 }
-        requires count { asks_to_send self.old.context (instr_of instr.now) ≡ true → self.old.context.begun + 1 < 2 ^ 64 }
-        ensures phases { phases_held [] self.old.context.words result ≡ phases_of permitted self.old.id self.old.context (instr_of instr.now) }
-        ensures stays { (apart : List ℕ) → phases_held apart self.old.context.words result ≡ phases_of permitted self.old.id self.old.context (instr_of instr.now) }
+        requires count { asks_to_send self.old.context (instr_of instr.now) ≡ true →
+            self.old.context.begun + 1 < 2 ^ 64 }
+        ensures phases { phases_held [] self.old.context.words result ≡
+            phases_of permitted self.old.id self.old.context (instr_of instr.now) }
+        ensures stays { (apart : List ℕ) → phases_held apart self.old.context.words result ≡
+            phases_of permitted self.old.id self.old.context (instr_of instr.now) }
         ensures timely { AreTimelyHeld result }
-        ensures context { self.new ≡ record self.old { context = phases_begun (phases_of permitted self.old.id self.old.context (instr_of instr.now)) self.old.context } }
+        ensures context { self.new ≡ record self.old {
+          context = phases_begun
+              (phases_of permitted self.old.id self.old.context (instr_of instr.now))
+              self.old.context;
+        } }
     {
         match instr {
             Instr::Ipc(ipc) => self.begin(ipc, permitted),
@@ -208,7 +246,9 @@ impl Thread {
     /// Ends an Ipc that received a message, with this tag in message register 0. Registers past its
     /// words keep their contents.
     pub fn received(&mut self, message: &Message, tag: MsgTag)
-        ensures { self.new ≡ record self.old { context = received message.now (word_of_tag tag) self.old.context } }
+        ensures { self.new ≡ record self.old {
+          context = received message.now (word_of_tag tag) self.old.context;
+        } }
     {
         self.received_words(message.words(), message.shown(), message.actual(), tag);
     }
@@ -223,7 +263,10 @@ impl Thread {
         tag: MsgTag,
     )
         requires { length words.now < register_count }
-        ensures { self.new ≡ record self.old { context = received (unlabelled words.now shown actual) (word_of_tag tag) self.old.context } }
+        ensures { self.new ≡ record self.old {
+          context = received (unlabelled words.now shown actual)
+              (word_of_tag tag) self.old.context;
+        } }
     {
         let end = words.len() + 1;
         self.regs.words[0] = tag.raw();
@@ -264,11 +307,17 @@ impl Thread {
     // Begins the phases of an Ipc.
     fn begin(&mut self, ipc: &Ipc, permitted: bool) -> Begun
         requires room { self.old.context.place + 1 < 2 ^ 64 }
-        requires count { asks_to_send self.old.context (ipc_of ipc.now) ≡ true → self.old.context.begun + 1 < 2 ^ 64 }
-        ensures phases { phases_held [] self.old.context.words result ≡ phases_of permitted self.old.id self.old.context (ipc_of ipc.now) }
-        ensures stays { (apart : List ℕ) → phases_held apart self.old.context.words result ≡ phases_of permitted self.old.id self.old.context (ipc_of ipc.now) }
+        requires count { asks_to_send self.old.context (ipc_of ipc.now) ≡ true →
+            self.old.context.begun + 1 < 2 ^ 64 }
+        ensures phases { phases_held [] self.old.context.words result ≡
+            phases_of permitted self.old.id self.old.context (ipc_of ipc.now) }
+        ensures stays { (apart : List ℕ) → phases_held apart self.old.context.words result ≡
+            phases_of permitted self.old.id self.old.context (ipc_of ipc.now) }
         ensures timely { AreTimelyHeld result }
-        ensures context { self.new ≡ record self.old { context = phases_begun (phases_of permitted self.old.id self.old.context (ipc_of ipc.now)) self.old.context } }
+        ensures context { self.new ≡ record self.old {
+          context = phases_begun (phases_of permitted self.old.id self.old.context (ipc_of ipc.now))
+              self.old.context;
+        } }
     {
         let to = self.destination(ipc.to());
         let receive = receive_phase(ipc);
@@ -362,7 +411,8 @@ impl Thread {
 
     // The message of a send that this thread begins now, but for its words.
     fn head(&self, permitted: bool) -> Head
-        ensures { (apart : List ℕ) → message_of apart self.now.context.words result ≡ message_if permitted self.now.id self.now.context }
+        ensures { (apart : List ℕ) → message_of apart self.now.context.words result ≡
+            message_if permitted self.now.id self.now.context }
     {
         let originator = self.originator(permitted);
         let mr0 = self.regs.words[0];
@@ -378,7 +428,8 @@ impl Thread {
 
 /// The receive phase of an Ipc, unless its specifier is nilthread.
 pub(crate) fn receive_phase(ipc: &Ipc) -> Option<(ThreadId, Period)>
-    ensures value { option_map receive_from result ≡ receive_phase ipc.now.from (period_of ipc.now.receive_period) }
+    ensures value { option_map receive_from result ≡
+        receive_phase ipc.now.from (period_of ipc.now.receive_period) }
     ensures timely { IfSome result (λ r. IsTimely r.1) }
 {
     if ipc.from() == ThreadId::NIL {

@@ -61,7 +61,9 @@ impl Tcb {
         message: MessageRef<'_>,
         zero_timeout: bool,
     )
-        ensures { self.new ≡ record self.old { thread = stands_in k (stand_in receiver message.entry zero_timeout) self.old.thread } }
+        ensures { self.new ≡ record self.old {
+          thread = stands_in k (stand_in receiver message.entry zero_timeout) self.old.thread;
+        } }
     {
         let period = if zero_timeout {
             Period::Zero
@@ -82,8 +84,11 @@ impl Tcb {
 
     /// Runs an instruction that concerns nobody else, or ends its script.
     pub fn run(&mut self, instr: &Instr)
-        requires room { is_end (instr_of instr.now) ≡ false → self.old.thread.context.place + 1 < 2 ^ 64 }
-        ensures { self.new ≡ record self.old { thread = runs (instr_of instr.now) self.old.thread } }
+        requires room { is_end (instr_of instr.now) ≡ false →
+            self.old.thread.context.place + 1 < 2 ^ 64 }
+        ensures { self.new ≡ record self.old {
+          thread = runs (instr_of instr.now) self.old.thread;
+        } }
     {
         set_apart(&mut self.send, &mut self.apart, &self.thread);
         let has_ended = self.thread.local(instr);
@@ -99,12 +104,19 @@ impl Tcb {
     /// names; then that is a global id. It matters only where the thread asks for propagation. An
     /// Ipc without phases, and any other instruction, changes nothing.
     pub fn ipc(&mut self, instr: &Instr, permitted: bool, now: u64) -> Began
-        requires room { is_end (instr_of instr.now) ≡ false → self.old.thread.context.place + 1 < 2 ^ 64 }
-        requires count { asks_to_send self.old.thread.context (instr_of instr.now) ≡ true → self.old.thread.context.begun + 1 < 2 ^ 64 }
+        requires room { is_end (instr_of instr.now) ≡ false →
+            self.old.thread.context.place + 1 < 2 ^ 64 }
+        requires count { asks_to_send self.old.thread.context (instr_of instr.now) ≡ true →
+            self.old.thread.context.begun + 1 < 2 ^ 64 }
         requires shown { permitted ≡ true → IsSome (global_of self.old.thread.context.actual) }
-        ensures thread { (m : Machine) → IsPermission permitted m self.old.id self.old.thread.context →
-            self.new ≡ record self.old { thread = starts (act m self.old.id now self.old.thread.context (instr_of instr.now)) now self.old.thread } }
-        ensures began { (m : Machine) → IsPermission permitted m self.old.id self.old.thread.context →
+        ensures thread { (m : Machine) →
+            IsPermission permitted m self.old.id self.old.thread.context →
+            self.new ≡ record self.old {
+              thread = starts (act m self.old.id now self.old.thread.context (instr_of instr.now))
+                  now self.old.thread;
+            } }
+        ensures began { (m : Machine) →
+            IsPermission permitted m self.old.id self.old.thread.context →
             result ≡ began_of (act m self.old.id now self.old.thread.context (instr_of instr.now)) }
     {
         let request = self.thread.begin_phases(instr, permitted);
@@ -130,7 +142,8 @@ impl Tcb {
         requires room { self.old.thread.context.place + 1 < 2 ^ 64 }
         requires count { self.old.thread.context.begun + 1 < 2 ^ 64 }
         ensures { self.new ≡ record self.old {
-          thread = passes (receive_phase ipc.now.from (period_of ipc.now.receive_period)) now self.old.thread;
+          thread = passes (receive_phase ipc.now.from (period_of ipc.now.receive_period))
+              now self.old.thread;
         } }
     {
         let receive = receive_of(receive_phase(ipc));
@@ -151,7 +164,9 @@ impl Tcb {
 
     /// Receives a message, with this tag.
     pub fn receive(&mut self, message: &MessageRef<'_>, tag: MsgTag)
-        ensures { self.new ≡ record self.old { thread = receives message.now (word_of_tag tag) self.old.thread } }
+        ensures { self.new ≡ record self.old {
+          thread = receives message.now (word_of_tag tag) self.old.thread;
+        } }
     {
         self.receive_words(message.words(), message.shown(), message.actual(), tag);
     }
@@ -160,7 +175,10 @@ impl Tcb {
     /// and another one may have sent it.
     pub fn receive_words(&mut self, words: &[u64], shown: GlobalId, actual: GlobalId, tag: MsgTag)
         requires { length words.now < register_count }
-        ensures { self.new ≡ record self.old { thread = receives (unlabelled words.now shown actual) (word_of_tag tag) self.old.thread } }
+        ensures { self.new ≡ record self.old {
+          thread = receives (unlabelled words.now shown actual)
+              (word_of_tag tag) self.old.thread;
+        } }
     {
         set_apart(&mut self.send, &mut self.apart, &self.thread);
         self.thread.received_words(words, shown, actual, tag);
@@ -180,7 +198,9 @@ impl Tcb {
     /// Ends its send, at this clock of its processor in ticks. After a delivery the receive phase
     /// of the same Ipc begins at once. A deleted thread keeps its registers.
     pub fn end_send(&mut self, decision: Decision, now: u64)
-        ensures { self.new ≡ record self.old { thread = after_decision (decision_of decision) now self.old.thread } }
+        ensures { self.new ≡ record self.old {
+          thread = after_decision (decision_of decision) now self.old.thread;
+        } }
     {
         match decision {
             Decision::Delivered => self.end_delivered(now),
@@ -201,7 +221,9 @@ impl Tcb {
 
     // Ends its send, which was delivered.
     fn end_delivered(&mut self, now: u64)
-        ensures { self.new ≡ record self.old { thread = was_delivered self.old.thread.send now self.old.thread } }
+        ensures { self.new ≡ record self.old {
+          thread = was_delivered self.old.thread.send now self.old.thread;
+        } }
     {
         let Some(receive) = self.send.as_ref().map(|send| send.receive()) else {
             return;
@@ -320,7 +342,9 @@ impl Tcb {
     /// that the old one sent and the new one received. A receive phase whose specifier is the old
     /// partner gets the new one: the phase that it is in, or the one that follows its send phase.
     pub fn turn_to(&mut self, old_partner: GlobalId, new_partner: GlobalId)
-        ensures { (send : Name) (originator : ModelGlobalId) → self.new ≡ record self.old { thread = turns (owed_between send originator old_partner new_partner) self.old.thread } }
+        ensures { (send : Name) (originator : ModelGlobalId) → self.new ≡ record self.old {
+          thread = turns (owed_between send originator old_partner new_partner) self.old.thread;
+        } }
     {
         match &self.phase {
             Phase::Receiving(receive, since) => {
@@ -333,7 +357,11 @@ impl Tcb {
 
     // Turns the receive phase that follows its send phase.
     fn turn_send(&mut self, old_partner: GlobalId, new_partner: GlobalId)
-        ensures { self.new ≡ record self.old { thread = record self.old.thread { send = option_map (send_turned_from old_partner new_partner) self.old.thread.send } } }
+        ensures { self.new ≡ record self.old {
+          thread = record self.old.thread {
+            send = option_map (send_turned_from old_partner new_partner) self.old.thread.send;
+          };
+        } }
     {
         if let Some(send) = &mut self.send {
             send.turn_to(old_partner, new_partner);
@@ -354,7 +382,13 @@ fn receive_of(phase: Option<(ThreadId, Period)>) -> Option<Receive>
 // Ipc asks for.
 fn send_of(phase: (ThreadId, Head, Period), receive: Option<Receive>, now: u64) -> Send
     requires { IsTimely phase.2 }
-    ensures { result ≡ record { to = phase.0; head = phase.1; period = period_of phase.2; since = now; receive = receive } }
+    ensures { result ≡ record {
+      to = phase.0;
+      head = phase.1;
+      period = period_of phase.2;
+      since = now;
+      receive = receive;
+    } }
 {
     let (to, head, period) = phase;
     Send::new(to, head, period, now, receive)
@@ -362,7 +396,8 @@ fn send_of(phase: (ThreadId, Head, Period), receive: Option<Receive>, now: u64) 
 
 // Copies the words of an undecided send, before the registers of its thread change.
 fn set_apart(send: &mut Option<Send>, apart: &mut ArrayVec<u64, MOST_WORDS>, thread: &Thread)
-    ensures { (registers : List ℕ) → option_map (sent_of apart.new.items registers) send.new ≡ option_map (sent_of apart.old.items thread.now.context.words) send.old }
+    ensures { (registers : List ℕ) → option_map (sent_of apart.new.items registers) send.new ≡
+        option_map (sent_of apart.old.items thread.now.context.words) send.old }
 {
     if let Some(send) = send {
         if let Words::InRegisters(count) = send.head().words() {

@@ -89,7 +89,8 @@ fn write_thread_line(keyword: &[u8], thread: GlobalId, line: &mut [u8]) -> usize
     requires short { length keyword.now ≤ KEYWORD_BYTES }
     requires room { LONGEST_LINE ≤ length line.old }
     ensures within { result ≤ length line.new }
-    ensures written { drop result line.new ≡ keyword.now ++ codes " " ++ thread_word thread ++ codes "\n" }
+    ensures written { drop result line.new ≡ keyword.now ++ codes " " ++
+        thread_word thread ++ codes "\n" }
     ensures spelled { is_global thread ≡ true }
 {
     let end = write_byte(b'\n', line, line.len());
@@ -103,7 +104,8 @@ fn write_name_line(keyword: &[u8], name: Name, line: &mut [u8]) -> usize
     requires short { length keyword.now ≤ KEYWORD_BYTES }
     requires room { LONGEST_LINE ≤ length line.old }
     ensures within { result ≤ length line.new }
-    ensures written { drop result line.new ≡ keyword.now ++ codes " " ++ name_word name ++ codes "\n" }
+    ensures written { drop result line.new ≡ keyword.now ++ codes " " ++
+        name_word name ++ codes "\n" }
     ensures spelled { is_name name ≡ true }
 {
     let end = write_byte(b'\n', line, line.len());
@@ -138,7 +140,9 @@ fn write_order(
     requires short { length keyword.now ≤ KEYWORD_BYTES }
     requires room { LONGEST_LINE ≤ length line.old }
     ensures within { result ≤ length line.new }
-    ensures written { drop result line.new ≡ line_of_words (keyword.now ∷ thread_word caller ∷ thread_word target ∷ what_word (what_of what) ∷ []) }
+    ensures written { drop result line.new ≡
+        line_of_words (keyword.now ∷ thread_word caller ∷ thread_word target ∷
+        what_word (what_of what) ∷ []) }
     ensures caller { is_global caller ≡ true }
     ensures target { is_global target ≡ true }
 {
@@ -154,7 +158,8 @@ fn write_tick(keyword: &[u8], tick: Tick, line: &mut [u8]) -> usize
     requires short { length keyword.now ≤ KEYWORD_BYTES }
     requires room { LONGEST_LINE ≤ length line.old }
     ensures within { result ≤ length line.new }
-    ensures written { drop result line.new ≡ line_of_words (keyword.now ∷ decimal tick.cpu ∷ decimal tick.clock ∷ []) }
+    ensures written { drop result line.new ≡
+        line_of_words (keyword.now ∷ decimal tick.cpu ∷ decimal tick.clock ∷ []) }
     ensures spelled { has_line (ModelTick tick.cpu tick.clock) ≡ true }
 {
     let end = write_byte(b'\n', line, line.len());
@@ -177,5 +182,6 @@ fn spelled(what: What) -> &'static [u8]
 
 /// A text is the trace of at most one list of steps.
 pub fn law_one_spelling()
-    ensures { (g h : List ModelStep) → list_all has_line g ≡ true → list_all has_line h ≡ true → trace_of g ≡ trace_of h → g ≡ h }
+    ensures { (g h : List ModelStep) → list_all has_line g ≡ true → list_all has_line h ≡ true →
+        trace_of g ≡ trace_of h → g ≡ h }
 {}

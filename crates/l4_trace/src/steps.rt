@@ -61,7 +61,8 @@ fn what(word: &[u8]) -> Option<What>
 /// The operands of `order`.
 #[tactic(auto, unfolding(crate::specs::Reading::order_of))]
 fn order(operands: Words<'_>) -> Option<(GlobalId, GlobalId, What)>
-    ensures { Finds (λ order. ModelOrder order.0 order.1 (what_of order.2)) result (order_of operands.entry) }
+    ensures { Finds (λ order. ModelOrder order.0 order.1 (what_of order.2)) result
+        (order_of operands.entry) }
 {
     let (first, second, third) = operands.three()?;
     let caller = thread(first)?;

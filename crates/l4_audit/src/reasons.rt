@@ -17,7 +17,7 @@ pub enum Reason {
     Undeclared,
     /// The thread is not ready, but in this state.
     NotReady(State),
-    /// The thread's instruction is an Ipc with a phase, or an order.
+    /// The thread's instruction is an Ipc with a phase, or gives an order.
     NotLocal,
     /// The thread began this many sends, so its next one has another number.
     NotNext(u64),
@@ -25,7 +25,7 @@ pub enum Reason {
     NoSendPhase,
     /// The thread's instruction does not begin with a receive phase.
     NoReceivePhase,
-    /// The thread's instruction is no order.
+    /// The thread's instruction gives no order.
     NoOrder,
     /// The thread's instruction gives this order.
     OtherOrder(Asked),

@@ -5,8 +5,8 @@
 //! more of them: `push` wants room, `reserve` makes it. So room is made before a turn, and a turn
 //! itself takes no memory. `Sink` is what takes steps: a history or a plain vector.
 //!
-//! Memory is taken by `reserve`, and by `extend`, `tell`, `from_steps` and `to_steps`, which call
-//! it. How many bytes a step takes stands in no clause.
+//! Memory is taken by `reserve`, and by `extend`, `tell`, `from_steps` and `to_steps`, which make
+//! room as they go. How many bytes a step takes stands in no clause.
 //!
 //! ```rust
 //! let mut history = History::new(alloc);

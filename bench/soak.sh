@@ -5,7 +5,7 @@
 # machine of a hundred is run once more under valgrind, where there is one: at its end no memory is left. It ends at the first machine where any of this
 # fails, and else prints counts.
 #
-# What the program can't show: the room of its rings, which is always 64 (crates/l4_host_tests/src/rooms.rt has each from 1 to 64); what the threads of a run have
+# What the program can't show: the room of its rings, which is always 16 (crates/l4_host_tests/src/rooms.rt has each from 1 to 64); what the threads of a run have
 # come to where its trace is printed, since it prints the one or the other (the tests of runs there compare both with the auditor's); and the letters
 # (that those posted are those taken and those under way is proved).
 set -eu -o pipefail

@@ -2,16 +2,16 @@
 //! other crates, under one name.
 //!
 //! A machine text declares threads with their scripts, and `Machine::parse` reads it. `run` lets
-//! its processors work on host threads, `replay` in the order of a schedule. Both answer an
-//! `Outcome`: the history, the sends that wait, what each thread has come to, and whether anything
-//! was left to do. `trace` and `read_events` write a history and read it, `check` judges whether
-//! steps are a history at all.
+//! its processors work on host threads, `replay` in the order of a schedule. Both return an
+//! `Outcome`: the history, the undecided sends, the report of each thread, and whether anything was
+//! left to do. `trace` and `read_events` write a history and read it, `check` judges whether steps
+//! are a history at all.
 //!
 //! Contracts see the definitions of the model (docs/MODEL.md). An outcome's history is one of the
 //! machine, with the laws that hold of all, and `check` is Ok for histories alone. Which history a
-//! run of several processors takes is up to the host. The crate has no code of its own, and its
-//! `specs` pass on what these contracts cite. A server is asked like this (the whole
-//! of it is `crates/l4_host_tests/src/server.rt`):
+//! run of several processors takes is up to the host. The crate has no code of its own; its `specs`
+//! re-export what these contracts cite. This tests a server (all of it is in
+//! `crates/l4_host_tests/src/server.rt`):
 //!
 //! ```rust
 //! let machine = Machine::parse(alloc, text)?;

@@ -13,7 +13,7 @@ use l4_types::reports::{Ending, ThreadView};
 use l4_types::steps::{Name, Step};
 use std::alloc::Global;
 
-/// What a history comes to.
+/// The result of an audit: what a history leads to.
 #[derive(Debug, Drop)]
 pub struct Audit {
     /// `Quiet` where no step but a tick is possible, now or after any ticks.
@@ -48,7 +48,7 @@ impl From<NoMemory> for AuditFault {
 }
 
 impl AuditFault {
-    // The fault of a step, the one after so many.
+    // The fault of a step. `taken` steps come before it.
     fn at(taken: usize, fault: StepFault) -> AuditFault
         requires { taken + 1 < 2 ^ 64 }
         ensures { result ≡ fault_at taken fault }
@@ -60,7 +60,8 @@ impl AuditFault {
     }
 }
 
-/// Audits a trace. `Refused` exactly where its steps are no history of the machine, memory aside.
+/// Audits a trace. `Refused` exactly where the steps are no history of the machine, unless memory
+/// is refused.
 pub fn check(alloc: Global, machine: &Machine, steps: &[Step]) -> Result<Audit, AuditFault>
     ensures passed { IfOk result (λ audit. Passes machine.now (map step_of steps.now) audit) }
     ensures refused { IfErr result (λ fault. Blames machine.now (map step_of steps.now) fault) }
@@ -69,10 +70,11 @@ pub fn check(alloc: Global, machine: &Machine, steps: &[Step]) -> Result<Audit, 
     check_history(alloc, machine, &history)
 }
 
-/// Audits a trace that was read. `Refused` exactly where its steps are no history of the machine, memory aside.
+/// Audits a trace that was read. `Refused` exactly where its steps are no history of the machine,
+/// unless memory is refused.
 ///
-/// The words of a delivery are compared where they are. A step costs the same however many wait, but that a receive phase looks at the senders
-/// before the first one that it accepts.
+/// The words of a delivery are compared where they are. The cost of a step does not grow with the
+/// number of threads. A step that asks for the first acceptable sender looks at those before it.
 pub fn check_history(
     alloc: Global,
     machine: &Machine,
@@ -92,7 +94,7 @@ pub fn check_history(
     })
 }
 
-// The audit behind all steps.
+// The audit after all steps.
 fn audited<'m>(
     alloc: Global,
     machine: &'m Machine,

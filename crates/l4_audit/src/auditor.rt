@@ -120,7 +120,7 @@ impl<'m> Auditor<'m> {
     }
 }
 
-// One more name is kept.
+// Appends a name.
 fn keep(names: &mut Vec<Name>, name: Name) -> Result<(), NoMemory>
     ensures ok { OnOk result (names.new.items ≡ names.old.items ++ name ∷ []) }
     ensures err { OnErr result (names.new.items ≡ names.old.items) }
@@ -139,7 +139,7 @@ fn begun_name(step: &StepRef<'_>) -> Option<Name>
     }
 }
 
-// Whether nothing but clocks can go on in a world.
+// Whether no step but a tick is possible in a world.
 fn ending(world: World) -> Result<Ending, NoMemory>
     ensures { IfOk result (λ ending. is_quiet ending
         ≡ is_still_now world.entry.machine (late world.entry.world)) }

@@ -25,7 +25,8 @@ use l4_types::reports::State;
 use l4_types::steps::What;
 use std::marker::Model;
 
-/// A thread: its place in the order of declaration, what the machine declares of it, what it is now, and the clock of its processor.
+/// A thread: its place in the order of declaration, what the machine declares of it, what it is
+/// now, and the clock of its processor.
 #[derive(Drop)]
 pub struct Found<'a> {
     /// Its number in the order of declaration, counted from 0.
@@ -68,7 +69,7 @@ impl<'a> Found<'a> {
         self.declared.id()
     }
 
-    /// The processor of a declared thread. It is known at once of this one.
+    /// The processor of a declared thread. For this thread no look-up is needed.
     pub fn cpu_of(&self, machine: &Machine, id: GlobalId) -> Option<u8>
         requires { IsFound machine.now self.now }
         ensures { result ≡ option_map (λ d. d.cpu) (declaration_of machine.now id) }
@@ -79,7 +80,7 @@ impl<'a> Found<'a> {
         cpu_of(machine, id)
     }
 
-    /// What it is about.
+    /// Its state, as a report tells it.
     pub fn state(&self) -> State
         ensures { result ≡ state_in self.now.now.phase }
     {
@@ -181,7 +182,7 @@ impl<'a> Found<'a> {
         self.tcb.thread().begun()
     }
 
-    /// What its instruction asks of another thread.
+    /// The order that its instruction gives.
     pub fn order(&self, machine: &Machine) -> Option<Asked>
         ensures { result ≡ order_of (act_of machine.now self.now) }
     {
@@ -219,7 +220,7 @@ impl<'a> Found<'a> {
         self.tcb.is_send_cancelled()
     }
 
-    /// What it asked of another thread, and is not done yet.
+    /// Its order, while that is not done.
     pub fn asked(&self) -> Option<Asked>
         ensures value { result ≡ self.now.now.order }
         ensures limit { length self.now.declared.script ≤ most_instructions }
@@ -239,7 +240,8 @@ impl<'a> Found<'a> {
         }
     }
 
-    /// Whether it accepts a sender that is shown so, or may once its call is decided.
+    /// Whether it accepts a message that shows this sender, now or perhaps once its call is
+    /// decided.
     pub fn may_still_accept(&self, machine: &Machine, shown: GlobalId) -> bool
         ensures { result ≡ may_still_accept machine.now self.now shown self.now.now.phase }
     {
@@ -249,7 +251,8 @@ impl<'a> Found<'a> {
         self.tcb.is_sending() && self.call_accepts(machine, shown)
     }
 
-    // Whether its call goes to another processor, and its receive phase would accept a sender that is shown so.
+    // Whether its call goes to another processor, and its receive phase would accept a message that
+    // shows this sender.
     fn call_accepts(&self, machine: &Machine, shown: GlobalId) -> bool
         ensures { result ≡ call_accepts machine.now self.now self.now.now.send shown }
     {
@@ -272,7 +275,7 @@ impl<'a> Found<'a> {
         }
     }
 
-    // What it may ask of another thread.
+    // The order that it may give.
     fn admitted(&self, machine: &Machine, target: ThreadId, what: What) -> Option<Asked>
         ensures { result ≡ order_of (ask_act machine.now self.now.declared.id target (what_of what)) }
     {
@@ -340,7 +343,8 @@ pub fn same_cpu(machine: &Machine, a: GlobalId, b: GlobalId) -> bool
     }
 }
 
-/// Whether a receiver with this specifier accepts a sender that is shown so (manual: Ipc, `FromSpecifier`).
+/// Whether a receiver with this specifier accepts a message that shows this sender (manual: Ipc,
+/// `FromSpecifier`).
 pub fn accepts(machine: &Machine, from: ThreadId, shown: GlobalId, receiver: GlobalId) -> bool
     ensures { result ≡ accepts machine.now from shown receiver }
 {

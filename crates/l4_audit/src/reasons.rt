@@ -10,24 +10,24 @@ use l4_types::errors::NoMemory;
 use l4_types::ids::{GlobalId, ThreadId};
 use l4_types::reports::State;
 
-/// The condition of a step's rule that is false, with what the world has in its place.
+/// The condition of a step's rule that is false, with the value that the world has instead.
 #[derive(Clone, Copy, PartialEq, Eq, Debug)]
 pub enum Reason {
     /// The thread is not declared.
     Undeclared,
     /// The thread is not ready, but in this state.
     NotReady(State),
-    /// The thread's instruction is a phase of an Ipc, or asks for something of another thread.
+    /// The thread's instruction is an Ipc with a phase, or gives an order.
     NotLocal,
-    /// The thread began so many sends, and the next one has another number.
+    /// The thread began this many sends, so its next one has another number.
     NotNext(u64),
     /// The thread's instruction begins no send phase.
     NoSendPhase,
-    /// The thread's instruction begins no receive phase, or a send phase before it.
+    /// The thread's instruction does not begin with a receive phase.
     NoReceivePhase,
-    /// The thread's instruction asks for nothing of another thread.
+    /// The thread's instruction gives no order.
     NoOrder,
-    /// The thread's instruction asks for this.
+    /// The thread's instruction gives this order.
     OtherOrder(Asked),
     /// No send of this name is undecided.
     NotUndecided,
@@ -39,7 +39,7 @@ pub enum Reason {
     Waiting,
     /// The send waits in no list.
     NotWaiting,
-    /// The destination owes it to turn to the sender first.
+    /// The send must wait: this destination has an owed retarget to the sender.
     MustWait(ThreadId),
     /// The thread is in no receive phase, but in this state.
     NotReceiving(State),
@@ -57,31 +57,31 @@ pub enum Reason {
     OtherTag(u64),
     /// The message has other words.
     OtherWords,
-    /// The send may not time out at this clock of its sender's processor.
+    /// The send may not time out yet: this is the clock of its sender's processor.
     NotTimedOut(u64),
-    /// The destination of the send is somebody.
+    /// The destination of the send is a living thread.
     HasDestination(ThreadId),
     /// No cancellation of the send was asked for.
     SendNotCancelled,
     /// The sender was not deleted, but is in this state.
     SenderNotDeleted(State),
-    /// The receive phase may not time out at this clock of its processor.
+    /// The receive phase may not time out yet: this is the clock of its processor.
     ReceiveNotPassed(u64),
-    /// The receive phase is not closed for somebody who is not there, but has this specifier.
+    /// The receive phase does not name a local, undeclared or deleted id: this is its specifier.
     HasPartner(ThreadId),
-    /// A send that the receive phase accepts waits, of this thread.
+    /// This thread's send waits, and the receive phase accepts it.
     AcceptsFirst(GlobalId),
     /// No cancellation of the receive phase was asked for.
     ReceiveNotCancelled,
-    /// The thread asked for nothing that is not done.
+    /// The thread has no undone order.
     AskedNothing,
-    /// What the thread asked for is asked of this one, which is not declared.
+    /// The target of the order is not declared.
     TargetUndeclared(GlobalId),
     /// The machine has no such processor.
     NoProcessor,
     /// The clock of the processor is there already.
     ClockAt(u64),
-    /// No clock goes so far.
+    /// A clock stays below 2^62.
     PastClocks,
     /// No retarget of this name is owed.
     NotOwed,
@@ -120,8 +120,8 @@ impl From<Reason> for StepFault {
     }
 }
 
-/// A reason is told exactly where a step is not possible. It is a condition of the step's rule that is false there, and the first such one in
-/// the order of the rule.
+/// There is a reason exactly where a step is not possible. It is a condition of the step's rule
+/// that is false there, and the first such one in the order of the rule.
 pub fn law_reasons()
     ensures { (m : Machine) (w : World) (step : Step) → TellsWhy m w step }
 {}

@@ -16,7 +16,8 @@ fn has_trace(job: &Job<'_>) -> bool {
     }
 }
 
-// Whether an audit passed all lines of a trace, and what it says of the rest goes with the status of the run: nothing is left to do where that is 0.
+// Whether an audit passed all lines of a trace, and what it says of the rest goes with the status
+// of the run: nothing is left to do where that is 0.
 fn is_whole(alloc: Global, passed: &[u8], trace: &[u8], status: u8) -> Result<bool, AllocError> {
     let lines = trace.iter().filter(|byte| **byte == b'\n').count();
     let quiet = format!(in alloc; "passed {lines} quiet\n")?;
@@ -24,7 +25,8 @@ fn is_whole(alloc: Global, passed: &[u8], trace: &[u8], status: u8) -> Result<bo
     Ok(passed == quiet.as_bytes() || status != 0 && passed == spent.as_bytes())
 }
 
-/// Audits the trace that a job printed, if it did. What does not pass is a line of faults, which no case wants there.
+/// Audits the trace that a job printed, if it did. What does not pass is a line of faults, which no
+/// case wants there.
 pub fn audit<R: AllocGlobal + Threads + Sync>(
     rt: &R,
     case: &Case<'_>,

@@ -3,7 +3,7 @@
 use std::iter::Skip;
 use std::str::Split;
 
-/// A file with commands and what they come to.
+/// A file with commands and their outcomes.
 #[derive(Clone, Copy)]
 pub struct Case<'a> {
     /// Its name.
@@ -33,7 +33,7 @@ impl<'a> Case<'a> {
         }
     }
 
-    /// A case, and behind its line `---` a machine text.
+    /// A case, and after its line `---` a machine text.
     pub fn apart(name: &'a str, text: &'a str) -> Option<Case<'a>> {
         let (lines, text) = text.split_once("\n---\n")?;
         Some(Case {
@@ -46,7 +46,7 @@ impl<'a> Case<'a> {
         })
     }
 
-    /// Its commands, each with the lines behind it.
+    /// Its commands, each with the lines that follow it.
     pub fn blocks(&self) -> Skip<Split<'a, &'static str>> {
         self.lines.split(self.command).skip(1)
     }

@@ -35,7 +35,7 @@ fn push_words<'a>(words: &mut Vec<&'a str>, part: &'a str) -> Result<(), AllocEr
     Ok(())
 }
 
-// Does a job, and answers the exit status.
+// Does a job, and returns the exit status.
 fn do_job<R: Files + AllocGlobal + Threads + Sync>(
     rt: &R,
     case: &Case<'_>,
@@ -53,7 +53,8 @@ fn do_job<R: Files + AllocGlobal + Threads + Sync>(
     perform(rt, rt.alloc(), job, &mut text, &mut trace, output, faults)
 }
 
-/// Does the command of a line, with this trace as its standard input. A trace that it prints is audited.
+/// Does the command of a line, with this trace as its standard input. A trace that it prints is
+/// audited.
 pub fn do_command<R: Files + AllocGlobal + Threads + Sync>(
     rt: &R,
     case: &Case<'_>,

@@ -17,7 +17,8 @@ fn count_of(lines: &[&str], line: &str) -> usize {
     with_it.saturating_sub(before)
 }
 
-/// What was written to a stream, as the case speaks of it: where it counts parts or lines, how often each is there.
+/// What was written to a stream, as the case speaks of it: where it counts parts or lines, how
+/// often each is there.
 pub fn as_counted(alloc: Global, wanted: &[u8], written: Vec<u8>) -> io::Result<Vec<u8>> {
     let wanted = str::from_utf8(wanted).unwrap_or("");
     if asked(wanted).is_none() {

@@ -1,4 +1,4 @@
-//! Where a command comes to something else than its case says.
+//! How the outcome of a command differs from what its case says.
 
 use crate::outcome::Outcome;
 use std::{io, str};

@@ -1,12 +1,13 @@
-//! Does the commands of the cases that its words name, and prints each that comes to something else
-//! than its case says.
+//! Does the commands of the cases that its words name, and prints each whose outcome differs from
+//! what its case says.
 //!
-//! A case is a file of `data/`: a machine text with its commands and what each is to print, by hand
-//! from docs/MODEL.md and docs/FORMATS.md. Each goes the way of the program, by `job_of` and
-//! `perform_on_files`, or by `perform` where the case holds its texts. The gate compares what is
-//! printed, as two compilers build it. examples/README.md tells how a case is written.
+//! A case is a file of `data/`: a machine text with its commands and what each is to print, worked
+//! out by hand from docs/MODEL.md and docs/FORMATS.md. Each goes the way of the program, by
+//! `job_of` and `perform_on_files`, or by `perform` where the case holds its texts. The gate
+//! compares what is printed, as two compilers build it. examples/README.md tells how a case is
+//! written.
 //!
-//! Nothing is proved of what a case comes to: cases show what the definitions mean, and that a
+//! Nothing is proved of the outcome of a case: cases show what the definitions mean, and that a
 //! command prints what a reader expects.
 //!
 //! ```text
@@ -34,7 +35,8 @@ use std::rt::{Env, Files};
 use std::thread::Threads;
 use std::{env, fs, io};
 
-// Does a command of a case, and prints where it comes to something else than is said behind it. Answers whether it does.
+// Does a command of a case, and prints where its outcome differs from what the case says. Returns
+// whether it differs.
 fn is_other<R: Files + AllocGlobal + Threads + Sync + Print>(
     rt: &R,
     case: &Case<'_>,
@@ -55,7 +57,8 @@ fn is_other<R: Files + AllocGlobal + Threads + Sync + Print>(
     Ok(true)
 }
 
-// Does the commands of a case, and answers how many come to something else than it says. One without a command is counted too.
+// Does the commands of a case, and returns how many have another outcome than it says. One without
+// a command is counted too.
 fn count_other<R: Files + AllocGlobal + Threads + Sync + Print>(
     rt: &R,
     case: &Case<'_>,
@@ -76,7 +79,8 @@ fn count_other<R: Files + AllocGlobal + Threads + Sync + Print>(
     Ok(others)
 }
 
-// Does the commands of the case of this name, and answers how many come to something else than it says.
+// Does the commands of the case of this name, and returns how many have another outcome than it
+// says.
 fn count_of_case<R: Files + AllocGlobal + Threads + Sync + Print>(
     rt: &R,
     name: &str,
@@ -111,7 +115,7 @@ fn count_or_print<R: Files + AllocGlobal + Threads + Sync + Print>(
     }
 }
 
-// Does the commands of all cases, and answers how many come to something else than they say.
+// Does the commands of all cases, and returns how many have another outcome than they say.
 fn count_of_cases<R: Files + AllocGlobal + Threads + Sync + Print>(
     rt: &R,
     names: &[String],

@@ -14,7 +14,8 @@ fn push_numbered(out: &mut String, text: &str, number: u64) -> Result<(), AllocE
     Ok(())
 }
 
-// Appends what a repeat `TEXT*FIRST..LAST` stands for: the text for each of these numbers, or with ` by STEP` for each so many-th of them.
+// Appends what a repeat `TEXT*FIRST..LAST` stands for: the text for each of these numbers, or with
+// ` by STEP` for each STEP-th of them.
 fn push_repeat(out: &mut String, repeat: &str) -> io::Result<()> {
     let wrong = io::ErrorKind::InvalidData;
     let (text, range) = repeat.rsplit_once('*').ok_or(wrong)?;

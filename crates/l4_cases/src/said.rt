@@ -1,16 +1,16 @@
-//! What a case says that a command comes to.
+//! The outcome that a case says a command has.
 
 use crate::outcome::Outcome;
 use std::alloc::Global;
 use std::rt::Files;
 use std::{fs, io};
 
-/// What is said behind a command.
+/// What the lines after a command say.
 #[derive(Drop)]
 pub struct Said {
     /// The trace that it reads as its standard input.
     pub trace: Vec<u8>,
-    /// What it comes to.
+    /// Its outcome.
     pub outcome: Outcome,
 }
 
@@ -30,7 +30,7 @@ enum Line<'a> {
     Output(&'a str),
 }
 
-// What stands behind a mark and a space.
+// What follows a mark and a space.
 fn behind<'a>(line: &'a str, mark: &str) -> Option<&'a str> {
     let left = line.strip_prefix(mark)?;
     if left.is_empty() {

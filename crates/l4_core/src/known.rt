@@ -1,4 +1,5 @@
-//! What one processor knows: its threads, their lists, its clock, and of other processors' threads what it was told.
+//! The state of one processor: its threads, their lists and its clock, and what is cached of
+//! foreign threads.
 ghost use Rattle.std.specs.Prelude.{◌≡◌, ◌<◌, ◌≤◌, ◌+◌, None, Some, length, false, is_some, map, replicate, IfOk, IfSome, slice_get, slice_index_or};
 ghost use Rattle.std.specs.Option.{option_map};
 ghost use Rattle.l4_model.specs.Machine.{place_of, is_place, same_space, most_processors, most_threads, most_instructions};
@@ -43,17 +44,18 @@ mod retargets;
 mod settling;
 pub(crate) mod tasks;
 
-/// What one processor knows. Places are those of all threads of the machine, in order of declaration. A block of another processor's thread has
-/// only what is known here: whether it is deleted, and a send of it that waits here.
+/// What one processor knows. Places are those of all threads of the machine, in order of
+/// declaration. The block of a foreign thread has only what is cached here: whether it is deleted,
+/// and a send of it that waits here.
 #[derive(Drop)]
 pub(crate) struct Known<'m> {
     machine: &'m Machine,
     cpu: u8,
     threads: Vec<Tcb>,
     lists: Arena,
-    // For each thread the first processor that may not yet know of its deletion.
+    // For each thread: all processors below this number have been notified of its deletion.
     told: Vec<u8>,
-    // Beside each thread the retarget that is owed since it received a message. At a machine of profile 1 it has no places.
+    // For each thread the retarget that is owed since it received a message. Empty in profile 1.
     owed: Vec<Option<Owed>>,
     clock: u64,
     stamp: u64,
@@ -119,7 +121,7 @@ impl<'m> Known<'m> {
         self.cpu
     }
 
-    /// Whether the next event can have a stamp.
+    /// Whether the stamp of the next event stays below 2^62.
     pub(crate) fn can_stamp(&self, letter_stamp: u64) -> bool
         ensures { result ≡ can_stamp self.now.local letter_stamp }
     {
@@ -134,7 +136,7 @@ impl<'m> Known<'m> {
         self.lists.least_deadline()
     }
 
-    /// Whether the deadline of a thread is past.
+    /// Whether a deadline is due: not after the clock.
     pub(crate) fn has_due(&self) -> bool
         ensures { result ≡ is_some (due_block self.now.local.clock self.now.local.lists.armed) }
     {
@@ -324,7 +326,7 @@ impl<'m> Known<'m> {
         self.place_of(to.as_global()?)
     }
 
-    /// The place of the thread that a send goes to, where this is of another processor.
+    /// The place of the receiver of a split send. None where the send is not split.
     pub(crate) fn split_place(&self, sender: usize) -> Option<usize>
         requires { sender < length self.now.machine.threads }
         ensures value { result ≡ split_place self.now.machine self.now.cpu self.now.local sender }
@@ -353,7 +355,8 @@ impl<'m> Known<'m> {
         }
     }
 
-    // Whether a thread that is shown by a sender is of the receiver's space. Mostly it is the sender, and nothing is looked up then.
+    // Whether a thread that is shown by a sender is of the receiver's space. Mostly the shown
+    // thread is the sender; then nothing is looked up.
     #[inline(always)]
     fn is_of_space(&self, shown: GlobalId, sender: usize, receiver: usize) -> bool
         requires sender { sender < length self.now.machine.threads }
@@ -388,7 +391,8 @@ impl<'m> Known<'m> {
         }
     }
 
-    /// The thread that is asked, where the order is admitted: it is declared, and for a cancellation of the caller's space.
+    /// The target of an order, where that is admitted: it is declared, and for a cancellation of
+    /// the caller's space.
     pub(crate) fn admitted(&self, place: usize, target: ThreadId, what: What) -> Option<GlobalId>
         requires { place < length self.now.machine.threads }
         ensures { ask_act self.now.machine (declared self.now.machine place).id target (what_of what) ≡ admitted_act (what_of what) result }
@@ -409,7 +413,7 @@ impl<'m> Known<'m> {
             .unwrap_or(Instr::End)
     }
 
-    // Whether this receive specifier accepts a sender that is shown so to a thread.
+    // Whether this receive specifier of a thread accepts a message that shows this sender.
     fn accepts(&self, from: ThreadId, shown: GlobalId, receiver: usize) -> bool
         requires { receiver < length self.now.machine.threads }
         ensures { result ≡ accepts self.now.machine from shown (declared self.now.machine receiver).id }
@@ -444,7 +448,7 @@ fn opening_lists(alloc: Global, machine: &Machine, cpu: u8) -> Result<Arena, NoM
     Ok(lists)
 }
 
-// A thread is ready at the beginning, where it is of this processor.
+// Makes a thread ready at the beginning, where it is of this processor.
 fn open_place(lists: &mut Arena, machine: &Machine, cpu: u8, place: usize)
     requires within { place < length machine.now.threads }
     requires below { lists.old ≡ lists_below machine.now cpu place }
@@ -455,7 +459,7 @@ fn open_place(lists: &mut Arena, machine: &Machine, cpu: u8, place: usize)
     }
 }
 
-// Nobody was told of a deletion.
+// No processor has been notified of a deletion.
 fn untold(alloc: Global, machine: &Machine) -> Result<Vec<u8>, NoMemory>
     ensures { IfOk result (λ told. told.items ≡ map (λ d. 0) machine.now.threads) }
 {

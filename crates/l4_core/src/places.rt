@@ -12,7 +12,7 @@ const WIDTH: usize = 64;
 // How many words hold a place for each thread.
 const WORDS: usize = MOST_THREADS / WIDTH;
 
-/// A set of places of threads, each below 1,024. Its least place is found without a look at the others.
+/// A set of places of threads, each below 1,024. Its least place is found in constant time.
 #[derive(Drop)]
 pub struct Places {
     words: [u64; WORDS],
@@ -52,7 +52,7 @@ impl Places {
         self.filled |= 1 << row;
     }
 
-    /// The same set again.
+    /// A copy of the set.
     pub fn copy(&self) -> Places
         ensures { result ≡ self.now }
     {

@@ -46,9 +46,9 @@ pub mod values;
 #[derive(Drop)]
 pub struct Core<'m> {
     known: Known<'m>,
-    // Each place of a thread of this processor that has a duty is in it.
+    // Has the place of each thread of this processor that has a duty, and maybe others.
     duties: Places,
-    // Each place is in it where a send of timeout zero waits.
+    // Has each place at which a send of timeout zero waits, and maybe others.
     zeros: Places,
 }
 
@@ -63,12 +63,12 @@ impl<'m> Model for Core<'m> {
     ghost invariant = { λ c. IsCovered c.duties c.zeros c.known };
 }
 
-/// What a turn is about.
+/// What a turn does.
 #[derive(Drop)]
 enum Choice {
     /// A thread has a duty.
     ByDuty(usize, Duty),
-    /// The deadline of a thread is past.
+    /// The deadline of a thread is due.
     ByDue(usize),
     /// A ready thread runs its next instruction.
     ByReady(usize),
@@ -77,7 +77,7 @@ enum Choice {
 /// Why a processor refuses what it is asked. Nothing is changed then.
 #[derive(Clone, Copy, PartialEq, Eq, Debug)]
 pub enum Fault {
-    /// The clock is not to go on to this value: it is not above the clock, or not below 2^62.
+    /// The clock may not advance to this value: it is not above the clock, or not below 2^62.
     Clock,
     /// The next stamp would reach 2^62.
     Stamp,
@@ -86,7 +86,8 @@ pub enum Fault {
 }
 
 impl<'m> Core<'m> {
-    /// A processor of a machine where nothing has happened. `cpu` is its number, below the machine's count.
+    /// A processor of a machine where nothing has happened. `cpu` is its number, below the
+    /// machine's count.
     pub fn new(alloc: Global, machine: &'m Machine, cpu: u8) -> Result<Core<'m>, NoMemory>
         requires { cpu < machine.now.cpus }
         ensures { IfOk result (λ core. core ≡ record { machine = machine.now; cpu = cpu; local = opening_local machine.now cpu }) }
@@ -107,9 +108,10 @@ impl<'m> Core<'m> {
         self.known.cpu()
     }
 
-    /// The core's turn: the first duty of a thread, else the first due timeout, else one instruction of the first ready thread. Its steps are told
-    /// behind those of the caller. Answers its stamp, or None where there is nothing to do, and then nothing is changed. Conditions:
-    /// `can_stamp(0)`, and the event that `told` has begun has told nothing yet.
+    /// The core's turn: the first duty of a thread, else the first due timeout, else one
+    /// instruction of the first ready thread. Appends its steps to `told`, and returns its stamp,
+    /// or None where there is nothing to do; then nothing is changed. Conditions: `can_stamp(0)`,
+    /// and `told` has begun an event that has no step yet.
     pub fn turn_into<S: Sink>(&mut self, told: &mut Told<S>) -> Option<u64>
         requires stamp { can_stamp self.old.local 0 ≡ true }
         requires untold { IsOpen told.old }
@@ -122,7 +124,8 @@ impl<'m> Core<'m> {
         Some(stamp)
     }
 
-    /// Whether the next event can have a stamp, below 2^62. `letter_stamp` is that of the letter that it handles, 0 where there is none.
+    /// Whether the next event can have a stamp, below 2^62. `letter_stamp` is that of the letter
+    /// that it handles, 0 where there is none.
     pub fn can_stamp(&self, letter_stamp: u64) -> bool
         ensures { result ≡ can_stamp self.now.local letter_stamp }
     {
@@ -145,7 +148,7 @@ impl<'m> Core<'m> {
         self.known.least_deadline()
     }
 
-    /// Whether there is something to do: whether `turn_into` would not answer None.
+    /// Whether there is something to do: whether `turn_into` would return a stamp.
     pub fn busy(&self) -> bool
         ensures { result ≡ is_busy self.now.machine self.now.cpu self.now.local }
     {
@@ -157,7 +160,8 @@ impl<'m> Core<'m> {
         self.known.has_due() || self.known.first_ready().is_some()
     }
 
-    /// The report of the thread at this place, as far as it is known here: of a thread of this processor, what it has come to.
+    /// The report of the thread at this place, as far as it is known here: of a thread of this
+    /// processor, its whole report.
     pub fn view(&self, place: usize) -> ThreadView
         requires { place < length self.now.machine.threads }
         ensures { report_of_view result ≡ report_of (declared self.now.machine place).id (thread self.now.local place) }
@@ -173,7 +177,8 @@ impl<'m> Core<'m> {
         self.known.begun(place)
     }
 
-    /// Where the undecided send of the thread at this place goes, where it has one, as far as it is known here.
+    /// Where the undecided send of the thread at this place goes, where it has one, as far as it is
+    /// known here.
     pub fn destination(&self, place: usize) -> Option<ThreadId>
         requires { place < length self.now.machine.threads }
         ensures { result ≡ option_map (λ send. send.to) (thread self.now.local place).send }
@@ -197,14 +202,16 @@ impl<'m> Core<'m> {
         self.known.tcb(place)
     }
 
-    /// The lists of the threads: the sends that wait at each, the ready threads of this processor, and the deadlines of those that are armed.
+    /// The lists of the threads: the sends that wait at each, the ready threads of this processor,
+    /// and the deadlines of those that are armed.
     pub fn lists(&self) -> &Arena
         ensures { result.now ≡ self.now.local.lists }
     {
         self.known.lists()
     }
 
-    /// The first processor that may not yet know of the deletion of the thread at this place. All below it but this one were told.
+    /// The first processor that may not yet know of the deletion of the thread at this place. All
+    /// below it but this one were notified.
     pub fn notified_up_to(&self, place: usize) -> u8
         requires { place < length self.now.machine.threads }
         ensures { result ≡ slice_index_or self.now.local.told place 0 }
@@ -212,7 +219,8 @@ impl<'m> Core<'m> {
         self.known.notified_up_to(place)
     }
 
-    /// The retarget that is kept beside the thread at this place. At a machine of profile 1 there is none.
+    /// The retarget that is kept beside the thread at this place. At a machine of profile 1 there
+    /// is none.
     pub fn owed(&self, place: usize) -> Option<Owed>
         requires { place < length self.now.machine.threads }
         ensures { option_map owed_of result ≡ owed_beside self.now.local place }
@@ -220,7 +228,8 @@ impl<'m> Core<'m> {
         self.known.owed(place)
     }
 
-    // An event begins. `letter_stamp` is that of the letter that it handles, 0 where there is none. Answers its stamp.
+    // Begins an event, and returns its stamp. `letter_stamp` is that of the letter that it handles,
+    // 0 where there is none.
     fn open(&mut self, letter_stamp: u64) -> u64
         requires { can_stamp self.old.local letter_stamp ≡ true }
         ensures state { self.new ≡ with_local self.old (record self.old.local { stamp = next_stamp letter_stamp self.old.local }) }
@@ -231,7 +240,7 @@ impl<'m> Core<'m> {
         stamp
     }
 
-    // What the next turn is about.
+    // What the next turn does.
     fn choice(&mut self) -> Option<Choice>
         ensures choice { option_map (choice_of self.old.local.owed) result ≡ choice self.old.machine self.old.cpu self.old.local }
         ensures possible { IfSome result (λ choice. IsPossible choice self.new) }
@@ -255,7 +264,7 @@ impl<'m> Core<'m> {
         first_duty(&self.known, &mut self.duties, &mut self.zeros)
     }
 
-    // The first thread whose deadline is past.
+    // The first thread whose deadline is due.
     fn first_due(&mut self) -> Option<usize>
         ensures due { result ≡ due_block self.old.local.clock self.old.local.lists.armed }
         ensures same { self.new ≡ self.old }
@@ -264,7 +273,7 @@ impl<'m> Core<'m> {
     }
 }
 
-// Each thread of the processor may have a duty now.
+// Notes that each thread of the processor may have a duty now.
 fn note_all(known: &Known, duties: &mut Places)
     requires { Covers duties.old known.now.machine known.now.cpu known.now.local }
     ensures all { (other : ℕ) → IsOwnOf known.now other → has duties.new other ≡ true }
@@ -276,7 +285,7 @@ fn note_all(known: &Known, duties: &mut Places)
     }
 }
 
-// A place may have a duty now.
+// Notes that a thread may have a duty now.
 fn note(known: &Known, duties: &mut Places, place: usize)
     requires { IsOwnOf known.now place }
     ensures core { AreCore known.now }
@@ -286,7 +295,8 @@ fn note(known: &Known, duties: &mut Places, place: usize)
     duties.insert(place);
 }
 
-// What happened to a thread of this processor may be a reason for a duty of it. The other places with a duty are in.
+// Notes that a thread of this processor may have a duty now. All other places with a duty are in
+// the set already.
 fn note_duty(known: &Known, duties: &mut Places, zeros: &Places, place: usize)
     requires own { IsOwnOf known.now place }
     requires others { CoversOthers place duties.old known.now.machine known.now.cpu known.now.local }
@@ -299,7 +309,7 @@ fn note_duty(known: &Known, duties: &mut Places, zeros: &Places, place: usize)
     }
 }
 
-// A place may have a duty now, where it is one of a thread of this processor.
+// Notes that a thread may have a duty now, where it is of this processor.
 fn note_own(known: &Known, duties: &mut Places, place: usize)
     requires { place < length known.now.machine.threads }
     ensures covers { Covers duties.old known.now.machine known.now.cpu known.now.local → Covers duties.new known.now.machine known.now.cpu known.now.local }
@@ -311,7 +321,7 @@ fn note_own(known: &Known, duties: &mut Places, place: usize)
     }
 }
 
-// A send of timeout zero may wait at a receiver now, where this one has timeout zero.
+// If this send has timeout zero, notes that one may wait at the receiver.
 fn note_zero(known: &Known, zeros: &mut Places, receiver: usize, sender: usize)
     requires receiver { IsOwnOf known.now receiver }
     requires sender { sender < length known.now.machine.threads }

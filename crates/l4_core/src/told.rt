@@ -1,4 +1,4 @@
-//! What an event of a processor tells and posts.
+//! The steps and letters of an event.
 ghost use Rattle.std.specs.Prelude.{◌≡◌, ◌<◌, [], ◌++◌, IfNone, OnOk, OnErr, length, map};
 ghost use Rattle.std.specs.Option.{option_map, option_to_list};
 ghost use Rattle.l4_types.specs.LetterView.{letter_of};
@@ -23,12 +23,12 @@ pub type Letters = ArrayVec<(u8, Letter), MOST_LETTERS>;
 /// The steps of one event.
 pub type EventSteps = ArrayVec<Step, EVENT_STEPS>;
 
-/// What events tell and post: their steps, one after another, where the caller keeps them, and the letters of the event under way, each with
-/// the processor that it goes to.
+/// The output of events: their steps, appended to the caller's `sink`, and the letters of the
+/// current event with their destinations.
 #[derive(Drop)]
 pub struct Told<S: Sink> {
     sink: S,
-    // Where the steps of the event under way begin.
+    // Where the steps of the current event begin.
     start: usize,
     letters: Letters,
 }
@@ -51,7 +51,7 @@ impl<S: Sink> Model for Told<S> {
 }
 
 impl<S: Sink> Told<S> {
-    /// An event that has told nothing yet begins behind the steps that `sink` has been told.
+    /// Starts an event without steps. Those that `sink` has already are of earlier events.
     pub fn new(sink: S) -> Told<S>
         ensures { result ≡ record { before = S.told sink; steps = []; letters = []; room = S.room sink; slots = 2 } }
     {
@@ -62,7 +62,7 @@ impl<S: Sink> Told<S> {
         }
     }
 
-    /// Makes room for the steps of an event, and begins it behind those that were told. The letters of the event before are forgotten.
+    /// Makes room for the steps of an event, and begins it. Drops the letters of the event before.
     /// Where memory is refused, nothing is changed.
     pub fn begin(&mut self) -> Result<(), NoMemory>
         ensures ok { OnOk result (IsBegun self.old self.new) }
@@ -74,7 +74,7 @@ impl<S: Sink> Told<S> {
         Ok(())
     }
 
-    /// One more step is told.
+    /// Appends a step.
     #[inline(always)]
     pub(crate) fn tell(&mut self, step: StepRef<'_>)
         requires { 0 < self.old.room }
@@ -83,7 +83,7 @@ impl<S: Sink> Told<S> {
         self.sink.push(step);
     }
 
-    /// One more letter is posted to a processor.
+    /// Posts a letter to a processor.
     pub(crate) fn post(&mut self, cpu: u8, letter: Letter)
         requires { 0 < self.old.slots }
         ensures { self.new ≡ with_letter cpu (letter_of letter) self.old }
@@ -91,14 +91,14 @@ impl<S: Sink> Told<S> {
         self.letters.push((cpu, letter));
     }
 
-    /// How many steps were told before the event under way.
+    /// How many steps come before the current event.
     pub fn start(&self) -> usize
         ensures { result ≡ length self.now.before }
     {
         self.start
     }
 
-    /// All that was told: the steps of the event under way behind those before.
+    /// All steps: those of the current event come last.
     pub fn sink(&self) -> &S
         ensures { S.told result.now ≡ self.now.before ++ self.now.steps }
     {
@@ -112,7 +112,8 @@ impl<S: Sink> Told<S> {
         self.letters.as_slice()
     }
 
-    /// Takes out the first of the letters, with the processor that it goes to. None where there is none.
+    /// Takes out the first of the letters, with the processor that it goes to. None where there is
+    /// none.
     pub fn take_letter(&mut self) -> Option<(u8, Letter)>
         ensures letters { self.old.letters ≡ option_to_list (option_map posted_of result) ++ self.new.letters }
         ensures none { IfNone result (self.new.letters ≡ []) }
@@ -123,7 +124,7 @@ impl<S: Sink> Told<S> {
         self.letters.pop_at(0)
     }
 
-    /// All that was told.
+    /// All steps.
     pub fn into_sink(self) -> S
         ensures { S.told result ≡ self.before ++ self.steps }
     {
@@ -132,7 +133,7 @@ impl<S: Sink> Told<S> {
 }
 
 impl Told<EventSteps> {
-    /// The event that told this, with this stamp, and the letters that it posts. Condition: no other told anything before it.
+    /// This event with its stamp, and the letters that it posts. Condition: it is the first.
     pub(crate) fn into_event(self, stamp: u64) -> (Event, Letters)
         requires { self.before ≡ [] }
         ensures stamp { result.0.stamp ≡ stamp }

@@ -1,9 +1,9 @@
 //! What one processor does, and what several do together, as definitions: local states, letters,
 //! events, core runs.
 //!
-//! `Turns` has the turn of a processor, `Mail` what it does with each letter, `Runs` what they come
-//! to together. `Schedules` has the two ways in which the program runs: by a schedule, and in
-//! rounds. The merge orders the events of all by stamp.
+//! `Turns` has the turn of a processor, `Mail` what it does with each letter, `Runs` what they do
+//! together. `Schedules` has the two ways in which the program runs: by a schedule, and in rounds.
+//! The merge orders the events of all by stamp.
 //!
 //! The code is two laws with an empty body: both ways are core runs. That a core run is a history
 //! of the model stands in `l4_split`, that logs make one in `l4_merge`. `proofs/` has worked

@@ -15,14 +15,14 @@ use l4_types::steps::{Name, Step};
 use std::alloc::Global;
 use std::marker::Model;
 
-/// An event has at most so many steps.
+/// An event has at most this many steps.
 pub const EVENT_STEPS: usize = 3;
 
-// Room is made for so many steps at once, since to ask each time costs more than a push.
+// Room is reserved for this many steps at once: to ask each time costs more than a push.
 const CHUNK_STEPS: usize = 64;
 
-/// The steps of a machine in order, in compact form, and room for more of them. The words of a delivery lie in a row with those of all
-/// others.
+/// The steps of a machine in order, in compact form, and room for more of them. The words of all
+/// deliveries lie in one row.
 #[derive(Drop)]
 pub struct History {
     records: Vec<Record>,
@@ -39,9 +39,15 @@ impl Model for History {
 
     ghost Value = { Told };
 
-    ghost view = { λ h. record { steps = told h.records.items h.heads.items h.words.items; room = h.room } };
+    ghost view = { λ h. record {
+      steps = told h.records.items h.heads.items h.words.items;
+      room = h.room;
+    } };
 
-    ghost invariant = { λ h. AreRows h.records.items h.heads.items h.words.items × (vec_len h.records + h.room ≤ vec_capacity h.records) × (vec_len h.heads + h.room ≤ vec_capacity h.heads) × (vec_len h.words + MOST_WORDS * h.room ≤ vec_capacity h.words) };
+    ghost invariant = { λ h. AreRows h.records.items h.heads.items h.words.items ×
+        (vec_len h.records + h.room ≤ vec_capacity h.records) ×
+        (vec_len h.heads + h.room ≤ vec_capacity h.heads) ×
+        (vec_len h.words + MOST_WORDS * h.room ≤ vec_capacity h.words) };
 }
 
 impl History {
@@ -66,7 +72,7 @@ impl History {
         Ok(history)
     }
 
-    /// Its steps, with words of their own.
+    /// Its steps, with copies of the words.
     pub fn to_steps(&self, alloc: Global) -> Result<Vec<Step>, NoMemory>
         ensures { IfOk result (λ steps. map step_of steps.items ≡ self.now.steps) }
     {
@@ -92,7 +98,8 @@ impl History {
         self.records.is_empty()
     }
 
-    /// Makes room for the steps of an event, each of which may be a delivery of 63 words. Where memory is refused, nothing is changed.
+    /// Makes room for the steps of an event, each of which may be a delivery of 63 words. Where
+    /// memory is refused, nothing is changed.
     pub fn reserve(&mut self) -> Result<(), NoMemory>
         ensures steps { self.new.steps ≡ self.old.steps }
         ensures room { self.old.room ≤ self.new.room }
@@ -108,12 +115,15 @@ impl History {
         Ok(())
     }
 
-    /// Appends a step. It takes no memory, since there is room. It is inlined: where the kind
-    /// of step is known, little of it is left.
+    /// Appends a step. It takes no memory: the caller has reserved room. It is inlined, since
+    /// little of it is left where the kind of step is known.
     #[inline(always)]
     pub fn push(&mut self, step: StepRef<'_>)
         requires { 0 < self.old.room }
-        ensures { self.new ≡ record { steps = self.old.steps ++ seen step.entry ∷ []; room = self.old.room - 1 } }
+        ensures { self.new ≡ record {
+          steps = self.old.steps ++ seen step.entry ∷ [];
+          room = self.old.room - 1;
+        } }
     {
         match step.as_delivery() {
             Ok(delivery) => self.push_delivery(delivery),
@@ -126,7 +136,10 @@ impl History {
     fn push_whole(&mut self, whole: Record)
         requires room { 0 < self.old.room }
         requires no_delivery { delivery_in whole ≡ None }
-        ensures { self.new ≡ record { steps = self.old.steps ++ step_at [] [] whole ∷ []; room = self.old.room - 1 } }
+        ensures { self.new ≡ record {
+          steps = self.old.steps ++ step_at [] [] whole ∷ [];
+          room = self.old.room - 1;
+        } }
     {
         self.records.push_reserved(whole);
         self.room -= 1;
@@ -136,7 +149,10 @@ impl History {
     #[inline(always)]
     pub fn push_delivery(&mut self, delivery: &DeliveryRef<'_>)
         requires { 0 < self.old.room }
-        ensures { self.new ≡ record { steps = self.old.steps ++ delivered delivery.now ∷ []; room = self.old.room - 1 } }
+        ensures { self.new ≡ record {
+          steps = self.old.steps ++ delivered delivery.now ∷ [];
+          room = self.old.room - 1;
+        } }
     {
         self.records
             .push_reserved(Record::Deliver(self.heads.len()));
@@ -151,7 +167,10 @@ impl History {
     fn push_stored(&mut self, other: &History, place: usize)
         requires room { 0 < self.old.room }
         requires within { place < length other.now.steps }
-        ensures { IfSome (slice_get other.now.steps place) (λ step. self.new ≡ record { steps = self.old.steps ++ step ∷ []; room = self.old.room - 1 }) }
+        ensures { IfSome (slice_get other.now.steps place) (λ step. self.new ≡ record {
+          steps = self.old.steps ++ step ∷ [];
+          room = self.old.room - 1;
+        }) }
     {
         match other.records[place].as_delivery() {
             Ok(at) => self.push_delivery(&delivery(&other.heads, &other.words, *at)),
@@ -162,7 +181,8 @@ impl History {
     // Appends the steps from one place of another history up to another, counted from 0.
     fn extend_between(&mut self, other: &History, start: usize, end: usize) -> Result<(), NoMemory>
         requires { end ≤ length other.now.steps }
-        ensures ok { OnOk result (self.new.steps ≡ self.old.steps ++ drop start (take end other.now.steps)) }
+        ensures ok { OnOk result (self.new.steps ≡ self.old.steps ++
+            drop start (take end other.now.steps)) }
         ensures err { OnErr result (HasMore self.old.steps self.new.steps) }
     {
         for place in start..end {
@@ -172,7 +192,8 @@ impl History {
         Ok(())
     }
 
-    /// Appends steps of another history. Where memory is refused, some of them may have been appended.
+    /// Appends steps of another history. Where memory is refused, some of them may have been
+    /// appended.
     pub fn extend(&mut self, steps: &Steps<'_>) -> Result<(), NoMemory>
         ensures ok { OnOk result (self.new.steps ≡ self.old.steps ++ steps.now) }
         ensures err { OnErr result (HasMore self.old.steps self.new.steps) }
@@ -187,7 +208,7 @@ impl History {
         self.steps_between(0, self.len())
     }
 
-    /// The steps from one place up to another, counted from 0.
+    /// The steps from `start` to `end`, counted from 0.
     pub fn steps_between(&self, start: usize, end: usize) -> Steps<'_>
         requires { end ≤ length self.now.steps }
         ensures { result ≡ drop start (take end self.now.steps) }
@@ -199,7 +220,7 @@ impl History {
         }
     }
 
-    /// The send that the i-th step begins, counted from 0. None where it begins none.
+    /// The send that the i-th step begins, i from 0. None where the step begins none.
     pub fn begun(&self, i: usize) -> Option<Name>
         requires { i < length self.now.steps }
         ensures { IfSome (slice_get self.now.steps i) (λ step. result ≡ begun_name step) }

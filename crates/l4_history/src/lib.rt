@@ -1,13 +1,12 @@
 //! Histories in compact form: 24 bytes for a step, 64 more for a delivery, and the words of all
 //! deliveries in one row.
 //!
-//! A million steps of a run stay in memory so. Contracts see a plain list of steps, and the room
-//! for more of them: `push` wants room, `reserve` makes it. So a turn of a processor takes no
-//! memory, and where memory is refused nothing was done yet. `Sink` is what steps are told to, a
-//! history or a plain vector.
+//! So a million steps of a run fit in memory. Contracts see a plain list of steps, and the room for
+//! more of them: `push` wants room, `reserve` makes it. So room is made before a turn, and a turn
+//! itself takes no memory. `Sink` is what takes steps: a history or a plain vector.
 //!
-//! Memory is taken by `reserve`, and by `extend`, `tell`, `from_steps` and `to_steps`, which go on
-//! after it. How many bytes a step takes stands in no clause.
+//! Memory is taken by `reserve`, and by `extend`, `tell`, `from_steps` and `to_steps`, which make
+//! room as they go. How many bytes a step takes stands in no clause.
 //!
 //! ```rust
 //! let mut history = History::new(alloc);

@@ -1,4 +1,4 @@
-//! Where the steps of a machine are told.
+//! What takes the steps of a machine.
 ghost use Rattle.std.specs.Prelude.{◌≡◌, ◌<◌, ◌≤◌, ◌+◌, ◌-◌, ℕ, List, [], ◌∷◌, ◌++◌, OnOk, OnErr, length, map, vec_len};
 ghost use Rattle.std.specs.Vec.{vec_capacity};
 ghost use Rattle.arrayvec.specs.ArrayVec.{array_vec_len};
@@ -12,15 +12,15 @@ use l4_types::errors::NoMemory;
 use l4_types::step_ref::StepRef;
 use l4_types::steps::Step;
 
-/// What is told the steps of a machine, one after another.
+/// Takes the steps of a machine, one after another.
 pub trait Sink {
-    /// The steps that it was told, in order.
+    /// The steps that it took, in order.
     ghost told: { Self → List ModelStep };
 
-    /// How many more steps it can be told, each of which may be a delivery of 63 words, and take no memory.
+    /// How many more steps it can take without memory, even if each is a delivery of 63 words.
     ghost room: { Self → ℕ };
 
-    /// How many steps it was told.
+    /// How many steps it took.
     fn len(&self) -> usize
         ensures { result ≡ length (told self.now) };
 
@@ -31,7 +31,7 @@ pub trait Sink {
         ensures ok { OnOk result (EVENT_STEPS ≤ room self.new) }
         ensures err { OnErr result (room self.new ≡ room self.old) };
 
-    /// Tells a step. It takes no memory, since there is room.
+    /// Appends a step. It takes no memory, since there is room.
     fn push(&mut self, step: StepRef<'_>)
         requires { 0 < room self.old }
         ensures told { told self.new ≡ told self.old ++ seen step.entry ∷ [] }
@@ -97,7 +97,8 @@ impl<const CAP: usize> Sink for ArrayVec<Step, CAP> {
     }
 }
 
-/// Tells steps one after another, and makes room for each. Where memory is refused, those before have been told.
+/// Appends steps one after another, and makes room for each. Where memory is refused, those before
+/// it are appended.
 pub fn tell<S: Sink>(sink: &mut S, steps: &[Step]) -> Result<(), NoMemory>
     ensures ok { OnOk result (S.told sink.new ≡ S.told sink.old ++ map step_of steps.now) }
     ensures err { OnErr result (HasMore (S.told sink.old) (S.told sink.new)) }

@@ -1,5 +1,6 @@
-// Runs of 16 processors under gates that hold some of them back, as the host by itself would hardly do. Whatever a gate does, the run comes to its
-// end, and its history is one of the machine. A gate holds nobody for ever: it looks so often, and then lets go.
+// Runs of 16 processors under gates that hold some of them back, as the host by itself would hardly
+// do. Whatever a gate does, the run comes to its end, and its history is one of the machine. A gate
+// holds nobody for ever: after a number of looks it lets go.
 use crate::runs::comes_to;
 use l4_proc::gate::Gate;
 use std::alloc::{AllocError, Global};
@@ -14,8 +15,8 @@ const SHARE: u64 = 100;
 
 const TURNS: u64 = 1_600;
 
-// Writes the threads of a processor: one that calls the server of the next one, a server, and one that cancels what goes on two processors further and
-// calls the server there.
+// Writes the threads of a processor: one that calls the server of the next one, a server, and one
+// that cancels what goes on two processors further and calls the server there.
 fn write_threads(text: &mut String, cpu: u8) -> Result<(), AllocError> {
     let cpu = u32::from(cpu);
     let next = 100 + (cpu + 1) % 16;
@@ -59,7 +60,7 @@ fn is_lasting<R: AllocGlobal + Threads + Sync, G: Gate + Sync>(
     }
 }
 
-// Looks until the number has come to this value, at most so often. Answers whether it has.
+// Looks until the number has this value, at most `looks` times. Returns whether it has.
 fn look_for(number: &AtomicU64, value: u64, looks: u32) -> bool {
     for look in 0..looks {
         if number.load(Ordering::SeqCst) >= value {
@@ -101,7 +102,8 @@ fn one_is_stopped_at_every_turn(rt: HostRuntime) {
     }
 }
 
-// Lets one processor take its share alone. The others may begin when it has tried its last turn, or finds nothing and tries a turn again.
+// Lets one processor take its share alone. The others may begin when it has tried its last turn, or
+// finds nothing and tries a turn again.
 #[derive(Drop)]
 struct Alone {
     cpu: u8,
@@ -141,8 +143,8 @@ fn each_has_its_share_alone_first(rt: HostRuntime) {
     }
 }
 
-// Lets the processors take one turn after the other, at odd turns in the order of their numbers, at even ones against it. One that has nothing to do
-// is not waited for.
+// Lets the processors take one turn after the other, at odd turns in the order of their numbers, at
+// even ones against it. One that has nothing to do is not waited for.
 #[derive(Drop)]
 struct Reversed {
     place: AtomicU64,

@@ -1,4 +1,4 @@
-// Processors that a caller puts to work itself, and what they come to together.
+// Processors that a caller puts to work itself, and their outcome.
 ghost use Rattle.std.specs.Prelude.{◌<◌, ◌≤◌, IfSome};
 ghost use Rattle.l4_machine.specs.Gathers.{AreOfOne};
 ghost use Rattle.l4_proc.specs.Working.{HasGoneOn};
@@ -40,7 +40,8 @@ thread 3.1 cpu 2 space 1
 jump 0
 ";
 
-// A processor takes so many turns, those that are left by a second call where memory was refused. Answers whether it has taken all.
+// Lets a processor take this many turns, by a second call where memory was refused. Returns whether
+// it has taken all.
 fn takes<R: Print>(rt: &R, processor: &mut Processor<'_>, turns: u64) -> bool
     ensures { HasGoneOn processor.old processor.new }
 {
@@ -58,8 +59,8 @@ fn takes<R: Print>(rt: &R, processor: &mut Processor<'_>, turns: u64) -> bool
     whole && stop == Stop::Used
 }
 
-/// The processors of a machine, which have taken turns one after the other: each time so many of one of them. None where one does not take as
-/// many.
+/// The processors of a machine, which have taken turns one after the other: each time a number of
+/// one of them. None where one does not take as many.
 pub(crate) fn worked<'m, R: AllocGlobal + Print>(
     rt: &R,
     machine: &'m Machine,
@@ -83,7 +84,7 @@ pub(crate) fn worked<'m, R: AllocGlobal + Print>(
     Some(processors)
 }
 
-/// What they come to, by a second call where memory was refused.
+/// Their outcome, by a second call where memory was refused.
 pub(crate) fn gathered_again<R: AllocGlobal + Print>(
     rt: &R,
     machine: &Machine,
@@ -101,7 +102,7 @@ pub(crate) fn gathered_again<R: AllocGlobal + Print>(
     }
 }
 
-// Why they come to nothing without the last of them, and those that come back.
+// The fault without the last of them, and those that come back.
 fn gathered_without_last<'m>(
     alloc: Global,
     machine: &Machine,
@@ -130,12 +131,12 @@ fn has_report(alloc: Global, outcome: &Outcome, report: &str) -> bool {
     written.is_ok() && reported.as_slice() == report.as_bytes()
 }
 
-/// Whether an outcome has this trace, this report and so many turns.
+/// Whether an outcome has this trace, this report and this many turns.
 pub(crate) fn has(alloc: Global, outcome: &Outcome, lines: &str, report: &str, turns: u64) -> bool {
     has_trace(alloc, outcome, lines) && has_report(alloc, outcome, report) && outcome.turns == turns
 }
 
-// Whether the processors of a text come to this trace, this report and so many turns.
+// Whether the outcome of the processors of a text has this trace, this report and this many turns.
 fn come_to<R: AllocGlobal + Print>(
     rt: &R,
     text: &str,
@@ -162,7 +163,8 @@ fn two_logs_make_one_history(rt: HostRuntime) {
     assert!(rt; come_to(&rt, ACROSS, 64, &shares, (lines, report, 8)) == Some(true));
 }
 
-// There is room for one letter between the two: the others wait in the outbox. Two sends and one answer are under way.
+// There is room for one letter between the two: the others wait in the outbox. Two sends and one
+// answer are under way.
 #[test]
 fn full_rings_hold_nothing_back(rt: HostRuntime) {
     let lines =
@@ -192,8 +194,9 @@ fn come_back<R: AllocGlobal + Print>(rt: &R, machine: &Machine) -> Option<bool> 
     Some(fault == RunFault::Strangers && are_two(back.as_slice()))
 }
 
-// None of them is there; then the last of three is missing: the two others come back in their order, with all that they did. That one is there twice is
-// ruled out by ownership, since no processor can be copied.
+// None of them is there; then the last of three is missing: the two others come back in their
+// order, with all that they did. That one is there twice is ruled out by ownership, since no
+// processor can be copied.
 #[test]
 fn one_of_them_is_missing(rt: HostRuntime) {
     let machine = machine_of(rt.alloc(), TOGETHER).expect(&rt, "a machine");

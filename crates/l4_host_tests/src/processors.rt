@@ -49,7 +49,8 @@ fn is_idle(processor: &mut Processor<'_>, turns: u64) -> bool {
     processor.work(turns, &Open) == Stop::Idle
 }
 
-// Whether a processor has taken so many turns, with events of these stamps, and there is nothing left to do.
+// Whether a processor has taken this many turns, with events of these stamps, and has nothing left
+// to do.
 fn is_done(processor: &mut Processor<'_>, turns: u64, stamps: &[u64]) -> bool {
     has_stamps(processor.log(), stamps) && processor.turns() == turns && is_idle(processor, 1)
 }
@@ -80,14 +81,15 @@ fn has_crossed(alloc: Global) -> Option<bool> {
     Some(have_worked && are_done)
 }
 
-// Two letters: the send, and that it was delivered. The receiver waits, the send goes, it is delivered, the sender learns of it, and both end. A
-// processor that takes no letter, or that never moves one on, keeps all contracts.
+// Two letters: the send, and that it was delivered. The receiver waits, the send goes, it is
+// delivered, the sender learns of it, and both end. A processor that takes no letter, or that never
+// moves one on, keeps all contracts.
 #[test]
 fn a_message_crosses(rt: HostRuntime) {
     assert!(rt; has_crossed(rt.alloc()) == Some(true));
 }
 
-// Whether its clock goes on to five, which is no turn.
+// Whether its clock advances to five, which is no turn.
 fn ticks_to_five(processor: &mut Processor<'_>) -> bool {
     processor.core().least_deadline() == Some(5)
         && processor.tick(0).is_err()
@@ -106,13 +108,13 @@ fn times_out(alloc: Global) -> Option<bool> {
     Some(is_timed_out && has_stamps(processor.log(), &[1, 2, 3, 4]) && !processor.in_hand())
 }
 
-// The clock goes on, and then the receive has timed out.
+// The clock advances, and then the receive has timed out.
 #[test]
 fn a_clock_goes_on(rt: HostRuntime) {
     assert!(rt; times_out(rt.alloc()) == Some(true));
 }
 
-// Whether so many processors have taken ten turns.
+// Whether these processors have taken ten turns each, `cpus` of them.
 fn have_taken_ten(processors: &[Processor<'_>], cpus: u8) -> bool {
     for processor in processors {
         if processor.turns() != 10 || processor.stop() != Stop::Used {
@@ -131,8 +133,9 @@ fn meet<R: AllocGlobal + Threads + Sync>(rt: &R, cpus: u8) -> Option<bool> {
     Some(gate.was_kept() && have_taken_ten(processors.as_slice(), cpus))
 }
 
-// Each has a thread that goes on for ever, and they meet while each takes ten turns. No clause says that host threads run side by side: where they do
-// not, the looks of a gate that waits for all run out.
+// Each has a thread that goes on for ever, and they meet while each takes ten turns. No clause says
+// that host threads run side by side: where they do not, the looks of a gate that waits for all run
+// out.
 #[test]
 fn processors_are_at_work_at_the_same_time(rt: HostRuntime) {
     for cpus in [2, 16] {
@@ -188,8 +191,8 @@ fn drop_last(processors: &mut Vec<Processor<'_>>)
     let _last = processors.pop();
 }
 
-/// Whether two processors have the logs of letters that came to rest. The send is put by at its receiver's processor, which queues it, begins to receive,
-/// delivers it, and ends its thread.
+/// Whether two processors have the logs of letters that came to rest. The send is kept at its
+/// receiver's processor, which queues it, begins to receive, delivers it, and ends its thread.
 pub(crate) fn have_rested(processors: &[Processor<'_>]) -> bool {
     processors.len() == 2
         && has_stamps(processors[0].log(), &[1, 2, 3, 7, 8])
@@ -197,7 +200,7 @@ pub(crate) fn have_rested(processors: &[Processor<'_>]) -> bool {
         && processors[0].stop() == Stop::Idle
 }
 
-// Whether letters have come to rest.
+// Whether letters were brought to rest.
 fn rested(alloc: Global, processors: &mut Vec<Processor<'_>>) -> Result<bool, RestFault>
     requires { AreOneFabric (map (λ p. p.port) processors.old.items) }
     ensures { AreOneFabric (map (λ p. p.port) processors.new.items) }

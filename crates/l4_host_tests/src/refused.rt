@@ -1,5 +1,7 @@
-// Calls on whole machines and processors, and on the program, to which memory may be refused. Each is made, and where it was refused made again: then it
-// gives what it would have given. The work of processors and what they come to, which may be refused too, are tested by their rows.
+// Calls on whole machines and processors, and on the program, to which memory may be refused. Each
+// call is made, and made again where memory was refused: the second gives what the first would have
+// given. The work of processors and their outcome, which may be refused too, are tested by their
+// rows.
 ghost use Rattle.std.specs.Prelude.{map};
 ghost use Rattle.l4_mail.specs.Ports.{AreOneFabric};
 
@@ -64,7 +66,8 @@ fn processors_are_assembled(rt: HostRuntime) {
     assert!(rt; are_fresh(processors.as_slice()));
 }
 
-// Whether the clock of a processor goes on, by a second call where memory was refused. A tick that is refused changes nothing.
+// Whether the clock of a processor advances, by a second call where memory was refused. A tick that
+// is refused changes nothing.
 fn is_ticked<R: Print>(rt: &R, processor: &mut Processor<'_>, to: u64) -> bool {
     let clock = processor.core().clock();
     let events = processor.log().len();
@@ -81,7 +84,7 @@ fn is_ticked<R: Print>(rt: &R, processor: &mut Processor<'_>, to: u64) -> bool {
     }
 }
 
-// It goes on 19 times, and the one thread of the processor then begins to wait.
+// It advances 19 times, and the one thread of the processor then begins to wait.
 fn begins_to_wait(processor: &mut Processor<'_>) -> bool {
     processor.work(2, &Open) == Stop::Idle && processor.turns() == 1 && processor.log().len() == 20
 }
@@ -98,7 +101,7 @@ fn a_clock_goes_on(rt: HostRuntime) {
     assert!(rt; begins_to_wait(&mut processor));
 }
 
-// Whether letters have come to rest, by a second call where memory was refused.
+// Whether letters were brought to rest, by a second call where memory was refused.
 fn rested<R: AllocGlobal + Abort + Print>(
     rt: &R,
     processors: &mut Vec<Processor<'_>>,
@@ -139,7 +142,7 @@ fn letters_come_to_rest(rt: HostRuntime) {
     assert!(rt; have_rested(processors.as_slice()));
 }
 
-// What a run comes to, by a second call where memory was refused.
+// The outcome of a run, by a second call where memory was refused.
 fn ran<R: AllocGlobal + Threads + Sync + Print>(
     rt: &R,
     machine: &Machine,
@@ -162,7 +165,7 @@ fn a_machine_runs(rt: HostRuntime) {
     assert!(rt; outcome.waiting.is_empty());
 }
 
-// What the replay of the schedule comes to, by a second call where memory was refused.
+// The outcome of the replay of the schedule, by a second call where memory was refused.
 fn replayed<R: AllocGlobal + Print>(rt: &R, machine: &Machine) -> Result<Outcome, RunFault> {
     call_begins(rt, "replay");
     let told = replay(rt.alloc(), machine, &SCHEDULE);
@@ -264,7 +267,7 @@ fn words_are_read_and_explained(rt: HostRuntime) {
     assert!(rt; is_told_usage(&rt, &["l4run", "run", "m.l4", "--turns", "many"]));
 }
 
-// Performs a job on a text and a trace. Answers the status.
+// Performs a job on a text and a trace. Returns the status.
 fn done<R: AllocGlobal + Threads + Sync>(
     rt: &R,
     job: &Job<'_>,
@@ -277,8 +280,9 @@ fn done<R: AllocGlobal + Threads + Sync>(
     perform(rt, rt.alloc(), job, &mut machine, &mut trace, out, faults)
 }
 
-// Whether a job comes to this output, by a second call where memory was refused: then it has said so, and has written nothing else. The writers have
-// room for all that may be written, so that they need none.
+// Whether a job has this output, by a second call where memory was refused: then it has said so,
+// and has written nothing else. The writers have room for all that may be written, so that they
+// need none.
 fn is_performed<R: AllocGlobal + Threads + Sync + Print>(
     rt: &R,
     job: &Job<'_>,

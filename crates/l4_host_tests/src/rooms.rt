@@ -1,5 +1,5 @@
-// Processors whose rings have each room from 1 to 64, and which take turns in an order that nobody planned. Whatever room there is, they come to a
-// history of the machine.
+// Processors whose rings have each room from 1 to 64, and which take turns in an order that nobody
+// planned. Whatever room there is, their steps are a history of the machine.
 ghost use Rattle.std.specs.Prelude.{◌<◌, ◌≤◌, IfSome};
 ghost use Rattle.l4_machine.specs.Gathers.{AreOfOne};
 ghost use Rattle.l4_mail.specs.Fabrics.{most_room};
@@ -12,7 +12,7 @@ use l4_proc::gate::Open;
 use l4_proc::processor::Processor;
 use l4_script::machine::Machine;
 
-// So often a processor is asked to take turns, and so many at most each time.
+// How often a processor is asked to take turns, and how many at most each time.
 const CALLS: u64 = 400;
 
 const MOST_TURNS: u64 = 8;
@@ -24,7 +24,8 @@ fn next(number: u64) -> u64 {
     number ^ (number << 17)
 }
 
-// The processors of a machine with rings of this room, which have taken turns in an order that the room sets.
+// The processors of a machine with rings of this room, which have taken turns in an order that the
+// room sets.
 fn mixed<'m, R: AllocGlobal>(
     rt: &R,
     machine: &'m Machine,
@@ -48,7 +49,7 @@ fn mixed<'m, R: AllocGlobal>(
     Some(processors)
 }
 
-// Whether with rings of this room they come to a history.
+// Whether with rings of this room their steps are a history.
 fn come_to_a_history<R: AllocGlobal + Print>(rt: &R, machine: &Machine, room: usize) -> Option<bool>
     requires { (0 < room) × (room ≤ most_room) }
 {

@@ -18,7 +18,7 @@ fn is_ended(audit: &Audit) -> bool {
         && threads[1].regs.words[1] == 10
 }
 
-// Whether a replay of so many turns comes to this trace and this ending.
+// Whether a replay of this many turns has this trace and this ending.
 fn is_replayed(
     alloc: Global,
     machine: &Machine,

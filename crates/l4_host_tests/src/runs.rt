@@ -1,5 +1,6 @@
-// Runs of several processors, each in a host thread of its own. Which of its histories such a machine has is up to the host's threads, so the
-// tests look for what each run must have. Where no letter goes between processors there is only one: each takes its turns by itself, with stamps
+// Runs of several processors, each in a host thread of its own. Which of its histories such a
+// machine has is up to the host's threads, so the tests look for what each run must have. Where no
+// letter goes between processors there is only one: each takes its turns by itself, with stamps
 // that count its own events.
 use crate::gathers::has;
 use l4_audit::audit::check;
@@ -19,7 +20,7 @@ pub(crate) fn machine_of(alloc: Global, text: &str) -> Option<Machine> {
     Machine::parse(alloc, text.as_bytes()).ok()
 }
 
-/// What a run comes to, where it has what every run must have.
+/// The outcome of a run, where it has what every run must have.
 pub(crate) fn comes_to<R: AllocGlobal + Threads + Sync, G: Gate + Sync>(
     rt: &R,
     text: &str,
@@ -34,8 +35,8 @@ pub(crate) fn comes_to<R: AllocGlobal + Threads + Sync, G: Gate + Sync>(
     Some(outcome)
 }
 
-/// Whether the history of an outcome is one of the machine, which leads to the threads and the sends that it reports, and if it is quiet, to a still
-/// world.
+/// Whether the history of an outcome is one of the machine, which leads to the threads and the
+/// sends that it reports, and if it is quiet, to a still world.
 pub(crate) fn passes(alloc: Global, machine: &Machine, outcome: &Outcome) -> bool {
     let Ok(audit) = check(alloc, machine, outcome.history.as_slice()) else {
         return false;
@@ -45,8 +46,9 @@ pub(crate) fn passes(alloc: Global, machine: &Machine, outcome: &Outcome) -> boo
         && (outcome.ending == Ending::Spent || audit.ending == Ending::Quiet)
 }
 
-/// Whether an outcome of a run of so many turns has what every one must have: it passes, and unless it has come to rest it has used up its turns, with at
-/// most one more for each other processor.
+/// Whether an outcome of a run of this many turns has what every one must have: it passes, and
+/// unless it has come to rest it has used up its turns, with at most one more for each other
+/// processor.
 pub(crate) fn is_right(alloc: Global, machine: &Machine, turns: u64, outcome: &Outcome) -> bool {
     passes(alloc, machine, outcome)
         && (outcome.ending == Ending::Quiet || outcome.turns >= turns)
@@ -113,7 +115,8 @@ fn meet<R: AllocGlobal + Threads + Sync>(rt: &R, cpus: u8) -> Option<bool> {
     Some(outcome.turns == turns && outcome.ending == Ending::Spent && gate.was_kept())
 }
 
-// No clause says that host threads run side by side: where they do not, the looks of a gate that waits for all run out.
+// No clause says that host threads run side by side: where they do not, the looks of a gate that
+// waits for all run out.
 #[test]
 fn both_at_work(rt: HostRuntime) {
     for cpus in [2, 16] {
@@ -121,7 +124,8 @@ fn both_at_work(rt: HostRuntime) {
     }
 }
 
-// Notes the last turn of each of four processors, how often each was asked for again, and how often a turn was left out or fell back.
+// Notes the last turn of each of four processors, how often each was asked for again, and how often
+// a turn was left out or fell back.
 #[derive(Drop)]
 struct Noted {
     last: [AtomicU64; 4],
@@ -155,7 +159,7 @@ impl Noted {
         }
     }
 
-    // Whether a processor was asked for this turn at last, and for none of them twice.
+    // Whether this turn was the last that a processor was asked for, and none was asked for twice.
     fn has_ended_at(&self, cpu: usize, turn: u64) -> bool {
         let (Some(last), Some(again)) = (self.last.get(cpu), self.again.get(cpu)) else {
             return false;
@@ -163,7 +167,8 @@ impl Noted {
         last.load(Ordering::SeqCst) == turn && again.load(Ordering::SeqCst) == 0
     }
 
-    // Whether each of the three busy ones of four processors was asked for so many turns, one after the other, and the idle one for its first one.
+    // Whether each of the three busy ones of four processors was asked for this many turns, one
+    // after the other, and the idle one for its first.
     fn is_once_each(&self, turns: u64) -> bool {
         let is_idle = self.last[3].load(Ordering::SeqCst) == 1;
         is_idle
@@ -174,9 +179,10 @@ impl Noted {
     }
 }
 
-// Of 1,000 turns each processor may take 250 in the first round. One has nothing to do, so 250 are left, of which each may take 63, and then of 61
-// each 16, of 13 each 4, and of one each one. So each of the three busy processors is asked for 334 turns, one after the other, and the idle one for its
-// first turn alone: it never gets as far as to try another one.
+// Of 1,000 turns each processor may take 250 in the first round. One has nothing to do, so 250 are
+// left, of which each may take 63, and then of 61 each 16, of 13 each 4, and of one each one. So
+// each of the three busy processors is asked for 334 turns, one after the other, and the idle one
+// for its first turn alone: it never gets as far as to try another one.
 #[test]
 fn each_turn_is_asked_for_once(rt: HostRuntime) {
     let text = endless(rt.alloc(), 4, 3).expect(&rt, "a text");
@@ -194,7 +200,8 @@ fn is_spent<R: AllocGlobal + Threads + Sync>(rt: &R, text: &str, turns: u64) -> 
     }
 }
 
-// Whether threads that go on for ever use them up, and each is a step. Where there is one processor, there are as many as were asked for.
+// Whether threads that go on for ever use them up, and each is a step. Where there is one
+// processor, there are as many as were asked for.
 fn is_used_up<R: AllocGlobal + Threads + Sync>(rt: &R, cpus: u8, turns: u64) -> Option<bool> {
     let text = endless(rt.alloc(), cpus, cpus).ok()?;
     let outcome = comes_to(rt, text.as_str(), turns, &Open)?;
@@ -234,9 +241,10 @@ fn has_arrived(alloc: Global, outcome: &Outcome) -> Option<bool> {
     Some(has(alloc, outcome, lines, ARRIVED, turns))
 }
 
-// Whether the wait or the send comes first is up to the threads. The sender's processor has five events: two instructions, the send, the letter that
-// it was taken, and the end. That of the receiver has the wait, the end, and where the wait comes first, one in which the send is queued and taken;
-// else two.
+// Whether the wait or the send comes first is up to the threads. The sender's processor has five
+// events: two instructions, the send, the letter that it was taken, and the end. That of the
+// receiver has the wait, the end, and where the wait comes first, one in which the send is queued
+// and taken; else two.
 #[test]
 fn a_word_arrives_in_each_run(rt: HostRuntime) {
     for _ in 0..20 {
@@ -261,8 +269,8 @@ thread 2.1 cpu 1 space 2
 ipc nil any never 9
 ";
 
-// The clock of a processor goes on where nobody waits for time there too. No letter goes, so there is one history. In the last run the ticks count as
-// turns, and are not parted.
+// The clock of a processor advances also where nobody waits for time there. No letter goes, so
+// there is one history. In the last run the ticks count as turns, and are not parted.
 const TICKS: [(&str, u64, &str, &str, u64); 3] = [
     (
         ONE_WAITS,

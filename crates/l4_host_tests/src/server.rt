@@ -1,4 +1,5 @@
-//! A server is tested by the crate `l4` alone: a client asks it, and the test looks at what the client has got.
+//! A server is tested by the crate `l4` alone: a client asks it, and the test looks at what the
+//! client has got.
 
 use l4::{Ending, GlobalId, Machine, Open, Outcome, State, ThreadId, ThreadView, check, run};
 

@@ -37,7 +37,7 @@ impl Read for Source {
     }
 }
 
-// Takes so many bytes, and then fails.
+// Takes this many bytes, and then fails.
 #[derive(Drop)]
 struct Full {
     taken: Vec<u8>,
@@ -60,7 +60,7 @@ impl Write for Full {
     }
 }
 
-// Does what the words ask for. Answers the status, and writes faults behind those of the caller.
+// Does what the words ask for. Returns the status, and writes faults after those of the caller.
 fn does<R: AllocGlobal + Threads + Sync, M: Read, T: Read, W: Write>(
     rt: &R,
     words: &[&str],
@@ -75,13 +75,15 @@ fn does<R: AllocGlobal + Threads + Sync, M: Read, T: Read, W: Write>(
     }
 }
 
-// What is given: words, a machine text, whether its reader fails behind it, and the bytes of a trace, whose reader fails behind them.
+// What is given: words, a machine text, whether its reader fails after it, and the bytes of a
+// trace, whose reader fails after them.
 type Given = (&'static [&'static str], &'static str, bool, &'static str);
 
 // What comes of it: the status, the output and the line of the fault.
 type Wanted = (u8, &'static str, &'static str);
 
-// A text that cannot be read is reported by its name. A trace is read by an audit alone, and behind the text.
+// A text that cannot be read is reported by its name. A trace is read by an audit alone, and after
+// the text.
 const READS: [(Given, Wanted); 11] = [
     ((&RUN, PING, true, ""), (1, "", "l4run: cannot read m.l4\n")),
     (
@@ -117,7 +119,7 @@ const READS: [(Given, Wanted); 11] = [
     ),
 ];
 
-// Whether what is given comes to what is wanted.
+// Whether what is given has the outcome that is wanted.
 fn come_to<R: AllocGlobal + Threads + Sync>(rt: &R, given: Given, wanted: Wanted) -> bool {
     let (words, text, fails, told) = given;
     let (status, output, line) = wanted;

@@ -15,21 +15,21 @@ use l4_types::errors::NoMemory;
 use l4_types::reports::Ending;
 use std::alloc::Global;
 
-/// A trace that has passed its audit.
+/// The result of an audit that a trace passed.
 #[derive(Clone, Copy, Debug, PartialEq, Eq)]
 pub struct PassedTrace {
     /// How many steps it has.
     pub steps: usize,
-    /// `Quiet` where no step but a tick is possible behind them, now or after any ticks.
+    /// `Quiet` where after them no step but a tick is possible, now or after any ticks.
     pub ending: Ending,
 }
 
 /// Audits the text of a trace. Each step is judged as it is read, and none is kept.
 ///
-/// `Trace`: this line, counted from 1, is the first that is the line of no step, or that has no
-/// line end, also where a step before it is not possible: the text is read to its end in any case.
-/// `Refused`: no line is faulty, and this step, counted from 1, is the first that is not possible.
-/// `NoMemory` comes only where memory was refused, and then whatever the text says.
+/// `Trace`: this line, counted from 1, is the first that spells no step, or has no line end, also
+/// where a step before it is not possible: the text is read to its end in any case. `Refused`: no
+/// line is faulty, and this step, counted from 1, is the first that is not possible. `NoMemory`
+/// only where memory was refused; then it says nothing of the text.
 pub fn audit_text<'a>(
     alloc: Global,
     machine: &Machine,
@@ -53,7 +53,7 @@ pub fn audit_text<'a>(
     })
 }
 
-// The fault of a text whose last step that was read is not taken.
+// The fault of a text of which a step was refused: a faulty line after it comes first.
 fn fault_behind<'a>(reader: Reader<'_>, refused: StepFault) -> Fault<'a>
     ensures { result ≡ fault_behind reader.entry refused }
 {

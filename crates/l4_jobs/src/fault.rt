@@ -25,15 +25,17 @@ pub enum Fault<'a> {
         /// What is wrong there.
         kind: TextFaultKind,
     },
-    /// The number of turns is 0 or above 1,000,000, or the list of a schedule has more than 1,000,000 items.
+    /// The number of turns is 0 or above 1,000,000, or the list of a schedule has more than
+    /// 1,000,000 items.
     Turns,
-    /// This item of the schedule, counted from 1, is none, or of no processor of the machine.
+    /// This item of the schedule, counted from 1, is no item, or names no processor of the machine.
     Schedule(usize),
-    /// This line of the trace, counted from 1, is the first that is the line of no step, or that has no line end.
+    /// This line of the trace, counted from 1, is the first that spells no step, or has no line
+    /// end.
     Trace(usize),
     /// This step of the trace, counted from 1, is the first that is not possible.
     Refused(usize),
-    /// Memory ran out.
+    /// Memory was refused.
     NoMemory,
     /// This file can't be read.
     Read(&'a str),
@@ -60,7 +62,7 @@ impl From<RunFault> for Fault<'_> {
 
     fn from(fault: RunFault) -> Self {
         match fault {
-            // No job gathers processors, so it finds no strangers among them.
+            // No job gathers processors, so `Strangers` never comes.
             RunFault::NoMemory | RunFault::Strangers => Fault::NoMemory,
             RunFault::Turns => Fault::Turns,
             RunFault::Schedule(place) => Fault::Schedule(place),
@@ -130,12 +132,13 @@ fn line_of(alloc: Global, fault: &Fault<'_>) -> Result<String, AllocError>
     format!(in alloc; "l4run: {fault}\n")
 }
 
-/// Writes the fault's line, or the line of want of memory where there is none for it, and answers the exit status of a fault, 1.
+/// Writes the line of a fault and returns the exit status of a fault, 1. Where there is no memory
+/// for the line, it writes that of `NoMemory`.
 pub fn report<E: Sink>(alloc: Global, faults: &mut E, fault: &Fault<'_>) -> u8
     ensures told { IsReported (E.takes faults.old faults.new) fault.now }
     ensures status { result ≡ 1 }
 {
-    // Where this can't be written either, the status alone tells.
+    // Where this can't be written either, only the status says so.
     let _ = match line_of(alloc, fault) {
         Ok(line) => faults.put(line.as_bytes()),
         Err(_) => faults.put(b"l4run: no memory\n"),

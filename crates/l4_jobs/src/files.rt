@@ -36,8 +36,8 @@ fn on_trace<R: Threads + Sync, F: Folder, M: Source, W: Sink, E: Sink>(
     }
 }
 
-/// Opens the files of a job, the machine text's before the trace's and both before anything is read of them, and does the job. The exit
-/// status is that of `perform`, and 1 where a file can't be opened.
+/// Opens the files of a job, FILE before TRACE, and both before it reads anything. Then it does the
+/// job. The exit status is that of `perform`, and 1 where a file can't be opened.
 pub fn perform_on_files<R: Threads + Sync, F: Folder, W: Sink, E: Sink>(
     rt: &R,
     alloc: Global,

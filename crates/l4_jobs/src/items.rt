@@ -16,8 +16,9 @@ use std::marker::Model;
 
 /// The entries of a schedule, one for each item of its list.
 ///
-/// `Turns`: the list has more than 1,000,000 items. `Schedule`: this item, counted from 1, is the first that spells no entry, or one of no
-/// processor of the machine. `NoMemory`: memory was refused, which may come in the place of `Schedule`.
+/// `Turns`: the list has more than 1,000,000 items. `Schedule`: this item, counted from 1, is the
+/// first that spells no entry, or names no processor of the machine. `NoMemory`: memory was
+/// refused, which may come in the place of `Schedule`.
 pub fn schedule_of(alloc: Global, machine: &Machine, list: &str) -> Result<Vec<Entry>, RunFault>
     ensures ok { IfOk result (λ entries. schedule_of machine.now list.now ≡ Ok (map entry_from entries.items)) }
     ensures err { IfErr result (λ fault. (fault ≡ OutOfMemory) ⊎ (schedule_of machine.now list.now ≡ Err fault)) }
@@ -50,7 +51,7 @@ fn comma_count(list: &[u8]) -> usize
 /// The items of a list that are still to be read.
 #[derive(Drop)]
 struct Items<'a> {
-    // What follows the items that were read, and the comma behind the last of them.
+    // What follows the items that were read and the comma after the last of them.
     rest: Option<&'a [u8]>,
 }
 
@@ -128,7 +129,8 @@ fn machine_entry(machine: &Machine, item: &[u8]) -> Option<Entry>
     entry_of(item).filter(|entry| entry.is_of(machine))
 }
 
-// The entry that an item spells: the number of a processor is a turn of it, with a `t` before it a tick of it.
+// The entry that an item spells: the number of a processor is a turn of it, with a `t` before it a
+// tick of it.
 fn entry_of(item: &[u8]) -> Option<Entry>
     ensures { option_map entry_from result ≡ entry_of item.now }
 {

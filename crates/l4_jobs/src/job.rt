@@ -6,16 +6,18 @@ ghost use Rattle.l4_jobs.specs.Jobs.{file_of, trace_file_of};
 /// What is to be done.
 #[derive(Clone, Copy, Debug, PartialEq, Eq)]
 pub enum Job<'a> {
-    /// Run the machine text in a file until so many turns are taken or nothing is left to do, and print its trace, or its report in place of it.
+    /// Run the machine text in a file until this many turns are taken or nothing is left to do, and
+    /// print its trace, or its report instead.
     Run {
         /// The name of the file with the machine text.
         file: &'a str,
-        /// How many turns: 1 to 1,000,000, or else the job is not done.
+        /// How many turns, 1 to 1,000,000. Any other number is the fault `Turns`.
         turns: u64,
         /// Whether the report is printed.
         report: bool,
     },
-    /// Replay a schedule, a list of items, on the machine text in a file, and print its trace, or its report in place of it.
+    /// Replay a schedule, a list of items, on the machine text in a file, and print its trace, or
+    /// its report in place of it.
     Replay {
         /// The name of the file with the machine text.
         file: &'a str,

@@ -1,10 +1,10 @@
-//! The program `l4run` without its streams: what the words of a command line ask for, and the doing
-//! of it.
+//! The program `l4run` without its streams: it reads the words of a command line, and does what
+//! they ask for.
 //!
 //! `job_of` reads words, `perform` does a job over two sources and two sinks, `perform_on_files`
 //! opens its files first. Contracts see bytes: the lines written once are exactly the trace, report
-//! or verdict that the job asks for; else one fault line is, and the status is 1. Which file is
-//! which, and which fault comes first, is said too.
+//! or verdict that the job asks for; else one fault line is written, and the status is 1. They also
+//! say which file is which, and which fault comes first.
 //!
 //! What the system's files and streams do is believed in `streams` and tried by
 //! `.ci/command-lines`. `l4_host_tests` has streams that fail and refused memory, `l4_cases` what

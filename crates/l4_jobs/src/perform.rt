@@ -32,7 +32,8 @@ struct Output {
     status: u8,
 }
 
-// The machine text of this name. One that is too long is read so far that this shows.
+// The machine text of this name. Of one that is too long, one byte more than a text may have is
+// read.
 fn read_text<'a, M: Source>(
     alloc: Global,
     name: &'a str,
@@ -208,13 +209,14 @@ fn job_output<'a, R: Threads + Sync, M: Source, T: Source>(
     output_of(rt, alloc, job, text.as_slice(), trace)
 }
 
-/// Does a job, and answers the exit status: 0 where a run came to rest or a trace passed, 3 where a run did not come to rest, 1 where a fault
-/// was reported instead. The machine text is judged before anything is read of the trace, and only an audit reads that. The output is made
-/// whole before any of it is written, and it is written once. A fault is reported by its one line.
+/// Does a job, and returns the exit status: 0 where a run came to rest or a trace passed, 3 where a
+/// run did not come to rest, 1 where a fault was reported instead. The machine text is judged
+/// before the trace is read; only an audit reads one. The output is made whole before any of it is
+/// written, and it is written once. A fault is reported by its one line.
 ///
-/// In a run several processors may work at the same time, each in a host thread. So two runs of several processors may differ, and each is
-/// lawful. A replay takes turns in the order of its schedule. Its turns take mail first, so some histories that runs have are those of no
-/// schedule.
+/// In a run several processors may work at the same time, each in a host thread. So two runs of
+/// several processors may differ, and each is lawful. A replay takes turns in the order of its
+/// schedule. Its turns take mail first, so for some histories of runs there is no schedule.
 pub fn perform<R: Threads + Sync, M: Source, T: Source, W: Sink, E: Sink>(
     rt: &R,
     alloc: Global,

@@ -7,8 +7,8 @@ use crate::streams::Sink;
 use crate::words::WordsFault;
 use std::alloc::Global;
 
-/// Answers words that ask for no job, with the exit status: 0 where the help was written, 2 for wrong words, 1 where memory or a write was
-/// refused.
+/// Answers words that ask for no job, with the exit status: 0 where help was written, 1 where it
+/// could not be written or memory was refused, 2 for wrong usage.
 pub fn refuse<W: Sink, E: Sink>(
     alloc: Global,
     fault: &WordsFault,
@@ -23,7 +23,7 @@ pub fn refuse<W: Sink, E: Sink>(
             Err(_) => report(alloc, faults, &Fault::Write),
         },
         WordsFault::Usage(text) => {
-            // Where this can't be written, the status alone tells.
+            // Where this can't be written, only the status says so.
             let _ = faults.put(text.as_bytes());
             2
         }

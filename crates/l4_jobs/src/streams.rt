@@ -1,5 +1,5 @@
-//! What a job reads and what it writes to: sources, sinks and where files are opened. Contracts name what each call came to, which the readers and
-//! writers of bytes do not tell: that it failed.
+//! What a job reads and what it writes to: sources, sinks and where files are opened. Unlike std's
+//! readers and writers, their contracts also say when a call failed.
 ghost use Rattle.std.specs.Prelude.{◌≡◌, ◌⊎◌, ℕ, Bool, List, take, true, false, Result, Ok, Err, IfOk, OnErr, MatchResult};
 ghost use Rattle.std.specs.declared.io.ErrorKind.{ErrorKind as Kind};
 ghost use Rattle.l4_jobs.specs.Streams.{MayGive, MayTake, HasAppended};
@@ -9,16 +9,16 @@ use std::fs;
 use std::io::{ErrorKind, Read, Write};
 use std::rt::Files;
 
-/// What a text is read from.
+/// A source of a text.
 pub trait Source {
-    // What reading it to its end may come to.
+    // What reading it to its end may give.
     ghost gives: { Self → Result (List ℕ) Kind → Type 0 };
 
     /// Reads all that is left.
     fn read_whole(&mut self, alloc: Global) -> Result<Vec<u8>, ErrorKind>
         ensures { MatchResult result (λ bytes. gives self.old (Ok bytes.items)) (λ kind. gives self.old (Err kind)) };
 
-    /// Reads at most so many bytes of what is left.
+    /// Reads at most `most` bytes of what is left.
     fn read_beginning(&mut self, alloc: Global, most: u64) -> Result<Vec<u8>, ErrorKind>
         ensures { MatchResult result (λ bytes. (all : List ℕ) × gives self.old (Ok all) × ((bytes.items ≡ all) ⊎ (bytes.items ≡ take most all)))
             (λ kind. gives self.old (Err kind)) };
@@ -44,21 +44,21 @@ impl<R: Read> Source for R {
     }
 }
 
-/// Not all of the bytes were written, or what is behind the writer did not take them.
+/// A write or a flush failed.
 #[derive(Clone, Copy, Debug, PartialEq, Eq)]
 pub struct NotWritten;
 
-/// What lines are written to.
+/// A sink of lines.
 pub trait Sink {
-    // What writing these bytes may do to it, where all of them are written, and where they are not.
+    // What writing these bytes may do to it. `all` says whether all of them were written.
     ghost takes: { (old new : Self) → (bytes : List ℕ) → (all : Bool) → Type 0 };
 
-    /// Writes the bytes through to what is behind it.
+    /// Writes the bytes and flushes.
     fn put(&mut self, bytes: &[u8]) -> Result<(), NotWritten>
         ensures { MatchResult result (λ _. takes self.old self.new bytes.now true) (λ _. takes self.old self.new bytes.now false) };
 }
 
-// Writes a beginning of the bytes, and answers what is left of them.
+// Writes a beginning of the bytes, and returns what is left of them.
 #[tactic(auto, using(crate::proofs::Appending::kept))]
 fn write_some<'a, W: Write>(out: &mut W, bytes: &'a [u8]) -> Result<&'a [u8], NotWritten>
     ensures some { IfOk result (λ left. HasAppended (W.contents out.old) (W.contents out.new) bytes.now left.now) }
@@ -88,11 +88,11 @@ impl<W: Write> Sink for W {
     }
 }
 
-/// Where files are opened by their names.
+/// A folder, in which files are opened by their names.
 pub trait Folder {
     type File: Source + Drop;
 
-    // What opening the file of this name may come to.
+    // What opening the file of this name may give.
     ghost opens: { Self → (name : List ℕ) → Result Self.File Kind → Type 0 };
 
     /// Opens the file of this name.

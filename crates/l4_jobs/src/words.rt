@@ -47,11 +47,11 @@ possible.";
 /// Why the words ask for no job.
 #[derive(Debug, Drop)]
 pub enum WordsFault {
-    /// Help was asked for: its text.
+    /// The words ask for help: its text.
     Help(String),
     /// The words are wrong: what is wrong, and how they are used.
     Usage(String),
-    /// Memory ran out.
+    /// Memory was refused.
     NoMemory,
 }
 

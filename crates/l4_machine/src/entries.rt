@@ -11,14 +11,16 @@ use std::alloc::Global;
 /// An entry of a schedule.
 #[derive(Clone, Copy, PartialEq, Eq, Debug)]
 pub enum Entry {
-    /// A turn of this processor: mail first, and of it that of the lowest poster, else the core's turn.
+    /// A turn of this processor: it handles the first letter of the lowest poster, else it is the
+    /// core's turn.
     Turn(u8),
     /// A tick of this processor's clock to its least deadline.
     Tick(u8),
 }
 
 impl Entry {
-    /// The entry that a number stands for: below 16 a turn of this processor, else a tick of that of the number less 16.
+    /// The entry that a number stands for: below 16 a turn of this processor, else a tick of that
+    /// of the number less 16.
     pub fn of_number(number: u8) -> Entry
         ensures { entry_from result ≡ entry_of number }
     {

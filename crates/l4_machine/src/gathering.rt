@@ -43,11 +43,13 @@ impl From<RestFault> for RunFault {
     }
 }
 
-/// What the processors of one `assemble` of this machine, in any order, came to together, for callers with threads of their own. No other
-/// thread is at work on them any more. The history is in order of stamp, and of equal ones by processor.
+/// The outcome of the processors of one `assemble` of this machine, in any order, for callers with
+/// threads of their own. No other thread may be at work on them. The history is in order of stamp,
+/// and of equal ones by processor.
 ///
-/// `Strangers`: exactly where they are not all processors of the machine, each once. `NoMemory`: memory was refused. The processors come back
-/// in their order, each as it was, but that letters under way may be kept where they go to; the call can be made again.
+/// `Strangers`: exactly where they are not all processors of the machine, each once. `NoMemory`:
+/// memory was refused. With a fault the processors come back in their order, each as it was, save
+/// that letters under way may have moved to the ports that they go to. The call can be made again.
 pub fn gather<'m>(
     alloc: Global,
     machine: &Machine,
@@ -84,7 +86,8 @@ fn gathered(
     Ok(outcome.into_outcome(alloc)?)
 }
 
-// The outcome of all processors of a machine, which have come to rest. Whether all letters are handled was found then.
+// The outcome of all processors of a machine, which have come to rest. `all_handled` says whether
+// the rest found all letters handled.
 fn rested_outcome<'m>(
     alloc: Global,
     machine: &'m Machine,
@@ -114,7 +117,7 @@ fn rested_outcome<'m>(
     )
 }
 
-/// What the threads have come to, as their own processors have them.
+/// The threads and their last sends, as their own processors have them.
 pub(crate) fn at_home(
     alloc: Global,
     machine: &Machine,
@@ -144,7 +147,8 @@ fn cores_of<'a, 'm>(
     Ok(cores)
 }
 
-/// `Quiet` where nothing is to be done, armed or under way. Whether all letters are handled was found by a rest.
+/// `Quiet` where nothing is to be done, armed or under way. `all_handled` says whether a rest found
+/// all letters handled.
 pub(crate) fn ending(processors: &[Processor<'_>], all_handled: bool) -> Ending
     requires { IsTrue all_handled ↔ HaveHandledAll processors.now }
     ensures { (result ≡ Quiet) ↔ AreResting processors.now }

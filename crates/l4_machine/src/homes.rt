@@ -1,4 +1,4 @@
-//! What the threads of a machine have come to, as their own processors have them.
+//! The reports of threads and their last sends, as their own processors have them.
 ghost use Rattle.std.specs.Prelude.{◌≡◌, ◌<◌, IfOk, IsTrue, Some, length, map, slice_get};
 ghost use Rattle.std.specs.List.{AllByRecursion};
 ghost use Rattle.l4_core_model.specs.Local.{declared};
@@ -13,14 +13,15 @@ use l4_types::ids::ThreadId;
 use l4_types::reports::{State, ThreadView};
 use std::alloc::Global;
 
-/// The last send that a thread began: how many it had begun then, and where it goes while it is undecided.
+/// The last send that a thread began: its number, and its destination while it is undecided.
 #[derive(Clone, Copy)]
 pub(crate) struct LastSend {
     pub(crate) k: u64,
     pub(crate) to: Option<ThreadId>,
 }
 
-/// What the threads of a machine have come to, in order of declaration, as their own processors have them.
+/// The reports of a machine's threads, in order of declaration, and their last sends, as their own
+/// processors have them.
 #[derive(Drop)]
 pub(crate) struct AtHome {
     pub(crate) threads: Vec<ThreadView>,
@@ -28,7 +29,8 @@ pub(crate) struct AtHome {
 }
 
 impl AtHome {
-    /// What the threads have come to on these processors, which are all of the machine, in the order of their numbers.
+    /// The threads and their last sends on these processors, which are all of the machine, in the
+    /// order of their numbers.
     pub(crate) fn new(
         alloc: Global,
         machine: &Machine,

@@ -1,4 +1,4 @@
-//! The letters that have come to a processor.
+//! The letters that have arrived at a processor.
 ghost use Rattle.std.specs.Prelude.{◌≡◌, ◌≤◌, [], IfOk, length, map, replicate};
 ghost use Rattle.l4_types.specs.LetterView.{letter_of};
 
@@ -20,7 +20,7 @@ impl Inbox {
     ghost use Rattle.l4_types.specs.LetterView.{letter_of};
     ghost use Rattle.l4_machine.specs.Inboxes.{letters_in, AreEmpty, PostsFirst, TakesFirst};
 
-    /// No letters from each of so many processors.
+    /// An empty inbox for this many processors.
     pub(crate) fn new(alloc: Global, cpus: u8) -> Result<Inbox, NoMemory>
         ensures { IfOk result (λ inbox. letters_in inbox ≡ replicate cpus []) }
     {
@@ -38,7 +38,7 @@ impl Inbox {
         Some((from, letter))
     }
 
-    /// A letter comes from a processor. Where memory is refused, it is lost.
+    /// Appends a letter from a processor. Where memory is refused, the letter is lost.
     pub(crate) fn put(&mut self, from: u8, letter: Letter) -> Result<(), AllocError>
         requires { from < length (letters_in self.old) }
         ensures { OnOk result (letters_in self.new ≡ changed (λ letters. letters ++ letter_of letter ∷ []) (letters_in self.old) from) }
@@ -69,7 +69,7 @@ impl Inbox {
     }
 }
 
-// No letters from each of so many processors.
+// An empty queue of letters from each of `cpus` processors.
 fn empty_queues(alloc: Global, cpus: u8) -> Result<Vec<VecDeque<Letter>>, NoMemory>
     ensures { IfOk result (λ queues. map (λ letters. map letter_of letters.items) queues.items ≡ replicate cpus []) }
 {

@@ -1,10 +1,10 @@
 //! Whole machines: `run` on host threads, `replay` of a schedule, `gather` for callers with threads
 //! of their own, and their law.
 //!
-//! Each answers an `Outcome`: the history, the undecided sends, what each thread has come to,
-//! whether anything was left to do, and how many turns were taken. Contracts say that it is the
-//! outcome of a core run, so `law_core_run` holds of it: its history is one of the model, with all
-//! laws. `run_compact` and `replay_compact` keep the history in 24 bytes a step.
+//! Each returns an `Outcome`: the history, the undecided sends, the report of each thread, whether
+//! anything was left to do, and how many turns were taken. Contracts say that it is the outcome of
+//! a core run, so `law_core_run` holds of it: its history is one of the model, with all laws.
+//! `run_compact` and `replay_compact` keep the history in 24 bytes a step.
 //!
 //! Which of its histories a run of several processors takes is up to the host; a replay has one.
 //! That a run succeeds where memory is ample, and that processors work at the same time, is tested

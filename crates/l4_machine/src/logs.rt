@@ -1,4 +1,4 @@
-//! The logs of processors that nobody works with any more.
+//! The logs of processors that have finished.
 ghost use Rattle.l4_machine.specs.Gathers.{HaveNumbers};
 ghost use Rattle.l4_machine.specs.Rising.{HaveRisingLogs, HaveRisingLogs-prop};
 

@@ -18,7 +18,8 @@ use l4_script::machine::Machine;
 use l4_types::errors::NoMemory;
 use std::alloc::Global;
 
-/// The history of all that the processors of a machine did, in order of stamp, and of equal ones by processor, and how many events it has.
+/// The history of all that the processors of a machine did, in order of stamp, and of equal ones by
+/// processor, and how many events it has.
 pub(crate) fn merged_history(
     alloc: Global,
     machine: &Machine,
@@ -48,8 +49,8 @@ fn count_all(
     count_left(logs.as_slice())
 }
 
-/// The same of processors that nobody needs any more. The history of one that is alone is its log's, and of several it is made when it is asked
-/// for. Nothing is copied.
+/// The history of processors that have finished. That of a single one is its log's; that of several
+/// is merged when it is asked for. Nothing is copied.
 pub(crate) fn run_history<'m>(
     alloc: Global,
     machine: &'m Machine,
@@ -85,7 +86,7 @@ fn own_history(processor: Processor<'_>) -> (History, usize)
     (log.into_history(), events)
 }
 
-/// The logs of all processors, by their numbers. Nothing of them is told.
+/// The logs of all processors, by number, of which no event is merged yet.
 pub(crate) fn unmerged_logs(
     alloc: Global,
     processors: &[Processor<'_>],

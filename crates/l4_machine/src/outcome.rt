@@ -1,4 +1,4 @@
-//! What a run comes to.
+//! The outcome of a run.
 ghost use Rattle.std.specs.Prelude.{◌≡◌, ◌↔◌, IfOk, List, length, true};
 ghost use Rattle.l4_model.specs.History.{IsHistory};
 ghost use Rattle.l4_core_model.specs.Local.{Local};
@@ -21,39 +21,44 @@ use l4_types::reports::{Ending, ThreadView};
 use l4_types::steps::{Name, Step};
 use std::alloc::Global;
 
-/// What a run did, and what it came to.
+/// What a run did, and where it ended.
 #[derive(Drop)]
 pub struct Outcome {
-    /// The steps of all turns: of a run in order of stamp, and of equal ones by processor; of a replay in the order told.
+    /// The steps of all turns: of a run in order of stamp, and of equal ones by processor; of a
+    /// replay in the order of the schedule.
     pub history: Vec<Step>,
-    /// The sends that were begun and are undecided, in order of beginning, each with its destination.
+    /// The sends that were begun and are undecided, in order of beginning, each with its
+    /// destination.
     pub waiting: Vec<(Name, ThreadId)>,
-    /// What each thread has come to, in order of declaration.
+    /// The report of each thread, in order of declaration.
     pub threads: Vec<ThreadView>,
-    /// `Quiet` where no processor has anything to do, no letter is under way and no deadline is armed.
+    /// `Quiet` where no processor has anything to do, no letter is under way and no deadline is
+    /// armed.
     pub ending: Ending,
     /// How many turns were taken, ticks and letters handled among them.
     pub turns: u64,
 }
 
-/// An outcome with its history in compact form, 24 bytes for a step, or in the logs of several processors, which are merged only where somebody
-/// asks for it.
+/// An outcome with its history in compact form, 24 bytes for a step, or in the logs of several
+/// processors, which are merged only on demand.
 #[derive(Drop)]
 pub struct CompactOutcome<'m> {
     /// The steps of all turns, in the order of those of an `Outcome`.
     pub history: RunHistory<'m>,
-    /// The sends that were begun and are undecided, in order of beginning, each with its destination.
+    /// The sends that were begun and are undecided, in order of beginning, each with its
+    /// destination.
     pub waiting: Vec<(Name, ThreadId)>,
-    /// What each thread has come to, in order of declaration.
+    /// The report of each thread, in order of declaration.
     pub threads: Vec<ThreadView>,
-    /// `Quiet` where no processor has anything to do, no letter is under way and no deadline is armed.
+    /// `Quiet` where no processor has anything to do, no letter is under way and no deadline is
+    /// armed.
     pub ending: Ending,
     /// How many turns were taken, ticks and letters handled among them.
     pub turns: u64,
 }
 
 impl CompactOutcome<'_> {
-    /// The same outcome, with its steps as values of their own.
+    /// The same outcome, with each step as a value.
     pub(crate) fn into_outcome(self, alloc: Global) -> Result<Outcome, NoMemory>
         ensures { IfOk result (λ o. findings_of o ≡ compact_findings_of self.entry) }
     {
@@ -70,13 +75,14 @@ impl CompactOutcome<'_> {
 /// Why there is no outcome.
 #[derive(Clone, Copy, PartialEq, Eq, Debug)]
 pub enum RunFault {
-    /// Memory ran out.
+    /// Memory was refused.
     NoMemory,
     /// The number of turns is 0 or above 1,000,000, or a schedule has more than 1,000,000 entries.
     Turns,
-    /// This entry of the schedule, counted from 1, is the first of no processor of the machine.
+    /// This entry of the schedule, counted from 1, is the first whose processor the machine does
+    /// not have.
     Schedule(usize),
-    /// The processors are not all of the machine, each once.
+    /// The processors are not exactly those of the machine, each once.
     Strangers,
 }
 
@@ -88,9 +94,10 @@ impl From<NoMemory> for RunFault {
     }
 }
 
-/// The outcome of a run with this history, ending and number of turns. Where no letter is under way and no thread is deleted, the threads have
-/// come to what their own processors have, and else to what an audit finds: of a deleted thread, and of one that is to learn something by a
-/// letter, the history may say what its processor does not know.
+/// The outcome of a run with this history, ending and number of turns. Where no letter is under way
+/// and no thread is deleted, the reports are those of the threads' own processors. Else an audit of
+/// the history finds them: a processor may differ from the history in a deleted thread, and in one
+/// that a letter is still to reach.
 pub(crate) fn outcome_of<'m>(
     alloc: Global,
     machine: &Machine,
@@ -119,7 +126,7 @@ pub(crate) fn outcome_of<'m>(
     audited_outcome(alloc, machine, history.into_history(alloc)?, ending, turns)
 }
 
-// The same where an audit finds what the threads have come to.
+// The same outcome, with the reports that an audit of the history finds.
 fn audited_outcome<'m>(
     alloc: Global,
     machine: &Machine,

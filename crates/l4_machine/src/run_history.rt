@@ -11,7 +11,7 @@ use l4_types::ids::ThreadId;
 use l4_types::steps::Name;
 use std::alloc::Global;
 
-/// The history of an outcome: its steps, or the logs that they are merged from where somebody asks for them.
+/// The history of an outcome: its steps, or the logs that they are merged from on demand.
 #[derive(Drop)]
 pub enum RunHistory<'m> {
     /// The steps in compact form.
@@ -21,8 +21,8 @@ pub enum RunHistory<'m> {
 }
 
 impl RunHistory<'_> {
-    /// The steps in compact form. Those of logs come in order of stamp, and of equal ones by processor. `NoMemory`: memory was refused, and the
-    /// history is gone.
+    /// The steps in compact form. Those of logs come in order of stamp, and of equal ones by
+    /// processor. `NoMemory`: memory was refused, and the history is gone.
     pub fn into_history(self, alloc: Global) -> Result<History, NoMemory>
         ensures { IfOk result (λ history. history.steps ≡ steps_of self.entry) }
     {

@@ -14,16 +14,21 @@ use std::thread::Threads;
 /// A run has at most this many turns.
 pub const MOST_TURNS: u64 = 1_000_000;
 
-/// Runs a machine for so many turns, 1 to 1,000,000, or until nothing is left to do, in rounds. In a round each processor takes at most the
-/// turns that are left divided by the number of processors, rounded up: mail first, else its core's turn. In rounds where two processors or more
-/// have something to do, they may work at the same time, each in a host thread of its own (`work_together`). Where all are idle and no letter is
-/// under way, all clocks below it are advanced to the least deadline of all, each of which counts as a turn; where there is none, the run ends.
-/// It ends too behind the round, or the ticks, with which the turns are used up, which may be one more for each processor but one. The gate is
-/// asked before each attempt at a turn. The history is in order of stamp, and of equal ones by processor.
+/// Runs a machine for `turns` turns, 1 to 1,000,000, or until nothing is left to do, in rounds. In
+/// a round each processor takes at most the turns that are left divided by the number of
+/// processors, rounded up: mail first, else its core's turn. In rounds where two processors or more
+/// have something to do, they may work at the same time, each in a host thread of its own
+/// (`work_together`). Where all are idle and no letter is under way, each clock below the least
+/// deadline of all advances to it; each such tick counts as a turn. Where there is no deadline, the
+/// run ends. It also ends after the round, or the ticks, that use up its turns; these may be one
+/// more for each processor but one. The gate is asked before each attempt at a turn. The history is
+/// in order of stamp, and of equal ones by processor.
 ///
-/// Two runs of several processors may differ, since which letter comes first is up to the threads. Each is a history of the machine.
+/// Two runs of several processors may differ, since which letter comes first is up to the threads.
+/// Each is a history of the machine.
 ///
-/// `Turns`: the number of turns is 0 or above 1,000,000. `NoMemory`: it is not, and memory was refused.
+/// `Turns`: the number of turns is 0 or above 1,000,000. `NoMemory`: else, where memory was
+/// refused.
 pub fn run<R: Threads + Sync, G: Gate + Sync>(
     rt: &R,
     alloc: Global,
@@ -39,7 +44,8 @@ pub fn run<R: Threads + Sync, G: Gate + Sync>(
     Ok(outcome.into_outcome(alloc)?)
 }
 
-/// Runs a machine as `run` does, with the same outcome and the same faults, and keeps the history in compact form.
+/// Runs a machine as `run` does, with the same outcome and the same faults, and keeps the history
+/// in compact form.
 pub fn run_compact<'m, R: Threads + Sync, G: Gate + Sync>(
     rt: &R,
     alloc: Global,

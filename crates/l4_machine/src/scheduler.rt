@@ -1,4 +1,5 @@
-//! The processors of a machine, moved one by one, with the letters under way between them.
+//! The processors of a replay, which take turns one by one, with the letters under way between
+//! them.
 ghost use Rattle.std.specs.Prelude.{ℕ, ◌≡◌, ◌<◌, ◌↔◌, ◌^◌, [], IfOk, IsTrue, OnOk, length, map, replicate, slice_get};
 ghost use Rattle.l4_model.specs.Machine.{Machine as MachineOfModel};
 ghost use Rattle.l4_core_model.specs.Runs.{Event, IsMachine, Run, Ticks, opening_run, opening_system, told};
@@ -23,7 +24,7 @@ use std::alloc::Global;
 pub(crate) struct Scheduler<'m> {
     machine: &'m Machine,
     stations: Vec<Station<'m>>,
-    // The processor of each event, in the order told.
+    // The processor of each event, in order.
     order: Vec<u8>,
 }
 
@@ -48,7 +49,8 @@ impl<'m> Scheduler<'m> {
         self.order.len()
     }
 
-    /// A turn of a processor, where it has something to do: mail first, and of it that of the lowest poster, else the core's turn.
+    /// A turn of a processor, where it has something to do: it handles the first letter of the
+    /// lowest poster, else it is the core's turn.
     pub(crate) fn take_turn(&mut self, cpu: u8) -> Result<(), NoMemory>
         requires run { HasRun (under_way self.old) }
         requires cpu { cpu < self.old.machine.now.cpus }
@@ -62,7 +64,7 @@ impl<'m> Scheduler<'m> {
         self.end_event(cpu)
     }
 
-    /// The clock of a processor goes on to this value, in ticks, where it may.
+    /// Advances the clock of a processor to this value, in ticks, where it may.
     pub(crate) fn tick(&mut self, cpu: u8, clock: u64) -> Result<(), NoMemory>
         requires run { HasRun (under_way self.old) }
         requires cpu { cpu < self.old.machine.now.cpus }
@@ -76,7 +78,7 @@ impl<'m> Scheduler<'m> {
         self.end_event(cpu)
     }
 
-    // The event of a processor is the last one, and what it posted comes to the others.
+    // Notes an event of this processor as the last one, and delivers the letters that it posted.
     fn end_event(&mut self, cpu: u8) -> Result<(), NoMemory>
         requires within { cpu < length self.old.stations.items }
         requires posted { CanPost cpu (letters_of self.old.stations.items cpu) (map station_of self.old.stations.items) }
@@ -113,7 +115,7 @@ impl<'m> Scheduler<'m> {
         have_no_mail(self.stations.as_slice())
     }
 
-    /// What the threads have come to, as their own processors have them.
+    /// The threads and their last sends, as their own processors have them.
     pub(crate) fn at_home(&self, alloc: Global) -> Result<AtHome, NoMemory>
         requires { HasRun (under_way self.now) }
         ensures { (m : MachineOfModel) (r : Run) → IsRun m r (under_way self.now) → IfOk result (IsAtHome m r.system.locals) }
@@ -123,7 +125,7 @@ impl<'m> Scheduler<'m> {
         AtHome::new(alloc, self.machine, cores.as_slice())
     }
 
-    /// The history in the order told.
+    /// The history, in the order of the schedule.
     pub(crate) fn history(&self, alloc: Global) -> Result<History, NoMemory>
         requires { HasRun (under_way self.now) }
         ensures { (m : MachineOfModel) (r : Run) → IsRun m r (under_way self.now) → IfOk result (λ history. history.steps ≡ told r.events) }
@@ -145,7 +147,7 @@ fn opening_stations<'m>(alloc: Global, machine: &'m Machine) -> Result<Vec<Stati
     Ok(stations)
 }
 
-// What the last event of a processor posted comes to the others.
+// Delivers the letters that the last event of a processor posted.
 fn deliver(stations: &mut [Station<'_>], from: u8) -> Result<(), NoMemory>
     requires within { from < length stations.old }
     requires posted { CanPost from (letters_of stations.old from) (map station_of stations.old) }
@@ -195,7 +197,7 @@ fn cores_of<'a, 'm>(
     Ok(cores)
 }
 
-// The steps of all events, of which these are the processors.
+// The steps of all events. `order` has the processor of each.
 fn history_in_order(
     alloc: Global,
     stations: &[Station<'_>],

@@ -88,13 +88,15 @@ fn are_too_many(entries: usize) -> bool
     entries > MOST_ENTRIES
 }
 
-/// Replays a schedule of at most 1,000,000 entries on a machine, on one thread of the host. The number of a processor, 0 to 15, is an entry for
-/// a turn of it: mail first, and of it that of the lowest poster, else the core's turn. 16 more is one that advances its clock to its least
-/// deadline. Where a processor has nothing to do, or no deadline above its clock, there is no event. The empty schedule is lawful. The
-/// history is in the order told.
+/// Replays a schedule of at most 1,000,000 entries on a machine, on one thread of the host. The
+/// number of a processor, 0 to 15, is an entry for a turn of it: it handles the first letter of the
+/// lowest poster, else it is the core's turn. 16 more is one that advances its clock to its least
+/// deadline. Where a processor has nothing to do, or no deadline above its clock, there is no
+/// event. The empty schedule is lawful. The history is in the order of the schedule.
 ///
-/// `Turns`: there are more entries. `Schedule`: this entry, counted from 1, is the first of no processor of the machine. `NoMemory`: memory was
-/// refused, which may come in the place of `Schedule`.
+/// `Turns`: there are more entries. `Schedule`: this entry, counted from 1, is the first whose
+/// processor the machine does not have. `NoMemory`: memory was refused, which may come in the place
+/// of `Schedule`.
 pub fn replay(alloc: Global, machine: &Machine, schedule: &[u8]) -> Result<Outcome, RunFault>
     ensures ok { IfOk result (IsReplayed machine.now schedule.now) }
     ensures lawful { IfOk result (λ o. schedule_fault machine.now schedule.now ≡ None) }
@@ -109,7 +111,8 @@ pub fn replay(alloc: Global, machine: &Machine, schedule: &[u8]) -> Result<Outco
     Ok(outcome.into_outcome(alloc)?)
 }
 
-/// Replays entries as `replay` does the numbers of a schedule, with the same outcome and the same faults, and keeps the history in compact form.
+/// Replays entries as `replay` does the numbers of a schedule, with the same outcome and the same
+/// faults, and keeps the history in compact form.
 pub fn replay_compact<'m>(
     alloc: Global,
     machine: &'m Machine,

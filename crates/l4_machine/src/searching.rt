@@ -1,4 +1,5 @@
-//! The undecided sends of several logs, in the order of the merged history, which is not made for it.
+//! The undecided sends of several logs, in the order of the merged history, which is not made for
+//! it.
 ghost use Rattle.std.specs.Prelude.{◌≡◌, ◌≤◌, ◌+◌, IfOk, IfSome, IsTrue, OnOk, drop, filter_map, is_some, length, map, slice_get, true};
 ghost use Rattle.std.specs.List.{AllByRecursion};
 ghost use Rattle.l4_core_model.specs.Runs.{merged, told};
@@ -19,11 +20,11 @@ use l4_types::ids::ThreadId;
 use l4_types::steps::Name;
 use std::alloc::Global;
 
-// So many of the last events of each log are looked at for what is sought, and where it is not all there, the next number of them. A thread that
-// goes on begins a send soon, so most events of a long run lie before.
+// How many of the last events of each log are searched: first 64, then more, until all sends are
+// found. A thread that runs begins a send soon, so in a long run most events need no look.
 const LOOKS: [usize; 4] = [64, 1_024, 16_384, 262_144];
 
-// How many of so many sends are missing still, once those were found that the last events of a log begin, so many.
+// How many of `missing` sends are still missing after a search of the last `most` events of a log.
 fn missing_after(
     search: &Search<'_>,
     processors: &[Processor<'_>],
@@ -44,7 +45,7 @@ fn missing_after(
     missing
 }
 
-// Whether the last events of all logs, so many of each, begin all that is sought.
+// Whether the last `most` events of each log begin all sends that are sought.
 fn begin_all(
     search: &Search<'_>,
     processors: &[Processor<'_>],
@@ -62,7 +63,8 @@ fn begin_all(
     missing == 0
 }
 
-// So many of the last events of each log begin all that is sought. None where only all events do, as far as was looked for.
+// How many of the last events of each log are enough. None where the largest number tried is not
+// enough.
 fn enough(search: &Search<'_>, processors: &[Processor<'_>], logs: &[Unmerged]) -> Option<usize>
     requires search { IsSearch search.now }
     requires whole { AllByRecursion (IsUnmerged processors.now) logs.now }
@@ -76,7 +78,7 @@ fn enough(search: &Search<'_>, processors: &[Processor<'_>], logs: &[Unmerged]) 
     None
 }
 
-// The last events that are left of a log, so many.
+// The last `most` events that are left of a log.
 fn last_of(processors: &[Processor<'_>], log: &Unmerged, most: usize) -> Unmerged
     requires { IsUnmerged processors.now log.now }
     ensures whole { IsUnmerged processors.now result }
@@ -91,7 +93,7 @@ fn last_of(processors: &[Processor<'_>], log: &Unmerged, most: usize) -> Unmerge
     }
 }
 
-// The last events that are left of each log, so many.
+// The last `most` events that are left of each log.
 fn last_of_all(
     alloc: Global,
     processors: &[Processor<'_>],
@@ -109,7 +111,8 @@ fn last_of_all(
     Ok(last)
 }
 
-// Logs without the events before those that begin all that is sought. Each send is begun once, so all are found where as many are found as there are.
+// The logs without the early events, which begin none of the sends sought. Each send is begun once,
+// so a search that has found as many as there are has found all.
 fn without_early(
     alloc: Global,
     search: &Search<'_>,
@@ -129,7 +132,8 @@ fn without_early(
     }
 }
 
-// The first event of a log from this one on that begins a send that is sought. Where none does, the one behind the last.
+// The first event of a log from this one on that begins a send that is sought. Where none does, the
+// one after the last.
 fn next_sought(search: &Search<'_>, log: &Log, from: usize) -> usize
     requires search { IsSearch search.now }
     requires closed { IsClosed log.now }
@@ -147,7 +151,8 @@ fn next_sought(search: &Search<'_>, log: &Log, from: usize) -> usize
     log.len()
 }
 
-// Puts the sends that are sought and that the first event left of a log begins behind others, and passes the events behind it that begin none.
+// Appends the sought sends that the first event left of a log begins, and skips the events after it
+// that begin none.
 fn find_first(
     search: &Search<'_>,
     processors: &[Processor<'_>],
@@ -169,7 +174,8 @@ fn find_first(
     Ok(())
 }
 
-// Finds those of all that is left of logs that stand in order of their processors.
+// Finds the sought sends in all that is left of these logs, which stand in order of their
+// processors.
 fn find_all(
     alloc: Global,
     search: &Search<'_>,
@@ -188,7 +194,8 @@ fn find_all(
     Ok(sends)
 }
 
-/// The undecided sends that the processors of a machine began, in order of stamp, and of equal ones by processor.
+/// The undecided sends that the processors of a machine began, in order of stamp, and of equal ones
+/// by processor.
 pub(crate) fn waiting_sends(
     alloc: Global,
     machine: &Machine,

@@ -1,4 +1,4 @@
-//! A processor with the letters that have come to it.
+//! A processor with the letters that have arrived at it.
 ghost use Rattle.std.specs.Prelude.{◌≡◌, None};
 ghost use Rattle.l4_proc.specs.Logs.{IsClosed};
 
@@ -47,8 +47,8 @@ impl<'m> Station<'m> {
         })
     }
 
-    /// A turn: the first letter of the lowest poster is handled; where there is none, it is the core's turn. Answers whether there was an event. Where
-    /// there is nothing to do, nothing is changed.
+    /// Takes a turn: handles the first letter of the lowest poster, else takes the core's turn.
+    /// Returns whether there was an event. Where there is nothing to do, nothing is changed.
     pub(crate) fn take_turn(&mut self) -> Result<bool, NoMemory>
         requires { CanGoOn (station_of self.old) }
         ensures { IfOk result (λ taken. TakesTurn taken self.old self.new) }
@@ -62,7 +62,8 @@ impl<'m> Station<'m> {
         }
     }
 
-    /// The clock goes on to this value, in ticks. Answers whether it may go on to there. Where it may not, nothing is changed.
+    /// Advances the clock to this value, in ticks. Returns whether it could. Where not, nothing is
+    /// changed.
     pub(crate) fn tick(&mut self, clock: u64) -> Result<bool, NoMemory>
         requires { can_stamp self.old.worker.core.local 0 ≡ true }
         ensures { IfOk result (λ ticked. GoesOnTo clock ticked self.old self.new) }
@@ -76,7 +77,8 @@ impl<'m> Station<'m> {
         }
     }
 
-    /// The next letter that its last event posted, with the processor that it goes to. Each is given once.
+    /// The next letter that its last event posted, with the processor that it goes to. Each is
+    /// given once.
     pub(crate) fn take_letter(&mut self) -> Option<(u8, Letter)>
         ensures letters { letters_out self.old ≡ option_to_list (option_map posted_of result) ++ letters_out self.new }
         ensures none { IfNone result (letters_out self.new ≡ []) }
@@ -86,7 +88,7 @@ impl<'m> Station<'m> {
         self.worker.take_letter()
     }
 
-    /// A letter comes from a processor. Where memory is refused, it is lost.
+    /// Appends a letter from a processor. Where memory is refused, it is lost.
     pub(crate) fn put(&mut self, from: u8, letter: Letter) -> Result<(), NoMemory>
         requires { from < length (station_of self.old).inbox }
         ensures station { OnOk result (station_of self.new ≡ with_letter from (letter_of letter) (station_of self.old)) }

@@ -29,7 +29,7 @@ use l4_types::errors::NoMemory;
 use std::alloc::Global;
 use std::thread::Threads;
 
-// Between any two processors there is room for so many letters each way.
+// The room of each ring, in letters.
 const ROOM: usize = 16;
 
 /// All processors of a machine, in the order of their numbers.
@@ -39,7 +39,7 @@ pub(crate) struct Team<'m> {
     processors: Vec<Processor<'m>>,
     // Whether no letter is under way or in hand.
     all_handled: bool,
-    // How many turns they take, until one is behind them all.
+    // How many turns the run was asked for. It ends after the round or the ticks that use them up.
     turns: u64,
 }
 
@@ -62,7 +62,7 @@ impl<'m> Team<'m> {
         })
     }
 
-    /// Goes on in rounds, until nothing is left to do or its turns are used up.
+    /// Runs rounds until nothing is left to do or its turns are used up.
     pub(crate) fn run<R: Threads + Sync, G: Gate + Sync>(
         &mut self,
         rt: &R,
@@ -88,7 +88,7 @@ impl<'m> Team<'m> {
         Ok(())
     }
 
-    /// What they came to together.
+    /// The outcome of the run.
     pub(crate) fn into_outcome(self, alloc: Global) -> Result<CompactOutcome<'m>, NoMemory>
         requires { IsTeam self }
         ensures { IfOk result (λ o. IsGathered self.entry.machine.now self.entry.processors.items (compact_findings_of o)) }
@@ -109,7 +109,8 @@ impl<'m> Team<'m> {
         )
     }
 
-    // A round of turns, or where nothing else is to be done the clocks go on to the least deadline. Answers whether there was one.
+    // Does a round of turns, or, where there is nothing else to do, advances the clocks to the
+    // least deadline. Returns whether it did one of these.
     fn go_on<R: Threads + Sync, G: Gate + Sync>(
         &mut self,
         rt: &R,
@@ -193,7 +194,7 @@ impl<'m> Team<'m> {
         Ok(())
     }
 
-    // All clocks below it go on to this deadline.
+    // Advances all clocks below this deadline to it.
     fn tick(&mut self, deadline: u64) -> Result<(), NoMemory>
         requires team { IsTeam self.old }
         requires few { count_events self.old.processors.items ≤ most_turns }
@@ -211,7 +212,7 @@ impl<'m> Team<'m> {
     }
 }
 
-// So many turns divided by the number of processors, rounded up.
+// The turns divided by the number of processors, rounded up.
 fn share(turns: u64, cpus: u8) -> u64
     requires few { turns ≤ most_turns }
     requires some { 0 < cpus }
@@ -269,7 +270,7 @@ pub(crate) fn earliest(a: Option<u64>, b: Option<u64>) -> Option<u64>
     }
 }
 
-// All letters under way are put by where they go to. Answers whether there are none, and none in hand.
+// Drains the mail. Returns whether no letter is left to handle.
 fn come_to_rest(alloc: Global, processors: &mut Vec<Processor<'_>>) -> Result<bool, NoMemory>
     requires one { AreOneFabric (map (λ p. p.port) processors.old.items) }
     requires all { are_all (map (λ p. p.port) processors.old.items) ≡ true }
@@ -285,7 +286,8 @@ fn come_to_rest(alloc: Global, processors: &mut Vec<Processor<'_>>) -> Result<bo
     }
 }
 
-// Whether memory was refused to one of these processors. There is no other fault, since all letters are lawful and all stamps are low.
+// Whether memory was refused to one of these processors. There is no other fault, since all letters
+// are lawful and all stamps are low.
 fn check_stops(processors: &[Processor<'_>]) -> Result<(), NoMemory>
     requires { (i : ℕ) (p : ProcessorOfMachine) → slice_get processors.now i ≡ Some p → (p.worker.stop ≢ Stop.Mail) × (p.worker.stop ≢ Stop.Stamp) }
     ensures { OnOk result ((i : ℕ) (p : ProcessorOfMachine) → slice_get processors.now i ≡ Some p → (p.worker.stop ≡ Stop.Used) ⊎ (p.worker.stop ≡ Stop.Idle)) }
@@ -307,7 +309,7 @@ fn check_stop(stop: Stop) -> Result<(), NoMemory>
     }
 }
 
-// All clocks below it go on to this value, in ticks.
+// Advances all clocks below this value to it, in ticks.
 fn tick_all(processors: &mut [Processor<'_>], to: u64) -> Result<(), NoMemory>
     requires low { to < clock_limit }
     requires stamps { (i : ℕ) (p : ProcessorOfMachine) → slice_get processors.old i ≡ Some p → can_stamp p.worker.core.local 0 ≡ true }
@@ -319,7 +321,7 @@ fn tick_all(processors: &mut [Processor<'_>], to: u64) -> Result<(), NoMemory>
     Ok(())
 }
 
-// The clock goes on to this value, in ticks, unless it stands there or later.
+// Advances the clock to this value, in ticks, unless it stands there or later.
 fn tick(processor: &mut Processor<'_>, to: u64) -> Result<(), NoMemory>
     requires low { to < clock_limit }
     requires stamp { can_stamp processor.old.worker.core.local 0 ≡ true }

@@ -1,4 +1,4 @@
-//! Logs whose events are told one by one, in order of stamp, and of equal ones by processor.
+//! Logs that are merged event by event, in order of stamp, and of equal ones by processor.
 ghost use Rattle.std.specs.Prelude.{◌≡◌, ◌<◌, ◌≤◌, List, IfOk, OnOk, is_some, length, map, slice_get, true};
 ghost use Rattle.std.specs.List.{AllByRecursion};
 ghost use Rattle.std.specs.Option.{option_map};
@@ -15,20 +15,20 @@ use l4_proc::processor::Processor;
 use l4_types::errors::NoMemory;
 use std::alloc::Global;
 
-/// A log of which some events, the last ones, are still to be told.
+/// A log whose last events are still to be merged.
 #[derive(Clone, Copy)]
 pub(crate) struct Unmerged {
     // Where its processor stands in a list.
     pub(crate) place: usize,
     // How many events it has.
     pub(crate) count: usize,
-    // How many of them are still to be told.
+    // How many of them are still to be merged.
     pub(crate) left: usize,
     // The stamp of the first of these.
     pub(crate) stamp: Option<u64>,
 }
 
-/// The log of the processor at a place, of which no event is told.
+/// The log of the processor at a place, of which no event is merged.
 pub(crate) fn untold(processors: &[Processor<'_>], place: usize) -> Unmerged
     requires { place < length processors.now }
     ensures whole { IsUnmerged processors.now result }
@@ -67,7 +67,8 @@ pub(crate) fn count_left(logs: &[Unmerged]) -> Result<usize, NoMemory>
     Ok(count)
 }
 
-/// The place of the log whose first event comes first: none has a lower stamp, and none before it the same one.
+/// The place of the log whose next event comes first: no log has a lower stamp, and no earlier log
+/// the same one.
 pub(crate) fn first_place(logs: &[Unmerged]) -> Option<usize>
     ensures { result ≡ option_map (λ first. first.0) (least_place (map (λ log. log.stamp) logs.now)) }
 {
@@ -88,7 +89,7 @@ pub(crate) fn first_place(logs: &[Unmerged]) -> Option<usize>
     }
 }
 
-// Tells the steps of the first event that is left of a log.
+// Appends the steps of the first event that is left of a log.
 fn tell_first(
     processors: &[Processor<'_>],
     log: &mut Unmerged,
@@ -106,7 +107,7 @@ fn tell_first(
     Ok(())
 }
 
-/// Tells all that is left of logs that stand in order of their processors.
+/// Merges all that is left of logs that stand in order of their processors.
 pub(crate) fn tell_all(
     alloc: Global,
     processors: &[Processor<'_>],

@@ -17,7 +17,8 @@ use std::alloc::Global;
 pub(crate) struct Search<'a> {
     machine: &'a Machine,
     at_home: &'a AtHome,
-    // No undecided send has a lower number. Most of those of a long history have, and need not be looked for.
+    // No undecided send has a lower number. Most sends of a long history have one, and need no
+    // look-up.
     least: u64,
     // How many sends are undecided.
     count: usize,
@@ -54,8 +55,8 @@ impl<'a> Search<'a> {
         Ok(sends)
     }
 
-    // No step of a history before this place begins one of them: each is begun once, so a look from the back ends where as many were found
-    // as there are.
+    // The first step that may begin one of them. Each is begun once, so the search from the end
+    // stops when all are found.
     fn start(&self, history: &History) -> usize
         requires search { IsSearch self.now }
         requires once { AreBegunOnce history.now.steps }
@@ -81,7 +82,8 @@ impl<'a> Search<'a> {
         self.count
     }
 
-    /// How many of so many sends are missing still, once those were found that the steps of a history from one place up to another begin.
+    /// How many of `missing` sends are still missing after a search of the steps from `start` to
+    /// `end`.
     pub(crate) fn missing_after(
         &self,
         history: &History,
@@ -102,7 +104,7 @@ impl<'a> Search<'a> {
         missing
     }
 
-    /// Puts those that the steps of a history from one place up to another begin behind others.
+    /// Appends the undecided sends that the steps from `start` to `end` begin.
     pub(crate) fn push_between(
         &self,
         history: &History,
@@ -122,7 +124,7 @@ impl<'a> Search<'a> {
         Ok(())
     }
 
-    /// Whether the steps of a history from one place up to another begin one.
+    /// Whether the steps from `start` to `end` begin one.
     pub(crate) fn finds_between(&self, history: &History, start: usize, end: usize) -> bool
         requires search { IsSearch self.now }
         requires within { end ≤ length history.now.steps }

@@ -1,4 +1,4 @@
-//! The ends of ways by the other processor. A port has none for its own.
+//! The ends of rings, by the other processor. A port has none to itself.
 ghost use Rattle.std.specs.Prelude.{◌≡◌, ◌↔◌, ◌≤◌, ◌<◌, ◌+◌, [], ◌∷◌, ◌++◌, false, OnOk, IfSome, IfNone, IsTrue, Option, None, ◌⊎◌};
 ghost use Rattle.l4_mail.specs.Ends.{ring_out, posted, waiting, free, room, ring_in, taken, kept, here, keeps};
 
@@ -72,8 +72,10 @@ pub fn has_mail(end: &mut Option<Inlet>) -> bool
 
 pub fn take_kept(end: &mut Option<Inlet>) -> Option<Letter>
     ensures ring { ring_in end.new ≡ ring_in end.old }
-    ensures some { IfSome result (λ x. (taken end.new ≡ taken end.old ++ x ∷ []) × (kept end.old ≡ x ∷ kept end.new)) }
-    ensures none { IfNone result ((taken end.new ≡ taken end.old) × (kept end.old ≡ []) × (kept end.new ≡ [])) }
+    ensures some { IfSome result (λ x. (taken end.new ≡ taken end.old ++ x ∷ []) ×
+        (kept end.old ≡ x ∷ kept end.new)) }
+    ensures none { IfNone result ((taken end.new ≡ taken end.old) × (kept end.old ≡ []) ×
+        (kept end.new ≡ [])) }
 {
     match end {
         Some(inlet) => inlet.take_kept(),

@@ -9,8 +9,8 @@ use crate::ways;
 use l4_types::errors::NoMemory;
 use std::alloc::{AllocError, Global};
 
-/// The ports of a new fabric of 1 to 16 processors, in the order of their numbers. Between any two of them goes a ring each way, with
-/// room for so many letters, 1 to 65,536.
+/// The ports of a new fabric of 1 to 16 processors, in the order of their numbers. Between any two
+/// of them goes a ring each way, with room for `room` letters, 1 to 65,536.
 pub fn fabric(alloc: Global, cpus: u8, room: usize) -> Result<Vec<Port>, NoMemory>
     requires cpus { (0 < cpus) × (cpus ≤ most_processors) }
     requires room { (0 < room) × (room ≤ most_room) }
@@ -24,7 +24,7 @@ pub fn fabric(alloc: Global, cpus: u8, room: usize) -> Result<Vec<Port>, NoMemor
     Ok(ports)
 }
 
-// The port of the next processor, which has ways to those that are there and back.
+// The port of the next processor, with rings to those that are there and back.
 fn join(alloc: Global, ports: &mut [Port], cpu: u8, room: usize) -> Result<Port, AllocError>
     requires few { cpu < most_processors }
     requires room { 0 < room }
@@ -45,11 +45,13 @@ fn join(alloc: Global, ports: &mut [Port], cpu: u8, room: usize) -> Result<Port,
     Ok(next)
 }
 
-// A new way from the one to the other.
+// Lays a ring from the one to the other.
 fn lay(alloc: Global, room: usize, from: &mut Port, to: &mut Port) -> Result<(), AllocError>
     requires room { 0 < room }
-    requires few { (vec_len from.old.outlets < most_processors) × (vec_len to.old.inlets < most_processors) }
-    ensures { OnOk result ((ring : RingId) × (ring.capacity ≡ room) × GainsOutlet from.old from.new (Some ring) × GainsInlet to.old to.new (Some ring)) }
+    requires few { (vec_len from.old.outlets < most_processors) ×
+        (vec_len to.old.inlets < most_processors) }
+    ensures { OnOk result ((ring : RingId) × (ring.capacity ≡ room) ×
+        GainsOutlet from.old from.new (Some ring) × GainsInlet to.old to.new (Some ring)) }
 {
     let (outlet, inlet) = ways::open(alloc, room)?;
     from.outlets.push(Some(outlet))?;

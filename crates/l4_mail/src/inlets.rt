@@ -1,4 +1,4 @@
-//! The end of a way at which letters are taken.
+//! The end of a ring at which letters are taken.
 ghost use Rattle.std.specs.Prelude.{◌≡◌, ◌++◌};
 ghost use Rattle.rtrb.specs.Ring.{received};
 ghost use Rattle.l4_mail.specs.Ways.{given};
@@ -7,7 +7,8 @@ use l4_types::letters::Letter;
 use rtrb::Consumer;
 use std::collections::VecDeque;
 
-/// The end of a ring that letters are popped from, and the letters that a rest popped and that are not given yet.
+/// The end of a ring that letters are popped from, and the letters that a rest popped and that are
+/// not taken yet.
 #[derive(Drop)]
 pub struct Inlet {
     pub ring: Consumer<Letter>,
@@ -20,14 +21,14 @@ impl Inlet {
     ghost use Rattle.l4_core_model.specs.Runs.{is_empty};
     ghost use Rattle.l4_mail.specs.Ends.{inlet_ring, inlet_taken, inlet_kept, inlet_here};
 
-    /// Whether a letter is here that a rest put by.
+    /// Whether a letter is kept here.
     pub fn keeps_mail(&self) -> bool
         ensures { result ≡ not (is_empty (inlet_kept self.now)) }
     {
         !self.kept.is_empty()
     }
 
-    /// Whether a letter is here: one that a rest put by, or one that has come.
+    /// Whether a letter is here: one that is kept, or one in the ring.
     pub fn has_mail(&mut self) -> bool
         ensures ring { inlet_ring self.new ≡ inlet_ring self.old }
         ensures taken { inlet_taken self.new ≡ inlet_taken self.old }
@@ -37,16 +38,18 @@ impl Inlet {
         !self.kept.is_empty() || !self.ring.is_empty()
     }
 
-    /// The first letter that a rest put by.
+    /// The first letter that is kept.
     pub fn take_kept(&mut self) -> Option<Letter>
         ensures ring { inlet_ring self.new ≡ inlet_ring self.old }
-        ensures some { IfSome result (λ x. (inlet_taken self.new ≡ inlet_taken self.old ++ x ∷ []) × (inlet_kept self.old ≡ x ∷ inlet_kept self.new)) }
-        ensures none { IfNone result ((inlet_taken self.new ≡ inlet_taken self.old) × (inlet_kept self.old ≡ []) × (inlet_kept self.new ≡ [])) }
+        ensures some { IfSome result (λ x. (inlet_taken self.new ≡ inlet_taken self.old ++ x ∷ []) ×
+            (inlet_kept self.old ≡ x ∷ inlet_kept self.new)) }
+        ensures none { IfNone result ((inlet_taken self.new ≡ inlet_taken self.old) ×
+            (inlet_kept self.old ≡ []) × (inlet_kept self.new ≡ [])) }
     {
         self.kept.pop_front()
     }
 
-    /// The first letter in the ring, where no letter is put by.
+    /// The first letter in the ring, where no letter is kept.
     pub fn take_come(&mut self) -> Option<Letter>
         requires { inlet_kept self.old ≡ [] }
         ensures ring { inlet_ring self.new ≡ inlet_ring self.old }

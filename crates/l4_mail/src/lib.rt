@@ -4,12 +4,11 @@
 //! Two ports are joined by two rings, one each way; to push and to pop is all that they do to each
 //! other, and neither waits. Contracts see what a port has posted to each processor and taken from
 //! each: what was taken is the beginning of what was posted, so nothing is lost, comes twice or
-//! overtakes. After `rest`, with all ports in one hand, posted is taken and then what is kept. No
-//! clause names a ring.
+//! overtakes. After `rest`, with all ports in one hand, what was posted is what was taken and then
+//! what is kept. After `flush` a letter waits only where no place of its ring was seen free.
 //!
-//! Only `fabric`, `reserve` and `rest` take memory. That `flush` moves letters on, and that `take`
-//! sees a letter that has come, is tested (`l4_part_tests`, and by threads in `l4_host_tests`), in
-//! no clause.
+//! Only `fabric`, `reserve` and `rest` take memory. That `flush` and `take` look at a ring anew
+//! each time is tested (`l4_part_tests`, and by threads in `l4_host_tests`), in no clause.
 //!
 //! ```rust
 //! let mut ports = fabric(alloc, 2, 64)?;   // two processors, rings of 64 letters

@@ -9,10 +9,11 @@ use l4_types::letters::{Content, Letter};
 use std::alloc::{AllocError, Global};
 use std::collections::VecDeque;
 
-/// For each pair of different processors, rising: the poster, the receiver, and what is under way from the one to the other.
+/// For each pair of different processors, rising: the poster, the receiver, and what is under way
+/// from the one to the other.
 pub type Rest = Vec<(u8, u8, Vec<Letter>)>;
 
-/// The same letter again.
+/// A copy of the letter.
 pub fn copy(letter: &Letter) -> Letter
     ensures { result ≡ letter.now }
 {
@@ -92,10 +93,12 @@ fn kept_between(alloc: Global, ports: &[Port], from: u8, to: u8) -> Result<Vec<L
     Ok(Vec::new(alloc))
 }
 
-// What is under way from a processor goes to the end of the list.
+// Appends what is under way from a processor to the list.
 fn list_from(alloc: Global, ports: &[Port], from: u8, list: &mut Rest) -> Result<(), AllocError>
     requires { length ports.now ≤ most_processors }
-    ensures { OnOk result (map (λ r. (r.0, r.1, r.2.items)) list.new.items ≡ map (λ r. (r.0, r.1, r.2.items)) list.old.items ++ under_way_from ports.now from (length ports.now)) }
+    ensures { OnOk result (map (λ r. (r.0, r.1, r.2.items)) list.new.items ≡
+        map (λ r. (r.0, r.1, r.2.items)) list.old.items ++
+        under_way_from ports.now from (length ports.now)) }
 {
     for to in 0..ports.len() as u8 {
         if from != to {
@@ -108,7 +111,8 @@ fn list_from(alloc: Global, ports: &[Port], from: u8, list: &mut Rest) -> Result
 /// What all ports of a fabric keep.
 pub fn list(alloc: Global, ports: &[Port]) -> Result<Rest, AllocError>
     requires { length ports.now ≤ most_processors }
-    ensures { IfOk result (λ list. map (λ r. (r.0, r.1, r.2.items)) list.items ≡ under_way ports.now) }
+    ensures { IfOk result (λ list. map (λ r. (r.0, r.1, r.2.items)) list.items ≡
+        under_way ports.now) }
 {
     let mut all = Vec::new(alloc);
     for from in 0..ports.len() as u8 {

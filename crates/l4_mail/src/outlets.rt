@@ -1,4 +1,4 @@
-//! The end of a way at which letters are posted.
+//! The end of a ring at which letters are posted.
 ghost use Rattle.std.specs.Prelude.{◌<◌};
 ghost use Rattle.rtrb.specs.Ring.{producer_capacity};
 
@@ -19,7 +19,7 @@ impl Outlet {
     ghost use Rattle.std.specs.Prelude.{◌≡◌, ◌↔◌, ◌⊎◌, ◌≤◌, ◌<◌, ◌+◌, [], ◌∷◌, ◌++◌, OnOk, IsTrue};
     ghost use Rattle.l4_mail.specs.Ends.{outlet_ring, outlet_posted, outlet_waiting, outlet_free, outlet_room};
 
-    /// Makes room for so many letters.
+    /// Makes room for `letters` letters.
     pub fn reserve(&mut self, letters: usize) -> Result<(), AllocError>
         ensures ring { outlet_ring self.new ≡ outlet_ring self.old }
         ensures posted { outlet_posted self.new ≡ outlet_posted self.old }
@@ -48,7 +48,8 @@ impl Outlet {
         };
     }
 
-    /// Moves letters on, in their order, while the ring has room. Those that wait still have found none.
+    /// Moves letters on, in their order, while the ring has room. Those that still wait found no
+    /// free place.
     pub fn flush(&mut self)
         ensures ring { outlet_ring self.new ≡ outlet_ring self.old }
         ensures posted { outlet_posted self.new ≡ outlet_posted self.old }

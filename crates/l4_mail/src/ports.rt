@@ -8,7 +8,8 @@ use crate::{ends, takes};
 use l4_types::errors::NoMemory;
 use l4_types::letters::Letter;
 
-/// A processor's place in a fabric. It posts letters to the other processors and takes those that they posted to it.
+/// A processor's place in a fabric. It posts letters to the other processors and takes those that
+/// they posted to it.
 #[derive(Drop)]
 pub struct Port {
     pub(crate) cpu: u8,
@@ -37,7 +38,8 @@ impl Port {
         self.outlets.len()
     }
 
-    /// Makes room for two letters to each other processor. Where memory is refused, the port has carried what it had carried.
+    /// Makes room for two letters to each other processor. Where memory is refused, no letter is
+    /// lost, and what was posted and taken stays.
     pub fn reserve(&mut self) -> Result<(), NoMemory>
         ensures same { IsAsBefore self.old self.new }
         ensures room { OnOk result ((to : ℕ) → HasWayTo self.new to → 2 ≤ room_to self.new to) }
@@ -58,7 +60,8 @@ impl Port {
         }
     }
 
-    /// Posts a letter to another processor. It waits in the outbox until `flush` moves it on. There has to be room for it.
+    /// Posts a letter to another processor. It waits in the outbox until `flush` moves it on. There
+    /// has to be room for it.
     pub fn post(&mut self, to: u8, letter: Letter)
         requires room { 0 < room_to self.old to }
         ensures posted { HasPosted self.old self.new to letter }
@@ -66,8 +69,8 @@ impl Port {
         ends::post(&mut self.outlets[usize::from(to)], letter);
     }
 
-    /// Moves the letters of each outbox on, in their order, while its ring has room. Where some wait still, no place of their ring was free
-    /// that they could have gone into.
+    /// Moves the letters of each outbox on, in their order, while its ring has room. A letter that
+    /// still waits found no free place in its ring.
     pub fn flush(&mut self)
         ensures same { IsAsBefore self.old self.new }
         ensures moved { (to : ℕ) → (waiting_to self.new to ≡ []) ⊎ (free_to self.new to ≡ 0) }
@@ -77,14 +80,15 @@ impl Port {
         }
     }
 
-    /// Whether it keeps a letter that a rest put by and that was not taken since.
+    /// Whether it keeps a letter: one that a rest left here and that was not taken since.
     pub fn keeps_mail(&self) -> bool
         ensures { (result ≡ false) ↔ ((from : ℕ) → kept_from self.now from ≡ []) }
     {
         takes::keeps_mail(&self.inlets)
     }
 
-    /// Whether there is a letter to take. Where there is none, none is kept that a rest put by, and when each ring was looked at it had none.
+    /// Whether there is a letter to take. Where there is none, none is kept, and no ring had one
+    /// when it was last looked at.
     pub fn has_mail(&mut self) -> bool
         ensures same { IsAsBefore self.old self.new }
         ensures none { result ≡ false → (from : ℕ) → kept_from self.old from ≡ [] }
@@ -93,8 +97,9 @@ impl Port {
         takes::has_mail(&mut self.inlets)
     }
 
-    /// The next letter, and the processor that posted it: first those that a rest put by, then those that have come, each time of
-    /// the lowest processor that has one here. The letters of one processor come in the order in which it posted them.
+    /// The next letter, and the processor that posted it: first those that a rest left here, then
+    /// those in the rings, and of each kind first that of the lowest processor. The letters of one
+    /// processor come in the order in which it posted them.
     pub fn take(&mut self) -> Option<(u8, Letter)>
         ensures some { IfSome result (λ r. HasTaken self.old self.new r.0 r.1) }
         ensures none { IfNone result (IsAsBefore self.old self.new) }

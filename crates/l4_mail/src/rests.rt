@@ -15,7 +15,7 @@ use std::alloc::{AllocError, Global};
 pub enum RestFault {
     /// The ports are not those of all processors of their fabric, each once.
     Numbers,
-    /// Memory ran out.
+    /// Memory was refused.
     NoMemory,
 }
 
@@ -27,7 +27,7 @@ impl From<AllocError> for RestFault {
     }
 }
 
-// Puts all letters of the way from the one to the other by.
+// Moves all letters under way from one port to the other, which keeps them.
 fn rest_between(from: &mut Port, to: &mut Port) -> Result<(), AllocError>
     requires { IsWay (place from.old) (place to.old) }
     ensures from { carried from.new ≡ carried from.old }
@@ -41,7 +41,7 @@ fn rest_between(from: &mut Port, to: &mut Port) -> Result<(), AllocError>
     )
 }
 
-// The same of two ports of a list.
+// The same for the ports at two places of a list.
 fn rest_pair(ports: &mut [Port], from: usize, to: usize) -> Result<(), AllocError>
     requires within { (from < length ports.old) × (to < length ports.old) }
     requires apart { from ≢ to }
@@ -58,7 +58,7 @@ fn rest_pair(ports: &mut [Port], from: usize, to: usize) -> Result<(), AllocErro
     }
 }
 
-// The same of all ways to one port.
+// Moves all letters under way to one port.
 fn rest_to(ports: &mut [Port], to: usize) -> Result<(), AllocError>
     requires within { to < length ports.old }
     requires fabric { AreOneFabric ports.old }
@@ -73,7 +73,7 @@ fn rest_to(ports: &mut [Port], to: usize) -> Result<(), AllocError>
     Ok(())
 }
 
-// The same of all ways.
+// Moves all letters under way to the ports that they go to.
 fn settle(ports: &mut [Port]) -> Result<(), AllocError>
     requires { AreOneFabric ports.old }
     ensures same { map account ports.new ≡ map account ports.old }
@@ -125,9 +125,10 @@ fn are_all(ports: &[Port]) -> bool
     !ports.is_empty() && have_size(ports, ports.len()) && have_numbers(ports, ports.len())
 }
 
-/// Puts all letters that are under way by at the ports that they go to, and lists them. Each `take` gives one of them from then on, while
-/// its port keeps one. What was posted and what was taken stays; where memory is refused, some letters may have been put by, and none is
-/// lost. The ports are of one fabric, in any order.
+/// Moves every letter under way to the port that it goes to, which keeps it, and lists them. From
+/// then on `take` gives these first. What was posted and what was taken stays; where memory is
+/// refused, some letters may have moved, and none is lost. The ports are of one fabric, in any
+/// order.
 ///
 /// `Numbers`: they are not the ports of all its processors. Nothing is changed then.
 pub fn rest(alloc: Global, ports: &mut [Port]) -> Result<Rest, RestFault>
@@ -136,7 +137,8 @@ pub fn rest(alloc: Global, ports: &mut [Port]) -> Result<Rest, RestFault>
     ensures unchanged { are_all ports.old ≡ false → ports.new ≡ ports.old }
     ensures same { map account ports.new ≡ map account ports.old }
     ensures whole { OnOk result (AreWhole ports.new) }
-    ensures list { IfOk result (λ list. map (λ r. (r.0, r.1, r.2.items)) list.items ≡ under_way ports.new) }
+    ensures list { IfOk result (λ list. map (λ r. (r.0, r.1, r.2.items)) list.items ≡
+        under_way ports.new) }
 {
     if !are_all(ports) {
         return Err(RestFault::Numbers);

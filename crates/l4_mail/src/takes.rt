@@ -10,7 +10,7 @@ use crate::ends::{take_come, take_kept};
 use crate::inlets::Inlet;
 use l4_types::letters::Letter;
 
-/// Whether a letter is at one of the inlets that a rest put by.
+/// Whether a letter is kept at one of the inlets.
 pub fn keeps_mail(inlets: &[Option<Inlet>]) -> bool
     ensures { result ≡ list_any keeps inlets.now }
 {
@@ -31,11 +31,13 @@ pub fn has_mail(inlets: &mut [Option<Inlet>]) -> bool
     false
 }
 
-// The first letter that a rest put by, and the processor that posted it.
+// The first letter that is kept, and the processor that posted it.
 fn first_kept(inlets: &mut [Option<Inlet>]) -> Option<(u8, Letter)>
     requires { length inlets.old ≤ most_processors }
-    ensures some { IfSome result (λ r. IsTaken inlets.old inlets.new r.0 r.1 × WasKept inlets.old inlets.new r.0 r.1) }
-    ensures none { IfNone result (NoneIsTaken inlets.old inlets.new × NoneIsKept inlets.old × NoneIsKept inlets.new) }
+    ensures some { IfSome result (λ r. IsTaken inlets.old inlets.new r.0 r.1 ×
+        WasKept inlets.old inlets.new r.0 r.1) }
+    ensures none { IfNone result (NoneIsTaken inlets.old inlets.new × NoneIsKept inlets.old ×
+        NoneIsKept inlets.new) }
 {
     for from in 0..inlets.len() {
         if let Some(letter) = take_kept(&mut inlets[from]) {
@@ -61,11 +63,13 @@ fn first_come(inlets: &mut [Option<Inlet>]) -> Option<(u8, Letter)>
     None
 }
 
-/// The first letter that a rest put by, or else the first in a ring, and the processor that posted it.
+/// The first letter that is kept, or else the first in a ring, and the processor that posted it.
 pub fn first(inlets: &mut [Option<Inlet>]) -> Option<(u8, Letter)>
     requires { length inlets.old ≤ most_processors }
-    ensures some { IfSome result (λ r. IsTaken inlets.old inlets.new r.0 r.1 × IsFirst inlets.old inlets.new r.0 r.1) }
-    ensures none { IfNone result (NoneIsTaken inlets.old inlets.new × NoneIsKept inlets.old × NoneIsHere inlets.new) }
+    ensures some { IfSome result (λ r. IsTaken inlets.old inlets.new r.0 r.1 ×
+        IsFirst inlets.old inlets.new r.0 r.1) }
+    ensures none { IfNone result (NoneIsTaken inlets.old inlets.new × NoneIsKept inlets.old ×
+        NoneIsHere inlets.new) }
 {
     if let Some(found) = first_kept(inlets) {
         return Some(found);

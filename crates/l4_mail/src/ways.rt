@@ -1,4 +1,4 @@
-//! A way from one processor to another, with both of its ends in hand.
+//! A ring from one processor to another, with both of its ends in hand.
 ghost use Rattle.std.specs.Prelude.{◌≡◌, ◌≤◌, ◌<◌, ◌+◌, [], ◌∷◌, ◌++◌, length, IfOk, OnOk, Some};
 ghost use Rattle.std.specs.VecDeque.{deque_len, deque_capacity};
 ghost use Rattle.rtrb.specs.Ring.{sent, received, known_items, producer_capacity, IsPair, SameProducer, SameConsumer};
@@ -11,7 +11,7 @@ use rtrb::{Consumer, Producer, RingBuffer};
 use std::alloc::{AllocError, Global};
 use std::collections::VecDeque;
 
-/// A new way, whose ring has room for some letters.
+/// The two ends of a new ring with room for some letters.
 pub fn open(alloc: Global, room: usize) -> Result<(Outlet, Inlet), AllocError>
     requires { 0 < room }
     ensures ring { IfOk result (λ way. outlet_ring way.0 ≡ inlet_ring way.1) }
@@ -31,7 +31,7 @@ pub fn open(alloc: Global, room: usize) -> Result<(Outlet, Inlet), AllocError>
     Ok((outlet, inlet))
 }
 
-// The letters in the ring go behind those that are kept.
+// Moves the letters of the ring behind those that are kept.
 fn pull(ring: &mut Consumer<Letter>, kept: &mut VecDeque<Letter>, count: usize)
     requires count { count ≡ length (known_items ring.old) }
     requires room { deque_len kept.old + count ≤ deque_capacity kept.old }
@@ -49,7 +49,7 @@ fn pull(ring: &mut Consumer<Letter>, kept: &mut VecDeque<Letter>, count: usize)
     }
 }
 
-// One letter goes through the empty ring.
+// Moves one letter through the empty ring.
 fn pass(
     producer: &mut Producer<Letter>,
     consumer: &mut Consumer<Letter>,
@@ -74,7 +74,7 @@ fn pass(
     pull(consumer, kept, count);
 }
 
-// The letters of the ring and then those of the outbox go behind those that are kept.
+// Moves the letters of the ring and then those of the outbox behind those that are kept.
 fn settle(
     producer: &mut Producer<Letter>,
     outbox: &mut VecDeque<Letter>,
@@ -87,8 +87,10 @@ fn settle(
     ensures producer { SameProducer producer.old producer.new }
     ensures consumer { SameConsumer consumer.old consumer.new }
     ensures posted { sent producer.new ++ outbox.new.items ≡ sent producer.old ++ outbox.old.items }
-    ensures all { OnOk result ((outbox.new.items ≡ []) × (received consumer.new ≡ sent producer.new)) }
-    ensures kept { (more : _) × (received consumer.new ≡ received consumer.old ++ more) × (kept.new.items ≡ kept.old.items ++ more) }
+    ensures all { OnOk result ((outbox.new.items ≡ []) ×
+        (received consumer.new ≡ sent producer.new)) }
+    ensures kept { (more : _) × (received consumer.new ≡ received consumer.old ++ more) ×
+        (kept.new.items ≡ kept.old.items ++ more) }
 {
     let count = consumer.slots_beside(producer);
     let Some(total) = count.checked_add(outbox.len()) else {
@@ -102,13 +104,15 @@ fn settle(
     Ok(())
 }
 
-// Puts all letters of the way by at the inlet.
+// Moves all letters under way to the inlet, which keeps them.
 fn rest_way(outlet: &mut Outlet, inlet: &mut Inlet) -> Result<(), AllocError>
     requires { outlet_ring outlet.old ≡ inlet_ring inlet.old }
-    ensures ring { (outlet_ring outlet.new ≡ outlet_ring outlet.old) × (inlet_ring inlet.new ≡ inlet_ring inlet.old) }
+    ensures ring { (outlet_ring outlet.new ≡ outlet_ring outlet.old) ×
+        (inlet_ring inlet.new ≡ inlet_ring inlet.old) }
     ensures posted { outlet_posted outlet.new ≡ outlet_posted outlet.old }
     ensures taken { inlet_taken inlet.new ≡ inlet_taken inlet.old }
-    ensures all { OnOk result (outlet_posted outlet.new ≡ inlet_taken inlet.new ++ inlet_kept inlet.new) }
+    ensures all { OnOk result (outlet_posted outlet.new ≡
+        inlet_taken inlet.new ++ inlet_kept inlet.new) }
 {
     settle(
         &mut outlet.ring,
@@ -118,10 +122,13 @@ fn rest_way(outlet: &mut Outlet, inlet: &mut Inlet) -> Result<(), AllocError>
     )
 }
 
-/// Puts all letters of the way by at its inlet. Where memory is refused, none is lost.
+/// Moves all letters under way to the inlet, which keeps them. Where memory is refused, none is
+/// lost.
 pub fn rest(outlet: &mut Option<Outlet>, inlet: &mut Option<Inlet>) -> Result<(), AllocError>
-    requires { (ring : RingId) × (ring_out outlet.old ≡ Some ring) × (ring_in inlet.old ≡ Some ring) }
-    ensures ring { (ring_out outlet.new ≡ ring_out outlet.old) × (ring_in inlet.new ≡ ring_in inlet.old) }
+    requires { (ring : RingId) × (ring_out outlet.old ≡ Some ring) ×
+        (ring_in inlet.old ≡ Some ring) }
+    ensures ring { (ring_out outlet.new ≡ ring_out outlet.old) ×
+        (ring_in inlet.new ≡ ring_in inlet.old) }
     ensures posted { posted outlet.new ≡ posted outlet.old }
     ensures taken { taken inlet.new ≡ taken inlet.old }
     ensures all { OnOk result (posted outlet.new ≡ taken inlet.new ++ kept inlet.new) }

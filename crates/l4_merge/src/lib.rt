@@ -25,10 +25,12 @@ ghost use Rattle.l4_merge.specs.Pasts.{Past, AddAtMost, AreWholePasts, HasTicked
 ghost use Rattle.l4_merge.specs.Merges.{EndsAt, IsMergedRun, HasMergedRun, HasTurnedRun, HaveWholeRun, HasPasts, SortAsMerged, AreAtRest, HasReorderedRun};
 ghost use Rattle.l4_merge.specs.Rounds.{IsInRounds, events_of};
 
-/// Processors that each keep a log, and handle the letters of each pair in the order in which they are posted, make a core run, whose
-/// events are those of all logs in order of stamp, however they are sorted. So it is of what they add to where a run has ended. The
-/// run is at rest exactly where each of them is and all letters are handled. Where they took turns alone, the run goes on by turns alone and
-/// no clock changes, and where the clock of one went on, by that tick. Where each added so many events at most, so many at most are of each.
+/// Let each processor keep a log, and handle the letters of each pair in the order of posting. Then
+/// the events of all logs, in order of stamp and processor, are those of a core run. The same holds
+/// of what they add to the end of a core run. The run is at rest exactly where each of them is and
+/// all letters are handled. Where they took only turns, the run goes on by turns, and no clock
+/// changes. Where one clock advanced, the run goes on by that tick. A bound on what each processor
+/// adds is a bound on its events in the run.
 pub fn law_merge()
     ensures whole { (m : Machine) (pasts : List Past) → AreWholePasts m pasts → HaveWholeRun m pasts }
     ensures sorted { (m : Machine) (pasts : List Past) → AreWholePasts m pasts → SortAsMerged (all_events pasts) }
@@ -56,16 +58,17 @@ pub fn law_merge()
     ensures rest { (m : Machine) (pasts : List Past) (r : Run) → EndsAt r pasts → (at_rest m r.system ≡ true) ↔ AreAtRest m pasts }
 {}
 
-/// The events of any core run in order of stamp, however they are sorted, are those of a core run that ends in the same local states, with
-/// the same letters under way of each pair, and is at rest exactly where the first one is.
+/// The events of any core run in order of stamp, however they are sorted, are those of a core run
+/// that ends in the same local states, with the same letters under way of each pair, and is at rest
+/// exactly where the first one is.
 pub fn law_reorder()
     ensures whole { (m : Machine) (r : Run) → IsCoreRun m r → HasReorderedRun m r }
     ensures sorted { (m : Machine) (r : Run) → IsCoreRun m r → SortAsMerged r.events }
 {}
 
-/// On a machine of one processor there is one run in rounds: no letter ever comes, so each event is the only one that is possible. A run in rounds
-/// of `most` events, or of fewer that is at rest, is the one whose rounds have one turn of the processor each, or where it has none a tick to
-/// its least deadline, and which ends where nothing goes on or `most` events are used up.
+/// On a machine of one processor there is one run in rounds: no letter ever comes, so each event is
+/// the only one that is possible. In it each round is one turn of the processor, or, where it has
+/// none, a tick to its least deadline. It ends at rest, or with the `most`-th event.
 pub fn law_alone()
     ensures { (m : Machine) (turns most : ℕ) (r : Run) → m.cpus ≡ 1 → IsInRounds m turns r → length r.events ≤ most →
         (most ≤ length r.events) ⊎ (at_rest m r.system ≡ true) → r ≡ run m most }

@@ -2,8 +2,8 @@
 //! leave to wait for one.
 //!
 //! Two processors work, each on a thread of its own, and both come back whatever the other does.
-//! What they came to is gathered and passes its audit. That no call of theirs waits is in no
-//! clause: that the prover takes this crate shows it.
+//! Their outcome is gathered and passes its audit. That no call of theirs waits is in no clause:
+//! that the prover takes this crate shows it.
 //!
 //! ```text
 //! ./x try l4_nowait

@@ -34,7 +34,8 @@ fn work_on(processor: &mut Processor<'_>)
     }
 }
 
-// The first half of the processors does so in one thread, the second half in another: of two, each in a thread of its own.
+// The first half of the processors does so in one thread, the second half in another: of two, each
+// in a thread of its own.
 fn all_work_on<R: Threads + Sync>(rt: &R, processors: &mut [Processor<'_>])
     ensures for_each { length processors.new ≡ length processors.old }
     ensures each { (i : ℕ) (old new : ProcessorOfMachine) → slice_get processors.old i ≡ Some old → slice_get processors.new i ≡ Some new → HasGoneOn old new }
@@ -49,7 +50,7 @@ fn all_work_on<R: Threads + Sync>(rt: &R, processors: &mut [Processor<'_>])
     );
 }
 
-// Whatever the other one does, each comes back, and what they came to is a history of the machine.
+// Whatever the other one does, each comes back, and their steps are a history of the machine.
 #[test]
 fn without_wait(rt: HostRuntime) -> Result<(), Fail> {
     let machine = Machine::parse(rt.alloc(), CALLS.as_bytes())

@@ -47,7 +47,8 @@ fn first_at(arena: &Arena, block: usize) -> Option<usize>
     arena.first_accepted(block, &ANY)
 }
 
-// Who is taken first at block 3: once block 1 has left from the middle, and once it has come back behind all others; and at block 0.
+// Who is taken first at block 3: once block 1 has left from the middle, and once it has come back
+// after all others; and at block 0.
 fn first_ones(alloc: Global) -> Option<[Option<usize>; 5]> {
     let mut arena = Arena::new(alloc, 4).ok()?;
     queue(&mut arena, 0)?;
@@ -109,7 +110,8 @@ fn begins_with_one(arena: &Arena) -> bool {
     firsts == [Some(0); 2] && arena.least_deadline() == Some(6)
 }
 
-// Whether the second block is due first, and then the others as they were armed, all of them from 70 on.
+// Whether the second block is due first, and then the others as they were armed, all of them from
+// 70 on.
 fn are_due_from_70(arena: &mut Arena) -> bool {
     arena.pop_due(5).is_none()
         && pop_three(arena, 70) == [Some(1), Some(0), Some(2)]

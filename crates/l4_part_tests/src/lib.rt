@@ -1,10 +1,9 @@
 //! Tests of the calls of single crates. They stand here since a crate with tests of its own is
 //! proved twice.
 //!
-//! Most are rows of text over a processor that is asked by hand (`rows`): lawful and unlawful
-//! letters, sessions of several processors, retargets, clocks and stamps at 2^62. The others try
-//! ports, lists, histories, texts and traces. `refused` marks calls in which bench/refusals.sh
-//! refuses memory.
+//! Most are rows of text that drive one processor by hand: lawful and unlawful letters, sessions of
+//! several processors, retargets, clocks and stamps at 2^62. The others try ports, lists,
+//! histories, texts and traces. `refused` marks calls in which bench/refusals.sh refuses memory.
 //!
 //! What a contract says needs no test. These show what none says: that a call succeeds where memory
 //! is ample, and that a definition says what was meant.

@@ -31,7 +31,7 @@ pub(crate) fn gives(port: &mut Port, poster: u8, stamp: u64) -> bool {
 
 fn may_move<T: Send>(_: &T) {}
 
-// Whether a letter of this stamp is there once it is flushed, and not before.
+// Whether a letter of this stamp arrives with the flush, and not before.
 fn arrives(poster: &mut Port, receiver: &mut Port, stamp: u64) -> bool {
     if receiver.has_mail() || receiver.take().is_some() {
         return false;
@@ -40,7 +40,8 @@ fn arrives(poster: &mut Port, receiver: &mut Port, stamp: u64) -> bool {
     receiver.has_mail() && gives(receiver, 0, stamp)
 }
 
-// Whether a port has room for the other one of two alone, once it was made, and posts two letters.
+// Whether a port of two has room only to the other one, once that was reserved, and posts two
+// letters.
 fn posts_two(poster: &mut Port) -> bool {
     if poster.has_room(1) || !send(poster, 1, 7) {
         return false;
@@ -59,7 +60,8 @@ fn arrive_in_order(alloc: Global) -> Option<bool> {
     Some(arrive && !receiver.has_mail() && receiver.take().is_none() && poster.take().is_none())
 }
 
-// Two letters go through a ring with room for one, and each is seen until it is taken. A body that never flushes or never takes keeps all contracts.
+// Two letters go through a ring with room for one, and each is seen until it is taken. No contract
+// says that a ring is looked at anew.
 #[test]
 fn letters_arrive_in_order(rt: HostRuntime) {
     assert!(rt; arrive_in_order(rt.alloc()) == Some(true));

@@ -1,5 +1,5 @@
-// Calls to which memory may be refused. Each is made, and where it was refused made again: then it gives what it would have given, and what it was to
-// change is unchanged. Refused or not, the same comes of it.
+// Calls to which memory may be refused. Each call is made, and made again where memory was refused.
+// The refused call changes nothing; the second gives what the first would have given.
 ghost use Rattle.std.specs.Prelude.{◌≡◌, map};
 ghost use Rattle.l4_mail.specs.Ports.{AreOneFabric, place};
 
@@ -78,7 +78,7 @@ fn made<'m>(rt: &HostRuntime, machine: &'m Machine) -> Option<Core<'m>> {
     }
 }
 
-// What it answers to two questions.
+// Its answers to two questions.
 fn said(alloc: Global, core: &mut Core<'_>) -> Result<String, Fail> {
     let mut out = String::new(alloc);
     push_answer(alloc, &mut out, core, "turn")?;
@@ -125,7 +125,8 @@ fn steps_read(rt: &HostRuntime, lines: &[u8]) -> Result<Vec<Step>, TraceFault> {
     }
 }
 
-// Whether the line of a step is appended, by a second call where memory was refused. The refused one appends nothing.
+// Whether the line of a step is appended, by a second call where memory was refused. The refused
+// one appends nothing.
 fn is_written(rt: &HostRuntime, step: &Step, out: &mut Vec<u8>) -> bool {
     let before = out.len();
     call_begins(rt, "write_event");
@@ -167,7 +168,8 @@ fn a_fabric_is_made(rt: HostRuntime) -> Result<(), Fail> {
     Ok(())
 }
 
-// Whether room for a letter is made, by a second call where memory was refused, and the letter is posted.
+// Whether room for a letter is made, by a second call where memory was refused, and the letter is
+// posted.
 fn is_posted(rt: &HostRuntime, poster: &mut Port, stamp: u64) -> bool {
     call_begins(rt, "reserve");
     let made = poster.reserve();
@@ -221,7 +223,8 @@ fn send_two(port: &mut Port) -> bool
     sent
 }
 
-// Whether of the ways between three processors, the one from 2 to 0 has two letters, and the next one none.
+// Whether of the ways between three processors, the one from 2 to 0 has two letters, and the next
+// one none.
 fn are_on_one_way(list: &[(u8, u8, Vec<Letter>)]) -> bool {
     if list.len() != 6 || list[4].2.len() != 2 {
         return false;

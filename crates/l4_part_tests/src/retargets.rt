@@ -2,7 +2,8 @@
 use crate::rows::are_answered;
 use std::test::Fail;
 
-// On three processors: a client that calls a server, the server, which hands the message on in the client's name, and a worker, which answers.
+// On three processors: a client that calls a server, the server, which hands the message on in the
+// client's name, and a worker, which answers.
 const APART: &str = "l4 2 64
 cpus 3
 thread 1.1 cpu 0 space 1
@@ -32,8 +33,9 @@ ipc nil any never never
 ipc last nil never never
 ";
 
-// The worker is handed the message: its processor decides the send, and then tells of whom the originator is to wait for. The client turns to the worker
-// before its call is decided, and after it.
+// The worker is handed the message: its processor decides the send, and then tells of whom the
+// originator is to wait for. The client turns to the worker before its call is decided, and after
+// it.
 const BY_LETTERS: &str = "cpu 2
 turn
   at 1

@@ -1,19 +1,21 @@
-// A processor by itself, asked by hand: its turns, its clock, and letters as others would post them. What it is asked and what it answers stands in
-// rows of text.
+// A processor by itself, asked by hand: its turns, its clock, and letters as others would post
+// them. The questions and its answers stand in rows of text.
 //
-// A row is a question, and the rows behind it that begin with a space are its answer. The first row makes the processor: `cpu` and its number. The
-// other questions:
+// A row is a question; the rows after it that begin with a space are its answer. The first row
+// makes the processor: `cpu` and its number. The other questions:
 //
 //     turn              the next turn
-//     advance CLOCK     its clock goes on
+//     advance CLOCK     its clock advances
 //     letter STAMP ..   a letter comes that was posted with this stamp
 //     stands            whether there is something to do, the clock and the least deadline
 //     can STAMP         whether it has a stamp for the event of a letter of this one, or 0
 //
-// A question behind `? ` is one of several: each is asked of a processor of its own, between the questions before and behind them.
+// Questions that begin with `? ` are alternatives: each is asked of a processor of its own, after
+// the questions before them and before those after them.
 //
-// An answer is `at` and the stamp of the event, a line for each of its steps, and `to CPU at STAMP ..` for each letter that it posts, or else why
-// nothing was done. A letter is spelled as in `read_content`. Rows that begin with `#` are remarks.
+// An answer is `at` and the stamp of the event, a line for each of its steps, and
+// `to CPU at STAMP ..` for each letter that it posts, or else why nothing was done. A letter is
+// spelled as in `read_content`. Rows that begin with `#` are remarks.
 use l4_core::processor::values::Turn;
 use l4_core::processor::{Core, Fault};
 use l4_script::machine::Machine;
@@ -119,7 +121,7 @@ fn retarget(words: &str) -> Option<Content> {
     }))
 }
 
-// What a letter with this first word and these others tells, but for a send that has begun.
+// The content of a letter with this first word and these others, but for a send that has begun.
 fn told(first: &str, words: &str) -> Option<Content> {
     match first {
         "done" => done(words),
@@ -134,7 +136,8 @@ fn told(first: &str, words: &str) -> Option<Content> {
 
 // The content of a letter:
 //
-//     waits LINE, now LINE    a send has begun, for ever or without time; the line is the one that a trace has where it is delivered
+//     waits LINE, now LINE    a send has begun, for ever or without time; the line is the one
+//                             that a trace has where it is delivered
 //     done SEND HOW
 //     withdraw SEND RECEIVER WHY
 //     gone THREAD
@@ -197,7 +200,7 @@ fn push_told(
     Ok(())
 }
 
-// Appends what a letter tells, but for its last word and the end of the line.
+// Appends the content of a letter, but for its last word and the end of the line.
 fn push_subject(out: &mut String, content: &Content) -> Result<(), AllocError> {
     match content {
         Content::Send { zero_timeout, .. } => {
@@ -247,7 +250,7 @@ fn what_word(what: What) -> &'static str {
     }
 }
 
-// The last word of what a letter tells, where it is no name and no thread, with the space before it.
+// The last word of a letter's content, where it is no name and no thread, with the space before it.
 fn last_word(content: &Content) -> &'static str {
     match content {
         Content::Done { decision, .. } => decision_word(*decision),
@@ -257,7 +260,7 @@ fn last_word(content: &Content) -> &'static str {
     }
 }
 
-// Appends the line of what a letter tells, spelled as it is read.
+// Appends the line of a letter's content, spelled as it is read.
 fn push_content(alloc: Global, out: &mut String, content: &Content) -> Result<(), Fail> {
     push_subject(out, content)?;
     if let Content::Send {
@@ -282,7 +285,7 @@ fn push_letters(alloc: Global, out: &mut String, letters: &[(u8, Letter)]) -> Re
     Ok(())
 }
 
-// Appends what an event tells and posts.
+// Appends the steps and letters of an event.
 fn push_event(
     alloc: Global,
     out: &mut String,
@@ -362,7 +365,8 @@ pub(crate) fn push_answer(
     }
 }
 
-// The rows as they are asked where of several questions the one of this number is, counted from 0: without the others and their answers.
+// The rows as they are asked where of several questions the one of this number is, counted from 0:
+// without the others and their answers.
 fn chosen(alloc: Global, rows: &str, number: usize) -> Result<String, Fail> {
     let mut out = String::new(alloc);
     let mut several = 0usize;
@@ -415,8 +419,8 @@ fn answered(alloc: Global, machine: &Machine, rows: &str) -> Result<String, Fail
     Ok(out)
 }
 
-/// Whether the questions of these rows are answered on the machine of a text as the rows say, each section, which an empty row ends, by itself. Prints
-/// the first one that is not.
+/// Whether the questions of these rows are answered on the machine of a text as the rows say, each
+/// section, which an empty row ends, by itself. Prints the first one that is not.
 pub(crate) fn are_answered<R: AllocGlobal + Print>(
     rt: &R,
     text: &str,

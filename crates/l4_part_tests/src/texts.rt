@@ -28,8 +28,9 @@ fn fault_with_return_at(alloc: Global, place: usize) -> Option<TextFault> {
     fault_of(alloc, text.as_slice())
 }
 
-// Whether the text with a carriage return in the place of this byte, and the beginning up to it, are both faulty in this line: the one that is not
-// whole. The beginning is a text where it ends with a line, behind both header lines.
+// Whether the text with a carriage return in the place of this byte, and the beginning up to it,
+// are both faulty in this line: the one that is not whole. The beginning is a text where it ends
+// with a line, after both header lines.
 fn names_its_line(alloc: Global, place: usize, line: usize, is_start: bool) -> bool {
     let Some(beginning) = PING.as_bytes().get(..place) else {
         return false;
@@ -52,7 +53,8 @@ fn a_text_that_is_cut_or_spoilt_names_the_line(rt: HostRuntime) {
     assert!(rt; PING.len() == start && fault_of(rt.alloc(), PING.as_bytes()).is_none());
 }
 
-// The fault of a text of this length, whose third line is one long comment. Behind it the lines are empty.
+// The fault of a text of this length, whose third line is one long comment. After it the lines are
+// empty.
 fn fault_of_length(alloc: Global, length: usize) -> Option<Option<TextFault>> {
     let mut text = b"l4 1 64\ncpus 1\n".to_vec(alloc).ok()?;
     text.resize(1_048_575, b';').ok()?;

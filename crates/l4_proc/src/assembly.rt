@@ -10,8 +10,9 @@ use l4_script::machine::Machine;
 use l4_types::errors::NoMemory;
 use std::alloc::Global;
 
-/// The processors of a machine where nothing has happened, in the order of their numbers, with the ports of one fabric. Between any two of
-/// them there is room for so many letters each way, 1 to 65,536.
+/// The processors of a machine where nothing has happened, in the order of their numbers, with the
+/// ports of one fabric. Between any two of them there is room for `room` letters each way, 1 to
+/// 65,536.
 pub fn assemble<'m>(
     alloc: Global,
     machine: &'m Machine,

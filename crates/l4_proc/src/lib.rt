@@ -3,7 +3,7 @@
 //!
 //! `assemble` makes the processors of a machine, `work` lets one take turns, `work_together`
 //! several at the same time. Contracts see a core, a port and a log: what the log has is what the
-//! core did over the letters taken, and what was posted is exactly theirs. `work` answers why it
+//! core did over the letters taken, and what was posted is exactly theirs. `work` returns why it
 //! stopped. A `Gate` is asked before each turn, and may hold a processor back.
 //!
 //! That several host threads are at work, and which processor goes first, is up to the host: tested

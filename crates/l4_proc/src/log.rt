@@ -10,10 +10,10 @@ use l4_types::errors::NoMemory;
 use l4_types::letters::Letter;
 use std::alloc::Global;
 
-// Room is made for so many ends at once, since to ask each time costs more than a push.
+// Room is reserved for this many ends at once: to ask each time costs more than a push.
 const CHUNK_ENDS: usize = 64;
 
-/// The end of an event: its steps are those from the end of the one before up to this place.
+/// The end of an event. Its steps lie between the end of the event before and this index.
 #[derive(Clone, Copy)]
 pub(crate) struct End {
     stamp: u64,
@@ -24,7 +24,7 @@ pub(crate) struct End {
 #[derive(Drop)]
 pub struct Log {
     cpu: u8,
-    // The steps of all events, and behind them those of the event under way.
+    // The steps of all events, and after them those of the current event.
     pub(crate) told: Told<History>,
     ends: Vec<End>,
     // How many of the events were ticks.
@@ -32,7 +32,7 @@ pub struct Log {
     ghost few: { ticks ≤ vec_len ends },
 }
 
-/// An event that is only looked at.
+/// A borrowed event.
 #[derive(Drop)]
 pub struct EventRef<'a> {
     /// The processor whose event it is.
@@ -79,7 +79,7 @@ impl Log {
         self.len() == 0
     }
 
-    /// How many of its events were turns, and no ticks.
+    /// How many of its events were turns. Ticks are none.
     pub fn turns(&self) -> u64
         ensures value { result ≡ length self.now.ends.items - self.now.ticks }
         ensures fits { result < 2 ^ 63 }
@@ -113,7 +113,8 @@ impl Log {
         ends[i].stamp
     }
 
-    /// Where the steps of the i-th event, counted from 0, stand in the history: the place of the first, and the one behind the last.
+    /// Where the steps of the i-th event, counted from 0, stand in the history: the place of the
+    /// first, and the one after the last.
     #[tactic(auto, using(crate::proofs::Ends::as_many))]
     pub fn places(&self, i: usize) -> (usize, usize)
         requires within { i < length (events self.now) }
@@ -125,7 +126,7 @@ impl Log {
         (start(ends, i), ends[i].place)
     }
 
-    /// The steps of all events, one event behind the other.
+    /// The steps of all events, in order.
     pub fn history(&self) -> &History
         requires { IsClosed self.now }
         ensures { result.now.steps ≡ told (events self.now) }
@@ -133,7 +134,7 @@ impl Log {
         self.told.sink()
     }
 
-    /// The steps of all events, one event behind the other. Nothing is copied.
+    /// The steps of all events, in order. Nothing is copied.
     pub fn into_history(self) -> History
         requires { IsClosed self }
         ensures { result.steps ≡ told (events self) }
@@ -152,7 +153,7 @@ impl Log {
         self.told.begin()
     }
 
-    // The event under way, a turn, has ended.
+    // Ends the current event, a turn.
     pub(crate) fn end_turn(&mut self, stamp: u64)
         requires { vec_len self.old.ends < vec_capacity self.old.ends }
         ensures { HasEnded self.old self.new stamp self.old.ticks }
@@ -161,7 +162,7 @@ impl Log {
         self.ends.push_reserved(End { stamp, place });
     }
 
-    // The event under way, a tick, has ended.
+    // Ends the current event, a tick.
     pub(crate) fn end_tick(&mut self, stamp: u64)
         requires { vec_len self.old.ends < vec_capacity self.old.ends }
         ensures { HasEnded self.old self.new stamp (self.old.ticks + 1) }
@@ -170,14 +171,14 @@ impl Log {
         self.ticks += 1;
     }
 
-    // Whether the event under way has letters left.
+    // Whether the current event has letters left.
     pub(crate) fn has_letters(&self) -> bool
         ensures { (result ≡ false) ↔ (self.now.told.letters ≡ []) }
     {
         !self.told.letters().is_empty()
     }
 
-    // The next letter of the event under way, with the processor that it goes to.
+    // The next letter of the current event, with the processor that it goes to.
     pub(crate) fn take_letter(&mut self) -> Option<(u8, Letter)>
         ensures letters { self.old.told.letters ≡ option_to_list (option_map posted_of result) ++ self.new.told.letters }
         ensures none { IfNone result (self.new.told.letters ≡ []) }

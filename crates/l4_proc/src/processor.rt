@@ -81,8 +81,8 @@ impl<'m> Processor<'m> {
         self.worker.log.turns()
     }
 
-    /// Whether it has something to do: a letter in hand or one that a rest put by, or a turn of its own. A letter that has come since is not
-    /// looked for.
+    /// Whether it has something to do: a letter in hand or one that its port keeps, or a turn of
+    /// its own. Rings are not looked at.
     pub fn has_work(&self) -> bool
         ensures { (result ≡ false) ↔ IsIdle self.now }
     {
@@ -96,7 +96,7 @@ impl<'m> Processor<'m> {
         self.worker.stop
     }
 
-    /// The processor taken apart, so that its port can come to rest with those of the others.
+    /// Takes the processor apart, so that its port can come to rest with those of the others.
     pub fn split(self) -> (Port, Worker<'m>)
         ensures parts { (result.0 ≡ self.entry.port) × (result.1 ≡ self.entry.worker) }
         ensures whole { IsWhole self.entry.port self.entry.worker }
@@ -113,8 +113,8 @@ impl<'m> Processor<'m> {
         worker.log
     }
 
-    /// A processor put together again, of a port and what does its work. They are of one processor, and the port has posted and taken what
-    /// it had when they were parted.
+    /// Puts a processor together again, of a port and what does its work. Condition: they are of
+    /// one processor, and what the port has posted and taken is as at the split.
     pub fn join(port: Port, worker: Worker<'m>) -> Processor<'m>
         requires { IsWhole port worker }
         ensures { (result.port ≡ port) × (result.worker ≡ worker.entry) }
@@ -122,12 +122,14 @@ impl<'m> Processor<'m> {
         Processor { port, worker }
     }
 
-    /// Takes at most so many turns: each time the letter in hand is handled, or the next that has come, or where none has, it is the core's
-    /// turn. The gate is asked before each attempt.
+    /// Takes at most `turns` turns. A turn handles the letter in hand, else the next that is taken
+    /// from the port; where there is none it is the core's turn. The gate is asked before each
+    /// attempt.
     ///
-    /// `Used`: so many were taken. `Idle`: there is nothing to do, and no letter has come. `NoMemory`: memory was refused. `Mail`: the letter in
-    /// hand is not lawful here. `Stamp`: it is lawful, or there is none and a turn, and the next stamp would reach 2^62. Then the last turn was
-    /// not taken; a letter that was taken stays in hand, and is handled first by the next call.
+    /// `Used`: all were taken. `Idle`: there is nothing to do, and no letter was seen. `NoMemory`:
+    /// memory was refused. `Mail`: the letter in hand is not lawful here. `Stamp`: it is lawful, or
+    /// there is none and a turn, and the next stamp would reach 2^62. Then the last turn was not
+    /// taken; a letter that was taken stays in hand, and is handled first by the next call.
     pub fn work<G: Gate>(&mut self, turns: u64, gate: &G) -> Stop
         ensures on { HasGoneOn self.old self.new }
         ensures turned { HasTurned self.old.worker.core.machine self.old.worker.core.cpu (past self.old) (past self.new) }
@@ -146,7 +148,7 @@ impl<'m> Processor<'m> {
         stop
     }
 
-    // The same, without a note of why it stopped.
+    // Takes at most `turns` turns. Returns why it stopped.
     fn take_turns<G: Gate>(&mut self, turns: u64, gate: &G) -> Stop
         ensures { HasTakenUpTo turns self.old self.new result }
     {
@@ -159,7 +161,7 @@ impl<'m> Processor<'m> {
         Stop::Used
     }
 
-    // One turn.
+    // Takes one turn.
     fn take_turn(&mut self) -> Result<(), Stop>
         ensures ok { OnOk result (HasTaken 1 self.old self.new) }
         ensures err { OnErr result (HasTaken 0 self.old self.new) }
@@ -173,7 +175,8 @@ impl<'m> Processor<'m> {
         Ok(())
     }
 
-    // Posts the letters of the event that has ended, and moves them on. Where there are none, what could be moved on was so before the event.
+    // Posts the letters of the event that has ended, and moves them on. Where there are none,
+    // `get_ready` has flushed already.
     fn send_all(&mut self)
         requires ways { AllByRecursion (λ p. HasWayTo self.old.port p.0) self.old.worker.log.told.letters }
         requires room { (to : ℕ) → HasWayTo self.old.port to → length self.old.worker.log.told.letters ≤ room_to self.old.port to }
@@ -210,10 +213,10 @@ impl<'m> Processor<'m> {
         Ok(())
     }
 
-    /// The clock goes on to this value, in ticks: one event more, which posts and takes no letter.
+    /// Advances the clock to this value, in ticks: one event more, which posts and takes no letter.
     ///
-    /// `Clock`: the value is not above the clock, or not below 2^62. `Stamp`: else, where the next stamp would reach 2^62. `NoMemory`: else,
-    /// where memory is refused. Nothing is changed then.
+    /// `Clock`: the value is not above the clock, or not below 2^62. `Stamp`: else, where the next
+    /// stamp would reach 2^62. `NoMemory`: else, where memory is refused. Nothing is changed then.
     pub fn tick(&mut self, to: u64) -> Result<(), ProcFault>
         ensures ok { OnOk result (HasTicked to self.old self.new) }
         ensures err { OnErr result (HasStayed self.old self.new) }

@@ -39,7 +39,7 @@ fn have_numbers(processors: &[Processor<'_>], below: usize) -> bool
     true
 }
 
-// Whether each is of a fabric of so many.
+// Whether each is of a fabric of `cpus` processors.
 fn have_size(processors: &[Processor<'_>], cpus: usize) -> bool
     ensures { result ≡ list_all (λ p. nat_eq (fabric_size p.port) cpus) processors.now }
 {
@@ -107,13 +107,13 @@ fn join<'m>(ports: Vec<Port>, workers: Vec<Worker<'m>>, processors: &mut Vec<Pro
     }
 }
 
-/// Brings the ports of processors to rest: all letters that are under way are put by at the processors that they go to, which
-/// take them first when they work on. Answers whether there are none, and none in hand either. So it needs no other thread at work on
-/// them, and the processors of one fabric, in any order, which they keep. But for what their ports keep each is what it was, whatever is
-/// answered.
+/// Drains the mail of processors: every letter under way is moved to the processor that it goes to,
+/// which handles it first. Returns whether there was none, and none in hand. No other thread may be
+/// at work on them. They are of one fabric, in any order, and stay in that order. Whatever it
+/// returns, only what their ports keep has changed.
 ///
-/// `Numbers`: they are not all processors of their fabric. `NoMemory`: memory was refused; some letters may have been put by, none is lost, and
-/// the call can be made again.
+/// `Numbers`: they are not all processors of their fabric. `NoMemory`: memory was refused; some
+/// letters may have moved, none is lost, and the call can be made again.
 pub fn rest(alloc: Global, processors: &mut Vec<Processor<'_>>) -> Result<bool, RestFault>
     requires { AreOneFabric (map (λ p. p.port) processors.old.items) }
     ensures numbers { IsErrOf result RestFault.Numbers ↔ (are_all (map (λ p. p.port) processors.old.items) ≡ false) }
@@ -134,7 +134,7 @@ pub fn rest(alloc: Global, processors: &mut Vec<Processor<'_>>) -> Result<bool, 
     rest_several(alloc, processors)
 }
 
-// The same where they are all processors of their fabric.
+// Drains the mail of all processors of a fabric.
 fn rest_several(alloc: Global, processors: &mut Vec<Processor<'_>>) -> Result<bool, RestFault>
     requires one { AreOneFabric (map (λ p. p.port) processors.old.items) }
     requires all { are_all (map (λ p. p.port) processors.old.items) ≡ true }

@@ -1,10 +1,10 @@
-//! Why a processor stops, and why its clock does not go on.
+//! Why a processor stops, and why its clock does not advance.
 use l4_types::errors::NoMemory;
 
 /// Why a processor stopped. But for `Used` its last turn was not taken.
 #[derive(Clone, Copy, PartialEq, Eq, Debug)]
 pub enum Stop {
-    /// There is nothing to do, and no letter has come.
+    /// There is nothing to do, and no letter was seen.
     Idle,
     /// All turns were taken.
     Used,
@@ -16,12 +16,12 @@ pub enum Stop {
     Stamp,
 }
 
-/// Why a clock does not go on. Nothing is changed then.
+/// Why a clock does not advance. Nothing is changed then.
 #[derive(Clone, Copy, PartialEq, Eq, Debug)]
 pub enum ProcFault {
     /// Memory was refused.
     NoMemory,
-    /// The clock is not to go on to this value: it is not above the clock, or not below 2^62.
+    /// The clock may not advance to this value: it is not above the clock, or not below 2^62.
     Clock,
     /// The next stamp would reach 2^62.
     Stamp,

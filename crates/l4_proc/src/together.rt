@@ -10,15 +10,18 @@ use std::sync::atomic::{AtomicUsize, Ordering};
 use std::thread;
 use std::thread::Threads;
 
-// So often in a row a processor that finds nothing looks again: about as long as a letter takes to come. What comes later is for the next
-// round, so nobody waits where the host runs another one late or not at all.
+// A processor that finds nothing looks again at most this often in a row: about as long as a letter
+// takes to arrive. What arrives later is for the next round. So nobody waits where the host runs a
+// thread late or not at all.
 const LOOKS: u32 = 200;
 
-// So often in a row it looks again where nobody is at work: another one may be about to take a letter, and will be at work then.
+// It looks again this often while nobody is at work: another processor may be about to take a
+// letter.
 const LAST_LOOKS: u32 = 2;
 
-// A processor that has found nothing looks on until it takes a turn, and answers whether it did. It gives up where it stops for another
-// reason, where nobody has been at work for a while, and after so many looks. So it waits for nobody, whatever the others do.
+// Looks on with a processor that has found nothing, until it takes a turn. Returns whether it did.
+// It gives up where it stops for another reason, where nobody has been at work for a while, and
+// after `LOOKS` looks. So it waits for nobody, whatever the others do.
 fn look_on<G: Gate>(processor: &mut Processor<'_>, gate: &G, at_work: &AtomicUsize) -> bool
     requires idle { processor.old.worker.stop ≡ stop.Idle }
     requires stopped { IsStopped processor.old stop.Idle }
@@ -43,7 +46,7 @@ fn look_on<G: Gate>(processor: &mut Processor<'_>, gate: &G, at_work: &AtomicUsi
     false
 }
 
-// Takes at most so many turns, and answers how many.
+// Takes at most `turns` turns, and returns how many.
 fn take_turns<G: Gate>(processor: &mut Processor<'_>, turns: u64, gate: &G) -> u64
     ensures worked { HasWorkedOn turns processor.old processor.new }
     ensures count { turns_of processor.new ≡ turns_of processor.old + result }
@@ -53,7 +56,8 @@ fn take_turns<G: Gate>(processor: &mut Processor<'_>, turns: u64, gate: &G) -> u
     processor.turns() - before
 }
 
-// Takes at most so many turns, where others may be at work too. It counts as at work once it has begun. No promise rests on how many are.
+// Takes at most `turns` turns, where others may be at work too. It counts as at work once it has
+// begun. No promise rests on how many are.
 fn work_among<G: Gate>(processor: &mut Processor<'_>, turns: u64, gate: &G, at_work: &AtomicUsize)
     ensures { HasWorkedOn turns processor.old processor.new }
 {
@@ -71,7 +75,7 @@ fn work_among<G: Gate>(processor: &mut Processor<'_>, turns: u64, gate: &G, at_w
     }
 }
 
-// Each takes at most so many turns, in order, on the thread of the caller.
+// Each takes at most `turns` turns, in order, on the thread of the caller.
 fn work_in_order<R: Threads + Sync, G: Gate + Sync>(
     rt: &R,
     processors: &mut [Processor<'_>],
@@ -92,7 +96,7 @@ fn work_in_order<R: Threads + Sync, G: Gate + Sync>(
     );
 }
 
-// Each takes at most so many turns, in a host thread of its own.
+// Each takes at most `turns` turns, in a host thread of its own.
 fn work_side_by_side<R: Threads + Sync, G: Gate + Sync>(
     rt: &R,
     processors: &mut [Processor<'_>],
@@ -122,12 +126,14 @@ fn count_busy(processors: &[Processor<'_>]) -> usize {
         .count()
 }
 
-/// Each processor takes at most so many turns. Where two of them or more have something to do, and did not run out of it when they worked last, each
-/// works in a host thread of its own, one of them on the thread of the caller. Else they work in order on the thread of the caller: what they have
-/// to do takes less than to start threads.
+/// Each processor takes at most `turns` turns. Where two of them or more have something to do, and
+/// did not run out of it when they worked last, each works in a host thread of its own, one of them
+/// on the thread of the caller. Else they work in order on the thread of the caller: what they have
+/// to do costs less than starting threads.
 ///
-/// A processor that finds nothing to do looks on for a while where another one is at work, so that a letter that comes meanwhile does not cost a
-/// call; but it need not be taken in this call. Where the host starts fewer threads, one thread works for several processors.
+/// A processor that finds nothing to do looks on for a while where another one is at work, so that
+/// a letter that comes meanwhile does not cost a call; but it need not be taken in this call. Where
+/// the host starts fewer threads, one thread works for several processors.
 ///
 /// Each remembers why it stopped (`Processor::stop`).
 pub fn work_together<R: Threads + Sync, G: Gate + Sync>(

@@ -16,7 +16,7 @@ use l4_types::letters::Letter;
 use l4_types::steps::CLOCKS;
 use std::alloc::Global;
 
-/// A processor without its port: what it knows, and the log of its events.
+/// A processor without its port: its core, its log, and the letter in hand.
 #[derive(Drop)]
 pub struct Worker<'m> {
     pub(crate) core: Core<'m>,
@@ -27,7 +27,7 @@ pub struct Worker<'m> {
     pub(crate) stop: Stop,
 }
 
-// A letter is handled.
+// Handles a letter.
 fn handle(core: &mut Core<'_>, letter: &Letter, told: &mut Told<History>) -> Result<u64, Stop>
     requires open { IsOpen told.old }
     ensures ok { IfOk result (λ stamp. IsEvent (handle core.old.machine core.old.cpu core.old.local (letter_of letter.now)) core.old core.new told.old told.new stamp) }
@@ -44,7 +44,7 @@ fn handle(core: &mut Core<'_>, letter: &Letter, told: &mut Told<History>) -> Res
     }
 }
 
-// The core's own turn.
+// Takes the core's own turn.
 fn turn(core: &mut Core<'_>, told: &mut Told<History>) -> Result<u64, Stop>
     requires open { IsOpen told.old }
     ensures ok { IfOk result (λ stamp. IsEvent (turn core.old.machine core.old.cpu core.old.local) core.old core.new told.old told.new stamp) }
@@ -125,7 +125,7 @@ impl<'m> Worker<'m> {
         self.log.begin()
     }
 
-    /// Takes the letter that is next in hand, where there is one, with the processor that posted it. The next turn handles it.
+    /// Puts this letter in hand, with the processor that posted it. The next turn handles it.
     pub fn take_in_hand(&mut self, next: Option<(u8, Letter)>)
         requires { self.old.hand ≡ None }
         ensures core { self.new.core ≡ self.old.core }
@@ -136,7 +136,8 @@ impl<'m> Worker<'m> {
         self.hand = next;
     }
 
-    /// The event that has begun is a turn: the letter in hand is handled, or it is the core's turn. Where it is not taken, core and letter stay.
+    /// Takes a turn as the event that has begun: handles the letter in hand, else takes the core's
+    /// turn. Where it is not taken, core and letter stay.
     pub fn take_turn(&mut self) -> Result<(), Stop>
         requires open { IsOpen self.old.log.told }
         requires room { vec_len self.old.log.ends < vec_capacity self.old.log.ends }
@@ -151,7 +152,7 @@ impl<'m> Worker<'m> {
         Ok(())
     }
 
-    // The letter in hand is handled, or it is the core's turn.
+    // Handles the letter in hand, else takes the core's turn.
     fn go_on(&mut self) -> Result<u64, Stop>
         requires open { IsOpen self.old.log.told }
         ensures ok { IfOk result (λ stamp. HasDone self.old self.new stamp) }
@@ -171,7 +172,8 @@ impl<'m> Worker<'m> {
         }
     }
 
-    /// The next letter that the last event posted, with the processor that it goes to. Each is given once.
+    /// The next letter that the last event posted, with the processor that it goes to. Each is
+    /// given once.
     pub fn take_letter(&mut self) -> Option<(u8, Letter)>
         ensures core { self.new.core ≡ self.old.core }
         ensures hand { self.new.hand ≡ self.old.hand }
@@ -183,10 +185,10 @@ impl<'m> Worker<'m> {
         self.log.take_letter()
     }
 
-    /// The clock goes on to this value, in ticks: one event more, which posts and takes no letter.
+    /// Advances the clock to this value, in ticks: one event more, which posts and takes no letter.
     ///
-    /// `Clock`: the value is not above the clock, or not below 2^62. `Stamp`: else, where the next stamp would reach 2^62. `NoMemory`: else,
-    /// where memory is refused. Nothing is changed then.
+    /// `Clock`: the value is not above the clock, or not below 2^62. `Stamp`: else, where the next
+    /// stamp would reach 2^62. `NoMemory`: else, where memory is refused. Nothing is changed then.
     pub fn tick(&mut self, to: u64) -> Result<(), ProcFault>
         ensures ok { OnOk result (HasTickedTo to self.old self.new) }
         ensures err { OnErr result (IsSameWorker self.old self.new) }
@@ -207,7 +209,7 @@ impl<'m> Worker<'m> {
         Ok(())
     }
 
-    // The clock goes on to this value, where it may.
+    // Advances the clock to this value, where it may.
     fn advance(&mut self, to: u64) -> u64
         requires open { IsOpen self.old.log.told }
         requires can { IsSome (advance self.old.core.machine self.old.core.cpu to self.old.core.local) }

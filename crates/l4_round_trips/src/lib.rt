@@ -1,10 +1,10 @@
-//! A theorem of runs and replays, as calls that do what it says: the trace of each is read back as
-//! its history, and passes its audit.
+//! Calls whose contracts are a theorem: the trace of a run or replay is read back as its history,
+//! and passes its audit.
 //!
-//! `audited_run` and `audited_replay` run a machine, write its trace, read this and audit what was
-//! read. Contracts say that the only faults are those of the run: the trace is that of its history,
-//! no line of it is faulty, and no step is refused. Who wants a run that was checked in a second
-//! way takes these.
+//! `audited_run` and `audited_replay` run a machine, write its trace, read that back, and audit
+//! what they read. Contracts say that the only faults are those of the run: the trace is that of
+//! its history, no line of it is faulty, and no step is refused. Take these for a run that is
+//! checked in a second way.
 //!
 //! They take memory for all four. That memory suffices is in no clause.
 //!
@@ -38,10 +38,10 @@ use l4_types::steps::Step;
 use std::alloc::Global;
 use std::thread::Threads;
 
-/// What a run came to, its trace, and the audit of the steps that were read of this trace.
+/// The outcome of a run, its trace, and the audit of the steps that were read of this trace.
 #[derive(Drop)]
 pub struct AuditedOutcome {
-    /// What the run or the replay came to.
+    /// The outcome of the run or the replay.
     pub outcome: Outcome,
     /// The lines of its history.
     pub trace: Vec<u8>,
@@ -49,9 +49,10 @@ pub struct AuditedOutcome {
     pub audit: Audit,
 }
 
-/// Runs a machine for so many turns, 1 to 1,000,000, as `run` does, writes its trace, reads the trace back and audits what was read.
+/// Runs a machine for `turns` turns, 1 to 1,000,000, as `run` does, writes its trace, reads that
+/// back and audits what was read.
 ///
-/// The faults are those of `run` alone: no line of the trace is that of no step, and no step is refused.
+/// The faults are those of `run` alone: no line of the trace is faulty, and no step is refused.
 pub fn audited_run<R: Threads + Sync, G: Gate + Sync>(
     rt: &R,
     alloc: Global,
@@ -68,9 +69,10 @@ pub fn audited_run<R: Threads + Sync, G: Gate + Sync>(
     Ok(audited(alloc, machine, outcome)?)
 }
 
-/// Replays a schedule of at most 1,000,000 entries, writes its trace, reads the trace back and audits what was read.
+/// Replays a schedule of at most 1,000,000 entries, writes its trace, reads the trace back and
+/// audits what was read.
 ///
-/// The faults are those of `replay` alone: no line of the trace is that of no step, and no step is refused.
+/// The faults are those of `replay` alone: no line of the trace is faulty, and no step is refused.
 pub fn audited_replay(
     alloc: Global,
     machine: &Machine,

@@ -77,7 +77,8 @@ ipc last any never never
 jump 1
 ";
 
-/// A machine of so many processors. The first so many of them have a thread each that goes on for ever.
+/// A machine of `cpus` processors. The first `busy` of them have a thread each that goes on for
+/// ever.
 pub fn endless(alloc: Global, cpus: u8, busy: u8) -> Result<String, AllocError> {
     let mut text = format!(in alloc; "l4 1 64\ncpus {cpus}\n")?;
     for cpu in 0..busy {
@@ -89,7 +90,8 @@ pub fn endless(alloc: Global, cpus: u8, busy: u8) -> Result<String, AllocError> 
     Ok(text)
 }
 
-/// Prints that a call of this name begins. bench/refusals.sh refuses memory from here on up to `call_ends`, and nowhere else.
+/// Prints that a call of this name begins. bench/refusals.sh refuses memory from here on up to
+/// `call_ends`, and nowhere else.
 pub fn call_begins<R: Print>(rt: &R, name: &str) {
     let _printed = println!(rt; "call {name}");
 }

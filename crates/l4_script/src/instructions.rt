@@ -10,7 +10,8 @@ use l4_types::tags::MsgTag;
 use l4_types::times::Period;
 use std::marker::Model;
 
-/// A message register that a script may write with any word: MR1 to MR63 (manual: Messages and Message Registers).
+/// A message register that a script may write with any word: MR1 to MR63 (manual: Messages and
+/// Message Registers).
 #[derive(Clone, Copy, PartialEq, Eq, Debug)]
 pub struct Register {
     number: u8,
@@ -98,11 +99,12 @@ impl Source {
 pub enum To {
     /// This id. To nilthread there is no send phase.
     Id(ThreadId),
-    /// What the register `from` has at that moment.
+    /// The id that the register `from` has when the Ipc begins.
     Last,
 }
 
-/// An Ipc of a script (manual: Ipc). Its periods are those that times have: below 2^42 ticks.
+/// An Ipc of a script (manual: Ipc). Its periods are below 2^42 ticks, as a time can spell no
+/// longer one.
 #[derive(Clone, Copy, PartialEq, Eq, Debug)]
 pub struct Ipc {
     to: To,
@@ -117,19 +119,35 @@ impl Model for Ipc {
 
     ghost Value = { Call };
 
-    ghost view = { λ i. record { to = i.to; from = i.from; send_period = i.send_period; receive_period = i.receive_period } };
+    ghost view = { λ i. record {
+      to = i.to;
+      from = i.from;
+      send_period = i.send_period;
+      receive_period = i.receive_period;
+    } };
 
     ghost invariant = { λ i. IsTimely i.send_period × IsTimely i.receive_period };
 
-    ghost inverse = { λ i. record { to = i.to; from = i.from; send_period = i.send_period; receive_period = i.receive_period } };
+    ghost inverse = { λ i. record {
+      to = i.to;
+      from = i.from;
+      send_period = i.send_period;
+      receive_period = i.receive_period;
+    } };
 }
 
 impl Ipc {
-    /// An Ipc with these phases. There is a send phase unless `to` is nilthread, and a receive phase unless `from` is nilthread.
+    /// An Ipc with these phases. There is a send phase unless `to` is nilthread, and a receive
+    /// phase unless `from` is nilthread.
     pub(crate) fn new(to: To, from: ThreadId, send_period: Period, receive_period: Period) -> Ipc
         requires send { IsTimely send_period }
         requires receive { IsTimely receive_period }
-        ensures { result ≡ record { to = to; from = from; send_period = send_period; receive_period = receive_period } }
+        ensures { result ≡ record {
+          to = to;
+          from = from;
+          send_period = send_period;
+          receive_period = receive_period;
+        } }
     {
         Ipc {
             to,
@@ -146,7 +164,8 @@ impl Ipc {
         self.to
     }
 
-    /// Whom its receive phase accepts (manual: Ipc, `FromSpecifier`). With nilthread there is no receive phase.
+    /// Whom its receive phase accepts (manual: Ipc, `FromSpecifier`). With nilthread there is no
+    /// receive phase.
     pub fn from(&self) -> ThreadId
         ensures { result ≡ self.now.from }
     {
@@ -177,17 +196,18 @@ pub enum Instr {
     Set(Register, u64),
     /// The register becomes what the other one has.
     Copy(Register, Source),
-    /// The register becomes its sum with the word, modulo 2^64: of a text of 64 bits.
+    /// Adds the word to the register, modulo 2^64 (texts of 64 bits).
     Add(Register, u64),
     /// The same modulo 2^32: of a text of 32 bits.
     ShortAdd(Register, u64),
     /// MR0 becomes the tag.
     Tag(MsgTag),
-    /// The register that is VirtualSender and ActualSender becomes the id (manual: Thread Control Registers).
+    /// The register that is VirtualSender and ActualSender becomes the id (manual: Thread Control
+    /// Registers).
     Vs(ThreadId),
     /// The system call (manual: Ipc).
     Ipc(Ipc),
-    /// Asks for a cancellation or the deletion of a thread (manual: ExchangeRegisters, ThreadControl).
+    /// An order to cancel or delete a thread (manual: ExchangeRegisters, ThreadControl).
     Order(ThreadId, What),
     /// Goes on at this place of the script, counted from 0.
     Jump(u64),

@@ -1,6 +1,6 @@
 //! Machine texts, and their reader: what a text declares, or its first fault.
 //!
-//! A `Machine` has processors, threads and their scripts, and does not change while it runs.
+//! A `Machine` has processors, threads and their scripts. A run does not change it.
 //! `Machine::parse` is the grammar of docs/FORMATS.md: each text means one machine, or has one
 //! first fault with its line. Contracts see the model's machine; a value of `Instr` means one of
 //! its instructions.

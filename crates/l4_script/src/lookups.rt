@@ -12,9 +12,11 @@ use l4_types::ids::{GlobalId, ThreadId};
 use l4_types::steps::What;
 
 impl Declaration {
-    /// The instruction at a place of the script, counted from 0. None past its end, which is an `end`.
+    /// The instruction at a place of the script, counted from 0. None past its end, which is an
+    /// `end`.
     pub fn instruction(&self, place: usize) -> Option<Instr>
-        ensures value { unwrap_or (option_map instr_of result) End ≡ instruction_at self.now.script place }
+        ensures value { unwrap_or (option_map instr_of result) End ≡
+            instruction_at self.now.script place }
         ensures within { IsSome result → place < most_instructions }
     {
         self.script().get(place).copied()
@@ -47,7 +49,8 @@ impl Machine {
         }
     }
 
-    /// Whether a sender may show this originator: a declared thread of its address space (manual: Ipc, `VirtualSender`).
+    /// Whether a sender may show this originator: a declared thread of its address space (manual:
+    /// Ipc, `VirtualSender`).
     pub fn may_show(&self, sender: GlobalId, originator: ThreadId) -> bool
         ensures { result ≡ is_some (permitted self.now sender originator) }
     {
@@ -57,8 +60,8 @@ impl Machine {
         }
     }
 
-    /// Whether a thread may ask this of another: the deletion of any declared thread, and a cancellation of one of its address space
-    /// (manual: ThreadControl, ExchangeRegisters).
+    /// Whether a thread may ask this of another: the deletion of any declared thread, and a
+    /// cancellation of one of its address space (manual: ThreadControl, ExchangeRegisters).
     pub fn admits(&self, caller: GlobalId, target: GlobalId, what: What) -> bool
         ensures { result ≡ is_admitted self.now caller target (what_of what) }
     {

@@ -18,7 +18,7 @@ pub const MOST_THREADS: usize = 1024;
 /// How many instructions a script has at most.
 pub const MOST_INSTRUCTIONS: usize = 1024;
 
-/// A declared thread: its id, its processor and its address space by their numbers, and its script.
+/// A declared thread: its id, the numbers of its processor and address space, and its script.
 #[derive(Debug, Drop)]
 pub struct Declaration {
     id: GlobalId,
@@ -35,7 +35,12 @@ impl Model for Declaration {
 
     ghost use Rattle.l4_script.specs.Scripts.{instr_of};
 
-    ghost view = { λ d. record { id = d.id; cpu = d.cpu; space = d.space; script = map instr_of d.script.items } };
+    ghost view = { λ d. record {
+      id = d.id;
+      cpu = d.cpu;
+      space = d.space;
+      script = map instr_of d.script.items;
+    } };
 
     ghost use Rattle.l4_model.specs.Machine.{most_instructions};
 
@@ -62,7 +67,7 @@ impl Declaration {
         self.id
     }
 
-    /// The number of the thread's processor, below the number of the machine's.
+    /// The number of the thread's processor, below the machine's number of processors.
     pub fn cpu(&self) -> u8
         ensures { result ≡ self.now.cpu }
     {
@@ -107,8 +112,8 @@ impl Declaration {
     }
 }
 
-/// A machine of 1 to 16 processors: its profile, their number, and its threads in order of declaration, at most 1,024. No thread number
-/// stands twice.
+/// A machine of 1 to 16 processors: its profile, their number, and its threads in order of
+/// declaration, at most 1,024. No thread number stands twice.
 #[derive(Debug, Drop)]
 pub struct Machine {
     retargeting: bool,
@@ -134,7 +139,7 @@ impl Model for Machine {
 }
 
 impl Machine {
-    /// A machine of so many processors, without threads.
+    /// A machine of `cpus` processors, without threads.
     pub(crate) fn new(alloc: Global, retargeting: bool, cpus: u8) -> Machine
         requires some { 1 ≤ cpus }
         requires limit { cpus ≤ most_processors }
@@ -148,7 +153,7 @@ impl Machine {
         }
     }
 
-    /// Whether its profile is 2, where an originator waits for whom its message was handed to.
+    /// Whether its profile is 2, in which originators are retargeted.
     pub fn retargets(&self) -> bool
         ensures { result ≡ self.now.retargeting }
     {

@@ -6,7 +6,8 @@ use l4_types::errors::NoMemory;
 use std::alloc::Global;
 use std::collections::HashMap;
 
-/// As many as there can be threads: those whose numbers follow one another have slots of their own.
+/// One for each thread that a machine may have, so threads with consecutive numbers never share
+/// one.
 const SLOTS: u32 = 1024;
 
 /// The number of a thread, and its place.
@@ -21,7 +22,7 @@ struct Placed {
 pub(crate) struct Places {
     // The threads in the slots of their numbers, up to the last slot that is taken.
     slots: Vec<Option<Placed>>,
-    // The places of the others by their numbers: their slots were taken before.
+    // The places of threads whose slot was taken already, by their numbers.
     others: HashMap<u32, u16>,
 }
 
@@ -53,11 +54,13 @@ impl Places {
         }
     }
 
-    /// A thread of a number that none had has a place.
+    /// Adds the place of a thread. Its number is not in the table yet.
     pub(crate) fn insert(&mut self, number: u32, place: u16) -> Result<(), NoMemory>
         requires { place_by self.old number ≡ None }
-        ensures ok { OnOk result ((other : ℕ) → place_by self.new other ≡ (if other == number then Some place else place_by self.old other)) }
-        ensures err { OnErr result ((other : ℕ) → place_by self.new other ≡ place_by self.old other) }
+        ensures ok { OnOk result ((other : ℕ) → place_by self.new other ≡
+            (if other == number then Some place else place_by self.old other)) }
+        ensures err { OnErr result ((other : ℕ) →
+            place_by self.new other ≡ place_by self.old other) }
     {
         let slot = slot_of(number);
         if slot >= self.slots.len() {
@@ -73,7 +76,8 @@ impl Places {
 
     /// A copy.
     pub(crate) fn try_clone(&self) -> Result<Places, NoMemory>
-        ensures { IfOk result (λ copy. (number : ℕ) → place_by copy number ≡ place_by self.now number) }
+        ensures { IfOk result (λ copy. (number : ℕ) →
+            place_by copy number ≡ place_by self.now number) }
     {
         Ok(Places {
             slots: self.slots.clone()?,

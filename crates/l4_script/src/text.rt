@@ -21,8 +21,8 @@ use std::alloc::Global;
 pub const MOST_BYTES: usize = 0x10_0000;
 
 impl Machine {
-    /// The machine that a text declares, or the text's first fault. `NoMemory` comes only where memory was refused, and then whatever
-    /// the text says.
+    /// The machine that a text declares, or the text's first fault. `NoMemory` only where memory
+    /// was refused; then it says nothing of the text.
     pub fn parse(alloc: Global, text: &[u8]) -> Result<Machine, TextFault>
         ensures { Reads result (machine_of_text text.now) }
     {
@@ -55,9 +55,10 @@ fn read(alloc: Global, text: &[u8]) -> Result<Machine, TextFault>
     stage.ended(number)
 }
 
-/// A machine printed in the canonical spelling of a format is read as itself: the text that has a line for each of its threads and
-/// instructions, with every number in decimal, declares that machine and no other. These are all machines that texts can declare,
-/// each in the format that its text names, and their scripts write words of that format alone.
+/// A machine printed in the canonical spelling of a format is read as itself: the text that has a
+/// line for each of its threads and instructions, with every number in decimal, declares that
+/// machine and no other. Each machine that a text declares has one, in the format that the text
+/// names. Its scripts write words of that format alone.
 pub fn law_canonical_text()
     ensures read_back { IsReadBack }
     ensures each { EachHasText }

@@ -11,10 +11,11 @@ pub enum Change {
     Run(Instr),
     /// Its Ipc fails. A deleted thread stays as it is.
     Fail(IpcError),
-    /// Its send is decided. After a delivery the receive phase of the same Ipc begins at once. A deleted thread keeps its registers.
+    /// Its send is decided. After a delivery the receive phase of the same Ipc begins at once. A
+    /// deleted thread keeps its registers.
     EndSend(Decision),
-    /// It has asked for something, and waits until it is done.
+    /// It gave an order, and waits until that is done.
     GiveOrder(Asked),
-    /// What it asked for is done. A deleted thread keeps its registers.
+    /// Its order is done. A deleted thread keeps its registers.
     Obey,
 }

@@ -6,8 +6,8 @@
 //! call does not name stays. Which threads meet is decided above, by a processor (`l4_core`) and by
 //! the audit (`l4_audit`), each in its own way.
 //!
-//! No call of this crate takes memory. The words of a waiting send stay in the registers, and are
-//! set apart before these change: a contract sees the same words.
+//! No call of this crate takes memory. The words of an undecided send stay in the registers of its
+//! sender. They are copied before these change, so a contract sees the same words.
 //!
 //! ```rust
 //! let mut block = Tcb::new(thread);

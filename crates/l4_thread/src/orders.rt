@@ -1,4 +1,4 @@
-//! What a thread asks of another.
+//! Orders of threads.
 ghost use Rattle.std.specs.Prelude.{◌≡◌};
 ghost use Rattle.l4_types.specs.StepView.{what_of};
 
@@ -6,7 +6,7 @@ use l4_types::ids::GlobalId;
 use l4_types::steps::What;
 use std::marker::Model;
 
-/// What a thread has asked of another, and is not done yet (manual: ExchangeRegisters, ThreadControl).
+/// An order that a thread gave and that is not done yet (manual: ExchangeRegisters, ThreadControl).
 #[derive(Clone, Copy, PartialEq, Eq, Debug)]
 pub struct Asked {
     target: GlobalId,
@@ -25,7 +25,8 @@ impl Model for Asked {
 
     ghost inverse = { λ a. record { target = a.target; what = what_from a.what } };
 
-    ghost inverse_ok = { λ a h. ap (λ what. record { target = a.target; what = what }) (what_from_of a.what) };
+    ghost inverse_ok = { λ a h. ap (λ what. record { target = a.target; what = what })
+        (what_from_of a.what) };
 }
 
 impl Asked {
@@ -36,14 +37,14 @@ impl Asked {
         Asked { target, what }
     }
 
-    /// The thread that it is asked of.
+    /// The thread to cancel or delete.
     pub fn target(&self) -> GlobalId
         ensures { result ≡ self.now.target }
     {
         self.target
     }
 
-    /// What is asked of it.
+    /// Whether to cancel phases of it, or to delete it.
     pub fn what(&self) -> What
         ensures { what_of result ≡ self.now.what }
     {

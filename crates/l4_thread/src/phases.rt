@@ -1,7 +1,7 @@
-//! What a thread is about.
+//! The phase of a thread.
 use crate::sends::Receive;
 
-/// What a thread is about (manual: Ipc).
+/// The phase of a thread (manual: Ipc).
 #[derive(Clone, Copy, PartialEq, Eq, Debug)]
 pub enum Phase {
     /// It can run its next instruction.
@@ -10,7 +10,7 @@ pub enum Phase {
     Sending,
     /// It is in a receive phase, since this clock of its processor, in ticks.
     Receiving(Receive, u64),
-    /// It waits until what it asked of another thread is done.
+    /// It waits until its order is done.
     Ordering,
     /// Its script has ended.
     Ended,

@@ -33,11 +33,13 @@ impl Model for Receive {
 
     ghost inverse = { λ r. record { from = r.from; period = period_from r.period } };
 
-    ghost inverse_ok = { λ r h. ap (λ period. record { from = r.from; period = period }) (period_from_of r.period h) };
+    ghost inverse_ok = { λ r h. ap (λ period. record { from = r.from; period = period })
+        (period_from_of r.period h) };
 }
 
 impl Receive {
-    /// A receive phase that accepts these senders, and lasts a period that a time has: below 2^42 ticks.
+    /// A receive phase with this specifier. `period` is below 2^42 ticks, as a time can spell no
+    /// longer one.
     pub fn new(from: ThreadId, period: Period) -> Receive
         requires { IsTimely period }
         ensures { result ≡ record { from = from; period = period_of period } }
@@ -60,7 +62,7 @@ impl Receive {
         self.period
     }
 
-    /// The same, but for the new partner where it is for the old one alone.
+    /// The same receive phase. If its specifier is the old partner, it becomes the new one.
     pub(crate) fn turned(&self, old_partner: GlobalId, new_partner: GlobalId) -> Receive
         ensures { result ≡ turned_from old_partner new_partner self.now }
     {
@@ -88,7 +90,8 @@ pub fn is_id_of(id: ThreadId, thread: GlobalId) -> bool
 /// Where the words of a message are while its send is undecided.
 #[derive(Clone, Copy, PartialEq, Eq, Debug)]
 pub enum Words {
-    /// In the sender's message registers 1 to this number, which is below 64 (manual: Messages and Message Registers).
+    /// In the sender's message registers 1 to this number, which is below 64 (manual: Messages and
+    /// Message Registers).
     InRegisters(u8),
     /// Apart from the sender's registers.
     Apart,
@@ -111,15 +114,28 @@ impl Model for Head {
 
     ghost Value = { Headed };
 
-    ghost view = { λ h. record { label = h.label; words = h.words; propagated = h.propagated; shown = h.shown; actual = h.actual } };
+    ghost view = { λ h. record {
+      label = h.label;
+      words = h.words;
+      propagated = h.propagated;
+      shown = h.shown;
+      actual = h.actual;
+    } };
 
     ghost invariant = { λ h. (h.label < label_limit) × AreFew h.words };
 
-    ghost inverse = { λ h. record { label = h.label; words = h.words; propagated = h.propagated; shown = h.shown; actual = h.actual } };
+    ghost inverse = { λ h. record {
+      label = h.label;
+      words = h.words;
+      propagated = h.propagated;
+      shown = h.shown;
+      actual = h.actual;
+    } };
 }
 
 impl Head {
-    /// Of a message whose words are in message registers 1 to `count` of the thread that sends it. The label is below 2^48.
+    /// The head of a message whose words are in message registers 1 to `count` of its sender. The
+    /// label is below 2^48.
     pub(crate) fn in_registers(
         label: u64,
         count: u8,
@@ -129,7 +145,13 @@ impl Head {
     ) -> Head
         requires label { label < label_limit }
         requires count { count < register_count }
-        ensures { result ≡ record { label = label; words = InRegisters count; propagated = propagated; shown = shown; actual = actual } }
+        ensures { result ≡ record {
+          label = label;
+          words = InRegisters count;
+          propagated = propagated;
+          shown = shown;
+          actual = actual;
+        } }
     {
         Head {
             label,
@@ -140,9 +162,15 @@ impl Head {
         }
     }
 
-    /// Of a message whose words are apart.
+    /// The head of a message whose words are copied.
     pub(crate) fn apart(message: &MessageRef<'_>) -> Head
-        ensures { result ≡ record { label = message.now.label; words = Apart; propagated = message.now.propagated; shown = message.now.shown; actual = message.now.actual } }
+        ensures { result ≡ record {
+          label = message.now.label;
+          words = Apart;
+          propagated = message.now.propagated;
+          shown = message.now.shown;
+          actual = message.now.actual;
+        } }
     {
         Head {
             label: message.label(),
@@ -161,7 +189,7 @@ impl Head {
         self.words
     }
 
-    // The words are apart now.
+    // Notes that the words are copied.
     fn set_apart(&mut self)
         ensures { self.new ≡ record self.old { words = Apart } }
     {
@@ -193,14 +221,20 @@ impl Model for Send {
 
     ghost Value = { Held };
 
-    ghost view = { λ s. record { to = s.to; head = s.head; period = period_of s.period; since = s.since; receive = s.receive } };
+    ghost view = { λ s. record {
+      to = s.to;
+      head = s.head;
+      period = period_of s.period;
+      since = s.since;
+      receive = s.receive;
+    } };
 
     ghost invariant = { λ s. IsTimely s.period };
 }
 
 impl Send {
-    /// A send to an id, that may wait for a period that a time has, below 2^42 ticks, from the clock at its beginning on. `receive` is the
-    /// receive phase of the same Ipc.
+    /// A send to an id. It may wait for a period from the clock at its beginning on, below 2^42
+    /// ticks, as a time can spell no longer one. `receive` is the receive phase of the same Ipc.
     pub(crate) fn new(
         to: ThreadId,
         head: Head,
@@ -209,7 +243,13 @@ impl Send {
         receive: Option<Receive>,
     ) -> Send
         requires { IsTimely period }
-        ensures { result ≡ record { to = to; head = head; period = period_of period; since = since; receive = receive } }
+        ensures { result ≡ record {
+          to = to;
+          head = head;
+          period = period_of period;
+          since = since;
+          receive = receive;
+        } }
     {
         Send {
             to,
@@ -263,9 +303,11 @@ impl Send {
         self.receive
     }
 
-    /// The receive phase of the same Ipc is for the new partner where it was for the old one alone.
+    /// If the specifier of the Ipc's receive phase is the old partner, it becomes the new one.
     pub(crate) fn turn_to(&mut self, old_partner: GlobalId, new_partner: GlobalId)
-        ensures { self.new ≡ record self.old { receive = option_map (turned_from old_partner new_partner) self.old.receive } }
+        ensures { self.new ≡ record self.old {
+          receive = option_map (turned_from old_partner new_partner) self.old.receive;
+        } }
     {
         if let Some(receive) = self.receive {
             self.receive = Some(receive.turned(old_partner, new_partner));
@@ -273,7 +315,7 @@ impl Send {
     }
 }
 
-/// An undecided send, which is only looked at (manual: Ipc). The words of its message stay where they are.
+/// A borrowed undecided send (manual: Ipc). The words of its message stay where they are.
 #[derive(Drop)]
 pub struct SendRef<'a> {
     send: &'a Send,

@@ -24,7 +24,7 @@ use l4_types::reports::{State, ThreadView};
 use l4_types::times::Period;
 use std::marker::Model;
 
-/// A thread control block: all that is known of a thread.
+/// A thread control block: a thread with its phase, send, order and wishes.
 #[derive(Drop)]
 pub struct Tcb {
     thread: Thread,
@@ -102,7 +102,7 @@ impl Tcb {
         matches!(self.phase, Phase::Sending)
     }
 
-    /// Whether it waits until what it asked for is done.
+    /// Whether it waits until its order is done.
     pub fn is_ordering(&self) -> bool
         ensures { result ≡ is_ordering self.now.thread.phase }
     {
@@ -148,7 +148,8 @@ impl Tcb {
         Some(SendRef::new(send, words))
     }
 
-    /// The message that it sends: that of its undecided send, else that of a send that it begins now and that shows no originator.
+    /// The message of its undecided send. Where there is none, that of a send that it would begin
+    /// now without propagation.
     pub fn outgoing(&self) -> MessageRef<'_>
         ensures { result ≡ outgoing self.now.id self.now.thread }
     {
@@ -158,7 +159,7 @@ impl Tcb {
         }
     }
 
-    /// What it asked of another thread, and is not done yet.
+    /// Its order, while that is not done.
     pub fn order(&self) -> Option<Asked>
         ensures { result ≡ self.now.thread.order }
     {
@@ -204,7 +205,8 @@ impl Tcb {
         }
     }
 
-    /// How long the phase that it is in may wait, below 2^42 ticks. A send phase that may not wait at all has no deadline: never.
+    /// How long its phase may wait, below 2^42 ticks. Never where it has no deadline: in a send
+    /// phase of timeout zero, or in no phase of an Ipc.
     pub fn waiting_period(&self) -> Period
         ensures value { period_of result ≡ armed_period self.now.thread.phase self.now.thread.send }
         ensures timely { IsTimely result }

@@ -39,7 +39,17 @@ impl Model for Thread {
 
     ghost Value = { Part };
 
-    ghost view = { λ t. record { id = t.id; context = record { words = t.regs.words; error = t.regs.error; from = t.regs.from; actual = t.regs.actual; place = t.place; begun = t.begun } } };
+    ghost view = { λ t. record {
+      id = t.id;
+      context = record {
+        words = t.regs.words;
+        error = t.regs.error;
+        from = t.regs.from;
+        actual = t.regs.actual;
+        place = t.place;
+        begun = t.begun;
+      };
+    } };
 }
 
 impl Thread {
@@ -64,7 +74,12 @@ impl Thread {
 
     /// The registers.
     pub fn regs(&self) -> &Regs
-        ensures { result.now ≡ record { words = self.now.context.words; error = self.now.context.error; from = self.now.context.from; actual = self.now.context.actual } }
+        ensures { result.now ≡ record {
+          words = self.now.context.words;
+          error = self.now.context.error;
+          from = self.now.context.from;
+          actual = self.now.context.actual;
+        } }
     {
         &self.regs
     }
@@ -83,21 +98,22 @@ impl Thread {
         self.begun
     }
 
-    /// Whether a send of it asks for propagation: bit 12 of message register 0 (manual: MsgTag, `p`).
+    /// Whether a send of it asks for propagation: bit 12 of message register 0 (manual: MsgTag,
+    /// `p`).
     pub fn propagates(&self) -> bool
         ensures { result ≡ propagates self.now.context }
     {
         MsgTag::propagates_in(self.regs.words[0])
     }
 
-    /// It has begun so many sends: it stands for a thread of another processor.
+    /// Sets how many sends a stand-in began.
     pub(crate) fn begin_at(&mut self, k: u64)
         ensures { self.new ≡ record self.old { context = record self.old.context { begun = k } } }
     {
         self.begun = k;
     }
 
-    // The next instruction is at hand.
+    // Goes on to the next instruction.
     fn advance(&mut self)
         requires { self.old.context.place + 1 < 2 ^ 64 }
         ensures { self.new ≡ record self.old { context = advanced self.old.context } }
@@ -105,14 +121,16 @@ impl Thread {
         self.place += 1;
     }
 
-    // A message register becomes a word.
+    // Sets a message register to a word.
     fn set(&mut self, register: Register, word: u64)
-        ensures { self.new ≡ record self.old { context = with_register register word self.old.context } }
+        ensures { self.new ≡ record self.old {
+          context = with_register register word self.old.context;
+        } }
     {
         self.regs.words[usize::from(register.number())] = word;
     }
 
-    // What a message register has.
+    // The word in a message register.
     fn register(&self, number: u8) -> u64
         requires { number < register_count }
         ensures { result ≡ register self.now.context number }
@@ -120,26 +138,35 @@ impl Thread {
         self.regs.words[usize::from(number)]
     }
 
-    // A message register becomes its sum with a word, as a format counts it.
+    // Adds a word to a message register, as a format counts it.
     fn add(&mut self, format: Format, to: Register, word: u64)
-        ensures { self.new ≡ record self.old { context = with_register to ((register self.old.context to + word) % word_limit (format_of format)) self.old.context } }
+        ensures { self.new ≡ record self.old {
+          context = with_register to
+              ((register self.old.context to + word) % word_limit (format_of format))
+              self.old.context;
+        } }
     {
         let sum = format.sum(self.register(to.number()), word);
         self.set(to, sum);
     }
 
-    // It goes on at a place of the script.
+    // Goes on at a place of the script.
     fn jump(&mut self, place: u64)
-        ensures { self.new ≡ record self.old { context = record self.old.context { place = place } } }
+        ensures { self.new ≡ record self.old {
+          context = record self.old.context { place = place };
+        } }
     {
         self.place = place as usize;
     }
 
-    /// Runs an instruction that concerns nobody else (manual: Messages and Message Registers, Thread Control Registers), and tells
-    /// whether the script ends with it. An Ipc is then one without phases, and what is asked of another thread is refused.
+    /// Runs an instruction that concerns nobody else (manual: Messages and Message Registers,
+    /// Thread Control Registers), and returns whether the script ends with it. An Ipc has no phases
+    /// then, and an order is refused (ErrorCode 2).
     pub fn local(&mut self, instr: &Instr) -> bool
         requires room { is_end (instr_of instr.now) ≡ false → self.old.context.place + 1 < 2 ^ 64 }
-        ensures context { self.new ≡ record self.old { context = ran (instr_of instr.now) self.old.context } }
+        ensures context { self.new ≡ record self.old {
+          context = ran (instr_of instr.now) self.old.context;
+        } }
         ensures ends { result ≡ is_end (instr_of instr.now) }
     {
         match instr {
@@ -166,14 +193,21 @@ impl Thread {
         false
     }
 
-    /// Begins the phases of an Ipc (manual: Ipc), of which there may be none. `permitted` says whether the thread may show the
-    /// originator that its VirtualSender names. Other instructions have no phases.
+    /// Begins the phases of an Ipc (manual: Ipc), of which there may be none. `permitted` says
+    /// whether the thread may show the originator that its VirtualSender names. Other instructions
+    /// have no phases.
     pub fn request(&mut self, instr: &Instr, permitted: bool) -> Request
         requires room { is_end (instr_of instr.now) ≡ false → self.old.context.place + 1 < 2 ^ 64 }
-        requires count { asks_to_send self.old.context (instr_of instr.now) ≡ true → self.old.context.begun + 1 < 2 ^ 64 }
-        ensures phases { phases_from result ≡ phases_of permitted self.old.id self.old.context (instr_of instr.now) }
+        requires count { asks_to_send self.old.context (instr_of instr.now) ≡ true →
+            self.old.context.begun + 1 < 2 ^ 64 }
+        ensures phases { phases_from result ≡
+            phases_of permitted self.old.id self.old.context (instr_of instr.now) }
         ensures timely { AreTimely result }
-        ensures context { self.new ≡ record self.old { context = phases_begun (phases_of permitted self.old.id self.old.context (instr_of instr.now)) self.old.context } }
+        ensures context { self.new ≡ record self.old {
+          context = phases_begun
+              (phases_of permitted self.old.id self.old.context (instr_of instr.now))
+              self.old.context;
+        } }
     {
         let begun = self.begin_phases(instr, permitted);
         let receive = begun.receive;
@@ -187,14 +221,21 @@ impl Thread {
         }
     }
 
-    /// The same, where the words of the message stay in the registers, which no phase changes where it begins.
+    /// The same, with the words left in the registers: no phase changes these when it begins.
     pub(crate) fn begin_phases(&mut self, instr: &Instr, permitted: bool) -> Begun
         requires room { is_end (instr_of instr.now) ≡ false → self.old.context.place + 1 < 2 ^ 64 }
-        requires count { asks_to_send self.old.context (instr_of instr.now) ≡ true → self.old.context.begun + 1 < 2 ^ 64 }
-        ensures phases { phases_held [] self.old.context.words result ≡ phases_of permitted self.old.id self.old.context (instr_of instr.now) }
-        ensures stays { (apart : List ℕ) → phases_held apart self.old.context.words result ≡ phases_of permitted self.old.id self.old.context (instr_of instr.now) }
+        requires count { asks_to_send self.old.context (instr_of instr.now) ≡ true →
+            self.old.context.begun + 1 < 2 ^ 64 }
+        ensures phases { phases_held [] self.old.context.words result ≡
+            phases_of permitted self.old.id self.old.context (instr_of instr.now) }
+        ensures stays { (apart : List ℕ) → phases_held apart self.old.context.words result ≡
+            phases_of permitted self.old.id self.old.context (instr_of instr.now) }
         ensures timely { AreTimelyHeld result }
-        ensures context { self.new ≡ record self.old { context = phases_begun (phases_of permitted self.old.id self.old.context (instr_of instr.now)) self.old.context } }
+        ensures context { self.new ≡ record self.old {
+          context = phases_begun
+              (phases_of permitted self.old.id self.old.context (instr_of instr.now))
+              self.old.context;
+        } }
     {
         match instr {
             Instr::Ipc(ipc) => self.begin(ipc, permitted),
@@ -202,14 +243,18 @@ impl Thread {
         }
     }
 
-    /// An Ipc received a message, with this tag in message register 0. Registers past its words keep their contents.
+    /// Ends an Ipc that received a message, with this tag in message register 0. Registers past its
+    /// words keep their contents.
     pub fn received(&mut self, message: &Message, tag: MsgTag)
-        ensures { self.new ≡ record self.old { context = received message.now (word_of_tag tag) self.old.context } }
+        ensures { self.new ≡ record self.old {
+          context = received message.now (word_of_tag tag) self.old.context;
+        } }
     {
         self.received_words(message.words(), message.shown(), message.actual(), tag);
     }
 
-    /// The same of a message of these words, at most 63, which shows one sender, and which another one may have sent.
+    /// Ends an Ipc that received a message of these words, at most 63. It shows one sender, and
+    /// another one may have sent it.
     pub(crate) fn received_words(
         &mut self,
         words: &[u64],
@@ -218,7 +263,10 @@ impl Thread {
         tag: MsgTag,
     )
         requires { length words.now < register_count }
-        ensures { self.new ≡ record self.old { context = received (unlabelled words.now shown actual) (word_of_tag tag) self.old.context } }
+        ensures { self.new ≡ record self.old {
+          context = received (unlabelled words.now shown actual)
+              (word_of_tag tag) self.old.context;
+        } }
     {
         let end = words.len() + 1;
         self.regs.words[0] = tag.raw();
@@ -228,7 +276,7 @@ impl Thread {
         self.regs.actual = actual.id();
     }
 
-    /// An Ipc ended well and received nothing.
+    /// Ends an Ipc that succeeded without a receive phase.
     pub fn sent(&mut self)
         ensures { self.new ≡ record self.old { context = sent self.old.context } }
     {
@@ -237,7 +285,7 @@ impl Thread {
         self.regs.from = ThreadId::NIL;
     }
 
-    /// An Ipc failed.
+    /// Ends an Ipc that failed.
     pub fn fail(&mut self, error: IpcError)
         ensures { self.new ≡ record self.old { context = failed (code_of error) self.old.context } }
     {
@@ -246,7 +294,8 @@ impl Thread {
         self.regs.from = ThreadId::NIL;
     }
 
-    /// What the thread asked of another was done, ErrorCode 0, or refused, ErrorCode 2 (manual: ExchangeRegisters, ThreadControl).
+    /// Ends an order: it was done, ErrorCode 0, or refused, ErrorCode 2 (manual: ExchangeRegisters,
+    /// ThreadControl).
     pub fn ordered(&mut self, code: u64)
         requires { self.old.context.place + 1 < 2 ^ 64 }
         ensures { self.new ≡ record self.old { context = ordered code self.old.context } }
@@ -258,11 +307,17 @@ impl Thread {
     // Begins the phases of an Ipc.
     fn begin(&mut self, ipc: &Ipc, permitted: bool) -> Begun
         requires room { self.old.context.place + 1 < 2 ^ 64 }
-        requires count { asks_to_send self.old.context (ipc_of ipc.now) ≡ true → self.old.context.begun + 1 < 2 ^ 64 }
-        ensures phases { phases_held [] self.old.context.words result ≡ phases_of permitted self.old.id self.old.context (ipc_of ipc.now) }
-        ensures stays { (apart : List ℕ) → phases_held apart self.old.context.words result ≡ phases_of permitted self.old.id self.old.context (ipc_of ipc.now) }
+        requires count { asks_to_send self.old.context (ipc_of ipc.now) ≡ true →
+            self.old.context.begun + 1 < 2 ^ 64 }
+        ensures phases { phases_held [] self.old.context.words result ≡
+            phases_of permitted self.old.id self.old.context (ipc_of ipc.now) }
+        ensures stays { (apart : List ℕ) → phases_held apart self.old.context.words result ≡
+            phases_of permitted self.old.id self.old.context (ipc_of ipc.now) }
         ensures timely { AreTimelyHeld result }
-        ensures context { self.new ≡ record self.old { context = phases_begun (phases_of permitted self.old.id self.old.context (ipc_of ipc.now)) self.old.context } }
+        ensures context { self.new ≡ record self.old {
+          context = phases_begun (phases_of permitted self.old.id self.old.context (ipc_of ipc.now))
+              self.old.context;
+        } }
     {
         let to = self.destination(ipc.to());
         let receive = receive_phase(ipc);
@@ -283,7 +338,7 @@ impl Thread {
         }
     }
 
-    /// One more send was begun.
+    /// Counts one more send.
     pub(crate) fn count(&mut self)
         requires room { self.old.context.place + 1 < 2 ^ 64 }
         requires count { self.old.context.begun + 1 < 2 ^ 64 }
@@ -303,8 +358,8 @@ impl Thread {
         }
     }
 
-    // The originator that a send of this thread shows, where bit 12 of message register 0 asks for propagation and the
-    // thread may show it.
+    // The originator that a send of this thread shows, where bit 12 of message register 0 asks for
+    // propagation and the thread may show it.
     fn originator(&self, permitted: bool) -> Option<GlobalId>
         ensures { result ≡ originator_if permitted self.now.context }
     {
@@ -315,7 +370,7 @@ impl Thread {
         }
     }
 
-    /// So many words from message register 1 on.
+    /// The first `count` words from message register 1 on.
     pub(crate) fn words(&self, count: u8) -> &[u64]
         requires { count < register_count }
         ensures value { result.now ≡ take count (drop 1 self.now.context.words) }
@@ -356,7 +411,8 @@ impl Thread {
 
     // The message of a send that this thread begins now, but for its words.
     fn head(&self, permitted: bool) -> Head
-        ensures { (apart : List ℕ) → message_of apart self.now.context.words result ≡ message_if permitted self.now.id self.now.context }
+        ensures { (apart : List ℕ) → message_of apart self.now.context.words result ≡
+            message_if permitted self.now.id self.now.context }
     {
         let originator = self.originator(permitted);
         let mr0 = self.regs.words[0];
@@ -372,7 +428,8 @@ impl Thread {
 
 /// The receive phase of an Ipc, unless its specifier is nilthread.
 pub(crate) fn receive_phase(ipc: &Ipc) -> Option<(ThreadId, Period)>
-    ensures value { option_map receive_from result ≡ receive_phase ipc.now.from (period_of ipc.now.receive_period) }
+    ensures value { option_map receive_from result ≡
+        receive_phase ipc.now.from (period_of ipc.now.receive_period) }
     ensures timely { IfSome result (λ r. IsTimely r.1) }
 {
     if ipc.from() == ThreadId::NIL {

@@ -9,7 +9,7 @@ use l4_types::errors::NoMemory;
 pub enum TraceFault {
     /// Memory was refused.
     NoMemory,
-    /// This line, counted from 1, is the first that is the line of no step, or that has no line end.
+    /// This line, counted from 1, is the first that spells no step, or has no line end.
     Line(usize),
 }
 

@@ -1,9 +1,11 @@
-//! The table of keywords: the first word of each line, its step, and how what stands behind is read and written.
+//! The table of keywords: the first word of each line, its step, and the reader and writer of its
+//! operands.
 
-/// A delivery begins with it. It stands apart from the other rows, since the words of a message are read in a place of their own.
+/// The keyword of a delivery. It is no row of the table, since the words of a message are read into
+/// a buffer.
 pub(crate) const DELIVER: &[u8] = b"deliver";
 
-/// The rows of the table, by which `$make` writes an expression over these variables.
+/// The rows of the table. `$make` gets them, with these variables, and makes an expression of them.
 macro_rules! by_keyword {
     ($make:ident($($argument:ident),*)) => {
         $make! {

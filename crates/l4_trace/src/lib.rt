@@ -1,7 +1,7 @@
 //! Traces: the line of each step, written, and read back.
 //!
 //! `write_event` appends the one line of its step, `trace` those of a history. `read_events`
-//! answers the steps that a text spells, or its first faulty line, counted from 1. Contracts see
+//! returns the steps that a text spells, or its first faulty line, counted from 1. Contracts see
 //! lists of bytes and the model's steps: a text is the trace of one list of steps at most, and what
 //! is written is read back as the same steps. The keywords stand in one table, which reader and
 //! writer share.

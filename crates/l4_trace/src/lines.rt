@@ -17,10 +17,10 @@ use l4_words::pieces::{
     WORD_BYTES, write_name, write_number, write_thread, write_word, write_words,
 };
 
-// The first word of a line, and the last one of an order, take at most so many bytes.
+// The first word of a line, and the last one of an order, take at most this many bytes.
 const KEYWORD_BYTES: usize = 8;
 
-/// A line takes at most so many bytes: that of a delivery, whose message has the most words.
+/// A line takes at most this many bytes: that of a delivery, whose message has the most words.
 pub(crate) const LONGEST_LINE: usize = 134 + WORD_BYTES * MOST_WORDS;
 
 // The line of a step, by the row of its keyword.
@@ -45,7 +45,8 @@ pub fn write_event(step: &Step, out: &mut Vec<u8>) -> Result<(), NoMemory>
     write_step(&StepRef::from(step), out)
 }
 
-/// Appends the line of a step that is only looked at, with its line feed. Where memory is refused, nothing is appended.
+/// Appends the line of a borrowed step, with its line feed. Where memory is refused, nothing is
+/// appended.
 pub fn write_step(step: &StepRef<'_>, out: &mut Vec<u8>) -> Result<(), NoMemory>
     ensures ok { OnOk result (out.new.items ≡ out.old.items ++ line_of (seen step.now)) }
     ensures spelled { OnOk result (has_line (seen step.now) ≡ true) }
@@ -55,7 +56,8 @@ pub fn write_step(step: &StepRef<'_>, out: &mut Vec<u8>) -> Result<(), NoMemory>
     append_line(step, &mut line, out)
 }
 
-/// Appends the line of a step, which is written into `line` first, since its length is known only then. One room serves many lines.
+/// Appends the line of a step. It is written into `line` first, since its length is known only
+/// then. One buffer serves many lines.
 pub(crate) fn append_line(
     step: &StepRef<'_>,
     line: &mut [u8],
@@ -71,7 +73,7 @@ pub(crate) fn append_line(
     Ok(())
 }
 
-// Writes the line of a step at the end of the room for a line. Answers where it starts.
+// Writes the line of a step at the end of the room for a line. Returns where it starts.
 fn write_line(step: &StepRef<'_>, line: &mut [u8]) -> usize
     requires { LONGEST_LINE ≤ length line.old }
     ensures within { result ≤ length line.new }
@@ -81,13 +83,14 @@ fn write_line(step: &StepRef<'_>, line: &mut [u8]) -> usize
     by_keyword!(write_rows(step, line))
 }
 
-// A keyword of known length is copied at once, so it is written where the step is known.
+// Inlined where the step is known: a keyword of known length is copied in one go.
 #[inline(always)]
 fn write_thread_line(keyword: &[u8], thread: GlobalId, line: &mut [u8]) -> usize
     requires short { length keyword.now ≤ KEYWORD_BYTES }
     requires room { LONGEST_LINE ≤ length line.old }
     ensures within { result ≤ length line.new }
-    ensures written { drop result line.new ≡ keyword.now ++ codes " " ++ thread_word thread ++ codes "\n" }
+    ensures written { drop result line.new ≡ keyword.now ++ codes " " ++
+        thread_word thread ++ codes "\n" }
     ensures spelled { is_global thread ≡ true }
 {
     let end = write_byte(b'\n', line, line.len());
@@ -95,13 +98,14 @@ fn write_thread_line(keyword: &[u8], thread: GlobalId, line: &mut [u8]) -> usize
     write_bytes(keyword, line, start)
 }
 
-// The same of the name of a send.
+// Writes the line of a keyword and the name of a send.
 #[inline(always)]
 fn write_name_line(keyword: &[u8], name: Name, line: &mut [u8]) -> usize
     requires short { length keyword.now ≤ KEYWORD_BYTES }
     requires room { LONGEST_LINE ≤ length line.old }
     ensures within { result ≤ length line.new }
-    ensures written { drop result line.new ≡ keyword.now ++ codes " " ++ name_word name ++ codes "\n" }
+    ensures written { drop result line.new ≡ keyword.now ++ codes " " ++
+        name_word name ++ codes "\n" }
     ensures spelled { is_name name ≡ true }
 {
     let end = write_byte(b'\n', line, line.len());
@@ -136,7 +140,9 @@ fn write_order(
     requires short { length keyword.now ≤ KEYWORD_BYTES }
     requires room { LONGEST_LINE ≤ length line.old }
     ensures within { result ≤ length line.new }
-    ensures written { drop result line.new ≡ line_of_words (keyword.now ∷ thread_word caller ∷ thread_word target ∷ what_word (what_of what) ∷ []) }
+    ensures written { drop result line.new ≡
+        line_of_words (keyword.now ∷ thread_word caller ∷ thread_word target ∷
+        what_word (what_of what) ∷ []) }
     ensures caller { is_global caller ≡ true }
     ensures target { is_global target ≡ true }
 {
@@ -152,7 +158,8 @@ fn write_tick(keyword: &[u8], tick: Tick, line: &mut [u8]) -> usize
     requires short { length keyword.now ≤ KEYWORD_BYTES }
     requires room { LONGEST_LINE ≤ length line.old }
     ensures within { result ≤ length line.new }
-    ensures written { drop result line.new ≡ line_of_words (keyword.now ∷ decimal tick.cpu ∷ decimal tick.clock ∷ []) }
+    ensures written { drop result line.new ≡
+        line_of_words (keyword.now ∷ decimal tick.cpu ∷ decimal tick.clock ∷ []) }
     ensures spelled { has_line (ModelTick tick.cpu tick.clock) ≡ true }
 {
     let end = write_byte(b'\n', line, line.len());
@@ -173,7 +180,8 @@ fn spelled(what: What) -> &'static [u8]
     }
 }
 
-/// A text is the trace of at most one list of steps, so it tells which steps they were.
+/// A text is the trace of at most one list of steps.
 pub fn law_one_spelling()
-    ensures { (g h : List ModelStep) → list_all has_line g ≡ true → list_all has_line h ≡ true → trace_of g ≡ trace_of h → g ≡ h }
+    ensures { (g h : List ModelStep) → list_all has_line g ≡ true → list_all has_line h ≡ true →
+        trace_of g ≡ trace_of h → g ≡ h }
 {}

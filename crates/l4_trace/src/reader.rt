@@ -12,15 +12,15 @@ use l4_types::step_ref::StepRef;
 use l4_words::lines::split_line;
 use std::marker::Model;
 
-/// Where the words of a message are read, at most 63. One serves all lines, since to make one costs
-/// more than to read a short line.
+/// A buffer for the words of a message, at most 63. One serves all lines: to make one costs more
+/// than to read a short line.
 pub type ReadWords = ArrayVec<u64, MOST_WORDS>;
 
 /// Reads the text of a trace line by line, and keeps nothing of what it has read but the number of
 /// lines. It takes no memory.
 #[derive(Drop)]
 pub struct Reader<'t> {
-    // What stands behind the lines that were read.
+    // What follows the lines that were read.
     rest: &'t [u8],
     read: usize,
 }
@@ -54,11 +54,11 @@ impl<'t> Reader<'t> {
         self.read
     }
 
-    /// The step of the next line, or None behind the last one. The words of its message are read
-    /// into `words`, in the place of those before.
+    /// The step of the next line, or None after the last one. The words of its message replace
+    /// those in `words`.
     ///
-    /// `Line`: the next line, counted from 1 for the first of the text, is the line of no step, or
-    /// has no line end. Then the reader stays before it.
+    /// `Line`: the next line, counted from 1 for the first of the text, spells no step, or has no
+    /// line end. Then the reader stays before it.
     pub fn next<'w>(&mut self, words: &'w mut ReadWords) -> Result<Option<StepRef<'w>>, TraceFault>
         ensures { ReadsNext self.old result self.new }
     {
@@ -85,7 +85,7 @@ impl<'t> Reader<'t> {
 }
 
 impl Reader<'_> {
-    // What is left has no line end: it has to be nothing.
+    // The end of the text: what is left has no line end, so it has to be empty.
     fn end<'w>(&self) -> Result<Option<StepRef<'w>>, TraceFault>
         requires { parts_of self.now.rest ≡ self.now.rest ∷ [] }
         ensures { ReadsNext self.now result self.now }

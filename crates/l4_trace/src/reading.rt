@@ -11,8 +11,8 @@ use std::alloc::Global;
 
 /// The steps whose trace a text is.
 ///
-/// `Line`: this line, counted from 1, is the first that is the line of no step, or that has no line end. `NoMemory` comes only where
-/// memory was refused, and then whatever the text says.
+/// `Line`: this line, counted from 1, is the first that spells no step, or has no line end.
+/// `NoMemory` only where memory was refused; then it says nothing of the text.
 pub fn read_events(alloc: Global, text: &[u8]) -> Result<Vec<Step>, TraceFault>
     ensures { Reads (λ steps. map step_of steps.items) result (steps_of text.now) }
 {
@@ -34,8 +34,8 @@ pub fn read_history(alloc: Global, text: &[u8]) -> Result<History, TraceFault>
     Ok(history)
 }
 
-/// The trace of steps that have lines is read as these steps, and it is the only text that is; what is named of another text is its first
-/// fault.
+/// The trace of steps is read back as these steps, and no other text is. The line named of any
+/// other text is its first faulty one.
 pub fn law_read_back()
     ensures read_back { IsReadBack }
     ensures written { IsWritten }

@@ -28,7 +28,8 @@ const CANCEL_BOTH: &[u8] = b"SR";
 
 const DELETE: &[u8] = b"delete";
 
-/// Reads the words of a message that are spelled behind its tag, at most 63, in the place of those that were read before.
+/// Reads the words of a message that follow its tag, at most 63. They replace those that were read
+/// before.
 fn read_words(mut spelled: Words<'_>, words: &mut ReadWords) -> Option<()>
     ensures { MatchOption result
         (message_words [] spelled.entry ≡ None)
@@ -57,10 +58,11 @@ fn what(word: &[u8]) -> Option<What>
     }
 }
 
-/// What stands behind `order`.
+/// The operands of `order`.
 #[tactic(auto, unfolding(crate::specs::Reading::order_of))]
 fn order(operands: Words<'_>) -> Option<(GlobalId, GlobalId, What)>
-    ensures { Finds (λ order. ModelOrder order.0 order.1 (what_of order.2)) result (order_of operands.entry) }
+    ensures { Finds (λ order. ModelOrder order.0 order.1 (what_of order.2)) result
+        (order_of operands.entry) }
 {
     let (first, second, third) = operands.three()?;
     let caller = thread(first)?;
@@ -69,7 +71,7 @@ fn order(operands: Words<'_>) -> Option<(GlobalId, GlobalId, What)>
     Some((caller, target, what))
 }
 
-/// What stands behind `tick`.
+/// The operands of `tick`.
 #[tactic(auto, unfolding(crate::specs::Reading::tick_of))]
 fn tick(operands: Words<'_>) -> Option<Tick>
     ensures { Finds (λ tick. ModelTick tick.cpu tick.clock) result (tick_of operands.entry) }
@@ -80,7 +82,7 @@ fn tick(operands: Words<'_>) -> Option<Tick>
     Tick::new(u8::try_from(cpu).ok()?, clock)
 }
 
-/// The thread that stands alone behind a word.
+/// The thread that is the only operand.
 #[tactic(auto, unfolding(crate::specs::Reading::of_thread))]
 fn of_thread(operands: Words<'_>) -> Option<GlobalId>
     ensures { result ≡ of_thread operands.entry }
@@ -88,7 +90,7 @@ fn of_thread(operands: Words<'_>) -> Option<GlobalId>
     thread(operands.one()?)
 }
 
-/// The name that stands alone behind a word.
+/// The name that is the only operand.
 #[tactic(auto, unfolding(crate::specs::Reading::of_name))]
 fn of_name(operands: Words<'_>) -> Option<Name>
     ensures { result ≡ of_name operands.entry }
@@ -96,7 +98,7 @@ fn of_name(operands: Words<'_>) -> Option<Name>
     name(operands.one()?)
 }
 
-/// The delivery with this tag, where one has it.
+/// The delivery of these parts. None where its received tag would not be this word.
 fn delivered(
     name: Name,
     receiver: GlobalId,
@@ -123,7 +125,7 @@ fn delivered(
     }
 }
 
-/// What stands behind `deliver`.
+/// The operands of `deliver`.
 #[tactic(auto, unfolding(crate::specs::Reading::delivery_of))]
 fn delivery<'w>(operands: Words<'_>, words: &'w mut ReadWords) -> Option<DeliveryRef<'w>>
     ensures { Finds seen_delivery result (delivery_of operands.entry) }
@@ -138,7 +140,7 @@ fn delivery<'w>(operands: Words<'_>, words: &'w mut ReadWords) -> Option<Deliver
     delivered(name, receiver, shown, actual, tag, words.as_slice())
 }
 
-// The step behind a word, by the row of its keyword.
+// The step of a keyword and its operands, by the row of the keyword.
 macro_rules! read_rows {
     (
         ($word:ident, $operands:ident)
@@ -176,8 +178,7 @@ fn step_behind<'w>(
     other_step(word, operands)
 }
 
-/// The step that a line without its end spells. The words of its message are read into `words`, in
-/// the place of those before.
+/// The step that a line without its end spells. The words of its message replace those in `words`.
 #[tactic(auto, unfolding(crate::specs::Reading::step_of_line))]
 pub(crate) fn step_of_line<'w>(line: &[u8], words: &'w mut ReadWords) -> Option<StepRef<'w>>
     ensures { Finds seen result (step_of_line line.now) }

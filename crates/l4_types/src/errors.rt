@@ -7,13 +7,13 @@ use std::alloc::{AllocError, AllocFailed};
 /// Why an Ipc failed (manual: Ipc).
 #[derive(Clone, Copy, PartialEq, Eq, Debug)]
 pub enum IpcError {
-    /// The send phase was not over in time.
+    /// The send timed out.
     SendTimeout,
-    /// The receive phase was not over in time.
+    /// The receive timed out.
     ReceiveTimeout,
     /// Nobody has the id that the message was sent to.
     SendNobody,
-    /// Nobody has the id that the receive phase was closed for.
+    /// Nobody has the id that the receive phase names.
     ReceiveNobody,
     /// The send phase was cancelled.
     SendCancelled,
@@ -22,8 +22,8 @@ pub enum IpcError {
 }
 
 impl IpcError {
-    /// The word of the register ErrorCode, 2 to 7: bit 0 is the phase (0 send, 1 receive), bits 1 to 3 are the cause
-    /// (1 timeout, 2 non-existing partner, 3 cancelled).
+    /// The word of the register ErrorCode, 2 to 7: bit 0 is the phase (0 send, 1 receive), bits 1
+    /// to 3 are the cause (1 timeout, 2 non-existing partner, 3 cancelled).
     pub fn code(self) -> u64
         ensures { result ≡ code_of self }
     {

@@ -26,7 +26,7 @@ impl Format {
         }
     }
 
-    /// A sum as this format counts it, modulo 2^64 or 2^32.
+    /// The sum of two words in this format, modulo 2^64 or 2^32.
     pub fn sum(&self, a: u64, b: u64) -> u64
         ensures { result ≡ (a + b) % word_limit (format_of self.now) }
     {

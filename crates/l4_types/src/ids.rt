@@ -12,7 +12,7 @@ const ANY: u64 = 0xffff_ffff_ffff_ffff;
 
 const ANY_LOCAL: u64 = 0xffff_ffff_ffff_ffc0;
 
-// The words of 32 bits for anythread and anylocalthread.
+// The 32-bit words of anythread and anylocalthread.
 const SHORT_ANY: u64 = 0xffff_ffff;
 
 const SHORT_ANY_LOCAL: u64 = 0xffff_ffc0;
@@ -22,8 +22,8 @@ const SHORT_NUMBERS: u32 = 1 << 18;
 
 const SHORT_VERSIONS: u32 = 1 << 14;
 
-/// A thread id: nilthread, anythread, anylocalthread, a local id or a global one. It is one value, whatever the
-/// width of the word that stands for it.
+/// A thread id: nilthread, anythread, anylocalthread, a local id or a global one. It is one value,
+/// whatever the width of the word that stands for it.
 #[derive(Clone, Copy, PartialEq, Eq, Debug)]
 pub struct ThreadId {
     raw: u64,
@@ -63,8 +63,8 @@ pub enum Kind {
     },
 }
 
-/// A global thread id: a thread number and a version whose low six bits are not all zero. The number and the version
-/// of all ones are no global id, since their word is anythread.
+/// A global thread id: a thread number and a version whose low six bits are not all zero. The
+/// number and the version of all ones are no global id, since their word is anythread.
 #[derive(Clone, Copy, PartialEq, Eq, Hash, Debug)]
 pub struct GlobalId {
     number: u32,
@@ -85,8 +85,8 @@ impl Model for GlobalId {
 }
 
 impl GlobalId {
-    /// The global id of a number and a version, or None where the low six bits of the version are zero or both
-    /// numbers are 2^32 - 1.
+    /// The global id of a number and a version, or None where the low six bits of the version are
+    /// zero or both numbers are 2^32 - 1.
     pub const fn new(number: u32, version: u32) -> Option<GlobalId>
         ensures some { IfSome result (λ id. id ≡ global_id number version) }
         ensures when { IsSome result ↔ (is_global (global_id number version) ≡ true) }
@@ -112,7 +112,8 @@ impl GlobalId {
         self.version
     }
 
-    /// Whether a format has a word for it: in 32 bits the number has 18 bits and the version 14, and not all of these are ones.
+    /// Whether a format has a word for it: with 32 bits the number fits 18 bits and the version 14,
+    /// and these are not all ones.
     pub const fn is_in(&self, format: Format) -> bool
         ensures { result ≡ is_global_in (format_of format) self.now }
     {
@@ -140,7 +141,7 @@ impl GlobalId {
 impl Default for GlobalId {
     ghost is_default = { λ id. id ≡ global_id 0 1 };
 
-    /// The least global id, 0.1: what stands in an unused place.
+    /// The least global id, 0.1: the value of an unused slot in an array.
     fn default() -> GlobalId {
         GlobalId {
             number: 0,
@@ -165,14 +166,14 @@ impl ThreadId {
     /// anylocalthread: every thread of one's own address space.
     pub const ANY_LOCAL: ThreadId = ThreadId { raw: ANY_LOCAL };
 
-    /// The id that a word of 64 bits stands for.
+    /// The id that a word of 64 bits means.
     pub const fn from_raw(raw: u64) -> ThreadId
         ensures { result ≡ id_of_word raw }
     {
         ThreadId { raw }
     }
 
-    /// The word of 64 bits that stands for this id.
+    /// The word of 64 bits for this id.
     pub const fn raw(&self) -> u64
         ensures value { result ≡ word_of self.now }
         ensures back { id_of_word result ≡ self.now }
@@ -180,8 +181,9 @@ impl ThreadId {
         self.raw
     }
 
-    /// The global id of a number and a version, or None where the low six bits of the version are zero or both
-    /// numbers are 2^32 - 1. Nothing here calls it, since ids are read as `GlobalId`: it stands for callers who make ids by hand.
+    /// The global id of a number and a version, or None where the low six bits of the version are
+    /// zero or both numbers are 2^32 - 1. No crate here calls it, since ids are read as `GlobalId`.
+    /// It is for callers that make ids by hand.
     pub fn global(number: u32, version: u32) -> Option<ThreadId>
         ensures some { IfSome result (λ id. id ≡ GlobalThread (global_id number version)) }
         ensures when { IsSome result ↔ (is_global (global_id number version) ≡ true) }
@@ -189,10 +191,12 @@ impl ThreadId {
         GlobalId::new(number, version).map(|global| global.id())
     }
 
-    /// The same of a format: None where it has no word for a global id of this number and version.
+    /// The same in a format. None where that has no word for a global id of this number and
+    /// version.
     pub fn global_in(format: Format, number: u32, version: u32) -> Option<ThreadId>
         ensures some { IfSome result (λ id. id ≡ GlobalThread (global_id number version)) }
-        ensures when { IsSome result ↔ (is_global_in (format_of format) (global_id number version) ≡ true) }
+        ensures when { IsSome result ↔
+            (is_global_in (format_of format) (global_id number version) ≡ true) }
     {
         let global = GlobalId::new(number, version)?;
         if global.is_in(format) {
@@ -202,7 +206,8 @@ impl ThreadId {
         }
     }
 
-    /// The id that a word of a format stands for. None where it is no word of the format: of 32 bits, from 2^32 on.
+    /// The id that a word of a format means. None where the format has no such word: for 32 bits,
+    /// from 2^32 on.
     pub fn from_raw_in(format: Format, raw: u64) -> Option<ThreadId>
         ensures { result ≡ id_in (format_of format) raw }
     {
@@ -212,7 +217,7 @@ impl ThreadId {
         }
     }
 
-    /// The word of a format that stands for this id. None where the format has none.
+    /// The word of a format for this id. None where the format has none.
     pub fn raw_in(&self, format: Format) -> Option<u64>
         ensures value { result ≡ word_in (format_of format) self.now }
         ensures back { IfSome result (λ word. id_in (format_of format) word ≡ Some self.now) }
@@ -240,7 +245,7 @@ impl ThreadId {
         }
     }
 
-    // The word of 32 bits that stands for this id.
+    // The word of 32 bits for this id.
     fn short(&self) -> Option<u64>
         ensures { result ≡ word_in W32 self.now }
     {
@@ -283,8 +288,8 @@ impl ThreadId {
         }
     }
 
-    /// Whether a receive phase with this specifier takes a message that shows this sender (manual: Ipc, `FromSpecifier`). `local` says
-    /// whether the sender is of the receiver's address space.
+    /// Whether a receive phase with this specifier takes a message that shows this sender (manual:
+    /// Ipc, `FromSpecifier`). `local` says whether the sender is of the receiver's address space.
     pub fn takes(&self, shown: GlobalId, local: bool) -> bool
         ensures { result ≡ takes self.now shown local }
     {

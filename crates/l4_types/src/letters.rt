@@ -1,4 +1,4 @@
-//! What processors tell each other.
+//! The letters that processors send each other.
 use crate::ids::GlobalId;
 use crate::messages::Message;
 use crate::owed::Owed;
@@ -40,7 +40,7 @@ pub enum Cause {
 /// The content of a letter.
 #[derive(PartialEq, Eq, Debug, Drop)]
 pub enum Content {
-    /// A send has begun, whose receiver is of the processor that gets this.
+    /// A send has begun to a thread of the processor that gets this letter.
     Send {
         /// The send.
         name: Name,
@@ -69,16 +69,16 @@ pub enum Content {
     },
     /// The thread is deleted.
     Gone(GlobalId),
-    /// The caller asks for a cancellation or the deletion of the target.
+    /// An order of the caller to cancel or delete the target.
     Order {
         /// The thread that asks.
         caller: GlobalId,
-        /// The thread that it is to be done to.
+        /// The thread to cancel or delete.
         target: GlobalId,
         /// What is to be done.
         what: What,
     },
-    /// What this caller asked for was done.
+    /// The order of this caller was done.
     OrderDone(GlobalId),
     /// An originator is to turn (profile 2).
     Retarget(Owed),
@@ -89,7 +89,7 @@ pub enum Content {
 pub struct Letter {
     /// The stamp of the event that posted it, below 2^62.
     pub stamp: u64,
-    /// What it tells.
+    /// What it says or asks for.
     pub content: Content,
 }
 
@@ -98,9 +98,12 @@ impl Default for Letter {
     ghost use Rattle.l4_model.specs.Words.{global_id};
     ghost use Rattle.l4_types.specs.declared.letters.Content.TheVariants.{OrderDone};
 
-    ghost is_default = { λ letter. letter ≡ record { stamp = 0; content = OrderDone (global_id 0 1) } };
+    ghost is_default = { λ letter. letter ≡ record {
+      stamp = 0;
+      content = OrderDone (global_id 0 1);
+    } };
 
-    /// What stands in an unused place.
+    /// The value of an unused slot in an array.
     fn default() -> Letter {
         Letter {
             stamp: 0,

@@ -1,7 +1,7 @@
 //! What the manual names, as Rust types: thread ids, tags, times, registers, messages; and steps
 //! and letters of this emulator.
 //!
-//! A value exists exactly where the definition has one: `new` and `from_raw` answer None or a fault
+//! A value exists exactly where the definition has one: `new` and `from_raw` return None or a fault
 //! for all others. Fields are private where not all of their values are lawful, so whoever has a
 //! value has a lawful one. Ids and tags have words of two formats, 64 and 32 bits. Contracts see
 //! ids, tags and steps of the model.

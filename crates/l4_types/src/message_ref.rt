@@ -1,4 +1,4 @@
-//! A message that is only looked at.
+//! A borrowed message.
 ghost use Rattle.std.specs.Prelude.{◌≡◌, ◌<◌, length, false};
 ghost use Rattle.l4_model.specs.Words.{label_limit, register_count};
 ghost use Rattle.l4_types.specs.Flags.{flags_of};
@@ -9,8 +9,8 @@ use crate::tags::MsgTag;
 use arrayvec::ArrayVec;
 use std::marker::Model;
 
-/// A message whose words stay where they are: in a message, in a history, or in message registers 1 to u of its sender (manual: Messages
-/// and Message Registers).
+/// A message whose words stay where they are: in a message, in a history, or in message registers 1
+/// to u of its sender (manual: Messages and Message Registers).
 #[derive(Drop)]
 pub struct MessageRef<'a> {
     label: u64,
@@ -27,7 +27,13 @@ impl<'a> Model for MessageRef<'a> {
 
     ghost Value = { ModelMessage };
 
-    ghost view = { λ m. record { label = m.label; words = m.words.now; propagated = m.propagated; shown = m.shown; actual = m.actual } };
+    ghost view = { λ m. record {
+      label = m.label;
+      words = m.words.now;
+      propagated = m.propagated;
+      shown = m.shown;
+      actual = m.actual;
+    } };
 
     ghost invariant = { λ m. (m.label < label_limit) × (length m.words.now < register_count) };
 }
@@ -47,8 +53,8 @@ impl<'a> From<&'a Message> for MessageRef<'a> {
 }
 
 impl<'a> MessageRef<'a> {
-    /// A message of a label below 2^48 and at most 63 words. `shown` is the sender that its receiver is shown, `actual` the thread that
-    /// sends it.
+    /// A message of this label and these words: the label is below 2^48, and there are at most 63
+    /// words. `shown` is the sender that the receiver sees, `actual` the thread that sends.
     pub fn new(
         label: u64,
         propagated: bool,
@@ -58,7 +64,13 @@ impl<'a> MessageRef<'a> {
     ) -> MessageRef<'a>
         requires label { label < label_limit }
         requires words { length words.now < register_count }
-        ensures { result ≡ record { label = label; words = words.now; propagated = propagated; shown = shown; actual = actual } }
+        ensures { result ≡ record {
+          label = label;
+          words = words.now;
+          propagated = propagated;
+          shown = shown;
+          actual = actual;
+        } }
     {
         MessageRef {
             label,
@@ -92,7 +104,8 @@ impl<'a> MessageRef<'a> {
         self.words
     }
 
-    /// The sender that the receiver is shown: with propagation the originator, else the actual sender.
+    /// The sender that the receiver is shown: with propagation the originator, else the actual
+    /// sender.
     pub fn shown(&self) -> GlobalId
         ensures { result ≡ self.now.shown }
     {
@@ -108,12 +121,16 @@ impl<'a> MessageRef<'a> {
 
     /// The tag of the message: its label, its number of words, and whether it is propagated.
     pub fn tag(&self) -> MsgTag
-        ensures { result ≡ record { label = self.now.label; flags = flags_of false self.now.propagated; untyped = length self.now.words } }
+        ensures { result ≡ record {
+          label = self.now.label;
+          flags = flags_of false self.now.propagated;
+          untyped = length self.now.words;
+        } }
     {
         MsgTag::new(self.label, self.words.len() as u8, self.propagated).unwrap()
     }
 
-    /// The message with words of its own.
+    /// The message with a copy of the words.
     pub fn to_message(&self) -> Message
         ensures { result ≡ self.now }
     {

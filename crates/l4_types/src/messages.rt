@@ -8,7 +8,7 @@ use crate::tags::{LABELS, MsgTag};
 use arrayvec::ArrayVec;
 use std::marker::Model;
 
-/// A message has at most so many untyped words, since message register 0 has its tag.
+/// A message has at most this many untyped words, since message register 0 has its tag.
 pub const MOST_WORDS: usize = 63;
 
 /// A message as it was fixed when its send began.
@@ -28,16 +28,29 @@ impl Model for Message {
 
     ghost Value = { ModelMessage };
 
-    ghost view = { λ m. record { label = m.label; words = m.words.items; propagated = m.propagated; shown = m.shown; actual = m.actual } };
+    ghost view = { λ m. record {
+      label = m.label;
+      words = m.words.items;
+      propagated = m.propagated;
+      shown = m.shown;
+      actual = m.actual;
+    } };
 
     ghost invariant = { λ m. m.label < label_limit };
 
-    ghost inverse = { λ m. record { label = m.label; propagated = m.propagated; words = record { items = m.words }; shown = m.shown; actual = m.actual } };
+    ghost inverse = { λ m. record {
+      label = m.label;
+      propagated = m.propagated;
+      words = record { items = m.words };
+      shown = m.shown;
+      actual = m.actual;
+    } };
 }
 
 impl Message {
-    /// A message of a label below 2^48 and at most 63 words. `shown` is the sender that its receiver is shown, `actual`
-    /// the thread that sends it. None where the label is 2^48 or above.
+    /// A message of this label and these words: the label is below 2^48, and there are at most 63
+    /// words. `shown` is the sender that the receiver sees, `actual` the thread that sends. None
+    /// where the label is 2^48 or above.
     pub fn new(
         label: u64,
         propagated: bool,
@@ -45,7 +58,13 @@ impl Message {
         shown: GlobalId,
         actual: GlobalId,
     ) -> Option<Message>
-        ensures some { IfSome result (λ m. m ≡ record { label = label; words = words.items; propagated = propagated; shown = shown; actual = actual }) }
+        ensures some { IfSome result (λ m. m ≡ record {
+          label = label;
+          words = words.items;
+          propagated = propagated;
+          shown = shown;
+          actual = actual;
+        }) }
         ensures when { IsSome result ↔ (label < label_limit) }
     {
         if label >= LABELS {
@@ -83,7 +102,8 @@ impl Message {
         self.words.as_slice()
     }
 
-    /// The sender that the receiver is shown: with propagation the originator, else the actual sender.
+    /// The sender that the receiver is shown: with propagation the originator, else the actual
+    /// sender.
     pub fn shown(&self) -> GlobalId
         ensures { result ≡ self.now.shown }
     {
@@ -99,12 +119,16 @@ impl Message {
 
     /// The tag of the message: its label, its number of words, and whether it is propagated.
     pub fn tag(&self) -> MsgTag
-        ensures { result ≡ record { label = self.now.label; flags = flags_of false self.now.propagated; untyped = length self.now.words } }
+        ensures { result ≡ record {
+          label = self.now.label;
+          flags = flags_of false self.now.propagated;
+          untyped = length self.now.words;
+        } }
     {
         MsgTag::of(self.label, false, self.propagated, self.words.len() as u8)
     }
 
-    /// The same message again.
+    /// A copy of the message.
     pub fn copy(&self) -> Message
         ensures { result ≡ self.now }
     {

@@ -1,14 +1,14 @@
-//! What an originator owes to those who wait for it.
+//! Retargets that are owed (profile 2).
 use crate::ids::GlobalId;
 use crate::steps::Name;
 
-/// An owed retarget, of profile 2: where the originator of a propagated message waits for the thread that sent it, the old partner, it is to
-/// wait for the one that received it, the new partner.
+/// An owed retarget, of profile 2: the originator of a propagated message is to wait for the thread
+/// that received it, the new partner, if it waits for the thread that sent it, the old partner.
 #[derive(Clone, Copy, PartialEq, Eq, Debug)]
 pub struct Owed {
     /// The send that was delivered.
     pub send: Name,
-    /// The thread that is to turn.
+    /// The thread that the message shows as its sender. It is to turn to the new partner.
     pub originator: GlobalId,
     /// The thread that sent the message.
     pub old_partner: GlobalId,

@@ -4,18 +4,20 @@ ghost use Rattle.l4_model.specs.Words.{NilThread, register_count};
 
 use crate::ids::ThreadId;
 
-/// A thread has so many message registers, MR0 to MR63: the numbers of registers are below it.
+/// A thread has this many message registers, MR0 to MR63: the numbers of registers are below this.
 pub const MESSAGE_REGISTERS: usize = 64;
 
-/// What a thread reads and an Ipc writes (manual: Messages and Message Registers; Thread Control Registers).
+/// What a thread reads and an Ipc writes (manual: Messages and Message Registers; Thread Control
+/// Registers).
 #[derive(Clone, Copy, PartialEq, Eq, Debug)]
 pub struct Regs {
     /// Message registers 0 to 63.
     pub words: [u64; MESSAGE_REGISTERS],
-    /// ErrorCode: 0 after an Ipc that succeeded and after what was asked of another thread and done, the code of an Ipc that failed
-    /// (2 to 7), and 2 after what was asked of another thread and refused. Other instructions leave it, and it begins with 0.
+    /// ErrorCode. An Ipc that succeeds, or an order that is done, leaves 0. An Ipc that fails
+    /// leaves its code, 2 to 7; a refused order leaves 2. Other instructions leave it. It begins
+    /// with 0.
     pub error: u64,
-    /// The sender that the last Ipc has shown, or nilthread.
+    /// The sender that the last Ipc to end received from, as the message shows it, or nilthread.
     pub from: ThreadId,
     /// The one register that is VirtualSender and ActualSender.
     pub actual: ThreadId,
@@ -24,7 +26,12 @@ pub struct Regs {
 impl Regs {
     /// The registers of a thread that has run nothing: all words 0 and all ids nilthread.
     pub fn new() -> Regs
-        ensures { result ≡ record { words = replicate register_count 0; error = 0; from = NilThread; actual = NilThread } }
+        ensures { result ≡ record {
+          words = replicate register_count 0;
+          error = 0;
+          from = NilThread;
+          actual = NilThread;
+        } }
     {
         Regs {
             words: [0; MESSAGE_REGISTERS],
@@ -36,7 +43,12 @@ impl Regs {
 }
 
 impl Default for Regs {
-    ghost is_default = { λ regs. regs ≡ record { words = replicate register_count 0; error = 0; from = NilThread; actual = NilThread } };
+    ghost is_default = { λ regs. regs ≡ record {
+      words = replicate register_count 0;
+      error = 0;
+      from = NilThread;
+      actual = NilThread;
+    } };
 
     fn default() -> Regs {
         Regs::new()

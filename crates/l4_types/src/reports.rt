@@ -2,7 +2,7 @@
 use crate::ids::GlobalId;
 use crate::registers::Regs;
 
-/// What a thread is about.
+/// The state of a thread, as a report tells it.
 #[derive(Clone, Copy, PartialEq, Eq, Debug)]
 pub enum State {
     /// It can run its next instruction.
@@ -11,7 +11,7 @@ pub enum State {
     Sending,
     /// It is in a receive phase.
     Receiving,
-    /// It waits until what it asked of another thread is done.
+    /// It waits until its order is done.
     Ordering,
     /// Its script has ended. The thread is alive and runs nothing more.
     Ended,
@@ -24,17 +24,18 @@ pub enum State {
 pub struct ThreadView {
     /// The thread.
     pub id: GlobalId,
-    /// What it is about.
+    /// Its state.
     pub state: State,
     /// Its registers.
     pub regs: Regs,
 }
 
-/// How a run ends.
+/// How a run, a replay or an audit ends. `Quiet` of a run or replay: at rest. Of an audit: no step
+/// but a tick is possible, now or after any ticks.
 #[derive(Clone, Copy, PartialEq, Eq, Debug)]
 pub enum Ending {
-    /// Nothing was left to do.
+    /// Nothing is left to do.
     Quiet,
-    /// Something was left to do, as where all turns were used.
+    /// Something is left to do, as where all turns were used.
     Spent,
 }

@@ -1,4 +1,4 @@
-//! A step that is only looked at.
+//! Borrowed steps.
 ghost use Rattle.std.specs.Prelude.{◌≡◌};
 ghost use Rattle.l4_model.specs.Words.{word_of_tag, tag_of_word};
 ghost use Rattle.l4_model.specs.Rules.{received_tag};
@@ -12,7 +12,7 @@ use crate::tags::MsgTag;
 /// A delivery whose words stay where they are.
 #[derive(Drop)]
 pub struct DeliveryRef<'a> {
-    /// The send that is over with it.
+    /// The send that it ends.
     pub name: Name,
     /// The thread that gets the message.
     pub receiver: GlobalId,
@@ -33,7 +33,7 @@ impl DeliveryRef<'_> {
             .received(self.cross, self.message.propagated())
     }
 
-    /// The delivery with words of its own.
+    /// The delivery with a copy of the words.
     pub fn to_delivery(&self) -> Delivery
         ensures { delivery_of result ≡ delivered self.now }
     {
@@ -74,7 +74,7 @@ impl<'a> From<&'a Step> for StepRef<'a> {
 }
 
 impl Step<DeliveryRef<'_>> {
-    /// The step with words of its own.
+    /// The step with a copy of the words.
     pub fn to_step(&self) -> Step
         ensures { step_of result ≡ seen self.now }
     {

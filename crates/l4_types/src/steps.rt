@@ -1,4 +1,4 @@
-//! The steps of a machine, and the events that processors tell.
+//! The steps of a machine, and the events of processors.
 ghost use Rattle.std.specs.Prelude.{◌≡◌, ◌<◌, ◌^◌, ◌↔◌, IsSome, IfSome, MatchResult};
 ghost use Rattle.l4_model.specs.Words.{word_of_tag, tag_of_word, clock_limit};
 ghost use Rattle.l4_model.specs.Machine.{most_processors};
@@ -11,10 +11,10 @@ use crate::tags::MsgTag;
 use arrayvec::ArrayVec;
 use std::marker::Model;
 
-/// A machine has at most so many processors.
+/// A machine has at most this many processors.
 pub const MOST_PROCESSORS: u8 = 16;
 
-/// Clocks and stamps are below it.
+/// Clocks and stamps are below this.
 pub const CLOCKS: u64 = 1 << 62;
 
 /// The name of a send: the k-th that a thread began, from k = 1.
@@ -65,8 +65,8 @@ impl Name {
     }
 }
 
-/// What one thread may ask of another: a cancellation, by the bits S and R of ExchangeRegisters, or a deletion (manual:
-/// ExchangeRegisters, ThreadControl).
+/// What an order asks for: a cancellation, by the bits S and R of ExchangeRegisters, or a deletion
+/// (manual: ExchangeRegisters, ThreadControl).
 #[derive(Clone, Copy, PartialEq, Eq, Debug)]
 pub enum What {
     /// Bit S: the send that is under way is cancelled.
@@ -82,7 +82,7 @@ pub enum What {
 /// The delivery of a message.
 #[derive(PartialEq, Eq, Debug, Drop)]
 pub struct Delivery {
-    /// The send that is over with it.
+    /// The send that it ends.
     pub name: Name,
     /// The thread that gets the message.
     pub receiver: GlobalId,
@@ -104,7 +104,7 @@ impl Delivery {
     }
 }
 
-/// The clock of a processor goes on.
+/// A tick: the clock of a processor advances.
 #[derive(Clone, Copy, PartialEq, Eq, Debug)]
 pub struct Tick {
     cpu: u8,
@@ -127,10 +127,12 @@ impl Model for Tick {
 }
 
 impl Tick {
-    /// The clock of a processor (0 to 15) becomes `clock` ticks (1 to 2^62 - 1). None outside these ranges.
+    /// The clock of a processor (0 to 15) becomes `clock` ticks (1 to 2^62 - 1). None outside these
+    /// ranges.
     pub fn new(cpu: u8, clock: u64) -> Option<Tick>
         ensures some { IfSome result (λ t. t ≡ record { cpu = cpu; clock = clock }) }
-        ensures when { IsSome result ↔ ((cpu < most_processors) × (0 < clock) × (clock < clock_limit)) }
+        ensures when { IsSome result ↔
+            ((cpu < most_processors) × (0 < clock) × (clock < clock_limit)) }
     {
         if cpu >= MOST_PROCESSORS || clock == 0 || clock >= CLOCKS {
             return None;
@@ -156,8 +158,8 @@ impl Tick {
     }
 }
 
-/// One step of a machine. It holds only what a line of a trace can spell. A delivery is held as a `D`: whole, only looked at, or as the
-/// place where it is kept.
+/// One step of a machine. It holds only what a line of a trace can spell. A delivery is a `D`:
+/// owned, borrowed, or the index where a history keeps it.
 #[derive(Clone, Copy, PartialEq, Eq, Debug, Drop)]
 pub enum Step<D = Delivery> {
     /// The thread ran an instruction that concerns nobody else, or ended.
@@ -176,7 +178,7 @@ pub enum Step<D = Delivery> {
     ReceiveTimeout(GlobalId),
     /// The send was refused, since nobody has the id that it goes to.
     SendNobody(Name),
-    /// The receive phase was refused, since nobody has the id that it is closed for.
+    /// The receive phase was refused, since nobody has the id that it names.
     ReceiveNobody(GlobalId),
     /// The send was cancelled.
     SendCancel(Name),
@@ -184,18 +186,18 @@ pub enum Step<D = Delivery> {
     ReceiveCancel(GlobalId),
     /// The send of a deleted thread was dropped.
     Drop(Name),
-    /// The caller asked for a cancellation or the deletion of the target.
+    /// The caller gave an order to cancel or delete the target.
     Order {
         /// The thread that asked.
         caller: GlobalId,
-        /// The thread that it is to be done to.
+        /// The thread to cancel or delete.
         target: GlobalId,
         /// What is to be done.
         what: What,
     },
-    /// What this caller asked for was done.
+    /// The order of this caller was done.
     Obey(GlobalId),
-    /// The clock of a processor went on.
+    /// The clock of a processor advanced.
     Tick(Tick),
     /// The originator of a delivered send turned to the thread that received it (profile 2).
     Retarget(Name),
@@ -208,17 +210,19 @@ impl<D> Default for Step<D> {
 
     ghost is_default = { λ step. step ≡ Local (global_id 0 1) };
 
-    /// What stands in an unused place.
+    /// The value of an unused slot in an array.
     fn default() -> Step<D> {
         Step::Local(GlobalId::default())
     }
 }
 
 impl<D> Step<D> {
-    /// The delivery. Where the step is none, the same step, which may hold a delivery as anything else.
+    /// The delivery, if the step is one. Else the step itself, typed for any other kind of
+    /// delivery.
     #[inline(always)]
     pub fn as_delivery<E>(&self) -> Result<&D, Step<E>>
-        ensures { MatchResult result (λ delivery. self.now ≡ Step.Deliver delivery.now) (IsSameOther self.now) }
+        ensures { MatchResult result (λ delivery. self.now ≡ Step.Deliver delivery.now)
+            (IsSameOther self.now) }
     {
         Err(match self {
             Step::Deliver(delivery) => return Ok(delivery),
@@ -249,7 +253,7 @@ impl<D> Step<D> {
     }
 }
 
-/// What one processor did at once: one to three steps, or none where it only handled a letter.
+/// What one turn or tick of a processor did: up to three steps.
 #[derive(PartialEq, Eq, Debug, Drop)]
 pub struct Event {
     /// The stamp of the event, below 2^62.

@@ -16,11 +16,12 @@ pub const LABELS: u64 = 1 << 48;
 // The number of labels in 32 bits.
 const SHORT_LABELS: u64 = 1 << 16;
 
-/// The content of message register 0: a label of 48 bits, four flags, and the number of untyped words, at most 63.
-/// There are no typed words.
+/// The content of message register 0: a label of 48 bits, four flags, and the number of untyped
+/// words, at most 63. There are no typed words.
 ///
-/// Of the flags, bit 12 of the word is `p`: propagation is asked for or, in a received tag, took place. In a received
-/// tag bit 14, `X`, says that the message comes from another processor, and bits 13 and 15 are clear.
+/// Of the flags, bit 12 of the word is `p`: propagation is asked for or, in a received tag, took
+/// place. In a received tag bit 14, `X`, says that the message comes from another processor, and
+/// bits 13 and 15 are clear.
 #[derive(Clone, Copy, PartialEq, Eq, Debug)]
 pub struct MsgTag {
     raw: u64,
@@ -56,10 +57,14 @@ impl MsgTag {
     /// The tag of an Ipc that failed: of its flags `E` alone, bit 15, is set.
     pub const FAILED: MsgTag = MsgTag { raw: 0x8000 };
 
-    /// The tag of a label, a number of untyped words and a wish to propagate (bit 12). None where the label is 2^48 or
-    /// above, or there are more than 63 words.
+    /// The tag of a label, a number of untyped words and a wish to propagate (bit 12). None where
+    /// the label is 2^48 or above, or there are more than 63 words.
     pub fn new(label: u64, untyped: u8, propagate: bool) -> Option<MsgTag>
-        ensures some { IfSome result (λ tag. tag ≡ record { label = label; flags = flags_of false propagate; untyped = untyped }) }
+        ensures some { IfSome result (λ tag. tag ≡ record {
+          label = label;
+          flags = flags_of false propagate;
+          untyped = untyped;
+        }) }
         ensures when { IsSome result ↔ ((label < label_limit) × (untyped < register_count)) }
     {
         if label >= LABELS || usize::from(untyped) > MOST_WORDS {
@@ -68,10 +73,15 @@ impl MsgTag {
         Some(MsgTag::of(label, false, propagate, untyped))
     }
 
-    /// The same of a format. None where the label is one of no word of the format: of 32 bits, from 2^16 on.
+    /// The same of a format. None where the format has no such label: for 32 bits, from 2^16 on.
     pub fn new_in(format: Format, label: u64, untyped: u8, propagate: bool) -> Option<MsgTag>
-        ensures some { IfSome result (λ tag. tag ≡ record { label = label; flags = flags_of false propagate; untyped = untyped }) }
-        ensures when { IsSome result ↔ ((label < label_limit_in (format_of format)) × (untyped < register_count)) }
+        ensures some { IfSome result (λ tag. tag ≡ record {
+          label = label;
+          flags = flags_of false propagate;
+          untyped = untyped;
+        }) }
+        ensures when { IsSome result ↔
+            ((label < label_limit_in (format_of format)) × (untyped < register_count)) }
     {
         match format {
             Format::W32 if label >= SHORT_LABELS => None,
@@ -91,8 +101,8 @@ impl MsgTag {
         Ok(MsgTag { raw })
     }
 
-    /// The tag that a word of a format is. `Wide` where it is no word of the format: of 32 bits, from 2^32 on. Else `TypedItems` where
-    /// bits 6 to 11 are not all zero.
+    /// The tag that a word of a format is. `Wide` where the format has no such word: for 32 bits,
+    /// from 2^32 on. Else `TypedItems` where bits 6 to 11 are not all zero.
     pub fn from_raw_in(format: Format, raw: u64) -> Result<MsgTag, TagFault>
         ensures { result ≡ tag_in (format_of format) raw }
     {
@@ -134,7 +144,8 @@ impl MsgTag {
         MsgTag::propagates_in(self.raw)
     }
 
-    /// The label in a word of message register 0, below 2^48, whatever number of typed words stands there.
+    /// The label in a word of message register 0, below 2^48, also where the word names typed
+    /// items.
     pub fn label_in(word: u64) -> u64
         ensures value { result ≡ (tag_of_word word).label }
         ensures fits { result < label_limit }
@@ -142,7 +153,8 @@ impl MsgTag {
         word >> 16
     }
 
-    /// The number of untyped words in a word of message register 0, at most 63, whatever number of typed words stands there.
+    /// The number of untyped words in a word of message register 0, at most 63, also where the word
+    /// names typed items.
     pub fn untyped_in(word: u64) -> u8
         ensures value { result ≡ (tag_of_word word).untyped }
         ensures fits { result < register_count }
@@ -150,15 +162,16 @@ impl MsgTag {
         (word & 0x3f) as u8
     }
 
-    /// Whether a word of message register 0 asks for propagation (bit 12), whatever number of typed words stands there.
+    /// Whether a word of message register 0 asks for propagation (bit 12), also where the word
+    /// names typed items.
     pub fn propagates_in(word: u64) -> bool
         ensures { result ≡ ((tag_of_word word).flags % 2 == 1) }
     {
         (word >> 12) & 1 == 1
     }
 
-    /// The tag that a receiver gets: the label and the number of words stay, the flags say whether the message came
-    /// from another processor and whether it was propagated, and no more.
+    /// The tag that a receiver gets: label and number of words stay. `X` says that the message
+    /// comes from another processor, `p` that it was propagated; `r` and `E` are clear.
     pub fn received(&self, cross: bool, propagated: bool) -> MsgTag
         ensures { result ≡ record self.now { flags = flags_of cross propagated } }
     {
@@ -169,7 +182,11 @@ impl MsgTag {
     pub(crate) fn of(label: u64, cross: bool, propagated: bool, untyped: u8) -> MsgTag
         requires label { label < label_limit }
         requires untyped { untyped < register_count }
-        ensures { result ≡ record { label = label; flags = flags_of cross propagated; untyped = untyped } }
+        ensures { result ≡ record {
+          label = label;
+          flags = flags_of cross propagated;
+          untyped = untyped;
+        } }
     {
         let flags = u64::from(cross) * 4 + u64::from(propagated);
         MsgTag {

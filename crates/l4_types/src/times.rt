@@ -4,7 +4,8 @@ ghost use Rattle.std.specs.Option.{option_map};
 ghost use Rattle.l4_model.specs.Words.{period_of, time_of, timeouts_of};
 ghost use Rattle.l4_types.specs.PeriodView.{period_from, periods_from, IsTimely};
 
-/// How long a phase of an Ipc may wait, in ticks of a processor's clock. One tick is one microsecond.
+/// How long a phase of an Ipc may wait, in ticks of a processor's clock. One tick is one
+/// microsecond.
 #[derive(Clone, Copy, PartialEq, Eq, Debug)]
 pub enum Period {
     /// Without end.
@@ -15,8 +16,9 @@ pub enum Period {
     Ticks(u64),
 }
 
-/// The period of a time (manual: Time): 0 is never, else it is the mantissa, bits 0 to 9, times the power of two of the
-/// exponent, bits 10 to 14. None exactly where bit 15 is set, which would be a point in time.
+/// The period of a time (manual: Time): 0 is never, else it is the mantissa, bits 0 to 9, times the
+/// power of two of the exponent, bits 10 to 14. None exactly where bit 15 is set, which would be a
+/// point in time.
 pub fn time_of(time: u16) -> Option<Period>
     ensures value { result ≡ option_map period_from (time_of time) }
     ensures timely { IfSome result (λ period. IsTimely period) }
@@ -45,9 +47,10 @@ fn period_of(time: u16) -> Period
     }
 }
 
-/// The periods of a word of timeouts (manual: Ipc), first the send period of bits 16 to 31, then the receive period of bits
-/// 0 to 15. None exactly where one of the two times has none. Nothing here calls it, since machine texts spell the two times apart: it stands
-/// for callers who have such a word.
+/// The periods of a word of timeouts (manual: Ipc), first the send period of bits 16 to 31, then
+/// the receive period of bits 0 to 15. None exactly where bit 15 of one of the two times is set. No
+/// crate here calls it, since machine texts spell the two times apart. It is for callers that have
+/// such a word.
 pub fn timeouts(timeouts: u32) -> Option<(Period, Period)>
     ensures { result ≡ option_map periods_from (timeouts_of timeouts) }
 {

@@ -2,7 +2,7 @@
 ghost use Rattle.std.specs.Prelude.{◌≡◌, ◌<◌, ◌≤◌, ◌+◌, ◌-◌, ◌*◌, ◌^◌, ◌∷◌, ◌++◌, length, drop};
 ghost use Rattle.l4_words.specs.Numbers.{hexadecimal, byte_digits, pairs_of};
 
-// The numbers below it have at most four bytes, and take half of the time.
+// Numbers below this have at most four bytes, and take half of the time.
 const HALF_WORDS: u64 = 1 << 32;
 
 // The two digits of each byte.
@@ -31,7 +31,7 @@ static PAIRS: [[u8; 2]; 256] = [
     *b"fc", *b"fd", *b"fe", *b"ff",
 ];
 
-/// Writes a byte in front of a place of the line, and answers where it stands.
+/// Writes a byte just before `end` in the line, and returns its index.
 pub fn write_byte(byte: u8, line: &mut [u8], end: usize) -> usize
     requires { (0 < end) × (end ≤ length line.old) }
     ensures start { result + 1 ≡ end }
@@ -42,7 +42,7 @@ pub fn write_byte(byte: u8, line: &mut [u8], end: usize) -> usize
     start
 }
 
-/// Writes bytes in front of a place of the line, and answers where they start.
+/// Writes bytes just before `end` in the line, and returns where they start.
 #[inline(always)]
 pub fn write_bytes(bytes: &[u8], line: &mut [u8], end: usize) -> usize
     requires { (length bytes.now ≤ end) × (end ≤ length line.old) }
@@ -63,7 +63,7 @@ fn digits_of_byte(byte: u64) -> [u8; 2]
     PAIRS[byte as usize]
 }
 
-/// Writes the two digits of a byte in front of a place of the line, and answers where they start.
+/// Writes the two digits of a byte just before `end` in the line, and returns where they start.
 #[inline(always)]
 fn write_pair(byte: u64, line: &mut [u8], end: usize) -> usize
     requires byte { byte < 256 }
@@ -75,7 +75,8 @@ fn write_pair(byte: u64, line: &mut [u8], end: usize) -> usize
     write_bytes(&digits, line, end)
 }
 
-/// Writes the lowest bytes of a number, so many, in hexadecimal in front of a place of the line, with leading zeros.
+/// Writes the lowest `bytes` bytes of a number in hexadecimal, with leading zeros, just before
+/// `end`.
 #[inline(always)]
 fn write_pairs(number: u64, bytes: usize, line: &mut [u8], end: usize)
     requires { (2 * bytes ≤ end) × (end ≤ length line.old) }
@@ -100,7 +101,8 @@ fn count_digits(number: u64) -> usize
     (67 - number.leading_zeros() as usize) / 4
 }
 
-/// Writes a number that has no more bytes than that in hexadecimal in front of a place of the line, and answers where it starts.
+/// Writes a number of at most `bytes` bytes in hexadecimal just before `end`, and returns where it
+/// starts.
 #[inline(always)]
 fn write_bounded(number: u64, bytes: usize, line: &mut [u8], end: usize) -> usize
     requires some { 0 < bytes }
@@ -113,8 +115,9 @@ fn write_bounded(number: u64, bytes: usize, line: &mut [u8], end: usize) -> usiz
     end - count_digits(number)
 }
 
-/// Writes a number in hexadecimal in front of a place of the line, and answers where it starts: in lower case, with no prefix and no
-/// leading zero. There has to be room for sixteen digits, since leading zeros are written, and left behind.
+/// Writes a number in hexadecimal just before `end` in the line, and returns where it starts: in
+/// lower case, with no prefix and no leading zero. There has to be room for sixteen digits: leading
+/// zeros are written too, and not counted.
 #[inline(always)]
 pub(crate) fn write_hexadecimal(number: u64, line: &mut [u8], end: usize) -> usize
     requires { (16 ≤ end) × (end ≤ length line.old) }

@@ -1,4 +1,4 @@
-//! What the texts of a machine have in common: lines, their words, and the numbers, threads and
+//! What machine texts and traces have in common: lines, their words, and the numbers, threads and
 //! names that words spell.
 //!
 //! A word is read exactly where it spells a value, and each value is written as one word, which is

@@ -5,14 +5,14 @@ ghost use Rattle.l4_words.specs.Lines.{parts_of};
 
 use memchr::memchr;
 
-/// The place of the first such byte.
+/// The index of the first `byte`.
 pub fn find_byte(byte: u8, bytes: &[u8]) -> Option<usize>
     ensures { result ≡ position (λ other. other == byte) bytes.now }
 {
     bytes.iter().position(|other| *other == byte)
 }
 
-/// The same, and cheaper where the byte is some way off, or the first one.
+/// The same; cheaper where the byte is far off, or comes first.
 fn find_far_byte(byte: u8, bytes: &[u8]) -> Option<usize>
     ensures { result ≡ position (λ other. other == byte) bytes.now }
 {
@@ -22,24 +22,26 @@ fn find_far_byte(byte: u8, bytes: &[u8]) -> Option<usize>
     }
 }
 
-// What stands before and behind the first such byte, which is at this place.
+// What comes before and after the first such byte, which is at this place.
 #[inline(always)]
 fn split_at(byte: u8, bytes: &[u8], place: Option<usize>) -> Option<(&[u8], &[u8])>
     requires { place ≡ position (λ other. other == byte) bytes.now }
     ensures parts { MatchOption result
         (slice_split (λ other. other == byte) bytes.now ≡ bytes.now ∷ [])
-        (λ split. slice_split (λ other. other == byte) bytes.now ≡ split.0.now ∷ slice_split (λ other. other == byte) split.1.now) }
+        (λ split. slice_split (λ other. other == byte) bytes.now ≡
+        split.0.now ∷ slice_split (λ other. other == byte) split.1.now) }
     ensures shorter { IfSome result (λ split. length split.1.now < length bytes.now) }
 {
     let end = place?;
     Some((&bytes[..end], &bytes[end + 1..]))
 }
 
-/// What stands before the first such byte, and what follows it. None where there is no such byte.
+/// What comes before the first such byte, and what follows it. None where there is no such byte.
 pub fn split_once(byte: u8, bytes: &[u8]) -> Option<(&[u8], &[u8])>
     ensures parts { MatchOption result
         (slice_split (λ other. other == byte) bytes.now ≡ bytes.now ∷ [])
-        (λ split. slice_split (λ other. other == byte) bytes.now ≡ split.0.now ∷ slice_split (λ other. other == byte) split.1.now) }
+        (λ split. slice_split (λ other. other == byte) bytes.now ≡
+        split.0.now ∷ slice_split (λ other. other == byte) split.1.now) }
     ensures shorter { IfSome result (λ split. length split.1.now < length bytes.now) }
 {
     split_at(byte, bytes, find_byte(byte, bytes))

@@ -3,10 +3,10 @@ ghost use Rattle.std.specs.Prelude.{◌≡◌, ◌<◌, ◌≤◌, ◌+◌, ◌*
 ghost use Rattle.std.specs.List.{prefix_len};
 ghost use Rattle.l4_words.specs.Numbers.{digit_of, with_digit, number_onto, value_of, has_leading_zero, number_of, padded_of};
 
-// So few digits are below 2^64, in base 10 and in base 16.
+// A number of this many digits is below 2^64, in base 10 and in base 16.
 const FEW_DIGITS: usize = 16;
 
-// The digit that each byte is, with no upper case. 255 is no digit.
+// The value of each byte as a digit, lower case only. 255: no digit.
 static DIGITS: [u8; 256] = [
     255, 255, 255, 255, 255, 255, 255, 255, 255, 255, 255, 255, 255, 255, 255, 255, 255, 255, 255,
     255, 255, 255, 255, 255, 255, 255, 255, 255, 255, 255, 255, 255, 255, 255, 255, 255, 255, 255,
@@ -34,7 +34,7 @@ fn digit(byte: u8, radix: u64) -> Option<u64>
     if digit < radix { Some(digit) } else { None }
 }
 
-/// A number with one more digit behind it.
+/// A number with one more digit after it.
 fn with_digit(value: u64, byte: u8, radix: u64) -> Option<u64>
     requires { radix ≤ 16 }
     ensures { result ≡ with_digit radix value byte }
@@ -43,7 +43,7 @@ fn with_digit(value: u64, byte: u8, radix: u64) -> Option<u64>
     value.checked_mul(radix)?.checked_add(digit)
 }
 
-/// The same of a number that has room for one more digit.
+/// The same for a number that one more digit does not make too large.
 #[inline(always)]
 fn with_next_digit(value: u64, byte: u8, radix: u64) -> Option<u64>
     requires room { (value + 1) * 16 ≤ 2 ^ 64 }
@@ -56,7 +56,7 @@ fn with_next_digit(value: u64, byte: u8, radix: u64) -> Option<u64>
     Some(value * radix + digit)
 }
 
-/// The number of few digits, which none of them makes too large.
+/// The number that at most 16 digits spell. It is below 2^64.
 #[inline(always)]
 fn value_of_few(digits: &[u8], radix: u64) -> Option<u64>
     requires few { length digits.now ≤ 16 }
@@ -82,7 +82,7 @@ fn value_of_many(digits: &[u8], radix: u64) -> Option<u64>
     Some(value)
 }
 
-/// The number of one digit or more, 10 or 16 of them in the base.
+/// The number that one digit or more spell, in base 10 or 16.
 #[inline(always)]
 fn value(digits: &[u8], radix: u64) -> Option<u64>
     requires { radix ≤ 16 }
@@ -104,7 +104,7 @@ fn has_leading_zero(word: &[u8]) -> bool
     word.len() != 1 && word.first() == Some(&b'0')
 }
 
-/// The number of a word in its one spelling in a base.
+/// The number that a word spells in a base, without leading zeros.
 #[inline(always)]
 fn number(word: &[u8], radix: u64) -> Option<u64>
     requires { radix ≤ 16 }
@@ -117,7 +117,7 @@ fn number(word: &[u8], radix: u64) -> Option<u64>
     }
 }
 
-/// How many digits stand in front of a text.
+/// How many leading digits a text has.
 #[inline(always)]
 fn count_digits(text: &[u8], radix: u64) -> usize
     requires { radix ≤ 16 }
@@ -130,14 +130,15 @@ fn count_digits(text: &[u8], radix: u64) -> usize
     count
 }
 
-/// The value of the digits in front of a short text, and how many they are.
+/// The value of the leading digits of a short text, and how many they are.
 #[inline(always)]
 fn few_in_front(text: &[u8], radix: u64) -> (u64, usize)
     requires few { length text.now ≤ 16 }
     requires radix { radix ≤ 16 }
     ensures count { result.1 ≤ length text.now }
     ensures value { number_onto radix 0 (take result.1 text.now) ≡ Some result.0 }
-    ensures end { result.1 < length text.now → digit_of radix (slice_index text.now result.1) ≡ None }
+    ensures end { result.1 < length text.now →
+        digit_of radix (slice_index text.now result.1) ≡ None }
 {
     let mut value = 0;
     let mut count = 0;
@@ -151,7 +152,7 @@ fn few_in_front(text: &[u8], radix: u64) -> (u64, usize)
     (value, count)
 }
 
-/// The number that the digits in front of a text spell in a base, and how many they are.
+/// The number that the leading digits of a text spell in a base, and how many they are.
 #[inline(always)]
 fn number_in_front(text: &[u8], radix: u64) -> (Option<u64>, usize)
     requires { radix ≤ 16 }
@@ -172,7 +173,7 @@ fn number_in_front(text: &[u8], radix: u64) -> (Option<u64>, usize)
     }
 }
 
-/// The hexadecimal number in front of a text, and how many digits it has.
+/// The hexadecimal number that a text begins with, and how many digits it has.
 pub(crate) fn hexadecimal_in_front(text: &[u8]) -> (Option<u64>, usize)
     ensures count { result.1 ≡ prefix_len (λ byte. is_some (digit_of 16 byte)) text.now }
     ensures within { result.1 ≤ length text.now }
@@ -188,7 +189,8 @@ pub fn decimal(word: &[u8]) -> Option<u64>
     number(word, 10)
 }
 
-/// The number of hexadecimal digits in lower case, without a leading zero. None where it is 2^64 or more.
+/// The number of hexadecimal digits in lower case, without a leading zero. None where it is 2^64 or
+/// more.
 pub fn hexadecimal(word: &[u8]) -> Option<u64>
     ensures { result ≡ number_of 16 word.now }
 {

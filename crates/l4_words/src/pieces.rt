@@ -1,5 +1,4 @@
-//! The words of a line, each with the space before it, written from the end of the line to its start: each in front of what stands there
-//! already.
+//! Writes the words of a line from its last to its first, each with the space before it.
 ghost use Rattle.std.specs.Prelude.{◌≡◌, ◌≤◌, ◌+◌, ◌*◌, true, ◌++◌, codes, decimal, flat_map, length, drop};
 ghost use Rattle.std.specs.List.{list_all};
 ghost use Rattle.l4_model.specs.Words.{is_global};
@@ -12,22 +11,22 @@ use itoa::write_digits;
 use l4_types::ids::GlobalId;
 use l4_types::steps::Name;
 
-// A number below 2^32 takes at most so many bytes in decimal.
+// The most bytes of a number below 2^32 in decimal.
 const HALF_BYTES: usize = 10;
 
-/// A space and a number below 2^64 in decimal take at most so many bytes.
+/// The most bytes of a space and a number below 2^64 in decimal.
 pub const NUMBER_BYTES: usize = 21;
 
-/// A space and a thread take at most so many bytes.
+/// The most bytes of a space and a thread.
 pub const THREAD_BYTES: usize = 22;
 
-/// A space and the name of a send take at most so many bytes.
+/// The most bytes of a space and the name of a send.
 pub const NAME_BYTES: usize = 43;
 
-/// A space and a word in hexadecimal take at most so many bytes.
+/// The most bytes of a space and a word in hexadecimal.
 pub const WORD_BYTES: usize = 17;
 
-// Writes half a thread id in decimal in front of a place of the line. Answers where it starts.
+// Writes half a thread id in decimal just before `end` in the line. Returns where it starts.
 #[tactic(auto, using(crate::proofs::Lengths::at_most_10))]
 fn write_half(half: u32, line: &mut [u8], end: usize) -> usize
     requires room { HALF_BYTES ≤ end }
@@ -39,7 +38,7 @@ fn write_half(half: u32, line: &mut [u8], end: usize) -> usize
     write_digits(u64::from(half), line, end)
 }
 
-/// Writes a space and a number in decimal in front of a place of the line. Answers where they start.
+/// Writes a space and a number in decimal just before `end` in the line. Returns where they start.
 #[tactic(auto, using(crate::proofs::Lengths::at_most_20))]
 pub fn write_number(number: u64, line: &mut [u8], end: usize) -> usize
     requires room { NUMBER_BYTES ≤ end }
@@ -52,7 +51,8 @@ pub fn write_number(number: u64, line: &mut [u8], end: usize) -> usize
     write_byte(b' ', line, digits)
 }
 
-/// Writes a space and a thread, `N.V`, its number and its version in decimal, in front of a place of the line. Answers where they start.
+/// Writes a space and a thread, `N.V`, its number and its version in decimal, just before `end` in
+/// the line. Returns where they start.
 pub fn write_thread(thread: GlobalId, line: &mut [u8], end: usize) -> usize
     requires room { THREAD_BYTES ≤ end }
     requires within { end ≤ length line.old }
@@ -67,7 +67,8 @@ pub fn write_thread(thread: GlobalId, line: &mut [u8], end: usize) -> usize
     write_byte(b' ', line, number)
 }
 
-/// Writes a space and the name of a send, `N.V#K`, in front of a place of the line. Answers where they start.
+/// Writes a space and the name of a send, `N.V#K`, just before `end` in the line. Returns where
+/// they start.
 #[tactic(auto, using(crate::proofs::Lengths::at_most_20))]
 pub fn write_name(name: Name, line: &mut [u8], end: usize) -> usize
     requires room { NAME_BYTES ≤ end }
@@ -82,7 +83,8 @@ pub fn write_name(name: Name, line: &mut [u8], end: usize) -> usize
     write_thread(name.thread(), line, hash)
 }
 
-/// Writes a space and a word in hexadecimal in front of a place of the line. Answers where they start.
+/// Writes a space and a word in hexadecimal just before `end` in the line. Returns where they
+/// start.
 #[tactic(auto, using(crate::proofs::Hexadecimal::at_most_16))]
 pub fn write_word(word: u64, line: &mut [u8], end: usize) -> usize
     requires room { WORD_BYTES ≤ end }
@@ -96,13 +98,15 @@ pub fn write_word(word: u64, line: &mut [u8], end: usize) -> usize
     write_byte(b' ', line, digits)
 }
 
-/// Writes a space and each of these words, as `write_word` does it, in front of a place of the line. Answers where they start.
+/// Writes a space and each of these words, as `write_word` does it, just before `end` in the line.
+/// Returns where they start.
 pub fn write_words(words: &[u64], line: &mut [u8], end: usize) -> usize
     requires room { WORD_BYTES * length words.now ≤ end }
     requires within { end ≤ length line.old }
     ensures room { end ≤ result + WORD_BYTES * length words.now }
     ensures within { result ≤ end }
-    ensures written { drop result line.new ≡ flat_map (λ word. codes " " ++ hexadecimal word) words.now ++ drop end line.old }
+    ensures written { drop result line.new ≡
+        flat_map (λ word. codes " " ++ hexadecimal word) words.now ++ drop end line.old }
     ensures spelled { list_all is_word words.now ≡ true }
 {
     let mut at = end;

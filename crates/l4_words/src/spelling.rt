@@ -13,7 +13,8 @@ use std::alloc::AllocError;
 
 /// Appends a space and a word in hexadecimal: in lower case, with no prefix and no leading zero.
 pub fn push_word(line: &mut String, word: u64) -> Result<(), AllocError>
-    ensures word { OnOk result (string_bytes line.new ≡ string_bytes line.old ++ codes " " ++ hexadecimal word) }
+    ensures word { OnOk result (string_bytes line.new ≡
+        string_bytes line.old ++ codes " " ++ hexadecimal word) }
     ensures spelled { is_word word ≡ true }
 {
     write!(line, " {word:x}")
@@ -21,7 +22,8 @@ pub fn push_word(line: &mut String, word: u64) -> Result<(), AllocError>
 
 /// Appends a space and each of these words, as `push_word` does it.
 pub fn push_words(line: &mut String, words: &[u64]) -> Result<(), AllocError>
-    ensures words { OnOk result (string_bytes line.new ≡ string_bytes line.old ++ flat_map (λ word. codes " " ++ hexadecimal word) words.now) }
+    ensures words { OnOk result (string_bytes line.new ≡
+        string_bytes line.old ++ flat_map (λ word. codes " " ++ hexadecimal word) words.now) }
     ensures spelled { OnOk result (list_all is_word words.now ≡ true) }
 {
     for word in words {
@@ -32,7 +34,8 @@ pub fn push_words(line: &mut String, words: &[u64]) -> Result<(), AllocError>
 
 /// Appends a space and a thread, `N.V`: its number and its version in decimal.
 pub fn push_thread(line: &mut String, thread: GlobalId) -> Result<(), AllocError>
-    ensures word { OnOk result (string_bytes line.new ≡ string_bytes line.old ++ codes " " ++ thread_word thread) }
+    ensures word { OnOk result (string_bytes line.new ≡
+        string_bytes line.old ++ codes " " ++ thread_word thread) }
     ensures spelled { is_global thread ≡ true }
 {
     push_numbers(line, thread.number(), thread.version())
@@ -40,7 +43,8 @@ pub fn push_thread(line: &mut String, thread: GlobalId) -> Result<(), AllocError
 
 /// Appends a space and the thread of this number and version, as `push_thread` does it.
 pub fn push_numbers(line: &mut String, number: u32, version: u32) -> Result<(), AllocError>
-    ensures { OnOk result (string_bytes line.new ≡ string_bytes line.old ++ codes " " ++ thread_word (global_id number version)) }
+    ensures { OnOk result (string_bytes line.new ≡ string_bytes line.old ++ codes " " ++
+        thread_word (global_id number version)) }
 {
     write!(line, " {number}.{version}")
 }
@@ -48,7 +52,8 @@ pub fn push_numbers(line: &mut String, number: u32, version: u32) -> Result<(), 
 /// Appends a space and the name of a send, `N.V#K`.
 #[tactic(auto, using(crate::proofs::ReadNames::spelled_name))]
 pub fn push_name(line: &mut String, name: Name) -> Result<(), AllocError>
-    ensures word { OnOk result (string_bytes line.new ≡ string_bytes line.old ++ codes " " ++ name_word name) }
+    ensures word { OnOk result (string_bytes line.new ≡
+        string_bytes line.old ++ codes " " ++ name_word name) }
     ensures spelled { OnOk result (is_name name ≡ true) }
 {
     push_thread(line, name.thread())?;

@@ -15,7 +15,8 @@ fn thread_between(number: &[u8], version: &[u8]) -> Option<GlobalId>
     GlobalId::new(u32::try_from(number).ok()?, u32::try_from(version).ok()?)
 }
 
-/// The thread of a word `N.V`, its number and its version in decimal (manual: ThreadId). None where they make no global id.
+/// The thread of a word `N.V`, its number and its version in decimal (manual: ThreadId). None where
+/// they make no global id.
 pub fn thread(word: &[u8]) -> Option<GlobalId>
     ensures { result ≡ thread_of word.now }
 {

@@ -10,7 +10,7 @@ use std::marker::Model;
 /// The words of a line that are still to be read.
 #[derive(Drop)]
 pub struct Words<'a> {
-    // What follows the words that were read, and the space behind the last of them.
+    // What follows the words that were read and the space after the last of them.
     rest: Option<&'a [u8]>,
 }
 
@@ -71,9 +71,11 @@ impl<'a> Words<'a> {
         }
     }
 
-    /// The next word, as a hexadecimal number. None where no word is left, and where the next one spells none.
+    /// The next word, as a hexadecimal number. None where no word is left, and where the next one
+    /// spells none.
     pub fn next_hexadecimal(&mut self) -> Option<u64>
-        ensures { MatchOption result (first_hexadecimal self.old ≡ None) (λ number. first_hexadecimal self.old ≡ Some (number, self.new)) }
+        ensures { MatchOption result (first_hexadecimal self.old ≡ None)
+            (λ number. first_hexadecimal self.old ≡ Some (number, self.new)) }
     {
         let (number, rest) = split_hexadecimal(self.rest?);
         self.rest = rest;
@@ -102,7 +104,8 @@ impl<'a> Words<'a> {
 
     /// The three words that are left. None where there are more or fewer.
     pub fn three(mut self) -> Option<ThreeWords<'a>>
-        ensures { Finds (λ words. (words.0.now, words.1.now, words.2.now)) result (three self.entry) }
+        ensures { Finds (λ words. (words.0.now, words.1.now, words.2.now)) result
+            (three self.entry) }
     {
         match (self.next(), self.next(), self.next(), self.next()) {
             (Some(first), Some(second), Some(third), None) => Some((first, second, third)),
@@ -112,7 +115,8 @@ impl<'a> Words<'a> {
 
     /// The four words that are left. None where there are more or fewer.
     pub fn four(mut self) -> Option<FourWords<'a>>
-        ensures { Finds (λ words. (words.0.now, words.1.now, words.2.now, words.3.now)) result (four self.entry) }
+        ensures { Finds (λ words. (words.0.now, words.1.now, words.2.now, words.3.now)) result
+            (four self.entry) }
     {
         match (
             self.next(),
@@ -130,7 +134,8 @@ impl<'a> Words<'a> {
 
     /// The five words that are left. None where there are more or fewer.
     pub fn five(mut self) -> Option<FiveWords<'a>>
-        ensures { Finds (λ words. (words.0.now, words.1.now, words.2.now, words.3.now, words.4.now)) result (five self.entry) }
+        ensures { Finds (λ words. (words.0.now, words.1.now, words.2.now, words.3.now, words.4.now))
+            result (five self.entry) }
     {
         match (
             self.next(),
@@ -147,9 +152,11 @@ impl<'a> Words<'a> {
         }
     }
 
-    /// The next five words, and those behind them. None where there are fewer.
+    /// The next five words, and the rest. None where there are fewer than five.
     pub fn first_five(mut self) -> Option<FiveAndMore<'a>>
-        ensures { Finds (λ words. (words.0.now, words.1.now, words.2.now, words.3.now, words.4.now, words.5)) result (first_five self.entry) }
+        ensures { Finds
+            (λ words. (words.0.now, words.1.now, words.2.now, words.3.now, words.4.now, words.5))
+            result (first_five self.entry) }
     {
         match (
             self.next(),
@@ -166,9 +173,10 @@ impl<'a> Words<'a> {
     }
 }
 
-// The first word as a hexadecimal number, where it spells one, and what follows the space behind it.
+// The first word as a hexadecimal number, where it spells one, and what follows the space after it.
 fn split_hexadecimal(line: &[u8]) -> (Option<u64>, Option<&[u8]>)
-    ensures { first_hexadecimal (words_in line.now) ≡ option_map (λ number. (number, words_left (option_copied result.1))) result.0 }
+    ensures { first_hexadecimal (words_in line.now) ≡
+        option_map (λ number. (number, words_left (option_copied result.1))) result.0 }
 {
     let (number, end) = hexadecimal_in_front(line);
     if end == line.len() {

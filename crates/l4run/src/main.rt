@@ -1,9 +1,9 @@
 //! The program `l4run`: hands the words of its command line and the system's streams to `l4_jobs`,
-//! and answers the exit status.
+//! and returns the exit status.
 //!
 //! It runs machine texts and prints what happened, and audits what is said to have happened. What
-//! is printed for which words is proved in `l4_jobs`. Here stands what needs a system: arguments
-//! that are not UTF-8 are refused with status 2, and refused memory is reported.
+//! is printed for which words is proved in `l4_jobs`. This file has what needs a system: it refuses
+//! arguments that are not UTF-8 with status 2, and reports refused memory.
 //!
 //! No contract says what the system's files and streams do. `.ci/command-lines` tries them with the
 //! built program: a full device, a closed pipe, a folder for a file.
@@ -54,7 +54,7 @@ fn run_program<R: Files + Env + AllocGlobal + Threads + Sync, W: Sink, E: Sink>(
             return report(rt.alloc(), faults, &Fault::NoMemory);
         }
         Err(_) => {
-            // Where this can't be written, the status alone tells.
+            // Where this can't be written, only the status says so.
             let _ = faults.put(b"l4run: an argument is not UTF-8\n");
             return 2;
         }

@@ -11,9 +11,9 @@
 //! - `first_accepted` looks at the sends before the one that it finds;
 //! - `first_due`, `pop_due` and `least_deadline` look for the first armed block only where no
 //!   earlier call has left it, `first_due` and `pop_due` only once a deadline may be past. They go
-//!   over the rings that have a block, and over the blocks of those where one may be earlier than
-//!   the best so far: few where the deadlines have many remainders by 64, all armed ones where they
-//!   have one;
+//!   over the rings that have a block. Of a ring they look at the blocks only where one may be
+//!   earlier than the best so far. These are few where the deadlines have many remainders modulo
+//!   64, and all armed blocks where they have one;
 //! - every other call takes the same few steps whatever stands in the lists.
 //!
 //! ```rust
@@ -72,8 +72,8 @@ struct Sender {
     local: bool,
 }
 
-/// A fixed number of blocks, numbered from 0. A block waits in one list at most, and stands once at most among the ready
-/// ones and among the armed ones.
+/// A fixed number of blocks, numbered from 0. A block waits in one list at most, and stands once at
+/// most among the ready ones and among the armed ones.
 #[derive(Drop)]
 pub struct Arena {
     // Ring r has the blocks that wait at block r.
@@ -121,7 +121,8 @@ impl Arena {
         self.waiting.is_linked(block)
     }
 
-    /// Puts a send at the end of those that wait at a receiver. The sender's block is not queued (`is_queued`).
+    /// Appends a send to the waiting list of a receiver. The sender's block is not queued
+    /// (`is_queued`).
     pub fn queue_send(&mut self, receiver: usize, waiting: Waiting)
         requires receiver { receiver < length self.old.waiting }
         requires block { waiting.block < length self.old.waiting }
@@ -135,7 +136,7 @@ impl Arena {
         self.waiting.push_last(receiver, waiting.block);
     }
 
-    /// Takes a block's send out of the list that it waits in, if it waits in one.
+    /// Removes a block's send from the list that it waits in, if any.
     pub fn unqueue_send(&mut self, block: usize)
         requires { block < length self.old.waiting }
         ensures { self.new ≡ unqueued block self.old }
@@ -143,8 +144,8 @@ impl Arena {
         self.waiting.take_out(block);
     }
 
-    /// The block of the first send at a receiver that a receive phase with this specifier takes (manual: Ipc,
-    /// `FromSpecifier`).
+    /// The block of the first send at a receiver that a receive phase with this specifier takes
+    /// (manual: Ipc, `FromSpecifier`).
     pub fn first_accepted(&self, receiver: usize, spec: &ThreadId) -> Option<usize>
         requires { receiver < length self.now.waiting }
         ensures { result ≡ first_taken spec.now (list_of self.now receiver) }
@@ -178,7 +179,7 @@ impl Arena {
         self.ready.is_linked(block)
     }
 
-    /// Puts a block at the end of the ready ones. It is not among them (`is_ready`).
+    /// Appends a block to the ready list. It does not stand there (`is_ready`).
     pub fn push_ready(&mut self, block: usize)
         requires block { block < length self.old.waiting }
         requires free { is_ready self.old block ≡ false }
@@ -194,7 +195,7 @@ impl Arena {
         self.ready.first(0)
     }
 
-    /// Takes the first ready block out.
+    /// Removes the first ready block.
     pub fn pop_ready(&mut self) -> Option<usize>
         ensures first { result ≡ slice_get self.old.ready 0 }
         ensures rest { self.new ≡ popped self.old }
@@ -203,7 +204,7 @@ impl Arena {
         self.ready.pop_first(0)
     }
 
-    /// Takes a block out of the ready ones, if it is among them.
+    /// Removes a block from the ready list, if it stands there.
     pub fn drop_ready(&mut self, block: usize)
         requires { block < length self.old.waiting }
         ensures { self.new ≡ dropped block self.old }
@@ -219,7 +220,8 @@ impl Arena {
         self.wheel.is_armed(block)
     }
 
-    /// Arms a block for a deadline, a tick of the caller's clock. The block is not armed (`is_armed`).
+    /// Arms a block for a deadline, a tick of the caller's clock. The block is not armed
+    /// (`is_armed`).
     pub fn arm(&mut self, block: usize, deadline: u64)
         requires block { block < length self.old.waiting }
         requires free { is_armed self.old block ≡ false }
@@ -243,7 +245,8 @@ impl Arena {
         self.wheel.least_deadline()
     }
 
-    /// The first armed block, of equal deadlines that which was armed first, where its deadline is not after `now`.
+    /// The armed block of the least deadline, if that is at most `now`. Of equal deadlines it is
+    /// the one that was armed first.
     pub fn first_due(&mut self, now: u64) -> Option<usize>
         ensures due { result ≡ due_block now self.old.armed }
         ensures same { self.new ≡ self.old }
@@ -251,8 +254,8 @@ impl Arena {
         self.wheel.first_due(now)
     }
 
-    /// Disarms the first armed block, of equal deadlines that which was armed first, where its deadline is not after
-    /// `now`.
+    /// Disarms the armed block of the least deadline, if that is at most `now`. Of equal deadlines
+    /// it is the one that was armed first.
     pub fn pop_due(&mut self, now: u64) -> Option<usize>
         ensures first { result ≡ due_block now self.old.armed }
         ensures rest { self.new ≡ without_due now self.old }
@@ -261,8 +264,9 @@ impl Arena {
         self.wheel.pop_due(now)
     }
 
-    /// The first block of a ring, which is below 64: of the blocks whose deadlines have this remainder by 64, that which was armed first. Which of two
-    /// deadlines of one ring was armed first the plain lists do not tell; `Arena::wheel` does.
+    /// The first block of ring `ring`, below 64: of the blocks whose deadline is `ring` modulo 64,
+    /// the one that was armed first. The plain lists do not determine it; `Arena::wheel` has the
+    /// rings.
     pub fn ring_first(&self, ring: usize) -> Option<usize>
         requires { ring < ring_count }
         ensures { IsFirstOfRing self.now ring result }

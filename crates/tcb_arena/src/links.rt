@@ -1,4 +1,5 @@
-//! Disjoint circular lists over a fixed number of names, linked by index both ways, each list with a head of its own.
+//! Disjoint circular lists over a fixed number of names, doubly linked by index, each with a head
+//! of its own.
 
 ghost use Rattle.std.specs.Prelude.{◌≡◌, ℕ, ◌+◌, ◌-◌, ◌<◌, ◌≤◌, ◌^◌, true, false, IfOk, length, slice_get, slice_index, Some, IfSome};
 ghost use Rattle.l4_model.specs.World.{is_in};
@@ -8,12 +9,12 @@ use l4_types::errors::NoMemory;
 use std::alloc::Global;
 use std::marker::Model;
 
-/// Names stand in lists, each name in at most one. A list is a ring through the links of its names and of its head.
-/// A name that stands in no list is linked to itself.
+/// Names stand in lists, each name in at most one. A list is a ring through the links of its names
+/// and of its head. A name that stands in no list is linked to itself.
 #[derive(Drop)]
 pub struct Rings {
     names: usize,
-    // Node i is name i below `names`, and behind these come the nodes of the heads.
+    // Node i is name i below `names`, and after these come the nodes of the heads.
     next: Vec<usize>,
     prev: Vec<usize>,
 }
@@ -105,7 +106,7 @@ impl Rings {
         self.prev[node] = name;
     }
 
-    /// Takes a name out of its list, if it stands in one.
+    /// Removes a name from its list, if it stands in one.
     pub fn take_out(&mut self, name: usize)
         requires { name < self.old.names }
         ensures { self.new ≡ taken_out self.old name }
@@ -118,7 +119,7 @@ impl Rings {
         self.prev[name] = name;
     }
 
-    /// Takes the first name out of a list.
+    /// Removes the first name of a list.
     pub fn pop_first(&mut self, head: usize) -> Option<usize>
         requires { head < head_count self.old }
         ensures first { result ≡ slice_get (list_at self.old head) 0 }

@@ -18,7 +18,7 @@ impl RingSet {
         RingSet { bits: 0 }
     }
 
-    /// Puts a ring in, where it is not in yet.
+    /// Adds a ring, if it is not in yet.
     pub fn insert(&mut self, ring: usize)
         requires { ring < ring_count }
         ensures { (other : ℕ) → other < ring_count → has self.new.bits other ≡ (has self.old.bits other || other == ring) }
@@ -26,7 +26,7 @@ impl RingSet {
         self.bits |= 1 << ring;
     }
 
-    /// Takes a ring out, where it is in.
+    /// Removes a ring, if it is in.
     pub fn remove(&mut self, ring: usize)
         requires { ring < ring_count }
         ensures others { (other : ℕ) → other < ring_count → has self.new.bits other ≡ (has self.old.bits other && not (other == ring)) }
@@ -35,7 +35,7 @@ impl RingSet {
         self.bits &= !(1 << ring);
     }
 
-    /// Puts a ring in where `is_in` says so, and else takes it out.
+    /// Adds a ring where `is_in` says so, and else removes it.
     pub fn set(&mut self, ring: usize, is_in: bool)
         requires { ring < ring_count }
         ensures { (other : ℕ) → other < ring_count → has self.new.bits other ≡ (if other == ring then is_in else has self.old.bits other) }
@@ -47,7 +47,8 @@ impl RingSet {
         }
     }
 
-    /// How many rings ahead of `start` the next one of the set is, where behind ring 63 comes ring 0. It is 0 where `start` is in the set.
+    /// The distance from `start` to the next ring of the set, modulo 64. 0 where `start` is in the
+    /// set. None where the set is empty.
     pub fn next(&self, start: usize) -> Option<usize>
         requires { start < ring_count }
         ensures { MatchOption result ((ring : ℕ) → has self.now.bits ring ≡ false) (IsNext self.now.bits start) }

@@ -7,7 +7,8 @@ ghost use Rattle.tcb_arena.specs.Rings.{head_count, list_at, AreSound};
 use crate::links::Rings;
 use std::marker::Model;
 
-/// Goes over the blocks whose sends wait at a receiver, in order. It is seen as the list of those that are left.
+/// Goes over the blocks whose sends wait at a receiver, in order. Its value in contracts is the
+/// list of those that are left.
 #[derive(Drop)]
 pub struct WaitingAt<'a> {
     waiting: &'a Rings,

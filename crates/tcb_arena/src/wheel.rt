@@ -14,24 +14,25 @@ use l4_types::errors::NoMemory;
 use std::alloc::Global;
 use std::marker::Model;
 
-// A block stands in the ring of its deadline's remainder by this number, so blocks of equal deadlines are in one.
+// A block armed for `d` stands in ring `d` modulo this, so blocks of equal deadlines share a ring.
 const RINGS: usize = 64;
 
-/// A fixed number of blocks, numbered from 0, some of them armed for a deadline, which is a tick of the caller's clock. A block that is armed
-/// for `d` stands in ring `d` modulo 64, behind those of its ring that were armed before it. A contract sees the 64 rings, and beside them the plain
-/// list that they make: the armed blocks by rising deadline, equal ones in order of arming.
+/// A fixed number of blocks, numbered from 0, some of them armed for a deadline, which is a tick of
+/// the caller's clock. A block that is armed for `d` stands in ring `d` modulo 64, after those of
+/// its ring that were armed before it. A contract sees the 64 rings, and beside them the plain list
+/// that they make: the armed blocks by rising deadline, equal ones in order of arming.
 #[derive(Drop)]
 pub struct Wheel {
-    // By block; it says something of an armed one alone.
+    // By block. It means something only while the block is armed.
     deadlines: Vec<u64>,
     rings: Rings,
     // The rings that have a block.
     filled: RingSet,
-    // By ring, a deadline before which no block in it is armed.
+    // By ring: no block in it is armed for less.
     floors: [u64; RINGS],
     // No block is armed for a deadline before this one.
     floor: u64,
-    // Where the last look has found it, the first block, which is armed for that deadline.
+    // The first block with its deadline, if the last search left it.
     first: Option<usize>,
 }
 
@@ -73,7 +74,8 @@ impl Wheel {
         self.rings.is_linked(block)
     }
 
-    /// Arms a block at the end of the ring of its deadline's remainder by 64. The block is not armed (`is_armed`).
+    /// Arms a block at the end of the ring of its deadline modulo 64. The block is not armed
+    /// (`is_armed`).
     pub fn arm(&mut self, block: usize, deadline: u64)
         requires block { block < self.old.blocks }
         requires free { has_entry block (armed_of self.old) ≡ false }
@@ -125,7 +127,8 @@ impl Wheel {
         Some(deadline)
     }
 
-    /// The first block by deadline, of equal ones that which was armed first, where its deadline is not after `now`.
+    /// The armed block of the least deadline, if that is at most `now`. Of equal deadlines it is
+    /// the one that was armed first.
     pub fn first_due(&mut self, now: u64) -> Option<usize>
         ensures due { result ≡ due_block now (armed_of self.old) }
         ensures same { self.new ≡ self.old }
@@ -138,7 +141,8 @@ impl Wheel {
         if deadline <= now { Some(block) } else { None }
     }
 
-    /// Disarms the first block by deadline, of equal ones that which was armed first, where its deadline is not after `now`.
+    /// Disarms the armed block of the least deadline, if that is at most `now`. Of equal deadlines
+    /// it is the one that was armed first.
     pub fn pop_due(&mut self, now: u64) -> Option<usize>
         ensures first { result ≡ due_block now (armed_of self.old) }
         ensures rings { self.new ≡ without_found result self.old }
@@ -150,7 +154,8 @@ impl Wheel {
         Some(first)
     }
 
-    /// The first block of a ring, which is below 64: of the blocks in it, that which was armed first.
+    /// The first block of a ring, which is below 64: of the blocks in it, that which was armed
+    /// first.
     pub fn ring_first(&self, ring: usize) -> Option<usize>
         requires { ring < ring_count }
         ensures first { result ≡ first_of_ring self.now.rings ring }
@@ -159,7 +164,8 @@ impl Wheel {
         self.rings.first(ring)
     }
 
-    // The first block with its deadline, which is looked for only where the last look has not left it.
+    // The first block with its deadline. It is searched only where the last search did not leave
+    // it.
     fn look(&mut self) -> Option<(u64, usize)>
         ensures first { result ≡ slice_get (armed_of self.old) 0 }
         ensures same { self.new ≡ self.old }
@@ -195,15 +201,16 @@ fn ring_of(deadline: u64) -> usize
     (deadline % RINGS as u64) as usize
 }
 
-// The first block, where it is known and another one.
+// The known first block, if it is not this one.
 fn other_than(block: usize, first: Option<usize>) -> Option<usize>
     ensures { result ≡ other_than block first }
 {
     if first == Some(block) { None } else { first }
 }
 
-// The first armed block with its deadline, in the rings from that of the floor on, since a block that is due soon stands in one of the next ones.
-// It raises the floors of the rings that it looks at.
+// The first armed block with its deadline. The search begins at the ring of the floor, since a
+// block that is due soon stands in one of the next rings. It raises the floors of the rings that it
+// looks at.
 fn search(
     rings: &Rings,
     deadlines: &Vec<u64>,
@@ -224,7 +231,7 @@ fn search(
     let mut best = None;
     while let Some(ahead) = left.next(start) {
         if let Some((deadline, _)) = best {
-            // What is left is not armed for less than the floor and as many ticks more as its ring is ahead.
+            // No later ring has a block armed for less than the floor plus its distance.
             if deadline - floor <= ahead as u64 {
                 return best;
             }
@@ -236,7 +243,8 @@ fn search(
     best
 }
 
-// The best so far, or the earliest of this ring where that is earlier. Where it has to look at the ring, it raises its floor.
+// The better of the best so far and the earliest of this ring. If it looks at the ring, it raises
+// the ring's floor.
 fn best_with_ring(
     rings: &Rings,
     deadlines: &Vec<u64>,
@@ -264,8 +272,8 @@ fn best_with_ring(
     Some(earlier(best, found))
 }
 
-// The earliest block of a ring with its deadline, of equal ones the first. No deadline in the ring is before the floor, so one that is the floor ends the
-// look.
+// The earliest block of a ring with its deadline, of equal ones the first. No deadline in the ring
+// is before the floor, so one that equals the floor ends the search.
 fn earliest_of_ring(
     rings: &Rings,
     deadlines: &Vec<u64>,

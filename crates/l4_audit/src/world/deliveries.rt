@@ -43,7 +43,8 @@ pub fn is_cross(
     }
 }
 
-// That a delivery tells this send to this receiver: the senders, the tag and the words.
+// Ok where a delivery has this receiver, and the senders, the tag and the words of this send. Else
+// the first that differs.
 fn tells(
     delivery: &DeliveryRef<'_>,
     machine: &Machine,
@@ -132,7 +133,7 @@ impl World<'_> {
         Ok(())
     }
 
-    // A message goes over from its sender to its receiver.
+    // Hands a message to its receiver, and ends its send.
     fn take_over(&mut self, sender: usize, receiver: usize, delivery: &DeliveryRef<'_>, now: u64)
         requires sender { sender < length self.old.world.threads }
         requires receiver { receiver < length self.old.world.threads }

@@ -23,7 +23,7 @@ use l4_types::steps::{Tick, What};
 use tcb_arena::Waiting;
 
 impl World<'_> {
-    /// A thread runs an instruction that concerns nobody else, or its script ends.
+    /// Runs an instruction of a thread that concerns nobody else, or ends its script.
     pub fn run(&mut self, place: usize, instr: &Instr)
         requires { IsSomeAnd (slice_get self.old.world.threads place) (λ t. is_end (instr_of instr.now) ≡ false → t.context.place + 1 < 2 ^ 64) }
         ensures { self.new ≡ with_world self.old (change self.old.world place (runs (instr_of instr.now))) }
@@ -31,7 +31,7 @@ impl World<'_> {
         self.threads[place].run(instr);
     }
 
-    /// A thread begins the first phase of its Ipc, at this clock of its processor.
+    /// Begins the first phase of a thread's Ipc, at this clock of its processor.
     pub fn start(&mut self, place: usize, instr: &Instr, permitted: bool, now: u64)
         requires { CanStart self.old place (instr_of instr.now) permitted }
         ensures { self.new ≡ with_world self.old (starting self.old place now (instr_of instr.now)) }
@@ -39,7 +39,7 @@ impl World<'_> {
         self.threads[place].ipc(instr, permitted, now);
     }
 
-    /// The Ipc of a thread has failed.
+    /// Fails the Ipc of a thread.
     pub fn fail(&mut self, place: usize, error: IpcError)
         requires { place < length self.old.world.threads }
         ensures { self.new ≡ with_world self.old (change self.old.world place (fails (code_of error))) }
@@ -47,7 +47,7 @@ impl World<'_> {
         self.threads[place].fail(error);
     }
 
-    /// A thread receives the message of a delivery.
+    /// Gives a thread the message of a delivery.
     pub fn receive(&mut self, place: usize, delivery: &DeliveryRef<'_>)
         requires { place < length self.old.world.threads }
         ensures { self.new ≡ with_world self.old (change self.old.world place (receives delivery.now.message (received_tag delivery.now.cross delivery.now.message))) }
@@ -61,7 +61,7 @@ impl World<'_> {
         );
     }
 
-    /// The send of a thread is decided, at this clock of its processor.
+    /// Ends the send of a thread, at this clock of its processor.
     pub fn end_send(&mut self, place: usize, decision: Decision, now: u64)
         requires { place < length self.old.world.threads }
         ensures { self.new ≡ with_world self.old (change self.old.world place (after_decision (decision_of decision) now)) }
@@ -69,7 +69,7 @@ impl World<'_> {
         self.threads[place].end_send(decision, now);
     }
 
-    /// The send of a deleted thread is dropped.
+    /// Drops the send of a deleted thread.
     pub fn drop_send(&mut self, place: usize)
         requires { place < length self.old.world.threads }
         ensures { self.new ≡ with_world self.old (change self.old.world place decided) }
@@ -77,7 +77,7 @@ impl World<'_> {
         self.threads[place].decide();
     }
 
-    /// A thread has asked for something.
+    /// Puts a thread into the ordering phase, with this order.
     pub fn give_order(&mut self, place: usize, order: Asked)
         requires { place < length self.old.world.threads }
         ensures { self.new ≡ with_world self.old (change self.old.world place (orders order)) }
@@ -85,7 +85,7 @@ impl World<'_> {
         self.threads[place].give_order(order);
     }
 
-    /// A thread is asked for a cancellation, or it is deleted.
+    /// Cancels a phase of a thread, or deletes the thread.
     pub fn ask(&mut self, place: usize, what: What)
         requires { place < length self.old.machine.threads }
         ensures { self.new ≡ with_world self.old (change self.old.world place (asked (what_of what))) }
@@ -93,7 +93,7 @@ impl World<'_> {
         self.threads[place].ask(what);
     }
 
-    /// What a thread asked for is done.
+    /// Ends the order of a thread, which is done.
     pub fn obey(&mut self, place: usize)
         requires { IsSomeAnd (slice_get self.old.world.threads place) (λ t. t.context.place + 1 < 2 ^ 64) }
         ensures { self.new ≡ with_world self.old (change self.old.world place obeyed) }
@@ -101,14 +101,15 @@ impl World<'_> {
         self.threads[place].obey();
     }
 
-    /// A sender, which stands in no list, arrives at a receiver.
+    /// Appends a sender, which stands in no list, to the list of a receiver.
     pub fn queue(&mut self, receiver: usize, sender: usize)
         requires receiver { receiver < length self.old.world.threads }
         requires sender { sender < length self.old.world.threads }
         requires free { is_queued self.old.world.waiting sender ≡ false }
         ensures { self.new ≡ with_world self.old (queued self.old.world receiver sender) }
     {
-        // Whom a receive phase accepts is asked of the sender's block, so nothing of the send stands here.
+        // Whom a receive phase accepts is looked up in the sender's block, so this has nothing of
+        // the send.
         let waiting = Waiting {
             block: sender,
             shown: GlobalId::default(),
@@ -117,7 +118,7 @@ impl World<'_> {
         self.lists.queue_send(receiver, waiting);
     }
 
-    /// A sender leaves the list that it stands in, if it stands in one.
+    /// Removes a sender from the list that it stands in, if any.
     pub fn unqueue(&mut self, sender: usize)
         requires { sender < length self.old.world.threads }
         ensures { self.new ≡ with_world self.old (unqueued self.old.world sender) }
@@ -125,7 +126,7 @@ impl World<'_> {
         self.lists.unqueue_send(sender);
     }
 
-    /// The clock of a processor goes on.
+    /// Advances the clock of a processor.
     pub fn set_clock(&mut self, tick: Tick)
         requires { tick.cpu < length self.old.world.clocks }
         ensures { self.new ≡ with_world self.old (record self.old.world { clocks = slice_set self.old.world.clocks tick.cpu tick.clock }) }

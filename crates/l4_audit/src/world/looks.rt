@@ -31,7 +31,8 @@ impl World<'_> {
         }
     }
 
-    /// The place of the first waiting sender that a receive phase of a thread with this specifier would accept.
+    /// The place of the first waiting sender that a receive phase of a thread with this specifier
+    /// would accept.
     pub fn first_accepted(&self, receiver: &Found, from: ThreadId) -> Option<usize>
         requires { slice_get self.now.world.threads receiver.now.at ≡ Some receiver.now.now }
         ensures { result ≡ first_accepted self.now.machine self.now.world receiver.now from }
@@ -52,7 +53,8 @@ impl World<'_> {
         }
     }
 
-    /// That no send waits which a receive phase of a thread with this specifier would accept. Else the first one is told.
+    /// Ok where no waiting send is accepted by this specifier. Else `AcceptsFirst` with the sender
+    /// of the first that is.
     pub fn accepts_none(&self, receiver: &Found, from: ThreadId) -> Result<(), Reason>
         requires { slice_get self.now.world.threads receiver.now.at ≡ Some receiver.now.now }
         ensures { result_err result ≡ first_false (none_accepted self.now.machine (first_accepted self.now.machine self.now.world receiver.now from) ∷ []) }
@@ -63,7 +65,7 @@ impl World<'_> {
         }
     }
 
-    /// That a sender is the first that a receiver accepts. Else the first one is told.
+    /// Ok where this sender is the first acceptable one. Else `NotFirst` with the first.
     pub fn is_first(&self, first: usize, sender: usize) -> Result<(), Reason>
         ensures { result_err result ≡ first_false (test (first == sender) (NotFirst (id_at self.now.machine first)) ∷ []) }
     {
@@ -73,7 +75,7 @@ impl World<'_> {
         Ok(())
     }
 
-    /// Whether a receive phase closed for this id waits for nobody.
+    /// Whether nobody has this id: it is local, undeclared, or of a deleted thread.
     pub fn is_nobody(&self, id: ThreadId) -> bool
         ensures { result ≡ is_nobody id (found_by self.now.machine self.now.world id) }
     {

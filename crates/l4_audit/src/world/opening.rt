@@ -35,7 +35,7 @@ fn blocks(alloc: Global, machine: &Machine) -> Result<Vec<Tcb>, NoMemory>
     Ok(blocks)
 }
 
-// All clocks are at 0.
+// The clocks of all processors, each at 0.
 fn clocks(alloc: Global, machine: &Machine) -> Result<Vec<u64>, NoMemory>
     ensures { IfOk result (λ clocks. clocks.items ≡ replicate machine.now.cpus 0) }
 {

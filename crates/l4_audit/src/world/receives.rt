@@ -31,7 +31,7 @@ impl World<'_> {
         Ok(thread)
     }
 
-    /// A receive phase is over since its time is.
+    /// Times a receive phase out.
     pub fn receive_timeout(&mut self, id: GlobalId) -> Result<(), StepFault>
         ensures { Judged self.old (ReceiveTimeout id) result self.new }
     {
@@ -41,7 +41,7 @@ impl World<'_> {
         Ok(())
     }
 
-    /// The thread whose receive phase may be refused since nobody is there.
+    /// The thread whose receive phase may be refused: nobody has the id that it names.
     pub fn may_receive_nobody(&self, id: GlobalId) -> Result<Found<'_>, Reason>
         ensures thread { IfOk result (λ t. found self.now.machine self.now.world id ≡ Some t) }
         ensures reason { result_err result ≡ reason self.now.machine self.now.world (ReceiveNobody id) }
@@ -54,7 +54,7 @@ impl World<'_> {
         Ok(thread)
     }
 
-    /// A receive phase is closed for an id that nobody has.
+    /// Refuses a receive phase: nobody has the id that it names.
     pub fn receive_nobody(&mut self, id: GlobalId) -> Result<(), StepFault>
         ensures { Judged self.old (ReceiveNobody id) result self.new }
     {
@@ -75,7 +75,7 @@ impl World<'_> {
         Ok(thread)
     }
 
-    /// A receive phase is cancelled.
+    /// Cancels a receive phase.
     pub fn receive_cancel(&mut self, id: GlobalId) -> Result<(), StepFault>
         ensures { Judged self.old (ReceiveCancel id) result self.new }
     {
@@ -100,7 +100,7 @@ impl World<'_> {
         Ok((thread, target, order.what()))
     }
 
-    /// What a thread asked for is done.
+    /// Obeys the order of a thread.
     pub fn obey_order(&mut self, caller: GlobalId) -> Result<(), StepFault>
         requires { IsPlaced self.old }
         ensures { Judged self.old (Obey caller) result self.new }

@@ -30,7 +30,7 @@ fn named(owed: &[Owed], name: Name) -> Option<&Owed>
     owed.iter().find(|owed| name == owed.send)
 }
 
-// Whether a send of a thread to this destination must wait until one of these is done.
+// Whether one of these owed retargets holds up a send of this thread to this destination.
 fn is_held_up(owed: &[Owed], sender: GlobalId, to: ThreadId) -> bool
     ensures { result ≡ list_any (holds_up sender to) owed.now }
 {
@@ -45,21 +45,21 @@ impl World<'_> {
         self.owed.as_slice().is_empty()
     }
 
-    /// Whether a send of a thread must wait, since the destination is an originator that may not have turned to the thread yet.
+    /// Whether a send must wait: a retarget of its destination to its sender is owed.
     pub fn must_wait(&self, sender: GlobalId, to: ThreadId) -> bool
         ensures { result ≡ must_wait self.now.world.owed sender to }
     {
         is_held_up(self.owed.as_slice(), sender, to)
     }
 
-    // The retarget that is owed by this name.
+    // The owed retarget of this name.
     fn owed_named(&self, name: Name) -> Option<Owed>
         ensures { option_map owed_of result ≡ owed_named self.now.world.owed name }
     {
         named(self.owed.as_slice(), name).copied()
     }
 
-    /// One more retarget is owed, or none.
+    /// Appends an owed retarget, if there is one.
     pub fn owe(&mut self, owed: Option<Owed>) -> Result<(), NoMemory>
         ensures ok { OnOk result (self.new ≡ with_world self.old (owing (option_map owed_of owed) self.old.world)) }
         ensures err { OnErr result (self.new ≡ self.old) }
@@ -71,14 +71,14 @@ impl World<'_> {
         Ok(())
     }
 
-    // The retarget of this name is owed no longer.
+    // Removes the owed retarget of this name.
     fn forget(&mut self, name: Name)
         ensures { self.new ≡ with_world self.old (record self.old.world { owed = others_owed self.old.world.owed name }) }
     {
         self.owed.retain(|owed| name != owed.send);
     }
 
-    // The originator of a message turns to its new partner.
+    // Turns the originator of a message to its new partner.
     fn turn(&mut self, place: usize, owed: &Owed)
         requires { place < length self.old.world.threads }
         ensures { self.new ≡ with_world self.old (change self.old.world place (turns (owed_of owed.now))) }
@@ -100,7 +100,8 @@ impl World<'_> {
         Ok((owed, originator))
     }
 
-    /// The originator of a delivered send turns to the thread that received it, and no longer owes it.
+    /// Turns the originator of a delivered send to the thread that received it. The retarget is
+    /// owed no longer.
     pub fn retarget(&mut self, name: Name) -> Result<(), StepFault>
         ensures { Judged self.old (Retarget name) result self.new }
     {

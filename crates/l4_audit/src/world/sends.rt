@@ -36,7 +36,8 @@ impl World<'_> {
         Ok((pending, receiver))
     }
 
-    /// An undecided send is appended to the list of its destination. Not while that one owes it to turn to the sender.
+    /// Appends an undecided send to the list of its destination. Not while a retarget of the
+    /// destination to the sender is owed.
     pub fn queue_send(&mut self, name: Name) -> Result<(), StepFault>
         ensures { Judged self.old (Queue name) result self.new }
     {
@@ -46,7 +47,7 @@ impl World<'_> {
         Ok(())
     }
 
-    // A send is decided without a delivery.
+    // Decides a send without a delivery.
     fn refuse(&mut self, sender: usize, refusal: Refusal, now: u64)
         requires { sender < length self.old.world.threads }
         ensures { self.new ≡ with_world self.old (change (unqueued self.old.world sender) sender (after_decision (decision_of (Refused refusal)) now)) }
@@ -68,7 +69,7 @@ impl World<'_> {
         Ok(pending)
     }
 
-    /// A send is refused since its time is over.
+    /// Times a send out.
     pub fn send_timeout(&mut self, name: Name) -> Result<(), StepFault>
         ensures { Judged self.old (SendTimeout name) result self.new }
     {
@@ -78,7 +79,7 @@ impl World<'_> {
         Ok(())
     }
 
-    /// The send that may be refused since nobody is there. Not while it must wait.
+    /// The send that may be refused: nobody has its destination. Not while it must wait.
     pub fn may_send_nobody(&self, name: Name) -> Result<Pending<'_>, Reason>
         ensures send { IfOk result (λ p. undecided self.now.machine self.now.world name ≡ Some p) }
         ensures reason { result_err result ≡ reason self.now.machine self.now.world (SendNobody name) }
@@ -90,7 +91,7 @@ impl World<'_> {
         Ok(pending)
     }
 
-    /// A send is refused since nobody is there.
+    /// Refuses a send: nobody has its destination.
     pub fn send_nobody(&mut self, name: Name) -> Result<(), StepFault>
         ensures { Judged self.old (SendNobody name) result self.new }
     {
@@ -114,7 +115,7 @@ impl World<'_> {
         Ok(pending)
     }
 
-    /// A send is cancelled.
+    /// Cancels a send.
     pub fn send_cancel(&mut self, name: Name) -> Result<(), StepFault>
         ensures { Judged self.old (SendCancel name) result self.new }
     {
@@ -139,7 +140,7 @@ impl World<'_> {
         Ok(pending)
     }
 
-    /// The waiting send of a deleted thread is dropped.
+    /// Drops the waiting send of a deleted thread.
     pub fn drop_deleted(&mut self, name: Name) -> Result<(), StepFault>
         ensures { Judged self.old (Drops name) result self.new }
     {

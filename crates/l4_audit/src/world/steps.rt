@@ -26,7 +26,7 @@ impl World<'_> {
         Ok(thread)
     }
 
-    /// A thread runs an instruction that concerns nobody else, or ends.
+    /// Runs an instruction of a thread that concerns nobody else, or ends the thread.
     pub fn local(&mut self, id: GlobalId) -> Result<(), StepFault>
         ensures { Judged self.old (Local id) result self.new }
     {
@@ -50,7 +50,7 @@ impl World<'_> {
         Ok(thread)
     }
 
-    /// A thread begins its next send.
+    /// Begins the next send of a thread.
     pub fn begin(&mut self, name: Name) -> Result<(), StepFault>
         ensures { Judged self.old (Begin name) result self.new }
     {
@@ -72,7 +72,7 @@ impl World<'_> {
         Ok(thread)
     }
 
-    /// A thread begins a receive phase without a send phase.
+    /// Begins a receive phase without a send phase.
     pub fn wait(&mut self, id: GlobalId) -> Result<(), StepFault>
         ensures { Judged self.old (Wait id) result self.new }
     {
@@ -83,7 +83,7 @@ impl World<'_> {
         Ok(())
     }
 
-    /// The thread that may ask this of another, and what it asks.
+    /// The thread that may give this order, and the order.
     pub fn may_order(
         &self,
         caller: GlobalId,
@@ -104,7 +104,7 @@ impl World<'_> {
         Ok((thread, order))
     }
 
-    /// A thread asks another for a cancellation or its deletion.
+    /// Gives the order of a thread: to cancel or delete another one.
     pub fn order(&mut self, caller: GlobalId, target: GlobalId, what: What) -> Result<(), StepFault>
         ensures { Judged self.old (Order caller target (what_of what)) result self.new }
     {
@@ -114,7 +114,7 @@ impl World<'_> {
         Ok(())
     }
 
-    /// Whether the clock of a processor may go on so far.
+    /// Whether the clock of a processor may advance to this value.
     pub fn may_tick(&self, tick: Tick) -> Result<(), Reason>
         ensures reason { result_err result ≡ reason self.now.machine self.now.world (Ticks tick.cpu tick.clock) }
     {
@@ -123,7 +123,7 @@ impl World<'_> {
         test(now < tick.clock(), Reason::ClockAt(now))
     }
 
-    /// The clock of a processor goes on.
+    /// Advances the clock of a processor.
     pub fn tick(&mut self, tick: Tick) -> Result<(), StepFault>
         ensures { Judged self.old (Ticks tick.cpu tick.clock) result self.new }
     {

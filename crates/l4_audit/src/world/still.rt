@@ -1,4 +1,4 @@
-//! Where nothing but clocks can go on.
+//! Stillness: no step but a tick is possible.
 ghost use Rattle.std.specs.Prelude.{◌≡◌, Some, OnOk, [], slice_get};
 ghost use Rattle.std.specs.List.{list_all};
 ghost use Rattle.l4_model.specs.World.{receive_now};
@@ -15,7 +15,7 @@ use l4_types::ids::GlobalId;
 use l4_types::steps::CLOCKS;
 
 impl World<'_> {
-    /// All clocks go on to their last value.
+    /// Advances all clocks to their last value.
     pub fn stop_clocks(&mut self) -> Result<(), NoMemory>
         ensures { OnOk result (self.new ≡ with_world self.old (late self.old.world)) }
     {
@@ -25,14 +25,14 @@ impl World<'_> {
         Ok(())
     }
 
-    /// Whether no retarget is owed, and no thread can be in for a step but by a tick, with the clocks as they are.
+    /// Whether, with the clocks as they are, no retarget is owed and no thread has a possible step.
     pub fn is_still(&self) -> bool
         ensures { result ≡ is_still_now self.now.machine self.now.world }
     {
         self.owes_nothing() && self.are_still()
     }
 
-    // Whether no thread can be in for a step but by a tick, where no retarget is owed.
+    // Whether no thread has a possible step, where no retarget is owed.
     fn are_still(&self) -> bool
         requires { self.now.world.owed ≡ [] }
         ensures { result ≡ list_all (λ d. is_still_thread self.now.machine self.now.world d.id) self.now.machine.threads }
@@ -45,7 +45,7 @@ impl World<'_> {
         true
     }
 
-    // Whether a thread can be in for no step but by a tick, where no retarget is owed.
+    // Whether a thread has no possible step, where no retarget is owed.
     fn is_still_thread(&self, id: GlobalId) -> bool
         requires { self.now.world.owed ≡ [] }
         ensures { result ≡ is_still_thread self.now.machine self.now.world id }
@@ -56,7 +56,7 @@ impl World<'_> {
         self.is_still_found(&thread)
     }
 
-    // Whether a thread that was found can be in for no step but by a tick.
+    // Whether a thread that was found has no possible step.
     fn is_still_found(&self, thread: &Found) -> bool
         requires { slice_get self.now.world.threads thread.now.at ≡ Some thread.now.now }
         ensures { result ≡ is_still_found self.now.machine self.now.world thread.now }
@@ -131,7 +131,7 @@ impl World<'_> {
     }
 }
 
-// Whether what a thread asked for can be done.
+// Whether the order of a thread can be obeyed.
 fn may_obey(machine: &Machine, thread: &Found) -> bool
     ensures { result ≡ may_obey machine.now thread.now.now.order }
 {

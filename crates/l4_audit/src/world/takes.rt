@@ -10,7 +10,8 @@ use crate::world::World;
 use l4_types::step_ref::StepRef;
 
 impl World<'_> {
-    /// A step is taken, where it is possible. Else nothing changes. It takes memory where a delivery leaves a retarget owed.
+    /// Takes a step, if it is possible. Else nothing changes. A delivery that leaves a retarget
+    /// owed takes memory.
     pub fn take(&mut self, step: &StepRef<'_>) -> Result<(), StepFault>
         requires { IsPlaced self.old }
         ensures { Judged self.old (seen step.now) result self.new }
@@ -39,7 +40,8 @@ impl World<'_> {
         }
     }
 
-    /// Why a step is not possible: the first condition of its rule that is false. None where it is possible.
+    /// Why a step is not possible: the first condition of its rule that is false. None where it is
+    /// possible.
     pub fn reason(&self, step: &StepRef<'_>) -> Option<Reason>
         ensures { result ≡ reason self.now.machine self.now.world (seen step.now) }
     {

@@ -20,11 +20,11 @@ use l4_types::times::Period;
 pub(crate) enum Duty {
     /// The retarget that is kept beside it is done.
     Retarget,
-    /// It was deleted: its waiting send is dropped.
+    /// It was deleted: its waiting send is to be dropped.
     DropOwn,
     /// It was deleted: the first send that waits at it, that of this thread, is refused.
     RefuseFirst(usize),
-    /// It was deleted: this processor is told so.
+    /// It was deleted: this processor is notified.
     TellGone(u8),
     /// Its waiting send is cancelled.
     CancelOwn,
@@ -32,14 +32,15 @@ pub(crate) enum Duty {
     CancelReceive,
     /// It gets the first send that it accepts, that of this thread.
     DeliverFirst(usize),
-    /// Its receive phase is closed for nobody.
+    /// Nobody has the id that its receive phase names.
     CloseReceive,
     /// The send of this thread waits at it, has timeout zero, and may be refused.
     RefuseZero(usize),
 }
 
 impl Known<'_> {
-    /// Whether nobody has an id, as far as is known here: it is local, undeclared, or that of a deleted thread.
+    /// Whether nobody has an id, as far as is known here: it is local, undeclared, or that of a
+    /// deleted thread.
     pub(crate) fn names_nobody(&self, id: ThreadId) -> bool
         ensures { result ≡ names_nobody self.now.machine self.now.local id }
     {
@@ -67,7 +68,8 @@ impl Known<'_> {
         }
     }
 
-    // Whether the call that a thread is in goes to another processor, and its receive phase would accept a sender that is shown so.
+    // Whether the call that a thread is in goes to another processor, and its receive phase would
+    // accept a message that shows this sender.
     fn call_accepts(&self, place: usize, shown: GlobalId) -> bool
         requires { place < length self.now.machine.threads }
         ensures { result ≡ call_accepts self.now.machine (held self.now.machine self.now.local place) (thread self.now.local place).send shown }
@@ -81,7 +83,8 @@ impl Known<'_> {
         self.is_elsewhere(call.to(), place) && self.accepts(receive.from(), shown, place)
     }
 
-    /// Whether a thread accepts a sender that is shown so, or may once its call is decided.
+    /// Whether a thread accepts a message that shows this sender, now or perhaps once its call is
+    /// decided.
     pub(crate) fn may_still_accept(&self, place: usize, shown: GlobalId) -> bool
         requires { place < length self.now.machine.threads }
         ensures { result ≡ may_still_accept self.now.machine (held self.now.machine self.now.local place) shown (thread self.now.local place).phase }
@@ -92,7 +95,8 @@ impl Known<'_> {
         self.tcb(place).is_sending() && self.call_accepts(place, shown)
     }
 
-    /// Whether the send of a thread has timeout zero and may be refused by this receiver, as far as is known here (manual: Ipc, send timeout).
+    /// Whether the send of a thread has timeout zero and may be refused by this receiver, as far as
+    /// is known here (manual: Ipc, send timeout).
     pub(crate) fn zero_refusable(&self, receiver: usize, sender: usize) -> bool
         requires receiver { receiver < length self.now.machine.threads }
         requires sender { sender < length self.now.machine.threads }
@@ -128,7 +132,7 @@ impl Known<'_> {
             .find(|block| self.is_zero(*block))
     }
 
-    // The next processor that is to be told of a thread's deletion.
+    // The next processor to be notified of a thread's deletion.
     fn next_untold(&self, place: usize) -> Option<u8>
         requires { place < length self.now.machine.threads }
         ensures { result ≡ untold_of self.now.machine self.now.cpu self.now.local place }
@@ -195,7 +199,8 @@ impl Known<'_> {
         Some(Duty::RefuseZero(sender))
     }
 
-    /// The duty of a thread of this processor. `may_have_zero` says whether a send of timeout zero may wait at it.
+    /// The duty of a thread of this processor. `may_have_zero` says whether a send of timeout zero
+    /// may wait at it.
     pub(crate) fn duty_at(&self, place: usize, may_have_zero: bool) -> Option<Duty>
         requires own { IsOwnOf self.now place }
         requires zeros { may_have_zero ≡ false → first_zero self.now.local (list_of self.now.local.lists place) ≡ None }
@@ -210,7 +215,8 @@ impl Known<'_> {
         }
     }
 
-    /// Whether a thread of this processor has a duty, or a send of timeout zero may wait at it, as `may_have_zero` says.
+    /// Whether a thread of this processor has a duty, or a send of timeout zero may wait at it, as
+    /// `may_have_zero` says.
     pub(crate) fn may_have_duty(&self, place: usize, may_have_zero: bool) -> bool
         requires own { IsOwnOf self.now place }
         requires zeros { may_have_zero ≡ false → first_zero self.now.local (list_of self.now.local.lists place) ≡ None }
@@ -227,8 +233,9 @@ impl Known<'_> {
     }
 }
 
-/// The first place with a duty. Of the places that may have one, those before it are taken out, so that a place without a duty is
-/// looked at once, and of those where a send of timeout zero may wait, those of them where none does. Mostly there is none.
+/// The first place with a duty. Places before it leave `duties`, so a place without a duty is
+/// looked at once. Those where no send of timeout zero waits leave `zeros`. Mostly there is no
+/// duty.
 #[inline(always)]
 pub(crate) fn first_duty(
     known: &Known<'_>,

@@ -34,7 +34,7 @@ use l4_types::tags::MsgTag;
 use tcb_arena::Waiting;
 
 impl Known<'_> {
-    /// The clock goes on to this value, in ticks.
+    /// Advances the clock to this value, in ticks.
     pub(crate) fn set_clock(&mut self, to: u64)
         requires later { self.old.local.clock ≤ to }
         requires fits { to < clock_limit }
@@ -43,7 +43,7 @@ impl Known<'_> {
         self.clock = to;
     }
 
-    /// An event begins, with this stamp.
+    /// Begins an event with this stamp.
     pub(crate) fn set_stamp(&mut self, stamp: u64)
         requires { self.old.local.stamp ≤ stamp }
         ensures { self.new ≡ with_local self.old (record self.old.local { stamp = stamp }) }
@@ -51,7 +51,8 @@ impl Known<'_> {
         self.stamp = stamp;
     }
 
-    /// This happens to a thread of this processor that stands in no list, and it comes to its next phase.
+    /// Applies a change to a thread of this processor that stands in no list, and puts it into the
+    /// lists of its new phase.
     pub(crate) fn come_to(&mut self, place: usize, change: &Change)
         requires free { IsFree self.old place }
         requires fits { IsFitting change.now (thread self.old.local place) }
@@ -61,7 +62,8 @@ impl Known<'_> {
         self.settle(place);
     }
 
-    /// A thread receives the message that another one sends, with this tag. Its words go from block to block, and nowhere else.
+    /// Gives a thread the message that another one sends, with this tag. Its words go from block to
+    /// block, and nowhere else.
     pub(crate) fn receive_from(&mut self, receiver: usize, sender: usize, tag: MsgTag)
         requires receiver { IsReceiver self.old receiver }
         requires sender { sender < length self.old.machine.threads }
@@ -73,7 +75,7 @@ impl Known<'_> {
         self.settle(receiver);
     }
 
-    /// A thread begins the first phase of an Ipc, where it has one.
+    /// Begins the first phase of a thread's Ipc, where it has one.
     pub(crate) fn begin(&mut self, place: usize, instr: &Instr) -> Began
         requires hand { IsAtHand self.old place }
         requires room { is_end (instr_of instr.now) ≡ false → (thread self.old.local place).context.place + 1 < 2 ^ 64 }
@@ -92,7 +94,7 @@ impl Known<'_> {
         }
     }
 
-    // The phase of an Ipc begins in the thread alone.
+    // Begins the first phase of an Ipc in the thread, and in no list.
     fn start(&mut self, place: usize, instr: &Instr) -> Began
         requires hand { IsAtHand self.old place }
         requires room { is_end (instr_of instr.now) ≡ false → (thread self.old.local place).context.place + 1 < 2 ^ 64 }
@@ -106,8 +108,8 @@ impl Known<'_> {
         self.threads[place].ipc(instr, shows, self.clock)
     }
 
-    // Whether a send of a thread shows the originator that its VirtualSender names. Whether it may is looked up only where the thread asks
-    // for propagation.
+    // Whether a send of a thread shows the originator that its VirtualSender names. The rights are
+    // looked up only where the thread asks for propagation.
     fn shows_originator(&self, place: usize) -> bool
         requires { place < length self.now.machine.threads }
         ensures { result ≡ is_some (originator self.now.machine (declared self.now.machine place).id
@@ -117,7 +119,7 @@ impl Known<'_> {
         thread.propagates() && self.machine.may_show(self.id(place), thread.regs().actual)
     }
 
-    /// A thread of this processor is asked for a cancellation, or it is deleted.
+    /// Cancels a phase of a thread of this processor, or deletes the thread.
     pub(crate) fn ask(&mut self, place: usize, what: What)
         requires { IsOwnOf self.old place }
         ensures { self.new ≡ with_local self.old (asks (what_of what) place self.old.local) }
@@ -128,7 +130,7 @@ impl Known<'_> {
         }
     }
 
-    // A thread is deleted.
+    // Deletes a thread.
     fn delete(&mut self, place: usize)
         requires { IsOwnOf self.old place }
         ensures { self.new ≡ with_local self.old (asks DeleteThread place self.old.local) }
@@ -138,7 +140,7 @@ impl Known<'_> {
         self.settle(place);
     }
 
-    // A thread leaves the ready ones, if it is among them.
+    // Removes a thread from the ready list, if it stands there.
     fn drop_ready(&mut self, place: usize)
         requires { place < length self.old.machine.threads }
         ensures rest { self.new ≡ with_local self.old (relists (dropped place) self.old.local) }
@@ -147,7 +149,7 @@ impl Known<'_> {
         self.lists.drop_ready(place);
     }
 
-    /// A send is put at the end of the list of its receiver.
+    /// Appends a send to the list of its receiver.
     pub(crate) fn queue(&mut self, receiver: usize, waiting: Waiting)
         requires receiver { receiver < length self.old.machine.threads }
         requires sender { IsSender self.old waiting.block }
@@ -158,7 +160,7 @@ impl Known<'_> {
         self.lists.queue_send(receiver, waiting);
     }
 
-    /// A send is taken out of the list that it waits in, if it waits in one.
+    /// Removes a send from the list that it waits in, if any.
     pub(crate) fn unqueue(&mut self, place: usize)
         requires { place < length self.old.machine.threads }
         ensures { self.new ≡ with_local self.old (relists (unqueued place) self.old.local) }
@@ -166,7 +168,7 @@ impl Known<'_> {
         self.lists.unqueue_send(place);
     }
 
-    /// The first ready thread is taken out of the list.
+    /// Removes the first ready thread from the list.
     pub(crate) fn pop_ready(&mut self)
         ensures rest { self.new ≡ with_local self.old (relists popped self.old.local) }
         ensures gone { (place : ℕ) → slice_get self.old.local.lists.ready 0 ≡ Some place → is_ready_in self.new.local.lists place ≡ false }
@@ -174,7 +176,7 @@ impl Known<'_> {
         self.lists.pop_ready();
     }
 
-    /// The first armed thread, whose deadline is past, is disarmed.
+    /// Disarms the first armed thread, whose deadline is due.
     pub(crate) fn pop_due(&mut self)
         requires { IsSome (due_block self.old.local.clock self.old.local.lists.armed) }
         ensures { self.new ≡ with_local self.old (relists popped_due self.old.local) }
@@ -182,8 +184,8 @@ impl Known<'_> {
         self.lists.pop_due(self.clock);
     }
 
-    /// The first thread whose deadline is past. It is found at once that there is none, as long as the least deadline that was seen is
-    /// not past.
+    /// The first thread whose deadline is due. Constant time while the least deadline that the last
+    /// search left is not due.
     pub(crate) fn first_due(&mut self) -> Option<usize>
         ensures due { result ≡ due_block self.old.local.clock self.old.local.lists.armed }
         ensures same { self.new ≡ self.old }
@@ -191,7 +193,7 @@ impl Known<'_> {
         self.lists.first_due(self.clock)
     }
 
-    /// The processors below this one and up to it, but this processor, know of a thread's deletion.
+    /// Notes that all processors up to `cpu` have been notified of a thread's deletion.
     pub(crate) fn note_told(&mut self, place: usize, cpu: u8)
         requires within { place < length self.old.machine.threads }
         requires cpu { cpu < self.old.machine.cpus }
@@ -202,7 +204,7 @@ impl Known<'_> {
         self.told[place] = cpu + 1;
     }
 
-    /// The send of another processor's thread, which stands in no list, is decided.
+    /// Notes that the send of a foreign thread is decided. It stands in no list any more.
     pub(crate) fn forget_send(&mut self, place: usize)
         requires within { place < length self.old.machine.threads }
         requires unqueued { is_queued self.old.local.lists place ≡ false }
@@ -211,7 +213,7 @@ impl Known<'_> {
         self.threads[place].decide();
     }
 
-    /// A send of another processor's thread has come here, and stands in its block.
+    /// Makes the block of a foreign thread a stand-in for its send, which has arrived here.
     pub(crate) fn stand_in(
         &mut self,
         place: usize,
@@ -229,7 +231,7 @@ impl Known<'_> {
         self.threads[place].stand_in(name.k(), receiver, message, zero_timeout);
     }
 
-    /// What a thread of this processor asked for is no longer awaited.
+    /// Clears the order of a thread of this processor.
     pub(crate) fn forget_order(&mut self, place: usize)
         requires { IsOwnOf self.old place }
         ensures { self.new ≡ with_local self.old (changes place forgets_order self.old.local) }
@@ -237,7 +239,7 @@ impl Known<'_> {
         self.threads[place].forget_order();
     }
 
-    /// A thread of another processor is known as deleted.
+    /// Notes that a foreign thread was deleted.
     pub(crate) fn note_gone(&mut self, place: usize)
         requires within { place < length self.old.machine.threads }
         requires foreign { is_own self.old.machine self.old.cpu place ≡ false }
@@ -247,7 +249,7 @@ impl Known<'_> {
     }
 }
 
-// A block receives the message that another one sends, with this tag.
+// Passes the message of one block to another, with this tag.
 fn pass_message(blocks: &mut [Tcb], receiver: usize, sender: usize, tag: MsgTag)
     requires receiver { receiver < length blocks.old }
     requires sender { sender < length blocks.old }
@@ -263,7 +265,7 @@ fn pass_message(blocks: &mut [Tcb], receiver: usize, sender: usize, tag: MsgTag)
     }
 }
 
-// A thread receives the message that another one sends, with this tag.
+// Gives a thread the message that another one sends, with this tag.
 fn receive_from(receiver: &mut Tcb, sender: &Tcb, tag: MsgTag)
     ensures { receiver.new ≡ passed (word_of_tag tag) sender.now receiver.old }
 {

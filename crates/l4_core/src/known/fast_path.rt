@@ -18,8 +18,9 @@ use l4_types::message_ref::MessageRef;
 use l4_types::steps::Name;
 
 impl Known<'_> {
-    /// The receiver that takes at once what the Ipc of a thread sends now: a thread of this processor that waits, and accepts the sender
-    /// before all that wait at it. A send that asks for propagation is none of those.
+    /// The receiver of a send on the fast path: a thread of this processor that is receiving,
+    /// accepts the sender, and accepts none of those that wait at it. None where the send asks for
+    /// propagation.
     pub(crate) fn fast_receiver(&self, place: usize, ipc: &Ipc) -> Option<usize>
         requires { place < length self.now.machine.threads }
         ensures value { result ≡ fast_receiver self.now.machine self.now.cpu self.now.local place
@@ -46,7 +47,8 @@ impl Known<'_> {
         self.place_of(id.as_global()?)
     }
 
-    // Whether a thread waits, and accepts an ordinary message of another one before those that wait at it.
+    // Whether a thread is receiving, accepts an ordinary message of another one, and accepts none
+    // of those that wait at it.
     fn takes_at_once(&self, receiver: usize, sender: usize) -> bool
         requires receiver { receiver < length self.now.machine.threads }
         requires sender { sender < length self.now.machine.threads }
@@ -71,7 +73,8 @@ impl Known<'_> {
         Name::new(self.id(place), self.begun(place) + 1).unwrap()
     }
 
-    /// The message that a thread sends: that of its undecided send, else that of a send that it begins now and that shows no originator.
+    /// The message that a thread sends: that of its undecided send. Where there is none, that of a
+    /// send that it would begin now without propagation.
     pub(crate) fn outgoing(&self, sender: usize) -> MessageRef<'_>
         requires { sender < length self.now.machine.threads }
         ensures { result ≡ outgoing (declared self.now.machine sender).id (thread self.now.local sender) }
@@ -79,7 +82,7 @@ impl Known<'_> {
         self.tcb(sender).outgoing()
     }
 
-    /// The send of an Ipc was taken at once, and its thread comes to its next phase.
+    /// Puts a thread into its next phase, after the send of its Ipc was taken at once.
     pub(crate) fn pass(&mut self, place: usize, ipc: &Ipc)
         requires hand { IsAtHand self.old place }
         requires room { (thread self.old.local place).context.place + 1 < 2 ^ 64 }

@@ -54,7 +54,7 @@ impl Known<'_> {
         self.machine.retargets() && self.owed[place].is_some()
     }
 
-    /// An owed retarget is kept beside a thread.
+    /// Keeps an owed retarget beside a thread.
     pub(crate) fn keep_owed(&mut self, place: usize, owed: Owed)
         requires within { place < length self.old.machine.threads }
         requires profile { self.old.machine.retargeting ≡ true }
@@ -64,7 +64,7 @@ impl Known<'_> {
         self.owed[place] = Some(owed);
     }
 
-    /// The retarget that is kept beside a thread is taken out.
+    /// Removes the retarget that is kept beside a thread.
     pub(crate) fn take_owed(&mut self, place: usize) -> Option<Owed>
         requires { place < length self.old.machine.threads }
         ensures owed { option_map owed_of result ≡ owed_beside self.old.local place }
@@ -78,7 +78,7 @@ impl Known<'_> {
         owed
     }
 
-    /// An originator turns to the new partner, where it waits for the old one.
+    /// Turns an originator to the new partner, where it waits for the old one.
     pub(crate) fn turn_to(&mut self, place: usize, owed: &Owed)
         requires { place < length self.old.machine.threads }
         ensures { self.new ≡ with_local self.old (changes place (turns (owed_of owed.now)) self.old.local) }

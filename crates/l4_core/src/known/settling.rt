@@ -1,4 +1,4 @@
-//! A thread that has come to a phase stands among the ready ones, or its deadline is armed.
+//! Puts a thread into the ready list, or arms its deadline, as its phase asks.
 ghost use Rattle.std.specs.Prelude.{◌≡◌, ◌<◌, ◌+◌, IfSome, false, length};
 ghost use Rattle.std.specs.Option.{option_map};
 ghost use Rattle.l4_model.specs.Words.{clock_limit, period_limit};
@@ -12,7 +12,7 @@ ghost use Rattle.tcb_arena.specs.Blocks.{is_ready as is_ready_in};
 use crate::known::Known;
 use l4_types::times::Period;
 
-// When a period is over that begins at this clock. None where it never is.
+// The clock at which a period that begins now is over. None for never.
 fn deadline(period: Period, clock: u64) -> Option<u64>
     requires period { IsTimely period }
     requires clock { clock < clock_limit }
@@ -27,7 +27,8 @@ fn deadline(period: Period, clock: u64) -> Option<u64>
 }
 
 impl Known<'_> {
-    // A thread of this processor has come to the phase that it is in. It is not among the ready ones.
+    // Settles a thread of this processor in the phase that it is in. It does not stand in the ready
+    // list.
     pub(crate) fn settle(&mut self, place: usize)
         requires own { IsOwnOf self.old place }
         requires unready { is_ready_in self.old.local.lists place ≡ false }
@@ -37,7 +38,7 @@ impl Known<'_> {
         self.make_ready(place);
     }
 
-    // The old deadline of a thread goes, and that of its phase is armed.
+    // Disarms the old deadline of a thread, and arms that of its phase.
     fn rearm(&mut self, place: usize)
         requires { IsOwnOf self.old place }
         ensures { self.new ≡ with_local self.old (relists (rearms (thread self.old.local place) self.old.local.clock place) self.old.local) }
@@ -48,7 +49,7 @@ impl Known<'_> {
         }
     }
 
-    // A thread that can run goes to the end of the ready ones.
+    // Appends a thread that can run to the ready list.
     fn make_ready(&mut self, place: usize)
         requires own { IsOwnOf self.old place }
         requires unready { is_ready_in self.old.local.lists place ≡ false }

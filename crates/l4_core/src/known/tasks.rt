@@ -15,10 +15,11 @@ use l4_types::messages::Message;
 use l4_types::owed::Owed;
 use l4_types::steps::{Name, What};
 
-/// What a lawful letter asks for. Places are those of the threads. A message stays in its letter, since it is large.
+/// What a lawful letter asks for. Places are those of the threads. A message stays in its letter,
+/// since it is large.
 #[derive(Drop)]
 pub(crate) enum Task<'a> {
-    /// A send has come to its receiver, which is of this processor.
+    /// A send has arrived for a receiver of this processor.
     Arrive {
         receiver: usize,
         sender: usize,
@@ -31,18 +32,18 @@ pub(crate) enum Task<'a> {
     End(usize, Decision),
     /// The send of this thread, which waits here, is refused.
     Refuse(usize, Refusal),
-    /// A withdrawn send waits here no more: nothing is to be done.
+    /// The send to withdraw waits here no more: there is nothing to do.
     Leave,
-    /// This thread of another processor is deleted.
+    /// This foreign thread is deleted.
     NoteGone(usize),
-    /// What a thread of another processor asks for is done to one of this processor.
+    /// An order of a foreign thread to one of this processor.
     Obey {
         target: usize,
         from: usize,
         caller: GlobalId,
         what: What,
     },
-    /// What this thread asked for was done.
+    /// The order of this thread was done.
     FinishOrder(usize),
     /// This originator, of this processor, is to turn.
     Retarget(usize, Owed),
@@ -73,7 +74,7 @@ impl Known<'_> {
         }
     }
 
-    // The place of a declared thread of another processor.
+    // The place of a foreign thread.
     #[tactic(auto, using(crate::proofs::Arriving::placed_id))]
     fn foreign_place(&self, id: GlobalId) -> Option<usize>
         ensures value { result ≡ foreign_place self.now.machine self.now.cpu id }
@@ -98,7 +99,7 @@ impl Known<'_> {
         self.is_queued(place) && self.tcb(place).thread().begun() == name.k()
     }
 
-    // Whether a thread waits for what it asked for, or was deleted.
+    // Whether a thread waits for its order to be done, or was deleted.
     fn awaits_order(&self, place: usize) -> bool
         requires { place < length self.now.machine.threads }
         ensures { result ≡ (is_deleted (thread self.now.local place).phase || is_ordering (thread self.now.local place).phase) }
@@ -107,7 +108,7 @@ impl Known<'_> {
         tcb.is_deleted() || tcb.is_ordering()
     }
 
-    // What a send that has come here asks for.
+    // What a send that has arrived asks for.
     fn arrival<'a>(
         &self,
         name: &Name,
@@ -198,7 +199,8 @@ impl Known<'_> {
         Some(Task::NoteGone(place))
     }
 
-    // What an owed retarget asks for, of an originator of this processor since another one's thread received a message.
+    // What a `Retarget` letter asks for: its originator is of this processor, its new partner is
+    // not.
     fn retargeting(&self, owed: &Owed) -> Option<Task<'static>>
         ensures value { result ≡ task_of self.now.machine self.now.cpu self.now.local (RetargetContent owed.now) }
         ensures possible { IfSome result (λ task. IsTask task self.now) }

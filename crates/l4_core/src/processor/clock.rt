@@ -1,4 +1,4 @@
-//! The clock of a processor goes on.
+//! The clock of a processor advances.
 ghost use Rattle.std.specs.Prelude.{◌≡◌, ◌↔◌, ◌⊎◌, IfErr, IfOk, IsErrOf, IsSome, None, OnErr, false};
 ghost use Rattle.l4_core_model.specs.Turns.{advance, can_stamp};
 ghost use Rattle.l4_core.specs.Tellings.{IsOpen};
@@ -11,9 +11,10 @@ use l4_types::step_ref::StepRef;
 use l4_types::steps::{CLOCKS, Tick};
 
 impl Core<'_> {
-    /// The clock goes on to this value, in ticks. Answers the stamp of the event.
-    /// `Clock`: the value is not above the clock, or not below 2^62. `Stamp`: else, where the next stamp would reach 2^62. Nothing is changed
-    /// then. Condition: the event that `told` has begun has told nothing yet.
+    /// Advances the clock to this value, in ticks. Returns the stamp of the event.
+    /// `Clock`: the value is not above the clock, or not below 2^62. `Stamp`: else, where the next
+    /// stamp would reach 2^62. Nothing is changed then. Condition: `told` has begun an event that
+    /// has no step yet.
     pub fn advance_into<S: Sink>(&mut self, to: u64, told: &mut Told<S>) -> Result<u64, Fault>
         requires untold { IsOpen told.old }
         ensures ok { IfOk result (λ stamp. IsEvent (advance self.old.machine self.old.cpu to self.old.local) self.old self.new told.old told.new stamp) }

@@ -1,4 +1,5 @@
-//! What an event does to one thread and to the lists, with the places noted that may have a duty now.
+//! What an event does to one thread and to the lists, with the places noted that may have a duty
+//! now.
 ghost use Rattle.std.specs.Prelude.{◌≡◌, ◌≢◌, ◌<◌, ◌+◌, ◌^◌, None, Some, IsSome, false, true, length, slice_get, is_none, ℕ};
 ghost use Rattle.std.specs.Option.{option_map};
 ghost use Rattle.l4_model.specs.Words.{word_of_tag};
@@ -37,7 +38,8 @@ use l4_types::tags::MsgTag;
 use tcb_arena::Waiting;
 
 impl Core<'_> {
-    /// This happens to a thread of this processor that stands in no list, and it comes to its next phase.
+    /// Applies a change to a thread of this processor that stands in no list, and puts it into the
+    /// lists of its new phase.
     pub(super) fn come_to(&mut self, place: usize, change: &Change)
         requires free { IsFree self.old place }
         requires fits { IsFitting change.now (thread self.old.local place) }
@@ -48,7 +50,7 @@ impl Core<'_> {
         note_duty(&self.known, &mut self.duties, &self.zeros, place);
     }
 
-    /// A thread receives the message that another one sends, with this tag.
+    /// Gives a thread the message that another one sends, with this tag.
     pub(super) fn receive_from(&mut self, place: usize, sender: usize, tag: MsgTag)
         requires receiver { IsReceiver self.old place }
         requires sender { sender < length self.old.machine.threads }
@@ -61,7 +63,7 @@ impl Core<'_> {
         note_duty(&self.known, &mut self.duties, &self.zeros, place);
     }
 
-    /// A thread begins the first phase of an Ipc, where it has one.
+    /// Begins the first phase of a thread's Ipc, where it has one.
     pub(super) fn begin(&mut self, place: usize, instr: &Instr) -> Began
         requires hand { IsAtHand self.old place }
         requires room { is_end (instr_of instr.now) ≡ false → (thread self.old.local place).context.place + 1 < 2 ^ 64 }
@@ -76,7 +78,7 @@ impl Core<'_> {
         began
     }
 
-    /// The send of an Ipc was taken at once, and its thread comes to its next phase.
+    /// Puts a thread into its next phase, after the send of its Ipc was taken at once.
     pub(super) fn pass(&mut self, place: usize, ipc: &Ipc)
         requires hand { IsAtHand self.old place }
         requires room { (thread self.old.local place).context.place + 1 < 2 ^ 64 }
@@ -89,7 +91,7 @@ impl Core<'_> {
         note_duty(&self.known, &mut self.duties, &self.zeros, place);
     }
 
-    /// A send is put at the end of the list of its receiver.
+    /// Appends a send to the list of its receiver.
     pub(super) fn queue_send(&mut self, receiver: usize, waiting: Waiting)
         requires receiver { IsOwnOf self.old receiver }
         requires sender { IsSender self.old waiting.block }
@@ -103,7 +105,7 @@ impl Core<'_> {
         self.known.queue(receiver, waiting);
     }
 
-    /// A send is taken out of the list that it waits in, if it waits in one.
+    /// Removes a send from the list that it waits in, if any.
     pub(super) fn unqueue_send(&mut self, place: usize)
         requires { place < length self.old.machine.threads }
         ensures { self.new ≡ with_local self.old (relists (unqueued place) self.old.local) }
@@ -111,7 +113,7 @@ impl Core<'_> {
         self.known.unqueue(place);
     }
 
-    /// The send of another processor's thread, which stands in no list, is decided.
+    /// Notes that the send of a foreign thread is decided. It stands in no list any more.
     pub(super) fn forget_send(&mut self, place: usize)
         requires within { place < length self.old.machine.threads }
         requires foreign { is_own self.old.machine self.old.cpu place ≡ false }
@@ -122,7 +124,7 @@ impl Core<'_> {
         self.known.forget_send(place);
     }
 
-    /// A send of another processor's thread has come here, and stands in its block.
+    /// Makes the block of a foreign thread a stand-in for its send, which has arrived here.
     pub(super) fn stand_in(
         &mut self,
         place: usize,
@@ -141,7 +143,7 @@ impl Core<'_> {
             .stand_in(place, name, receiver, message, zero_timeout);
     }
 
-    /// What a thread of this processor asked for is no longer awaited.
+    /// Clears the order of a thread of this processor.
     pub(super) fn forget_order(&mut self, place: usize)
         requires { IsOwnOf self.old place }
         ensures { self.new ≡ with_local self.old (changes place forgets_order self.old.local) }
@@ -150,7 +152,8 @@ impl Core<'_> {
         self.known.forget_order(place);
     }
 
-    /// A thread of another processor is known as deleted. Those that are closed for it have a duty then.
+    /// Notes that a foreign thread was deleted. Threads whose receive phase names it have a duty
+    /// then.
     pub(super) fn note_gone(&mut self, place: usize)
         requires { IsForeign self.old place }
         ensures { self.new ≡ with_local self.old (changes place is_gone_now self.old.local) }
@@ -159,7 +162,7 @@ impl Core<'_> {
         self.known.note_gone(place);
     }
 
-    /// A deleted thread comes to its phase again: it has no deadline.
+    /// Settles a deleted thread again: it has no deadline.
     pub(super) fn settle(&mut self, place: usize)
         requires own { IsOwnOf self.old place }
         requires unready { is_ready_in self.old.local.lists place ≡ false }
@@ -169,7 +172,7 @@ impl Core<'_> {
         self.known.settle(place);
     }
 
-    /// The first ready thread is taken out of the list.
+    /// Removes the first ready thread from the list.
     pub(super) fn pop_ready(&mut self)
         ensures rest { self.new ≡ with_local self.old (relists popped self.old.local) }
         ensures gone { (place : ℕ) → slice_get self.old.local.lists.ready 0 ≡ Some place → is_ready_in self.new.local.lists place ≡ false }
@@ -177,7 +180,7 @@ impl Core<'_> {
         self.known.pop_ready();
     }
 
-    /// The first armed thread, whose deadline is past, is disarmed.
+    /// Disarms the first armed thread, whose deadline is due.
     pub(super) fn pop_due(&mut self)
         requires { IsSome (due_block self.old.local.clock self.old.local.lists.armed) }
         ensures { self.new ≡ with_local self.old (relists popped_due self.old.local) }
@@ -185,7 +188,8 @@ impl Core<'_> {
         self.known.pop_due();
     }
 
-    /// A thread of this processor is asked for a cancellation, or it is deleted. Those that are closed for a deleted thread have a duty then.
+    /// Cancels a phase of a thread of this processor, or deletes the thread. Threads whose receive
+    /// phase names a deleted thread have a duty then.
     pub(super) fn ask(&mut self, place: usize, what: What)
         requires { IsOwnOf self.old place }
         ensures { self.new ≡ with_local self.old (asks (what_of what) place self.old.local) }
@@ -197,7 +201,7 @@ impl Core<'_> {
         self.known.ask(place, what);
     }
 
-    /// An owed retarget is kept beside a thread. It is a duty of that thread.
+    /// Keeps an owed retarget beside a thread. It is a duty of that thread.
     pub(super) fn keep_owed(&mut self, place: usize, owed: Owed)
         requires own { IsOwnOf self.old place }
         requires profile { self.old.machine.retargeting ≡ true }
@@ -207,7 +211,7 @@ impl Core<'_> {
         self.known.keep_owed(place, owed);
     }
 
-    /// The retarget that is kept beside a thread is taken out. The thread may have another duty.
+    /// Removes the retarget that is kept beside a thread. The thread may have another duty.
     pub(super) fn take_owed(&mut self, place: usize) -> Option<Owed>
         requires { IsOwnOf self.old place }
         ensures owed { option_map owed_of result ≡ owed_beside self.old.local place }
@@ -217,7 +221,8 @@ impl Core<'_> {
         self.known.take_owed(place)
     }
 
-    /// An originator turns to the new partner, where it waits for the old one. It may have a duty then.
+    /// Turns an originator to the new partner, where it waits for the old one. It may have a duty
+    /// then.
     pub(super) fn turn_to(&mut self, place: usize, owed: &Owed)
         requires { place < length self.old.machine.threads }
         ensures { self.new ≡ with_local self.old (changes place (turns (owed_of owed.now)) self.old.local) }
@@ -227,7 +232,8 @@ impl Core<'_> {
         self.known.turn_to(place, owed);
     }
 
-    /// The processors up to this one know of a thread's deletion. It is a thread with a duty.
+    /// Notes that all processors up to `cpu` have been notified of a thread's deletion. The thread
+    /// still has a duty.
     pub(super) fn note_told(&mut self, place: usize, cpu: u8)
         requires own { IsOwnOf self.old place }
         requires cpu { cpu < self.old.machine.cpus }

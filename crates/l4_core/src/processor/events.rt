@@ -1,4 +1,4 @@
-//! What was chosen is done.
+//! Does what a turn has chosen.
 ghost use Rattle.std.specs.Prelude.{◌≡◌, ◌<◌, ◌≤◌, Some, slice_get, ℕ, true};
 ghost use Rattle.l4_types.specs.Codes.{code_of};
 ghost use Rattle.l4_types.specs.StepView.{seen};
@@ -19,7 +19,7 @@ use l4_types::letters::{Cause, Content, Refusal};
 use l4_types::step_ref::StepRef;
 
 impl Core<'_> {
-    /// What was chosen is done.
+    /// Does what a turn has chosen.
     pub(super) fn carry_out<S: Sink>(&mut self, choice: &Choice, told: &mut Told<S>)
         requires possible { IsPossible choice.now self.old }
         requires count { (place : ℕ) → is_own self.old.machine self.old.cpu place ≡ true → (thread self.old.local place).context.begun < self.old.local.stamp }
@@ -34,7 +34,7 @@ impl Core<'_> {
         }
     }
 
-    // The first ready thread runs its next instruction.
+    // Runs the next instruction of the first ready thread.
     fn do_ready<S: Sink>(&mut self, place: usize, told: &mut Told<S>)
         requires first { slice_get self.old.local.lists.ready 0 ≡ Some place }
         requires count { is_own self.old.machine self.old.cpu place ≡ true → (thread self.old.local place).context.begun < self.old.local.stamp }
@@ -47,7 +47,7 @@ impl Core<'_> {
         self.act(place, told);
     }
 
-    // The deadline of a thread is past.
+    // Handles the deadline of a thread, which is due.
     fn do_due<S: Sink>(&mut self, place: usize, told: &mut Told<S>)
         requires due { due_block self.old.local.clock self.old.local.lists.armed ≡ Some place }
         requires room { 3 ≤ told.old.room }
@@ -59,7 +59,7 @@ impl Core<'_> {
         self.time_out(place, told);
     }
 
-    // The time of a thread's phase has passed.
+    // Times out the phase of a thread.
     fn time_out<S: Sink>(&mut self, place: usize, told: &mut Told<S>)
         requires own { IsOwnOf self.old place }
         requires room { 3 ≤ told.old.room }
@@ -77,7 +77,7 @@ impl Core<'_> {
         }
     }
 
-    // The receive phase of a thread fails, as this step tells.
+    // Fails the receive phase of a thread with this error; the step says so.
     fn fail_receive<S: Sink>(
         &mut self,
         place: usize,
@@ -94,7 +94,7 @@ impl Core<'_> {
         self.come_to(place, &Change::Fail(error));
     }
 
-    // The duty of a thread is done.
+    // Does the duty of a thread.
     fn do_duty<S: Sink>(&mut self, place: usize, duty: Duty, told: &mut Told<S>)
         requires first { IsFirstDuty place (duty_of self.old.local.owed place duty) self.old.machine self.old.cpu self.old.local }
         requires room { 3 ≤ told.old.room }
@@ -121,7 +121,7 @@ impl Core<'_> {
         }
     }
 
-    // A processor is told that a thread is deleted.
+    // Notifies a processor that a thread is deleted.
     fn tell_gone<S: Sink>(&mut self, place: usize, cpu: u8, told: &mut Told<S>)
         requires own { IsOwnOf self.old place }
         requires cpu { cpu < self.old.machine.cpus }

@@ -16,8 +16,8 @@ use l4_script::instructions::Ipc;
 use l4_types::step_ref::{DeliveryRef, StepRef};
 
 impl Core<'_> {
-    /// A thread makes an Ipc whose send its receiver takes at once. The send is begun, queued and delivered in one go: it stands in no list,
-    /// and nothing of it is kept.
+    /// Runs an Ipc whose send its receiver takes at once. The send is begun, queued and delivered
+    /// in one go: it stands in no list, and nothing of it is kept.
     pub(super) fn send_fast<S: Sink>(
         &mut self,
         receiver: usize,

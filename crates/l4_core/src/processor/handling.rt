@@ -22,11 +22,12 @@ use l4_types::message_ref::MessageRef;
 use l4_types::steps::{Name, What};
 
 impl Core<'_> {
-    /// Handles a letter from another processor. Answers the stamp of the event. A withdrawal of a send that waits here no more is lawful and
-    /// does nothing, and so is the end of an order of a deleted caller.
+    /// Handles a letter from another processor. Returns the stamp of the event. Lawful, and without
+    /// effect: a `Withdraw` of a send that waits here no more, and an `OrderDone` for a deleted
+    /// caller.
     ///
-    /// `Mail`: the letter is not lawful here. `Stamp`: else, where the next stamp would reach 2^62. Nothing is changed then. Condition: the
-    /// event that `told` has begun has told nothing yet.
+    /// `Mail`: the letter is not lawful here. `Stamp`: else, where the next stamp would reach 2^62.
+    /// Nothing is changed then. Condition: `told` has begun an event that has no step yet.
     pub fn handle_into<S: Sink>(
         &mut self,
         letter: &Letter,
@@ -51,7 +52,7 @@ impl Core<'_> {
         Ok(stamp)
     }
 
-    // What a letter asks for is done.
+    // Does what a letter asks for.
     fn do_task<S: Sink>(&mut self, task: Task<'_>, told: &mut Told<S>)
         requires possible { IsTask task self.old }
         requires room { 3 ≤ told.old.room }
@@ -82,7 +83,7 @@ impl Core<'_> {
         }
     }
 
-    // A send of another processor's thread has come to its receiver.
+    // Takes in a send of a foreign thread, which has arrived for its receiver.
     fn take_in<S: Sink>(
         &mut self,
         receiver: usize,
@@ -103,7 +104,7 @@ impl Core<'_> {
         self.arrive(receiver, sender, told);
     }
 
-    // The send of a thread of this processor was decided at its receiver's.
+    // Ends the send of a thread of this processor, which was decided at its receiver's processor.
     fn end_split(&mut self, place: usize, decision: Decision)
         requires { IsSplit self.old place }
         ensures { self.new ≡ with_local self.old (comes_to place (after_decision (decision_of decision) self.old.local.clock) self.old.local) }
@@ -112,7 +113,7 @@ impl Core<'_> {
         self.come_to(place, &Change::EndSend(decision));
     }
 
-    // What a thread of another processor asks for is done, and its processor is told so.
+    // Obeys the order of a foreign thread, and notifies its processor.
     fn obey_for<S: Sink>(
         &mut self,
         target: usize,
@@ -132,7 +133,7 @@ impl Core<'_> {
         told.post(self.known.cpu_of(from), letter);
     }
 
-    // What a thread of this processor asked for was done.
+    // Ends the order of a thread of this processor, which was done.
     fn finish_order(&mut self, place: usize)
         requires { IsCaller self.old place }
         ensures { self.new ≡ with_local self.old (comes_to place obeyed self.old.local) }

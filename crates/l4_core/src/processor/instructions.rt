@@ -1,4 +1,4 @@
-//! A thread runs its next instruction.
+//! Runs the next instruction of a thread.
 ghost use Rattle.std.specs.Prelude.{◌≡◌, ◌<◌, ◌≤◌, ◌+◌, ◌^◌, true, false, length, IfSome, ℕ};
 ghost use Rattle.l4_model.specs.Machine.{Ask, place_of, most_instructions};
 ghost use Rattle.l4_model.specs.Conditions.{act_of, instruction};
@@ -38,8 +38,8 @@ fn cause_of(what: What) -> Option<Cause>
 }
 
 impl Core<'_> {
-    /// What a caller asks for is done to a thread of this processor. The split send of one that was not deleted yet is withdrawn, where that is
-    /// asked for.
+    /// Obeys an order at a thread of this processor. Withdraws the target's split send, if the
+    /// order asks for that and the target was not deleted before.
     pub(super) fn obey_order<S: Sink>(
         &mut self,
         caller: GlobalId,
@@ -63,7 +63,7 @@ impl Core<'_> {
         }
     }
 
-    /// A thread runs its next instruction.
+    /// Runs the next instruction of a thread.
     pub(super) fn act<S: Sink>(&mut self, place: usize, told: &mut Told<S>)
         requires hand { IsAtHand self.old place }
         requires count { (thread self.old.local place).context.begun < self.old.local.stamp }
@@ -82,7 +82,7 @@ impl Core<'_> {
         }
     }
 
-    // A thread runs an instruction that concerns nobody else.
+    // Runs an instruction that concerns nobody else.
     fn run<S: Sink>(&mut self, place: usize, instr: &Instr, told: &mut Told<S>)
         requires hand { IsAtHand self.old place }
         requires instr { instr_of instr.now ≡ instruction (held self.old.machine self.old.local place) }
@@ -95,7 +95,7 @@ impl Core<'_> {
         self.come_to(place, &Change::Run(*instr));
     }
 
-    // A thread makes an Ipc.
+    // Runs an Ipc.
     fn ipc<S: Sink>(&mut self, place: usize, instr: &Instr, told: &mut Told<S>)
         requires hand { IsAtHand self.old place }
         requires instr { instr_of instr.now ≡ instruction (held self.old.machine self.old.local place) }
@@ -117,7 +117,7 @@ impl Core<'_> {
         }
     }
 
-    // A thread asks for a cancellation or a deletion, which is refused where it is not admitted.
+    // Gives an order, or refuses it where it is not admitted.
     fn order<S: Sink>(
         &mut self,
         place: usize,
@@ -140,7 +140,7 @@ impl Core<'_> {
         }
     }
 
-    // An admitted order is given, and done where its target is of this processor.
+    // Gives an admitted order, and obeys it at once where its target is of this processor.
     fn give<S: Sink>(&mut self, place: usize, target: GlobalId, what: What, told: &mut Told<S>)
         requires hand { IsAtHand self.old place }
         requires within { (thread self.old.local place).context.place < most_instructions }

@@ -1,4 +1,4 @@
-//! Originators turn to those that their messages were handed to, at a machine of profile 2.
+//! Retargets (profile 2): an originator turns to the thread that received its message.
 ghost use Rattle.std.specs.Prelude.{◌≡◌, ◌<◌, Some, length, true};
 ghost use Rattle.l4_model.specs.World.{Owed as ModelOwed};
 ghost use Rattle.l4_types.specs.OwedView.{owed_of};
@@ -15,8 +15,9 @@ use l4_types::owed::Owed;
 use l4_types::step_ref::StepRef;
 
 impl Core<'_> {
-    /// A retarget is owed since a message came to this receiver. It is kept beside the receiver where the originator is of this processor,
-    /// else a letter goes to that one's.
+    /// Notes a retarget that is owed since this receiver got a message. It is kept beside the
+    /// receiver if the originator is of this processor. Else a letter goes to the originator's
+    /// processor.
     pub(super) fn owe<S: Sink>(&mut self, receiver: usize, owed: Owed, told: &mut Told<S>)
         requires receiver { IsOwnOf self.old receiver }
         requires profile { self.old.machine.retargeting ≡ true }
@@ -33,7 +34,7 @@ impl Core<'_> {
         }
     }
 
-    /// The retarget that is kept beside a thread is done.
+    /// Does the retarget that is kept beside a thread.
     pub(super) fn retarget_owed<S: Sink>(&mut self, place: usize, told: &mut Told<S>)
         requires own { IsOwnOf self.old place }
         requires room { 0 < told.old.room }
@@ -48,7 +49,7 @@ impl Core<'_> {
         }
     }
 
-    /// The originator of a message that was delivered turns to the one that received it.
+    /// Turns the originator of a delivered message to the thread that received it.
     pub(super) fn retarget<S: Sink>(&mut self, originator: usize, owed: &Owed, told: &mut Told<S>)
         requires originator { originator < length self.old.machine.threads }
         requires room { 0 < told.old.room }

@@ -1,4 +1,5 @@
-//! What becomes of a send: it is refused, queued or delivered here, or goes to its receiver's processor.
+//! What becomes of a send: it is refused, queued or delivered here, or goes to its receiver's
+//! processor.
 ghost use Rattle.std.specs.Prelude.{◌≡◌, ◌<◌, ◌≤◌, ◌+◌, Some, None, length, false};
 ghost use Rattle.l4_model.specs.World.{Send};
 ghost use Rattle.l4_core_model.specs.Letters.{refusal_step};
@@ -17,7 +18,7 @@ use l4_types::letters::{Cause, Content, Decision, Letter, Refusal};
 use l4_types::step_ref::{DeliveryRef, StepRef};
 use l4_types::steps::Name;
 
-// The step that tells a refusal.
+// The step of a refusal.
 fn refusal_step(refusal: Refusal, name: Name) -> StepRef<'static>
     ensures { seen result ≡ refusal_step (refusal_of_send refusal) name }
 {
@@ -40,7 +41,7 @@ impl Core<'_> {
         }
     }
 
-    /// The send of a thread is refused.
+    /// Refuses the send of a thread.
     pub(super) fn refuse<S: Sink>(&mut self, place: usize, refusal: Refusal, told: &mut Told<S>)
         requires sender { IsSender self.old place }
         requires room { 0 < told.old.room }
@@ -51,7 +52,7 @@ impl Core<'_> {
         self.end_send(place, Decision::Refused(refusal), told);
     }
 
-    /// The message of a sender is delivered to a receiver.
+    /// Delivers the message of a sender to a receiver.
     pub(super) fn deliver<S: Sink>(&mut self, receiver: usize, sender: usize, told: &mut Told<S>)
         requires receiver { IsReceiver self.old receiver }
         requires sender { IsSender self.old sender }
@@ -66,7 +67,7 @@ impl Core<'_> {
         }
     }
 
-    // The message of a sender comes to a receiver, and the send is decided.
+    // Hands the message of a sender to a receiver, and ends the send.
     #[inline(always)]
     fn hand_over<S: Sink>(&mut self, receiver: usize, sender: usize, told: &mut Told<S>)
         requires receiver { IsReceiver self.old receiver }
@@ -88,7 +89,8 @@ impl Core<'_> {
         self.end_send(sender, Decision::Delivered, told);
     }
 
-    // The send of a thread is decided here. Its sender goes on, at once where it is of this processor, else by a letter.
+    // Ends a send that is decided here. A sender of this processor goes on at once, another one by
+    // a letter.
     fn end_send<S: Sink>(&mut self, place: usize, decision: Decision, told: &mut Told<S>)
         requires sender { IsSender self.old place }
         requires slots { 0 < told.old.slots }
@@ -107,7 +109,7 @@ impl Core<'_> {
         }
     }
 
-    /// A begun send goes to its destination.
+    /// Passes a begun send on to its destination.
     pub(super) fn send<S: Sink>(&mut self, sender: usize, told: &mut Told<S>)
         requires sender { IsNewSender self.old sender }
         requires room { 2 ≤ told.old.room }
@@ -122,7 +124,7 @@ impl Core<'_> {
         }
     }
 
-    // A begun send goes to its receiver's processor.
+    // Posts a begun send to its receiver's processor.
     fn post_send<S: Sink>(&mut self, receiver: usize, sender: usize, told: &mut Told<S>)
         requires receiver { receiver < length self.old.machine.threads }
         requires sender { IsSender self.old sender }
@@ -140,8 +142,8 @@ impl Core<'_> {
         told.post(self.known.cpu_of(receiver), letter);
     }
 
-    /// A send has come to its receiver's processor, which is this one: it is refused, or queued, and delivered where the receiver waits
-    /// for it.
+    /// Handles a send that has arrived at its receiver's processor, this one: refuses it, or queues
+    /// it, and delivers it where the receiver waits for it.
     pub(super) fn arrive<S: Sink>(&mut self, receiver: usize, sender: usize, told: &mut Told<S>)
         requires receiver { IsOwnOf self.old receiver }
         requires sender { IsNewSender self.old sender }
@@ -159,7 +161,7 @@ impl Core<'_> {
         }
     }
 
-    // A send is queued, and delivered where its receiver waits and takes it first.
+    // Queues a send, and delivers it where its receiver waits and takes it first.
     fn queue<S: Sink>(&mut self, receiver: usize, sender: usize, told: &mut Told<S>)
         requires receiver { IsOwnOf self.old receiver }
         requires sender { IsNewSender self.old sender }
@@ -177,7 +179,7 @@ impl Core<'_> {
         }
     }
 
-    /// The send of a thread of this processor is withdrawn, where it is split.
+    /// Withdraws the send of a thread of this processor, where it is split.
     pub(super) fn withdraw<S: Sink>(&mut self, place: usize, cause: Cause, told: &mut Told<S>)
         requires own { IsOwnOf self.old place }
         requires slots { 0 < told.old.slots }

@@ -1,5 +1,5 @@
-//! Turns, ticks and letters handled, with what is told as a value: for callers that have no place to tell steps in. A processor at work has one, its
-//! log, and calls none of these.
+//! Turns, ticks and letters that return their steps and letters as values. A processor at work
+//! writes them into its log, and calls none of these.
 ghost use Rattle.std.specs.Prelude.{◌≡◌, ◌↔◌, ◌⊎◌, IfErr, IfOk, IsErrOf, IsSome, None, OnErr, [], false, true};
 ghost use Rattle.l4_core_model.specs.Mail.{handle};
 ghost use Rattle.l4_core_model.specs.Turns.{advance, can_stamp};
@@ -36,7 +36,8 @@ impl Core<'_> {
 
     /// Handles a letter from another processor, as `handle_into` does.
     ///
-    /// `Mail`: the letter is not lawful here. `Stamp`: else, where the next stamp would reach 2^62. Nothing is changed then.
+    /// `Mail`: the letter is not lawful here. `Stamp`: else, where the next stamp would reach 2^62.
+    /// Nothing is changed then.
     pub fn handle(&mut self, letter: &Letter) -> Result<(Event, Letters), Fault>
         ensures ok { IfOk result (λ r. IsToldEvent (handle self.old.machine self.old.cpu self.old.local (letter_of letter.now)) self.old self.new r.0 r.1.items) }
         ensures err { OnErr result (self.new ≡ self.old) }
@@ -50,10 +51,10 @@ impl Core<'_> {
         Ok(told.into_event(stamp))
     }
 
-    /// The clock goes on to this value, in ticks, as `advance_into` has it. A tick posts no letters.
+    /// Advances the clock to this value, in ticks, as `advance_into` does. A tick posts no letters.
     ///
-    /// `Clock`: the value is not above the clock, or not below 2^62. `Stamp`: else, where the next stamp would reach 2^62. Nothing is changed
-    /// then.
+    /// `Clock`: the value is not above the clock, or not below 2^62. `Stamp`: else, where the next
+    /// stamp would reach 2^62. Nothing is changed then.
     pub fn advance(&mut self, to: u64) -> Result<Event, Fault>
         ensures ok { IfOk result (λ event. IsToldEvent (advance self.old.machine self.old.cpu to self.old.local) self.old self.new event []) }
         ensures err { OnErr result (self.new ≡ self.old) }

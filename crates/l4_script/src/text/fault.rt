@@ -8,14 +8,14 @@ use l4_types::errors::NoMemory;
 /// The first fault of a machine text.
 #[derive(Clone, Copy, Debug, PartialEq, Eq)]
 pub struct TextFault {
-    /// The line, counted from 1 with the skipped ones; 0 where the fault is no line's.
+    /// The line, counted from 1, skipped lines too. 0 where the fault is of no line.
     pub line: usize,
     /// What is wrong there.
     pub kind: TextFaultKind,
 }
 
 impl TextFault {
-    /// A fault of this line, or of none where memory ran out.
+    /// A fault of this line, or of none where memory was refused.
     pub(super) fn at(line: usize, kind: TextFaultKind) -> TextFault
         ensures { result ≡ fault_of line kind }
     {
@@ -26,16 +26,16 @@ impl TextFault {
     }
 }
 
-/// The kinds of faults. Within a line they are judged in the order: what stands there at all (`BadLine`), the operands from left to
-/// right, and then the limits and the numbers of the threads.
+/// The kinds of faults. A line is judged in this order: its form (`BadLine`), its operands from
+/// left to right, the limits, and a thread number declared before.
 #[derive(Clone, Copy, Debug, PartialEq, Eq)]
 pub enum TextFaultKind {
     /// The text has more bytes than a text may have. Its line is 0.
     TooLong,
-    /// Memory ran out. Its line is 0.
+    /// Memory was refused. Its line is 0.
     NoMemory,
-    /// A byte that is not printable ASCII, a missing line end, a wrong number of words, an empty or an unknown word, or a line that may
-    /// not stand in its place.
+    /// A byte that is not printable ASCII, a missing line end, a wrong number of words, an empty or
+    /// an unknown word, or a line that may not stand in its place.
     BadLine,
     /// No number, or one out of its range.
     BadNumber,
@@ -47,11 +47,12 @@ pub enum TextFaultKind {
     TypedItems,
     /// A thread number that was declared before, with any version.
     DoubleId,
-    /// One thread more than a machine may have.
+    /// A thread past the 1,024th.
     TooManyThreads,
-    /// One instruction more than a script may have.
+    /// An instruction past the 1,024th of its script.
     TooManyInstructions,
-    /// A `jump` or `onerr` to a place above its script's number of instructions. It is judged where no line has another fault.
+    /// A `jump` or `onerr` to a place above its script's number of instructions. It is judged where
+    /// no line has another fault.
     BadTarget,
 }
 

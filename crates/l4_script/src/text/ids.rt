@@ -25,7 +25,7 @@ fn id_digits(format: Format) -> usize
     }
 }
 
-/// The id whose word exactly so many hexadecimal digits spell.
+/// The id whose word these hexadecimal digits spell, exactly as many as the format has.
 fn raw_id(format: Format, digits: &[u8]) -> Option<ThreadId>
     ensures { result ≡ raw_id_of (format_of format) digits.now }
 {

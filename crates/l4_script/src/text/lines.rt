@@ -40,7 +40,7 @@ fn has_empty_word(line: &[u8]) -> bool
     line.split(|byte| *byte == b' ').any(|word| word.is_empty())
 }
 
-/// The words behind this keyword.
+/// The words after this keyword.
 pub(super) fn after<'a>(keyword: &[u8], mut words: Words<'a>) -> Result<Words<'a>, TextFaultKind>
     ensures { result ≡ after keyword.now words.entry }
 {

@@ -23,7 +23,8 @@ use std::marker::Model;
 
 const THREAD: &[u8] = b"thread";
 
-/// A line that names a place of its script: the number of the line, the place of its thread, and the place that it names.
+/// A `jump` or `onerr`: the number of its line, the place of its thread, and the instruction that
+/// it names.
 #[derive(Clone, Copy, Debug)]
 struct Target {
     line: usize,
@@ -55,7 +56,11 @@ impl Model for Reading {
 
     ghost Value = { ReadSoFar };
 
-    ghost view = { λ r. record { format = format_of r.format; machine = r.machine; targets = r.targets.items } };
+    ghost view = { λ r. record {
+      format = format_of r.format;
+      machine = r.machine;
+      targets = r.targets.items;
+    } };
 }
 
 /// What comes next in a text.
@@ -63,9 +68,9 @@ impl Model for Reading {
 pub(super) enum Stage {
     /// The `l4` line.
     Start,
-    /// The `cpus` line, behind such a first line.
+    /// The `cpus` line, after such a first line.
     Processors(Heading),
-    /// The lines of threads, behind those that were read.
+    /// The lines of threads, after those that were read.
     Threads(Reading),
 }
 
@@ -124,7 +129,7 @@ fn keep(targets: &mut Vec<Target>, target: Target) -> Result<(), NoMemory>
     Ok(())
 }
 
-/// Whether the script of a named place is too short for it.
+/// Whether a script is too short for the instruction that a line names.
 fn is_missed(machine: &Machine, target: &Target) -> bool
     ensures { result ≡ is_missed machine.now target.now }
 {
@@ -143,7 +148,7 @@ fn first_missed<'a>(machine: &Machine, targets: &'a [Target]) -> Option<&'a Targ
 }
 
 impl Reading {
-    /// No thread was read, of a machine of so many processors.
+    /// The state before the first thread, of a machine of `cpus` processors.
     fn new(alloc: Global, heading: Heading, cpus: u8) -> Reading
         requires some { 1 ≤ cpus }
         requires limit { cpus ≤ most_processors }
@@ -156,7 +161,7 @@ impl Reading {
         }
     }
 
-    /// One more instruction of the last thread, by the line of this number.
+    /// Appends an instruction to the last thread, by the line of this number.
     fn extend(&mut self, line: usize, instr: &Instr) -> Result<(), TextFaultKind>
         requires { 0 < length self.old.machine.threads }
         ensures { Leads result self.new (extended_at line self.old (instr_of instr.now)) }
@@ -213,7 +218,8 @@ impl Stage {
         alloc: Global,
         words: Words<'_>,
     ) -> Result<(), TextFaultKind>
-        ensures { Leads result (stage_of self.new) (after_words line (stage_of self.old) words.entry) }
+        ensures { Leads result (stage_of self.new)
+            (after_words line (stage_of self.old) words.entry) }
     {
         match self {
             Stage::Start => {
@@ -241,7 +247,7 @@ impl Stage {
         }
     }
 
-    /// Reads the line of this number, or answers its fault.
+    /// Reads the line of this number, or returns its fault.
     pub(super) fn read_line_at(
         &mut self,
         line: usize,

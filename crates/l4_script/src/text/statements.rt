@@ -126,7 +126,7 @@ fn processor(cpus: u8, word: &[u8]) -> Result<u8, TextFaultKind>
     }
 }
 
-/// What stands behind `thread`.
+/// The declaration that follows `thread`.
 #[tactic(auto, unfolding(crate::specs::Statements::declaration_of))]
 pub(super) fn declaration(
     alloc: Global,
@@ -163,7 +163,7 @@ fn source(word: &[u8]) -> Result<Source, TextFaultKind>
     Source::new(number as u8).ok_or(TextFaultKind::BadNumber)
 }
 
-/// What stands behind `set`.
+/// The instruction `set` with these operands.
 #[inline(never)]
 #[tactic(auto, unfolding(crate::specs::Statements::set_of))]
 fn set(format: Format, operands: Words<'_>) -> Result<Instr, TextFaultKind>
@@ -175,7 +175,7 @@ fn set(format: Format, operands: Words<'_>) -> Result<Instr, TextFaultKind>
     Ok(Instr::Set(register, word))
 }
 
-/// What stands behind `copy`.
+/// The instruction `copy` with these operands.
 #[inline(never)]
 #[tactic(auto, unfolding(crate::specs::Statements::copy_of))]
 fn copy(operands: Words<'_>) -> Result<Instr, TextFaultKind>
@@ -187,7 +187,7 @@ fn copy(operands: Words<'_>) -> Result<Instr, TextFaultKind>
     Ok(Instr::Copy(register, source))
 }
 
-/// What stands behind `add`.
+/// The instruction `add` with these operands.
 #[inline(never)]
 #[tactic(auto, unfolding(crate::specs::Statements::add_of))]
 fn add(format: Format, operands: Words<'_>) -> Result<Instr, TextFaultKind>
@@ -202,7 +202,7 @@ fn add(format: Format, operands: Words<'_>) -> Result<Instr, TextFaultKind>
     }
 }
 
-/// What stands behind `tag`.
+/// The instruction `tag` with these operands.
 #[inline(never)]
 #[tactic(auto, unfolding(crate::specs::Statements::tag_of, crate::specs::Numbers::word_from))]
 fn tag(format: Format, operands: Words<'_>) -> Result<Instr, TextFaultKind>
@@ -222,7 +222,7 @@ fn thread_id(format: Format, word: &[u8]) -> Result<ThreadId, TextFaultKind>
     id(format, word).ok_or(TextFaultKind::BadId)
 }
 
-/// What stands behind `vs`.
+/// The instruction `vs` with these operands.
 #[inline(never)]
 #[tactic(auto, unfolding(crate::specs::Statements::vs_of))]
 fn vs(format: Format, operands: Words<'_>) -> Result<Instr, TextFaultKind>
@@ -242,7 +242,7 @@ fn destination(format: Format, word: &[u8]) -> Result<To, TextFaultKind>
     }
 }
 
-/// What stands behind `ipc`.
+/// The instruction `ipc` with these operands.
 #[inline(never)]
 #[tactic(auto, unfolding(crate::specs::Statements::ipc_of))]
 fn ipc(format: Format, operands: Words<'_>) -> Result<Instr, TextFaultKind>
@@ -269,7 +269,7 @@ fn bits(word: &[u8]) -> Option<What>
     }
 }
 
-/// What stands behind `exregs`.
+/// The instruction `exregs` with these operands.
 #[inline(never)]
 #[tactic(auto, unfolding(crate::specs::Statements::exregs_of))]
 fn exregs(format: Format, operands: Words<'_>) -> Result<Instr, TextFaultKind>
@@ -280,7 +280,7 @@ fn exregs(format: Format, operands: Words<'_>) -> Result<Instr, TextFaultKind>
     Ok(Instr::Order(thread_id(format, target)?, what))
 }
 
-/// What stands behind `delete`.
+/// The instruction `delete` with these operands.
 #[inline(never)]
 #[tactic(auto, unfolding(crate::specs::Statements::delete_of))]
 fn delete(format: Format, operands: Words<'_>) -> Result<Instr, TextFaultKind>
@@ -290,7 +290,7 @@ fn delete(format: Format, operands: Words<'_>) -> Result<Instr, TextFaultKind>
     Ok(Instr::Order(target, What::Delete))
 }
 
-/// The place that stands behind `jump` or `onerr`.
+/// The operand of `jump` or `onerr`.
 #[tactic(auto, unfolding(crate::specs::Statements::target_of))]
 fn target(operands: Words<'_>) -> Result<u64, TextFaultKind>
     ensures { result ≡ target_of operands.entry }
@@ -298,7 +298,7 @@ fn target(operands: Words<'_>) -> Result<u64, TextFaultKind>
     number(only(operands)?).ok_or(TextFaultKind::BadNumber)
 }
 
-/// What stands behind `end`: nothing.
+/// What follows `end`: nothing.
 fn end(mut operands: Words<'_>) -> Result<Instr, TextFaultKind>
     ensures { Returns instr_of result (end_of operands.entry) }
 {

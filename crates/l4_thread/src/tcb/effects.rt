@@ -38,7 +38,7 @@ use l4_types::tags::MsgTag;
 use l4_types::times::Period;
 
 impl Tcb {
-    /// This happens to it, at this clock of its processor in ticks.
+    /// Applies a change. `now` is the clock of its processor, in ticks.
     pub fn change(&mut self, change: &Change, now: u64)
         requires room { may_advance change.now ≡ true → self.old.thread.context.place + 1 < 2 ^ 64 }
         ensures { self.new ≡ record self.old { thread = change_of change.now now self.old.thread } }
@@ -52,8 +52,8 @@ impl Tcb {
         }
     }
 
-    /// A send of another processor's thread, the `k`-th of it, stands here in its place: it has come to this receiver. Of its period is
-    /// known only whether it is zero.
+    /// Makes this block a stand-in: the `k`-th send of a foreign thread has arrived for `receiver`.
+    /// Of its period only `zero_timeout` is known.
     pub fn stand_in(
         &mut self,
         k: u64,
@@ -61,7 +61,9 @@ impl Tcb {
         message: MessageRef<'_>,
         zero_timeout: bool,
     )
-        ensures { self.new ≡ record self.old { thread = stands_in k (stand_in receiver message.entry zero_timeout) self.old.thread } }
+        ensures { self.new ≡ record self.old {
+          thread = stands_in k (stand_in receiver message.entry zero_timeout) self.old.thread;
+        } }
     {
         let period = if zero_timeout {
             Period::Zero
@@ -73,17 +75,20 @@ impl Tcb {
         self.send = Some(Send::new(receiver.id(), Head::apart(&message), period, 0, None));
     }
 
-    /// It is known as deleted here, where it is of another processor.
+    /// Notes that this foreign thread was deleted.
     pub fn note_gone(&mut self)
         ensures { self.new ≡ record self.old { thread = is_gone_now self.old.thread } }
     {
         self.phase = Phase::Deleted;
     }
 
-    /// Runs an instruction that concerns nobody else, or its script ends.
+    /// Runs an instruction that concerns nobody else, or ends its script.
     pub fn run(&mut self, instr: &Instr)
-        requires room { is_end (instr_of instr.now) ≡ false → self.old.thread.context.place + 1 < 2 ^ 64 }
-        ensures { self.new ≡ record self.old { thread = runs (instr_of instr.now) self.old.thread } }
+        requires room { is_end (instr_of instr.now) ≡ false →
+            self.old.thread.context.place + 1 < 2 ^ 64 }
+        ensures { self.new ≡ record self.old {
+          thread = runs (instr_of instr.now) self.old.thread;
+        } }
     {
         set_apart(&mut self.send, &mut self.apart, &self.thread);
         let has_ended = self.thread.local(instr);
@@ -94,16 +99,24 @@ impl Tcb {
         };
     }
 
-    /// Begins the first phase of an Ipc, at this clock of its processor in ticks, and tells which one. `permitted` says whether the
-    /// thread may show the originator that its VirtualSender names, so only of a global id. It matters only where the thread asks for
-    /// propagation. Of no phase, and of other instructions, nothing changes.
+    /// Begins the first phase of an Ipc, at this clock of its processor in ticks, and returns which
+    /// one. `permitted` says whether the thread may show the originator that its VirtualSender
+    /// names; then that is a global id. It matters only where the thread asks for propagation. An
+    /// Ipc without phases, and any other instruction, changes nothing.
     pub fn ipc(&mut self, instr: &Instr, permitted: bool, now: u64) -> Began
-        requires room { is_end (instr_of instr.now) ≡ false → self.old.thread.context.place + 1 < 2 ^ 64 }
-        requires count { asks_to_send self.old.thread.context (instr_of instr.now) ≡ true → self.old.thread.context.begun + 1 < 2 ^ 64 }
+        requires room { is_end (instr_of instr.now) ≡ false →
+            self.old.thread.context.place + 1 < 2 ^ 64 }
+        requires count { asks_to_send self.old.thread.context (instr_of instr.now) ≡ true →
+            self.old.thread.context.begun + 1 < 2 ^ 64 }
         requires shown { permitted ≡ true → IsSome (global_of self.old.thread.context.actual) }
-        ensures thread { (m : Machine) → IsPermission permitted m self.old.id self.old.thread.context →
-            self.new ≡ record self.old { thread = starts (act m self.old.id now self.old.thread.context (instr_of instr.now)) now self.old.thread } }
-        ensures began { (m : Machine) → IsPermission permitted m self.old.id self.old.thread.context →
+        ensures thread { (m : Machine) →
+            IsPermission permitted m self.old.id self.old.thread.context →
+            self.new ≡ record self.old {
+              thread = starts (act m self.old.id now self.old.thread.context (instr_of instr.now))
+                  now self.old.thread;
+            } }
+        ensures began { (m : Machine) →
+            IsPermission permitted m self.old.id self.old.thread.context →
             result ≡ began_of (act m self.old.id now self.old.thread.context (instr_of instr.now)) }
     {
         let request = self.thread.begin_phases(instr, permitted);
@@ -122,13 +135,15 @@ impl Tcb {
         }
     }
 
-    /// The fast path: the send of this Ipc begins, and its receiver takes it at once. Nothing of the send is kept, and the Ipc goes on as
-    /// after a delivery, at this clock of its processor in ticks.
+    /// The fast path: begins the send of this Ipc, which its receiver takes at once. Nothing of the
+    /// send is kept, and the Ipc goes on as after a delivery, at this clock of its processor in
+    /// ticks.
     pub fn pass(&mut self, ipc: &Ipc, now: u64)
         requires room { self.old.thread.context.place + 1 < 2 ^ 64 }
         requires count { self.old.thread.context.begun + 1 < 2 ^ 64 }
         ensures { self.new ≡ record self.old {
-          thread = passes (receive_phase ipc.now.from (period_of ipc.now.receive_period)) now self.old.thread;
+          thread = passes (receive_phase ipc.now.from (period_of ipc.now.receive_period))
+              now self.old.thread;
         } }
     {
         let receive = receive_of(receive_phase(ipc));
@@ -136,7 +151,7 @@ impl Tcb {
         self.go_on(receive, now);
     }
 
-    /// Its Ipc has failed. A deleted thread stays as it is.
+    /// Fails its Ipc. A deleted thread stays as it is.
     pub fn fail(&mut self, error: IpcError)
         ensures { self.new ≡ record self.old { thread = fails (code_of error) self.old.thread } }
     {
@@ -147,17 +162,23 @@ impl Tcb {
         }
     }
 
-    /// It receives a message, with this tag.
+    /// Receives a message, with this tag.
     pub fn receive(&mut self, message: &MessageRef<'_>, tag: MsgTag)
-        ensures { self.new ≡ record self.old { thread = receives message.now (word_of_tag tag) self.old.thread } }
+        ensures { self.new ≡ record self.old {
+          thread = receives message.now (word_of_tag tag) self.old.thread;
+        } }
     {
         self.receive_words(message.words(), message.shown(), message.actual(), tag);
     }
 
-    /// It receives a message of these words, at most 63, with this tag. The message shows one sender, and another one may have sent it.
+    /// Receives a message of these words, at most 63, with this tag. The message shows one sender,
+    /// and another one may have sent it.
     pub fn receive_words(&mut self, words: &[u64], shown: GlobalId, actual: GlobalId, tag: MsgTag)
         requires { length words.now < register_count }
-        ensures { self.new ≡ record self.old { thread = receives (unlabelled words.now shown actual) (word_of_tag tag) self.old.thread } }
+        ensures { self.new ≡ record self.old {
+          thread = receives (unlabelled words.now shown actual)
+              (word_of_tag tag) self.old.thread;
+        } }
     {
         set_apart(&mut self.send, &mut self.apart, &self.thread);
         self.thread.received_words(words, shown, actual, tag);
@@ -165,7 +186,7 @@ impl Tcb {
         self.cancel_receive = false;
     }
 
-    /// Its send is decided, and no receive phase follows: no wish is left.
+    /// Ends its send, where no receive phase follows. Both wishes are cleared.
     pub fn decide(&mut self)
         ensures { self.new ≡ record self.old { thread = decided self.old.thread } }
     {
@@ -174,10 +195,12 @@ impl Tcb {
         self.cancel_receive = false;
     }
 
-    /// Its send is decided, at this clock of its processor in ticks. After a delivery the receive phase of the same Ipc begins at
-    /// once. A deleted thread keeps its registers.
+    /// Ends its send, at this clock of its processor in ticks. After a delivery the receive phase
+    /// of the same Ipc begins at once. A deleted thread keeps its registers.
     pub fn end_send(&mut self, decision: Decision, now: u64)
-        ensures { self.new ≡ record self.old { thread = after_decision (decision_of decision) now self.old.thread } }
+        ensures { self.new ≡ record self.old {
+          thread = after_decision (decision_of decision) now self.old.thread;
+        } }
     {
         match decision {
             Decision::Delivered => self.end_delivered(now),
@@ -188,7 +211,7 @@ impl Tcb {
         }
     }
 
-    // Its send was refused.
+    // Ends its send, which was refused.
     fn refuse(&mut self, error: IpcError)
         ensures { self.new ≡ record self.old { thread = refused (code_of error) self.old.thread } }
     {
@@ -196,9 +219,11 @@ impl Tcb {
         self.fail(error);
     }
 
-    // Its send was delivered.
+    // Ends its send, which was delivered.
     fn end_delivered(&mut self, now: u64)
-        ensures { self.new ≡ record self.old { thread = was_delivered self.old.thread.send now self.old.thread } }
+        ensures { self.new ≡ record self.old {
+          thread = was_delivered self.old.thread.send now self.old.thread;
+        } }
     {
         let Some(receive) = self.send.as_ref().map(|send| send.receive()) else {
             return;
@@ -210,7 +235,7 @@ impl Tcb {
         }
     }
 
-    // After a delivery the receive phase of the same Ipc begins, or the Ipc has ended.
+    // Begins the receive phase of the same Ipc after a delivery, or ends the Ipc.
     fn go_on(&mut self, receive: Option<Receive>, now: u64)
         ensures { self.new ≡ record self.old { thread = goes_on receive now self.old.thread } }
     {
@@ -228,7 +253,7 @@ impl Tcb {
         }
     }
 
-    // Its send was dropped.
+    // Ends its send, which was dropped.
     fn end_dropped(&mut self)
         ensures { self.new ≡ record self.old { thread = was_dropped self.old.thread } }
     {
@@ -238,8 +263,9 @@ impl Tcb {
         }
     }
 
-    /// It is asked for a cancellation, or it is deleted (manual: ExchangeRegisters, ThreadControl). `S` cancels a send phase, `R` a
-    /// receive phase, also that of an Ipc that is still in its send phase. Else a cancellation has no effect.
+    /// Cancels a phase of it, or deletes it (manual: ExchangeRegisters, ThreadControl). `S` cancels
+    /// a send phase, `R` a receive phase, also that of an Ipc that is still in its send phase.
+    /// Where there is no such phase, a cancellation has no effect.
     pub fn ask(&mut self, what: What)
         ensures { self.new ≡ record self.old { thread = asked (what_of what) self.old.thread } }
     {
@@ -257,14 +283,14 @@ impl Tcb {
         }
     }
 
-    // It is asked to cancel its send phase.
+    // Cancels its send phase.
     fn ask_send(&mut self)
         ensures { self.new ≡ record self.old { thread = asked_send self.old.thread } }
     {
         self.cancel_send = self.cancel_send || self.is_sending();
     }
 
-    // It is asked to cancel its receive phase.
+    // Cancels its receive phase.
     fn ask_receive(&mut self)
         ensures { self.new ≡ record self.old { thread = asked_receive self.old.thread } }
     {
@@ -285,7 +311,7 @@ impl Tcb {
         }
     }
 
-    /// It has asked for something, and waits until it is done.
+    /// Gives an order, and waits until that is done.
     pub fn give_order(&mut self, order: Asked)
         ensures { self.new ≡ record self.old { thread = orders order self.old.thread } }
     {
@@ -293,14 +319,14 @@ impl Tcb {
         self.order = Some(order);
     }
 
-    /// What it asked for is no longer awaited, and nothing else changes: so a deleted thread obeys.
+    /// Clears its order, and nothing else: this is the `obey` of a deleted thread.
     pub fn forget_order(&mut self)
         ensures { self.new ≡ record self.old { thread = record self.old.thread { order = None } } }
     {
         self.order = None;
     }
 
-    /// What it asked for is done. A deleted thread keeps its registers.
+    /// Ends its order, which is done. A deleted thread keeps its registers.
     pub fn obey(&mut self)
         requires { self.old.thread.context.place + 1 < 2 ^ 64 }
         ensures { self.new ≡ record self.old { thread = obeyed self.old.thread } }
@@ -312,10 +338,13 @@ impl Tcb {
         }
     }
 
-    /// It is the originator of a propagated message that the old partner sent and the new one received. Where its receive phase is for the
-    /// old partner alone, it is for the new one now: the phase that it is in, or the one that follows its send phase.
+    /// Turns it from the old partner to the new one: it is the originator of a propagated message
+    /// that the old one sent and the new one received. A receive phase whose specifier is the old
+    /// partner gets the new one: the phase that it is in, or the one that follows its send phase.
     pub fn turn_to(&mut self, old_partner: GlobalId, new_partner: GlobalId)
-        ensures { (send : Name) (originator : ModelGlobalId) → self.new ≡ record self.old { thread = turns (owed_between send originator old_partner new_partner) self.old.thread } }
+        ensures { (send : Name) (originator : ModelGlobalId) → self.new ≡ record self.old {
+          thread = turns (owed_between send originator old_partner new_partner) self.old.thread;
+        } }
     {
         match &self.phase {
             Phase::Receiving(receive, since) => {
@@ -326,9 +355,13 @@ impl Tcb {
         }
     }
 
-    // The same of the receive phase that follows its send phase.
+    // Turns the receive phase that follows its send phase.
     fn turn_send(&mut self, old_partner: GlobalId, new_partner: GlobalId)
-        ensures { self.new ≡ record self.old { thread = record self.old.thread { send = option_map (send_turned_from old_partner new_partner) self.old.thread.send } } }
+        ensures { self.new ≡ record self.old {
+          thread = record self.old.thread {
+            send = option_map (send_turned_from old_partner new_partner) self.old.thread.send;
+          };
+        } }
     {
         if let Some(send) = &mut self.send {
             send.turn_to(old_partner, new_partner);
@@ -345,18 +378,26 @@ fn receive_of(phase: Option<(ThreadId, Period)>) -> Option<Receive>
     Some(Receive::new(from, period))
 }
 
-// The send of an Ipc that begins at this clock of its processor, with the receive phase that the Ipc asks for.
+// The send of an Ipc that begins at this clock of its processor, with the receive phase that the
+// Ipc asks for.
 fn send_of(phase: (ThreadId, Head, Period), receive: Option<Receive>, now: u64) -> Send
     requires { IsTimely phase.2 }
-    ensures { result ≡ record { to = phase.0; head = phase.1; period = period_of phase.2; since = now; receive = receive } }
+    ensures { result ≡ record {
+      to = phase.0;
+      head = phase.1;
+      period = period_of phase.2;
+      since = now;
+      receive = receive;
+    } }
 {
     let (to, head, period) = phase;
     Send::new(to, head, period, now, receive)
 }
 
-// The words of an undecided send stay as they are, whatever the registers of its thread become.
+// Copies the words of an undecided send, before the registers of its thread change.
 fn set_apart(send: &mut Option<Send>, apart: &mut ArrayVec<u64, MOST_WORDS>, thread: &Thread)
-    ensures { (registers : List ℕ) → option_map (sent_of apart.new.items registers) send.new ≡ option_map (sent_of apart.old.items thread.now.context.words) send.old }
+    ensures { (registers : List ℕ) → option_map (sent_of apart.new.items registers) send.new ≡
+        option_map (sent_of apart.old.items thread.now.context.words) send.old }
 {
     if let Some(send) = send {
         if let Words::InRegisters(count) = send.head().words() {
@@ -366,7 +407,7 @@ fn set_apart(send: &mut Option<Send>, apart: &mut ArrayVec<u64, MOST_WORDS>, thr
     }
 }
 
-// These words, and no others.
+// Replaces the copied words by these.
 fn copy_words(apart: &mut ArrayVec<u64, MOST_WORDS>, words: &[u64])
     requires { length words.now < register_count }
     ensures { apart.new.items ≡ words.now }

@@ -22,8 +22,8 @@ use l4_types::steps::{Name, Step};
 use std::alloc::Global;
 use std::marker::Model;
 
-/// Judges the steps of a machine as they are given. No history is kept: a step costs memory only
-/// where it begins a send, for its name, and where a delivery leaves a retarget owed.
+/// Judges the steps of a machine as they are given. It keeps no history. A step takes memory only
+/// for the name of a send that it begins, and for a retarget that a delivery leaves owed.
 #[derive(Drop)]
 pub struct Auditor<'m> {
     world: World<'m>,
@@ -51,8 +51,8 @@ impl<'m> Auditor<'m> {
         Ok(Auditor { world, begun })
     }
 
-    /// Judges the next step. Where it is not possible, or memory is refused, nothing changes: what
-    /// the auditor tells is of the world before it.
+    /// Judges the next step. Where it is not possible, or memory is refused, nothing changes: all
+    /// calls then answer for the world before it.
     pub fn step(&mut self, step: &StepRef<'_>) -> Result<(), StepFault>
         ensures { Judges self.old (seen step.now) result self.new }
     {

@@ -44,7 +44,12 @@ impl<'a> Model for Found<'a> {
 
     ghost Value = { ModelFound };
 
-    ghost view = { λ t. record { at = t.place; declared = t.declared.now; now = t.tcb.now.thread; clock = t.clock } };
+    ghost view = { λ t. record {
+      at = t.place;
+      declared = t.declared.now;
+      now = t.tcb.now.thread;
+      clock = t.clock;
+    } };
 }
 
 impl<'a> Found<'a> {
@@ -96,7 +101,8 @@ impl<'a> Found<'a> {
 
     /// Its undecided send.
     pub fn pending(&self) -> Option<Pending<'a>>
-        ensures { result ≡ option_map (λ send. record { sender = self.now; send = send }) self.now.now.send }
+        ensures { result ≡ option_map (λ send. record { sender = self.now; send = send })
+            self.now.now.send }
     {
         let send = self.tcb.send()?;
         let sender = Found {
@@ -111,7 +117,8 @@ impl<'a> Found<'a> {
     /// Its instruction. A place after the last one of its script is an `end`.
     pub fn instruction(&self) -> Instr
         ensures value { instr_of result ≡ instruction self.now }
-        ensures within { is_end (instr_of result) ≡ false → self.now.now.context.place < most_instructions }
+        ensures within { is_end (instr_of result) ≡ false →
+            self.now.now.context.place < most_instructions }
     {
         self.declared
             .instruction(self.tcb.thread().place())
@@ -148,7 +155,8 @@ impl<'a> Found<'a> {
 
     // Whether an Ipc of it has a phase.
     fn has_phase(&self, ipc: &Ipc) -> bool
-        ensures { result ≡ has_phase (destination self.now.now.context (to_of ipc.now.to)) ipc.now.from }
+        ensures { result ≡
+            has_phase (destination self.now.now.context (to_of ipc.now.to)) ipc.now.from }
     {
         self.destination(ipc.to()) != ThreadId::NIL || ipc.from() != ThreadId::NIL
     }
@@ -277,7 +285,8 @@ impl<'a> Found<'a> {
 
     // The order that it may give.
     fn admitted(&self, machine: &Machine, target: ThreadId, what: What) -> Option<Asked>
-        ensures { result ≡ order_of (ask_act machine.now self.now.declared.id target (what_of what)) }
+        ensures { result ≡
+            order_of (ask_act machine.now self.now.declared.id target (what_of what)) }
     {
         let target = target.as_global()?;
         let is_admitted = machine.admits(self.id(), target, what);

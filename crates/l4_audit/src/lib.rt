@@ -1,9 +1,9 @@
 //! The audit: whether steps are a history of a machine, and if not, which step is the first that is
 //! not possible, and why.
 //!
-//! `check` and `check_history` judge a whole trace, `Auditor` one step after another. Ok is
-//! answered exactly for histories, with the threads and undecided sends of the world reached, and
-//! whether anything but clocks can go on. After a refused step nothing has changed. Then
+//! `check` and `check_history` judge a whole trace, `Auditor` one step after another. They return
+//! Ok exactly for histories, with the threads and undecided sends of the world reached, and whether
+//! any step but a tick is possible. After a refused step nothing has changed. Then
 //! `Auditor::reason` is the first condition of the step's rule that is false, and
 //! `Auditor::possible` lists the steps that are possible there.
 //!

@@ -26,7 +26,7 @@ use tcb_arena::Arena;
 
 /// A machine, and its threads in order of declaration, for each the senders that wait at it by
 /// their places, the clocks of the processors, and the owed retargets in order of delivery. Of the
-/// lists only those of the waiting senders are used.
+/// arena only the waiting lists are used.
 #[derive(Drop)]
 pub struct World<'m> {
     machine: &'m Machine,

@@ -23,8 +23,8 @@ use l4_types::owed::Owed;
 use l4_types::step_ref::DeliveryRef;
 use l4_types::steps::Name;
 
-/// Whether two threads are of different processors, or not declared. They may be those of a send
-/// and its receiver, which were found already.
+/// Whether two threads are of different processors, or not declared. Where they are the sender and
+/// the receiver at hand, as in most traces, nothing is looked up.
 pub fn is_cross(
     machine: &Machine,
     pending: &Pending,
@@ -114,8 +114,8 @@ impl World<'_> {
         Ok((pending, receiver))
     }
 
-    /// A receiver takes the message of the first waiting sender that it accepts, and the sender
-    /// goes on. A retarget may be owed.
+    /// Delivers the message of the first waiting sender that a receiver accepts, and ends its send.
+    /// A retarget may be owed.
     pub fn deliver(&mut self, delivery: &DeliveryRef<'_>) -> Result<(), StepFault>
         ensures { Judged self.old (delivered delivery.now) result self.new }
     {

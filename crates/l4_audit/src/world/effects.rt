@@ -25,8 +25,10 @@ use tcb_arena::Waiting;
 impl World<'_> {
     /// Runs an instruction of a thread that concerns nobody else, or ends its script.
     pub fn run(&mut self, place: usize, instr: &Instr)
-        requires { IsSomeAnd (slice_get self.old.world.threads place) (λ t. is_end (instr_of instr.now) ≡ false → t.context.place + 1 < 2 ^ 64) }
-        ensures { self.new ≡ with_world self.old (change self.old.world place (runs (instr_of instr.now))) }
+        requires { IsSomeAnd (slice_get self.old.world.threads place)
+            (λ t. is_end (instr_of instr.now) ≡ false → t.context.place + 1 < 2 ^ 64) }
+        ensures { self.new ≡ with_world self.old
+            (change self.old.world place (runs (instr_of instr.now))) }
     {
         self.threads[place].run(instr);
     }
@@ -34,7 +36,8 @@ impl World<'_> {
     /// Begins the first phase of a thread's Ipc, at this clock of its processor.
     pub fn start(&mut self, place: usize, instr: &Instr, permitted: bool, now: u64)
         requires { CanStart self.old place (instr_of instr.now) permitted }
-        ensures { self.new ≡ with_world self.old (starting self.old place now (instr_of instr.now)) }
+        ensures { self.new ≡ with_world self.old
+            (starting self.old place now (instr_of instr.now)) }
     {
         self.threads[place].ipc(instr, permitted, now);
     }
@@ -42,7 +45,8 @@ impl World<'_> {
     /// Fails the Ipc of a thread.
     pub fn fail(&mut self, place: usize, error: IpcError)
         requires { place < length self.old.world.threads }
-        ensures { self.new ≡ with_world self.old (change self.old.world place (fails (code_of error))) }
+        ensures { self.new ≡ with_world self.old
+            (change self.old.world place (fails (code_of error))) }
     {
         self.threads[place].fail(error);
     }
@@ -50,7 +54,10 @@ impl World<'_> {
     /// Gives a thread the message of a delivery.
     pub fn receive(&mut self, place: usize, delivery: &DeliveryRef<'_>)
         requires { place < length self.old.world.threads }
-        ensures { self.new ≡ with_world self.old (change self.old.world place (receives delivery.now.message (received_tag delivery.now.cross delivery.now.message))) }
+        ensures { self.new ≡ with_world self.old
+            (change self.old.world place
+            (receives delivery.now.message
+            (received_tag delivery.now.cross delivery.now.message))) }
     {
         let message = &delivery.message;
         self.threads[place].receive_words(
@@ -64,7 +71,8 @@ impl World<'_> {
     /// Ends the send of a thread, at this clock of its processor.
     pub fn end_send(&mut self, place: usize, decision: Decision, now: u64)
         requires { place < length self.old.world.threads }
-        ensures { self.new ≡ with_world self.old (change self.old.world place (after_decision (decision_of decision) now)) }
+        ensures { self.new ≡ with_world self.old
+            (change self.old.world place (after_decision (decision_of decision) now)) }
     {
         self.threads[place].end_send(decision, now);
     }
@@ -88,14 +96,16 @@ impl World<'_> {
     /// Cancels a phase of a thread, or deletes the thread.
     pub fn ask(&mut self, place: usize, what: What)
         requires { place < length self.old.machine.threads }
-        ensures { self.new ≡ with_world self.old (change self.old.world place (asked (what_of what))) }
+        ensures { self.new ≡ with_world self.old
+            (change self.old.world place (asked (what_of what))) }
     {
         self.threads[place].ask(what);
     }
 
     /// Ends the order of a thread, which is done.
     pub fn obey(&mut self, place: usize)
-        requires { IsSomeAnd (slice_get self.old.world.threads place) (λ t. t.context.place + 1 < 2 ^ 64) }
+        requires { IsSomeAnd (slice_get self.old.world.threads place)
+            (λ t. t.context.place + 1 < 2 ^ 64) }
         ensures { self.new ≡ with_world self.old (change self.old.world place obeyed) }
     {
         self.threads[place].obey();
@@ -129,7 +139,9 @@ impl World<'_> {
     /// Advances the clock of a processor.
     pub fn set_clock(&mut self, tick: Tick)
         requires { tick.cpu < length self.old.world.clocks }
-        ensures { self.new ≡ with_world self.old (record self.old.world { clocks = slice_set self.old.world.clocks tick.cpu tick.clock }) }
+        ensures { self.new ≡ with_world self.old (record self.old.world {
+          clocks = slice_set self.old.world.clocks tick.cpu tick.clock;
+        }) }
     {
         self.clocks[usize::from(tick.cpu())] = tick.clock();
     }

@@ -15,7 +15,8 @@ use l4_types::ids::{GlobalId, Kind, ThreadId};
 impl World<'_> {
     /// Whether an undecided send stands in a list.
     pub fn is_waiting(&self, pending: &Pending) -> bool
-        requires { slice_get self.now.world.threads pending.now.sender.at ≡ Some pending.now.sender.now }
+        requires { slice_get self.now.world.threads pending.now.sender.at ≡
+            Some pending.now.sender.now }
         ensures { result ≡ is_waiting self.now.world pending.now }
     {
         self.lists.is_queued(pending.sender().place())
@@ -23,7 +24,8 @@ impl World<'_> {
 
     // Whether the undecided send of the thread at a place shows a sender that is accepted.
     fn shows_accepted(&self, from: ThreadId, receiver: GlobalId, sender: usize) -> bool
-        ensures { result ≡ shows_accepted self.now.machine from receiver (slice_get self.now.world.threads sender) }
+        ensures { result ≡ shows_accepted self.now.machine from receiver
+            (slice_get self.now.world.threads sender) }
     {
         match self.threads.get(sender).and_then(|tcb| tcb.send()) {
             Some(send) => accepts(self.machine, from, send.message().shown(), receiver),
@@ -57,7 +59,9 @@ impl World<'_> {
     /// of the first that is.
     pub fn accepts_none(&self, receiver: &Found, from: ThreadId) -> Result<(), Reason>
         requires { slice_get self.now.world.threads receiver.now.at ≡ Some receiver.now.now }
-        ensures { result_err result ≡ first_false (none_accepted self.now.machine (first_accepted self.now.machine self.now.world receiver.now from) ∷ []) }
+        ensures { result_err result ≡ first_false
+            (none_accepted self.now.machine
+            (first_accepted self.now.machine self.now.world receiver.now from) ∷ []) }
     {
         match self.first_accepted(receiver, from) {
             Some(first) => Err(Reason::AcceptsFirst(self.id_at(first))),
@@ -67,7 +71,8 @@ impl World<'_> {
 
     /// Ok where this sender is the first acceptable one. Else `NotFirst` with the first.
     pub fn is_first(&self, first: usize, sender: usize) -> Result<(), Reason>
-        ensures { result_err result ≡ first_false (test (first == sender) (NotFirst (id_at self.now.machine first)) ∷ []) }
+        ensures { result_err result ≡ first_false
+            (test (first == sender) (NotFirst (id_at self.now.machine first)) ∷ []) }
     {
         if first != sender {
             return Err(Reason::NotFirst(self.id_at(first)));
@@ -95,7 +100,8 @@ impl World<'_> {
 
     // Whether a send of timeout zero may be refused.
     fn is_refusable(&self, pending: &Pending) -> bool
-        ensures { result ≡ is_refusable self.now.machine pending.now.send (receiver_of self.now.machine self.now.world pending.now) }
+        ensures { result ≡ is_refusable self.now.machine pending.now.send
+            (receiver_of self.now.machine self.now.world pending.now) }
     {
         match self.receiver_of(pending) {
             Some(receiver) => {
@@ -108,7 +114,8 @@ impl World<'_> {
 
     /// Whether an undecided send may time out.
     pub fn is_timed_out(&self, pending: &Pending) -> bool
-        requires { slice_get self.now.world.threads pending.now.sender.at ≡ Some pending.now.sender.now }
+        requires { slice_get self.now.world.threads pending.now.sender.at ≡
+            Some pending.now.sender.now }
         ensures { result ≡ is_timed_out self.now.machine self.now.world pending.now }
     {
         let send = pending.send();

@@ -12,7 +12,10 @@ use tcb_arena::Arena;
 impl<'m> World<'m> {
     /// The world of a machine before its first step.
     pub fn new(alloc: Global, machine: &'m Machine) -> Result<World<'m>, NoMemory>
-        ensures { IfOk result (λ a. a ≡ record { machine = machine.now; world = opening machine.now }) }
+        ensures { IfOk result (λ a. a ≡ record {
+          machine = machine.now;
+          world = opening machine.now;
+        }) }
     {
         Ok(World {
             machine,
@@ -26,7 +29,8 @@ impl<'m> World<'m> {
 
 // The blocks of threads that have run nothing.
 fn blocks(alloc: Global, machine: &Machine) -> Result<Vec<Tcb>, NoMemory>
-    ensures { IfOk result (λ blocks. blocks.items ≡ map (λ d. record { id = d.id; thread = opening_thread }) machine.now.threads) }
+    ensures { IfOk result (λ blocks. blocks.items ≡
+        map (λ d. record { id = d.id; thread = opening_thread }) machine.now.threads) }
 {
     let mut blocks = Vec::new(alloc);
     for declared in machine.threads() {

@@ -19,7 +19,8 @@ impl World<'_> {
     /// The thread whose receive phase may time out.
     pub fn may_receive_timeout(&self, id: GlobalId) -> Result<Found<'_>, Reason>
         ensures thread { IfOk result (λ t. found self.now.machine self.now.world id ≡ Some t) }
-        ensures reason { result_err result ≡ reason self.now.machine self.now.world (ReceiveTimeout id) }
+        ensures reason { result_err result ≡
+            reason self.now.machine self.now.world (ReceiveTimeout id) }
     {
         let thread = need(self.found(id), Reason::Undeclared)?;
         let receive = need(thread.receiving(), Reason::NotReceiving(thread.state()))?;
@@ -44,7 +45,8 @@ impl World<'_> {
     /// The thread whose receive phase may be refused: nobody has the id that it names.
     pub fn may_receive_nobody(&self, id: GlobalId) -> Result<Found<'_>, Reason>
         ensures thread { IfOk result (λ t. found self.now.machine self.now.world id ≡ Some t) }
-        ensures reason { result_err result ≡ reason self.now.machine self.now.world (ReceiveNobody id) }
+        ensures reason { result_err result ≡
+            reason self.now.machine self.now.world (ReceiveNobody id) }
     {
         let thread = need(self.found(id), Reason::Undeclared)?;
         let receive = need(thread.receiving(), Reason::NotReceiving(thread.state()))?;
@@ -67,7 +69,8 @@ impl World<'_> {
     /// The thread whose receive phase may be cancelled.
     pub fn may_receive_cancel(&self, id: GlobalId) -> Result<Found<'_>, Reason>
         ensures thread { IfOk result (λ t. found self.now.machine self.now.world id ≡ Some t) }
-        ensures reason { result_err result ≡ reason self.now.machine self.now.world (ReceiveCancel id) }
+        ensures reason { result_err result ≡
+            reason self.now.machine self.now.world (ReceiveCancel id) }
     {
         let thread = need(self.found(id), Reason::Undeclared)?;
         need(thread.receiving(), Reason::NotReceiving(thread.state()))?;
@@ -87,7 +90,8 @@ impl World<'_> {
 
     /// The thread whose order may be done, the place of its target, and what is to be done.
     pub fn may_obey(&self, caller: GlobalId) -> Result<(Found<'_>, usize, What), Reason>
-        ensures thread { IfOk result (λ x. found self.now.machine self.now.world caller ≡ Some x.0) }
+        ensures thread { IfOk result
+            (λ x. found self.now.machine self.now.world caller ≡ Some x.0) }
         ensures order { IfOk result (λ x. IsAsked self.now.machine x.0 x.1 (what_of x.2)) }
         ensures reason { result_err result ≡ reason self.now.machine self.now.world (Obey caller) }
     {

@@ -61,7 +61,8 @@ impl World<'_> {
 
     /// Appends an owed retarget, if there is one.
     pub fn owe(&mut self, owed: Option<Owed>) -> Result<(), NoMemory>
-        ensures ok { OnOk result (self.new ≡ with_world self.old (owing (option_map owed_of owed) self.old.world)) }
+        ensures ok { OnOk result
+            (self.new ≡ with_world self.old (owing (option_map owed_of owed) self.old.world)) }
         ensures err { OnErr result (self.new ≡ self.old) }
     {
         let Some(owed) = owed else {
@@ -73,7 +74,9 @@ impl World<'_> {
 
     // Removes the owed retarget of this name.
     fn forget(&mut self, name: Name)
-        ensures { self.new ≡ with_world self.old (record self.old.world { owed = others_owed self.old.world.owed name }) }
+        ensures { self.new ≡ with_world self.old (record self.old.world {
+          owed = others_owed self.old.world.owed name;
+        }) }
     {
         self.owed.retain(|owed| name != owed.send);
     }
@@ -81,7 +84,8 @@ impl World<'_> {
     // Turns the originator of a message to its new partner.
     fn turn(&mut self, place: usize, owed: &Owed)
         requires { place < length self.old.world.threads }
-        ensures { self.new ≡ with_world self.old (change self.old.world place (turns (owed_of owed.now))) }
+        ensures { self.new ≡ with_world self.old
+            (change self.old.world place (turns (owed_of owed.now))) }
     {
         self.threads[place].turn_to(owed.old_partner, owed.new_partner);
     }
@@ -89,8 +93,10 @@ impl World<'_> {
     /// The retarget that may be done, and its originator.
     pub fn may_retarget(&self, name: Name) -> Result<(Owed, Found<'_>), Reason>
         ensures owed { IfOk result (λ x. owed_named self.now.world.owed name ≡ Some (owed_of x.0)) }
-        ensures originator { IfOk result (λ x. found self.now.machine self.now.world x.0.originator ≡ Some x.1) }
-        ensures reason { result_err result ≡ reason self.now.machine self.now.world (Retarget name) }
+        ensures originator { IfOk result
+            (λ x. found self.now.machine self.now.world x.0.originator ≡ Some x.1) }
+        ensures reason { result_err result ≡
+            reason self.now.machine self.now.world (Retarget name) }
     {
         let owed = need(self.owed_named(name), Reason::NotOwed)?;
         let originator = need(

@@ -20,8 +20,10 @@ use l4_types::steps::Name;
 impl World<'_> {
     /// The send that may be queued, and its receiver.
     pub fn may_queue(&self, name: Name) -> Result<(Pending<'_>, Found<'_>), Reason>
-        ensures send { IfOk result (λ x. undecided self.now.machine self.now.world name ≡ Some x.0) }
-        ensures receiver { IfOk result (λ x. receiver_of self.now.machine self.now.world x.0 ≡ Some x.1) }
+        ensures send { IfOk result
+            (λ x. undecided self.now.machine self.now.world name ≡ Some x.0) }
+        ensures receiver { IfOk result
+            (λ x. receiver_of self.now.machine self.now.world x.0 ≡ Some x.1) }
         ensures reason { result_err result ≡ reason self.now.machine self.now.world (Queue name) }
     {
         let pending = need(self.undecided(name), Reason::NotUndecided)?;
@@ -50,7 +52,9 @@ impl World<'_> {
     // Decides a send without a delivery.
     fn refuse(&mut self, sender: usize, refusal: Refusal, now: u64)
         requires { sender < length self.old.world.threads }
-        ensures { self.new ≡ with_world self.old (change (unqueued self.old.world sender) sender (after_decision (decision_of (Refused refusal)) now)) }
+        ensures { self.new ≡ with_world self.old
+            (change (unqueued self.old.world sender) sender
+            (after_decision (decision_of (Refused refusal)) now)) }
     {
         self.unqueue(sender);
         self.end_send(sender, Decision::Refused(refusal), now);
@@ -59,7 +63,8 @@ impl World<'_> {
     /// The send that may time out. Not while it must wait.
     pub fn may_send_timeout(&self, name: Name) -> Result<Pending<'_>, Reason>
         ensures send { IfOk result (λ p. undecided self.now.machine self.now.world name ≡ Some p) }
-        ensures reason { result_err result ≡ reason self.now.machine self.now.world (SendTimeout name) }
+        ensures reason { result_err result ≡
+            reason self.now.machine self.now.world (SendTimeout name) }
     {
         let pending = need(self.undecided(name), Reason::NotUndecided)?;
         let clock = pending.sender().clock();
@@ -82,7 +87,8 @@ impl World<'_> {
     /// The send that may be refused: nobody has its destination. Not while it must wait.
     pub fn may_send_nobody(&self, name: Name) -> Result<Pending<'_>, Reason>
         ensures send { IfOk result (λ p. undecided self.now.machine self.now.world name ≡ Some p) }
-        ensures reason { result_err result ≡ reason self.now.machine self.now.world (SendNobody name) }
+        ensures reason { result_err result ≡
+            reason self.now.machine self.now.world (SendNobody name) }
     {
         let pending = need(self.undecided(name), Reason::NotUndecided)?;
         let to = pending.send().to();
@@ -104,7 +110,8 @@ impl World<'_> {
     /// The send that may be cancelled.
     pub fn may_send_cancel(&self, name: Name) -> Result<Pending<'_>, Reason>
         ensures send { IfOk result (λ p. undecided self.now.machine self.now.world name ≡ Some p) }
-        ensures reason { result_err result ≡ reason self.now.machine self.now.world (SendCancel name) }
+        ensures reason { result_err result ≡
+            reason self.now.machine self.now.world (SendCancel name) }
     {
         let pending = need(self.undecided(name), Reason::NotUndecided)?;
         test(self.is_waiting(&pending), Reason::NotWaiting)?;

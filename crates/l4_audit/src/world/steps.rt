@@ -38,7 +38,8 @@ impl World<'_> {
 
     /// The thread that may begin this send.
     pub fn may_begin(&self, name: Name) -> Result<Found<'_>, Reason>
-        ensures thread { IfOk result (λ t. found self.now.machine self.now.world name.thread ≡ Some t) }
+        ensures thread { IfOk result
+            (λ t. found self.now.machine self.now.world name.thread ≡ Some t) }
         ensures room { IfOk result (λ t. t.now.context.begun + 1 < 2 ^ 64) }
         ensures reason { result_err result ≡ reason self.now.machine self.now.world (Begin name) }
     {
@@ -90,9 +91,11 @@ impl World<'_> {
         target: GlobalId,
         what: What,
     ) -> Result<(Found<'_>, Asked), Reason>
-        ensures thread { IfOk result (λ x. found self.now.machine self.now.world caller ≡ Some x.0) }
+        ensures thread { IfOk result
+            (λ x. found self.now.machine self.now.world caller ≡ Some x.0) }
         ensures order { IfOk result (λ x. order_of (act_of self.now.machine x.0) ≡ Some x.1) }
-        ensures reason { result_err result ≡ reason self.now.machine self.now.world (Order caller target (what_of what)) }
+        ensures reason { result_err result ≡
+            reason self.now.machine self.now.world (Order caller target (what_of what)) }
     {
         let thread = need(self.found(caller), Reason::Undeclared)?;
         test(thread.is_ready(), Reason::NotReady(thread.state()))?;
@@ -116,7 +119,8 @@ impl World<'_> {
 
     /// Whether the clock of a processor may advance to this value.
     pub fn may_tick(&self, tick: Tick) -> Result<(), Reason>
-        ensures reason { result_err result ≡ reason self.now.machine self.now.world (Ticks tick.cpu tick.clock) }
+        ensures reason { result_err result ≡
+            reason self.now.machine self.now.world (Ticks tick.cpu tick.clock) }
     {
         let cpu = usize::from(tick.cpu());
         let now = need(self.clocks.get(cpu).copied(), Reason::NoProcessor)?;

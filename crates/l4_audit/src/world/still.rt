@@ -35,7 +35,8 @@ impl World<'_> {
     // Whether no thread has a possible step, where no retarget is owed.
     fn are_still(&self) -> bool
         requires { self.now.world.owed ≡ [] }
-        ensures { result ≡ list_all (λ d. is_still_thread self.now.machine self.now.world d.id) self.now.machine.threads }
+        ensures { result ≡ list_all (λ d. is_still_thread self.now.machine self.now.world d.id)
+            self.now.machine.threads }
     {
         for declared in self.machine.threads() {
             if !self.is_still_thread(declared.id()) {
@@ -71,7 +72,8 @@ impl World<'_> {
     // Whether the receive phase of a thread can end without a message.
     fn may_stop(&self, thread: &Found) -> bool
         requires { slice_get self.now.world.threads thread.now.at ≡ Some thread.now.now }
-        ensures { result ≡ may_stop self.now.machine self.now.world thread.now (receive_now thread.now.now.phase) }
+        ensures { result ≡ may_stop self.now.machine self.now.world thread.now
+            (receive_now thread.now.now.phase) }
     {
         let Some(receive) = thread.receiving() else {
             return false;
@@ -94,7 +96,8 @@ impl World<'_> {
 
     // Whether an undecided send can be queued or decided.
     fn may_decide(&self, pending: &Pending) -> bool
-        requires { slice_get self.now.world.threads pending.now.sender.at ≡ Some pending.now.sender.now }
+        requires { slice_get self.now.world.threads pending.now.sender.at ≡
+            Some pending.now.sender.now }
         ensures { result ≡ may_decide self.now.machine self.now.world pending.now }
     {
         let sender = pending.sender();
@@ -106,8 +109,10 @@ impl World<'_> {
 
     // Whether an undecided send can be queued or delivered.
     fn may_arrive(&self, pending: &Pending) -> bool
-        requires { slice_get self.now.world.threads pending.now.sender.at ≡ Some pending.now.sender.now }
-        ensures { result ≡ may_arrive self.now.machine self.now.world pending.now (receiver_of self.now.machine self.now.world pending.now) }
+        requires { slice_get self.now.world.threads pending.now.sender.at ≡
+            Some pending.now.sender.now }
+        ensures { result ≡ may_arrive self.now.machine self.now.world pending.now
+            (receiver_of self.now.machine self.now.world pending.now) }
     {
         let Some(receiver) = self.receiver_of(pending) else {
             return false;
@@ -119,7 +124,8 @@ impl World<'_> {
     // Whether a sender is the first that a receiver accepts.
     fn is_taken(&self, receiver: &Found, sender: usize) -> bool
         requires { slice_get self.now.world.threads receiver.now.at ≡ Some receiver.now.now }
-        ensures { result ≡ is_taken self.now.machine self.now.world receiver.now sender (receive_now receiver.now.now.phase) }
+        ensures { result ≡ is_taken self.now.machine self.now.world receiver.now sender
+            (receive_now receiver.now.now.phase) }
     {
         let Some(receive) = receiver.receiving() else {
             return false;

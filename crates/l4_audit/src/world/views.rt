@@ -16,7 +16,8 @@ use std::alloc::Global;
 impl World<'_> {
     /// The report of each thread, in order of declaration.
     pub fn threads(&self, alloc: Global) -> Result<Vec<ThreadView>, NoMemory>
-        ensures { IfOk result (λ views. map report_of_view views.items ≡ view self.now.machine self.now.world) }
+        ensures { IfOk result (λ views. map report_of_view views.items ≡
+            view self.now.machine self.now.world) }
     {
         let mut views = Vec::new(alloc);
         for tcb in &self.threads {
@@ -27,7 +28,8 @@ impl World<'_> {
 
     /// Those of these sends that are undecided here, with their destinations.
     pub fn waiting(&self, alloc: Global, begun: &[Name]) -> Result<Vec<(Name, ThreadId)>, NoMemory>
-        ensures { IfOk result (λ sends. sends.items ≡ filter_map (waiting_send self.now.machine self.now.world) begun.now) }
+        ensures { IfOk result (λ sends. sends.items ≡
+            filter_map (waiting_send self.now.machine self.now.world) begun.now) }
     {
         let mut sends = Vec::new(alloc);
         for name in begun {
@@ -38,7 +40,8 @@ impl World<'_> {
 
     // Appends a send with its destination, where it is undecided here.
     fn push_waiting(&self, name: Name, sends: &mut Vec<(Name, ThreadId)>) -> Result<(), NoMemory>
-        ensures { OnOk result (sends.new.items ≡ sends.old.items ++ option_to_list (waiting_send self.now.machine self.now.world name)) }
+        ensures { OnOk result (sends.new.items ≡ sends.old.items ++
+            option_to_list (waiting_send self.now.machine self.now.world name)) }
     {
         if let Some(send) = self.waiting_send(name) {
             sends.push(send)?;

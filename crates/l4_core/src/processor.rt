@@ -12,7 +12,7 @@ ghost use Rattle.l4_types.specs.ReportView.{report_of_view};
 ghost use Rattle.l4_core.specs.Choosing.{choice_of, IsFound, IsPossible};
 ghost use Rattle.l4_core.specs.Processor.{with_local};
 ghost use Rattle.l4_core.specs.Tellings.{IsOpen};
-ghost use Rattle.l4_core.specs.Covered.{Covers, CoversOthers, CoversZeros, is_zero_send};
+ghost use Rattle.l4_core.specs.Covered.{Covers, CoversBut, CoversOthers, CoversZeros, is_zero_send};
 ghost use Rattle.l4_core.specs.Parts.{AreCore};
 ghost use Rattle.l4_core.specs.Places.{has};
 ghost use Rattle.l4_core.specs.Turning.{IsOwnOf, IsTurn};
@@ -287,6 +287,7 @@ fn note(known: &Known, duties: &mut Places, place: usize)
 }
 
 // What happened to a thread of this processor may be a reason for a duty of it. The other places with a duty are in.
+#[inline(always)]
 fn note_duty(known: &Known, duties: &mut Places, zeros: &Places, place: usize)
     requires own { IsOwnOf known.now place }
     requires others { CoversOthers place duties.old known.now.machine known.now.cpu known.now.local }
@@ -296,6 +297,46 @@ fn note_duty(known: &Known, duties: &mut Places, zeros: &Places, place: usize)
     let _few = known.len();
     if known.may_have_duty(place, zeros.contains(place)) {
         note(known, duties, place);
+    }
+}
+
+// The same of the first of two places, where the second may have a duty now too.
+fn note_duty_beside(
+    known: &Known<'_>,
+    duties: &mut Places,
+    zeros: &Places,
+    place: usize,
+    other: usize,
+)
+    requires own { IsOwnOf known.now place }
+    requires others { CoversBut place other duties.old known.now.machine known.now.cpu known.now.local }
+    requires zeros { CoversZeros zeros.now known.now.local }
+    ensures { CoversOthers other duties.new known.now.machine known.now.cpu known.now.local }
+{
+    let _few = known.len();
+    if known.may_have_duty(place, zeros.contains(place)) {
+        note(known, duties, place);
+    }
+}
+
+// A send was put into the list of a receiver. This may be a reason for a duty of the receiver, or
+// of the sender where it is of this processor. The other places with a duty are in.
+fn note_queued(
+    known: &Known<'_>,
+    duties: &mut Places,
+    zeros: &Places,
+    receiver: usize,
+    sender: usize,
+)
+    requires receiver { IsOwnOf known.now receiver }
+    requires sender { sender < length known.now.machine.threads }
+    requires others { CoversBut receiver sender duties.old known.now.machine known.now.cpu known.now.local }
+    requires zeros { CoversZeros zeros.now known.now.local }
+    ensures { Covers duties.new known.now.machine known.now.cpu known.now.local }
+{
+    note_duty_beside(known, duties, zeros, receiver, sender);
+    if known.is_own(sender) {
+        note_duty(known, duties, zeros, sender);
     }
 }
 

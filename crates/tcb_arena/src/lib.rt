@@ -144,8 +144,20 @@ impl Arena {
     }
 
     /// The block of the first send at a receiver that a receive phase with this specifier takes (manual: Ipc,
-    /// `FromSpecifier`).
+    /// `FromSpecifier`). Mostly none waits.
+    #[inline(always)]
     pub fn first_accepted(&self, receiver: usize, spec: &ThreadId) -> Option<usize>
+        requires { receiver < length self.now.waiting }
+        ensures { result ≡ first_taken spec.now (list_of self.now receiver) }
+    {
+        match self.waiting.first(receiver) {
+            None => None,
+            Some(_) => self.first_accepted_among(receiver, spec),
+        }
+    }
+
+    // The same, where some wait.
+    fn first_accepted_among(&self, receiver: usize, spec: &ThreadId) -> Option<usize>
         requires { receiver < length self.now.waiting }
         ensures { result ≡ first_taken spec.now (list_of self.now receiver) }
     {

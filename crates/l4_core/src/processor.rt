@@ -1,7 +1,8 @@
 //! One processor: its turns and its clock.
-ghost use Rattle.std.specs.Prelude.{◌≡◌, ◌+◌, ◌<◌, IfOk, IfSome, is_some, length, slice_get, slice_index_or, true, ℕ, ◌||◌, ◌==◌};
+ghost use Rattle.std.specs.Prelude.{◌≡◌, ◌+◌, ◌<◌, ◌≤◌, IfOk, IfSome, is_some, length, slice_get, slice_index_or, true, ℕ, ◌||◌, ◌==◌};
 ghost use Rattle.std.specs.Option.{option_map};
 ghost use Rattle.l4_model.specs.Words.{clock_limit, period_limit};
+ghost use Rattle.l4_model.specs.Machine.{most_threads};
 ghost use Rattle.l4_model.specs.History.{report_of};
 ghost use Rattle.l4_core_model.specs.Local.{declared, is_own, opening_local, owed_beside, thread};
 ghost use Rattle.l4_types.specs.OwedView.{owed_of};
@@ -105,6 +106,23 @@ impl<'m> Core<'m> {
         ensures machine { IsMachine self.now.machine }
     {
         self.known.cpu()
+    }
+
+    /// How many threads the machine has, at most 1,024.
+    pub fn thread_count(&self) -> usize
+        ensures value { result ≡ length self.now.machine.threads }
+        ensures few { result ≤ most_threads }
+        ensures core { AreCore self.now }
+    {
+        self.known.len()
+    }
+
+    /// Whether the thread at this place is of this processor. Of another one only what letters told is known.
+    pub fn is_own(&self, place: usize) -> bool
+        requires { place < length self.now.machine.threads }
+        ensures { result ≡ is_own self.now.machine self.now.cpu place }
+    {
+        self.known.is_own(place)
     }
 
     /// The core's turn: the first duty of a thread, else the first due timeout, else one instruction of the first ready thread. Its steps are told

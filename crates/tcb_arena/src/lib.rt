@@ -35,13 +35,13 @@ use l4_types::ids::{GlobalId, ThreadId};
 use std::alloc::Global;
 use std::marker::Model;
 
+mod iter;
 mod links;
 mod ring_set;
-mod waiting_at;
 mod wheel;
 
+pub use iter::{ArmedBlocks, Blocks, Sends};
 use links::Rings;
-pub use waiting_at::WaitingAt;
 pub use wheel::Wheel;
 
 /// A send that waits.
@@ -174,12 +174,34 @@ impl Arena {
     }
 
     /// The blocks whose sends wait at a receiver, in order.
-    pub fn waiting_at(&self, receiver: usize) -> WaitingAt<'_>
+    pub fn waiting_at(&self, receiver: usize) -> Blocks<'_>
         requires { receiver < length self.now.waiting }
         ensures blocks { result ≡ map (λ w. w.block) (list_of self.now receiver) }
         ensures below { All (λ block. block < length self.now.waiting) result }
     {
-        WaitingAt::new(&self.waiting, receiver)
+        Blocks::new(&self.waiting, receiver)
+    }
+
+    /// The sends that wait at a receiver, in order.
+    pub fn sends_at(&self, receiver: usize) -> Sends<'_>
+        requires { receiver < length self.now.waiting }
+        ensures { result ≡ list_of self.now receiver }
+    {
+        Sends::new(&self.waiting, &self.senders, receiver)
+    }
+
+    /// The ready blocks, in order.
+    pub fn ready_blocks(&self) -> Blocks<'_>
+        ensures { result ≡ self.now.ready }
+    {
+        Blocks::new(&self.ready, 0)
+    }
+
+    /// The armed blocks with their deadlines, by rising deadline, equal ones in order of arming.
+    pub fn armed_blocks(&self) -> ArmedBlocks<'_>
+        ensures { result ≡ self.now.armed }
+    {
+        ArmedBlocks::new(&self.wheel)
     }
 
     /// Whether a block is among the ready ones.

@@ -39,7 +39,7 @@ loop-place-preserved c =
     let not_taken : accepts c.args.spec.now (waiting_at f.senders.items block) ≡ false =
     ap (λ (e : Sender). takes c.args.spec.now e.shown e.local) (sym sender) ∙ sym c.takes.ensures ∙ c.if-takes.false in
     record {
-      next_is = c.after-next.ensures c.args.receiver c.loop-place._place here;
+      next_is = c.after-next.ensures.after c.args.receiver c.loop-place._place here;
       not_before = c.loop-place.invariant.not_before ∙ found-later c.args.spec.now f.senders.items ns c.loop-place._place block here not_taken;
       sound = c.loop-place.invariant.sound;
     }

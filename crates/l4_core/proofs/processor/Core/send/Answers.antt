@@ -1,4 +1,4 @@
-use Rattle.std.proofs.Common.{◌≡◌, true, false, sym, subst, ◌∙◌}
+use Rattle.std.proofs.Common.{◌≡◌, Some, true, false, sym, subst, ◌∙◌}
 use Rattle.l4_core_model.specs.Local.{is_own}
 use Rattle.l4_core.specs.Processor.{Processor}
 use Rattle.l4_core.proofs.Going.{goes_away, goes_here, stays_here}
@@ -22,6 +22,9 @@ returns-in-Some g c = λ send has.
 pub returns-in-Some-2 : goal.returns-in-Some-2
 returns-in-Some-2 g c = λ send has.
     let goes = c.requires.partner send has in
-    let away = subst (λ (p : Processor). is_own p.machine p.cpu c.in-Some-2.receiver ≡ false) c.self.view_is (sym c.is_own.ensures.value ∙ c.if-is_own.false) in
+    let one : Some c.in-Some.receiver ≡ Some c.in-Some-2.receiver = sym c.in-Some.is ∙ c.in-Some-2.is in
+    let same : c.in-Some.receiver ≡ c.in-Some-2.receiver = cc in
+    let foreign = subst (λ r. is_own c.self.inside.known.machine c.self.inside.known.cpu r ≡ false) same (sym c.is_own.ensures.value ∙ c.if-is_own.false) in
+    let away = subst (λ (p : Processor). is_own p.machine p.cpu c.in-Some-2.receiver ≡ false) c.self.view_is foreign in
     goes_away c.args.self.now c.post_send.new.self c.in-Some-2.receiver c.args.sender send c.args.told.now c.post_send.new.told _ (sym goes ∙ c.in-Some-2.is)
     away (c.post_send.ensures send has)

@@ -132,9 +132,10 @@ times-get (x ∷ xs) (suc k) e h =
 pub entry-apart : (x : E) (xs : List E) (k : ℕ) (e : E) → times_armed e.1 (x ∷ xs) ≤ 1 → slice_get xs k ≡ Some e → (e.1 ≡ x.1 → ⊥) × (times_armed e.1 xs ≤ 1)
 entry-apart x xs k e once h =
     let parts : cond (eqb e.1 x.1) 1 0 + times_armed e.1 xs ≤ 1 = once in
-    let one : 1 ≤ times_armed e.1 xs = times-get xs k e h in
-    (λ (same : e.1 ≡ x.1). let i : ℕ = 1 in let o : ℕ = 0 in let first : cond (eqb e.1 x.1) i o ≡ i = ap (λ t. cond t i o) (eq-eqb e.1 x.1 same) in absurd (omega (arith, parts, one, first)),
-    omega (arith, parts))
+    let one : 1 ≤ times_armed e.1 xs = times-get xs k e h in (
+      λ (same : e.1 ≡ x.1). let i : ℕ = 1 in let o : ℕ = 0 in let first : cond (eqb e.1 x.1) i o ≡ i = ap (λ t. cond t i o) (eq-eqb e.1 x.1 same) in absurd (omega (arith, parts, one, first)),
+      omega (arith, parts),
+    )
 
 -- Each block stands in a ring once.
 pub times-ring : (ds : List ℕ) (s : Lists) (h b : ℕ) → AreSound s → times_armed b (map (entry ds) (get_or s.lists h [])) ≤ 1

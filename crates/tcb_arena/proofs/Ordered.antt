@@ -2,19 +2,19 @@
 -- first.
 use Rattle.std.specs.Prelude.{slice_get, Some, None, Option, drop, find}
 use Rattle.std.specs.Option.{option_map}
-use Rattle.std.proofs.Common.{◌≡◌, ◌≢◌, ℕ, ◌+◌, ◌<◌, ◌≤◌, ◌%◌, Bool, true, false, not, cond, eqb, leb, min, List, [], ◌∷◌, ◌++◌, length, map, filter, get_or, refl, sym, ◌∙◌, ap, subst, ⊎_elim, arith, zero, suc, add-one}
+use Rattle.std.proofs.Common.{◌≡◌, ◌≢◌, ℕ, ◌+◌, ◌<◌, ◌≤◌, ◌%◌, Bool, true, false, not, cond, eqb, leb, List, [], ◌∷◌, ◌++◌, length, map, filter, get_or, refl, sym, ◌∙◌, ap, subst, ⊎_elim, arith, zero, suc, add-one}
 use Rattle.std.proofs.lemmas.Bool.{cases_eq, cases_lt, eq-eqb, ne_eqb, cond-true, cond-false, le-leb, lt-leb}
 use Rattle.std.proofs.lemmas.List.{append-nil, append_assoc}
 use Rattle.std.proofs.lemmas.List.Elements.{filter-append}
 use Rattle.l4_core_model.specs.Plain.{put_entry}
 use Rattle.tcb_arena.specs.Rings.{Lists, list_at, is_linked, AreSound}
-use Rattle.tcb_arena.specs.Due.{ArePlaced, armed_in, entries_in, entry, lesser_of, put_all, put_rings, times_armed}
+use Rattle.tcb_arena.specs.Due.{ArePlaced, Due, armed_in, armed_of, entries_in, entry, has_deadline, lesser_of, put_all, put_rings, shown_due, times_armed}
 use Rattle.tcb_arena.proofs.Lists.{is_in_any-at}
 use Rattle.tcb_arena.proofs.Entries.{E, Rises, put_le, put_lt, rises-put, rises-put_all, rises-put_rings, entries-at, entry-from, is_in-get}
-use Rattle.tcb_arena.proofs.Once.{entry-apart, get-in-any, times-ring}
+use Rattle.tcb_arena.proofs.Once.{entry-apart, get-in-any, once-shown, times-ring}
 use Rattle.tcb_arena.proofs.Seeking.{entry-at}
 
-abbrev pub is_for : ℕ → E → Bool
+abbrev is_for : ℕ → E → Bool
 is_for d e = eqb e.0 d
 
 abbrev pub is_after : ℕ → E → Bool
@@ -23,7 +23,7 @@ is_after d e = not (leb e.0 d)
 abbrev pub at_deadline : ℕ → ℕ → E
 at_deadline d b = (d, b)
 
-pub rises-armed : (ds : List ℕ) (ls : List (List ℕ)) → Rises 0 (armed_in ds ls)
+rises-armed : (ds : List ℕ) (ls : List (List ℕ)) → Rises 0 (armed_in ds ls)
 rises-armed ds ls = rises-put_rings (entries_in ds ls) [] tt
 
 rises-get : (low : ℕ) (xs : List E) (k : ℕ) (e : E) → Rises low xs → slice_get xs k ≡ Some e → low ≤ e.0
@@ -108,9 +108,6 @@ find-filter p [] = refl
 find-filter p (x ∷ xs) =
     elim (p x) as (λ (t : Bool). cond t (Some x) (find p xs) ≡ slice_get (cond t (x ∷ filter p xs) (filter p xs)) 0) [ true ↦ refl | false ↦ find-filter p xs ]
 
-abbrev pub has_deadline : List ℕ → ℕ → ℕ → Bool
-has_deadline ds d b = eqb (get_or ds b 0) d
-
 find-entries : (ds : List ℕ) (d : ℕ) (ns : List ℕ) → find (is_for d) (map (entry ds) ns) ≡ option_map (at_deadline d) (find (has_deadline ds d) ns)
 find-entries ds d [] = refl
 find-entries ds d (y ∷ ys) =
@@ -126,7 +123,7 @@ find-entries ds d (y ∷ ys) =
     (cases_eq (get_or ds y 0) d)
 
 -- The first block for a deadline is the first of its ring for it.
-pub first-equal : (ds : List ℕ) (s : Lists) (d : ℕ) → ArePlaced 64 ds s → option_map (at_deadline d) (find (has_deadline ds d) (list_at s (d % 64))) ≡ find (is_for d) (armed_in ds s.lists)
+first-equal : (ds : List ℕ) (s : Lists) (d : ℕ) → ArePlaced 64 ds s → option_map (at_deadline d) (find (has_deadline ds d) (list_at s (d % 64))) ≡ find (is_for d) (armed_in ds s.lists)
 first-equal ds s d w =
     sym (find-filter (is_for d) (armed_in ds s.lists) ∙ ap (λ (r : List E). slice_get r 0) (of-ring ds s d w)
     ∙ sym (find-filter (is_for d) (map (entry ds) (list_at s (d % 64)))) ∙ find-entries ds d (list_at s (d % 64)))
@@ -134,24 +131,25 @@ first-equal ds s d w =
 -- Where a block stands
 
 in-filter : (p : E → Bool) (xs : List E) (k : ℕ) (e : E) → slice_get xs k ≡ Some e → p e ≡ true → (i : ℕ) × (slice_get (filter p xs) i ≡ Some e)
-in-filter p [] k e h yes = absurd (cc)
-in-filter p (x ∷ xs) zero e h yes =
+in-filter p [] k e h pass = absurd (cc)
+in-filter p (x ∷ xs) zero e h pass =
     let same : x ≡ e = cc in
-    (0, ap (λ (r : List E). slice_get r 0) (cond-true (p x) (x ∷ filter p xs) (filter p xs) (ap p same ∙ yes)) ∙ ap (λ (z : E). Some z) same)
-in-filter p (x ∷ xs) (suc k) e h yes =
-    let from : (i : ℕ) × (slice_get (filter p xs) i ≡ Some e) = in-filter p xs k e h yes in
+    (0, ap (λ (r : List E). slice_get r 0) (cond-true (p x) (x ∷ filter p xs) (filter p xs) (ap p same ∙ pass)) ∙ ap (λ (z : E). Some z) same)
+in-filter p (x ∷ xs) (suc k) e h pass =
+    let from : (i : ℕ) × (slice_get (filter p xs) i ≡ Some e) = in-filter p xs k e h pass in
     elim (p x) as (λ (t : Bool). (i : ℕ) × (slice_get (cond t (x ∷ filter p xs) (filter p xs)) i ≡ Some e)) [ true ↦ (suc from.0, from.1) | false ↦ from ]
+
+from-cons : (p : E → Bool) (x : E) (xs : List E) (t : Bool) (i : ℕ) (e : E) → ((j : ℕ) → slice_get (filter p xs) j ≡ Some e → (k : ℕ) × (slice_get xs k ≡ Some e))
+    → slice_get (cond t (x ∷ filter p xs) (filter p xs)) i ≡ Some e → (k : ℕ) × (slice_get (x ∷ xs) k ≡ Some e)
+from-cons p x xs true zero e rest h = (0, h)
+from-cons p x xs true (suc i) e rest h = let from : (k : ℕ) × (slice_get xs k ≡ Some e) = rest i h in (suc from.0, from.1)
+from-cons p x xs false i e rest h = let from : (k : ℕ) × (slice_get xs k ≡ Some e) = rest i h in (suc from.0, from.1)
 
 from-filter : (p : E → Bool) (xs : List E) (i : ℕ) (e : E) → slice_get (filter p xs) i ≡ Some e → (k : ℕ) × (slice_get xs k ≡ Some e)
 from-filter p [] i e h = absurd (cc)
-from-filter p (x ∷ xs) i e h = by (p x) i h
-  where
-    by : (t : Bool) (i : ℕ) → slice_get (cond t (x ∷ filter p xs) (filter p xs)) i ≡ Some e → (k : ℕ) × (slice_get (x ∷ xs) k ≡ Some e)
-    by true zero g = (0, g)
-    by true (suc i) g = let from : (k : ℕ) × (slice_get xs k ≡ Some e) = from-filter p xs i e g in (suc from.0, from.1)
-    by false i g = let from : (k : ℕ) × (slice_get xs k ≡ Some e) = from-filter p xs i e g in (suc from.0, from.1)
+from-filter p (x ∷ xs) i e h = from-cons p x xs (p x) i e (λ j. from-filter p xs j e) h
 
-pub armed-from : (ds : List ℕ) (s : Lists) (k : ℕ) (e : E) → ArePlaced 64 ds s → slice_get (armed_in ds s.lists) k ≡ Some e
+armed-from : (ds : List ℕ) (s : Lists) (k : ℕ) (e : E) → ArePlaced 64 ds s → slice_get (armed_in ds s.lists) k ≡ Some e
     → (j : ℕ) × (slice_get (list_at s (e.0 % 64)) j ≡ Some e.1) × (get_or ds e.1 0 ≡ e.0)
 armed-from ds s k e w at =
     let here : (i : ℕ) × (slice_get (filter (is_for e.0) (armed_in ds s.lists)) i ≡ Some e) = in-filter (is_for e.0) (armed_in ds s.lists) k e at (eq-eqb e.0 e.0 refl) in
@@ -168,7 +166,7 @@ armed-to ds s h j b w at =
     in-filter (is_for d) (map (entry ds) (list_at s (d % 64))) j (entry ds b) (entry-at ds (list_at s (d % 64)) j b ring) (eq-eqb d d refl) in
     from-filter (is_for d) (armed_in ds s.lists) here.0 (entry ds b) (ap (λ (r : List E). slice_get r here.0) (of-ring ds s d w) ∙ here.1)
 
-pub linked-from : (ds : List ℕ) (s : Lists) (k : ℕ) (e : E) → ArePlaced 64 ds s → slice_get (armed_in ds s.lists) k ≡ Some e → is_linked s e.1 ≡ true
+linked-from : (ds : List ℕ) (s : Lists) (k : ℕ) (e : E) → ArePlaced 64 ds s → slice_get (armed_in ds s.lists) k ≡ Some e → is_linked s e.1 ≡ true
 linked-from ds s k e w at =
     let from : (j : ℕ) × (slice_get (list_at s (e.0 % 64)) j ≡ Some e.1) × (get_or ds e.1 0 ≡ e.0) = armed-from ds s k e w at in
     is_in_any-at e.1 (e.0 % 64) s.lists (is_in-get e.1 (list_at s (e.0 % 64)) from.0 from.1)
@@ -180,14 +178,14 @@ behind b [] = []
 behind b (x ∷ xs) = cond (eqb b x.1) xs (behind b xs)
 
 behind-filter : (p : E → Bool) (xs : List E) (k : ℕ) (e : E) → slice_get xs k ≡ Some e → times_armed e.1 xs ≤ 1 → p e ≡ true → filter p (drop (suc k) xs) ≡ behind e.1 (filter p xs)
-behind-filter p [] k e h once yes = absurd (cc)
-behind-filter p (x ∷ xs) zero e h once yes =
+behind-filter p [] k e h once pass = absurd (cc)
+behind-filter p (x ∷ xs) zero e h once pass =
     let same : x ≡ e = cc in
-    sym (ap (behind e.1) (cond-true (p x) (x ∷ filter p xs) (filter p xs) (ap p same ∙ yes))
+    sym (ap (behind e.1) (cond-true (p x) (x ∷ filter p xs) (filter p xs) (ap p same ∙ pass))
     ∙ cond-true (eqb e.1 x.1) (filter p xs) (behind e.1 (filter p xs)) (eq-eqb e.1 x.1 (ap (λ (z : E). z.1) (sym same))))
-behind-filter p (x ∷ xs) (suc k) e h once yes =
+behind-filter p (x ∷ xs) (suc k) e h once pass =
     let apart : (e.1 ≢ x.1) × (times_armed e.1 xs ≤ 1) = entry-apart x xs k e once h in
-    let rest : filter p (drop (suc k) xs) ≡ behind e.1 (filter p xs) = behind-filter p xs k e h apart.1 yes in
+    let rest : filter p (drop (suc k) xs) ≡ behind e.1 (filter p xs) = behind-filter p xs k e h apart.1 pass in
     elim (p x) as (λ (t : Bool). filter p (drop (suc k) xs) ≡ behind e.1 (cond t (x ∷ filter p xs) (filter p xs)))
     [ true ↦ rest ∙ sym (cond-false (eqb e.1 x.1) (filter p xs) (behind e.1 (filter p xs)) (ne_eqb e.1 x.1 apart.0)) | false ↦ rest ]
 
@@ -197,7 +195,7 @@ drop-entries ds (suc k) [] = refl
 drop-entries ds (suc k) (y ∷ ys) = drop-entries ds k ys
 
 -- The next block for the same deadline is the next of its ring for it.
-pub next-equal : (ds : List ℕ) (s : Lists) (d b k : ℕ) → ArePlaced 64 ds s → AreSound s → times_armed b (armed_in ds s.lists) ≤ 1 → slice_get (armed_in ds s.lists) k ≡ Some (at_deadline d b) → (found : Option ℕ)
+next-equal : (ds : List ℕ) (s : Lists) (d b k : ℕ) → ArePlaced 64 ds s → AreSound s → times_armed b (armed_in ds s.lists) ≤ 1 → slice_get (armed_in ds s.lists) k ≡ Some (at_deadline d b) → (found : Option ℕ)
     → ((h j : ℕ) → slice_get (list_at s h) j ≡ Some b → found ≡ find (has_deadline ds d) (drop (j + 1) (list_at s h)))
     → option_map (at_deadline d) found ≡ find (is_for d) (drop (k + 1) (armed_in ds s.lists))
 next-equal ds s d b k w sound once at found finds =
@@ -251,15 +249,28 @@ next-rises low zero e (x ∷ y ∷ ys) h at =
 next-rises low (suc k) e (x ∷ xs) h at =
     next-rises x.0 k e xs h.1 at ∙ ap (or_else (find (is_for e.0) (drop (suc k) xs))) (sym (after-not e.0 x xs (rises-get x.0 xs k e h.1 at)))
 
-pub next-armed : (ds : List ℕ) (ls : List (List ℕ)) (k d b : ℕ) → slice_get (armed_in ds ls) k ≡ Some (at_deadline d b)
+next-armed : (ds : List ℕ) (ls : List (List ℕ)) (k d b : ℕ) → slice_get (armed_in ds ls) k ≡ Some (at_deadline d b)
     → slice_get (armed_in ds ls) (k + 1) ≡ or_else (find (is_for d) (drop (k + 1) (armed_in ds ls))) (find (is_after d) (armed_in ds ls))
 next-armed ds ls k d b at =
     ap (λ n. slice_get (armed_in ds ls) n) (add-one k) ∙ next-rises 0 k (at_deadline d b) (armed_in ds ls) (rises-armed ds ls) at
     ∙ ap (λ n. or_else (find (is_for d) (drop n (armed_in ds ls))) (find (is_after d) (armed_in ds ls))) (sym (add-one k))
 
+-- What comes after a block is the next of its ring for the same deadline, else the first of the later ones.
+pub after-armed : (ds : List ℕ) (s : Lists) (v : Due) (d b k : ℕ) → ArePlaced 64 ds s → AreSound s → shown_due ds s ≡ v → slice_get (armed_of v) k ≡ Some (at_deadline d b) → (found : Option ℕ)
+    → ((h j : ℕ) → slice_get (list_at s h) j ≡ Some b → found ≡ find (has_deadline ds d) (drop (j + 1) (list_at s h)))
+    → or_else (option_map (at_deadline d) found) (find (is_after d) (armed_of v)) ≡ slice_get (armed_of v) (k + 1)
+after-armed ds s v d b k w sound e at found finds =
+    let same : armed_in ds s.lists ≡ armed_of v = ap armed_of e in
+    let here : slice_get (armed_in ds s.lists) k ≡ Some (at_deadline d b) = ap (λ (es : List E). slice_get es k) same ∙ at in
+    let once : times_armed b (armed_in ds s.lists) ≤ 1 = subst (λ (es : List E). times_armed b es ≤ 1) (sym same) ((once-shown 64 ds s v w sound e).once b) in
+    ap (λ (es : List E). or_else (option_map (at_deadline d) found) (find (is_after d) es)) (sym same)
+    ∙ ap (λ (o : Option E). or_else o (find (is_after d) (armed_in ds s.lists))) (next-equal ds s d b k w sound once here found finds)
+    ∙ sym (next-armed ds s.lists k d b here)
+    ∙ ap (λ (es : List E). slice_get es (k + 1)) same
+
 -- The first of the later ones
 
-pub after-for : (d : ℕ) (xs : List E) (e : E) → find (is_after d) xs ≡ Some e → find (is_for e.0) xs ≡ Some e
+after-for : (d : ℕ) (xs : List E) (e : E) → find (is_after d) xs ≡ Some e → find (is_for e.0) xs ≡ Some e
 after-for d [] e h = absurd (cc)
 after-for d (x ∷ xs) e h =
     ⊎_elim
@@ -287,17 +298,31 @@ after-none d (x ∷ xs) all = after-not d x xs (all 0 x refl) ∙ after-none d x
 after-least : (d m low : ℕ) (xs : List E) → Rises low xs → d < m → ((k : ℕ) (e : E) → slice_get xs k ≡ Some e → d < e.0 → m ≤ e.0) → (k : ℕ) (e : E) → slice_get xs k ≡ Some e → e.0 ≡ m
     → option_map (λ (z : E). z.0) (find (is_after d) xs) ≡ Some m
 after-least d m low [] h lt all k e at is = absurd (cc)
-after-least d m low (x ∷ xs) h lt all k e at is =
+after-least d m low (x ∷ xs) h lt all zero e at is =
+    let same : x ≡ e = cc in
+    let first : x.0 ≡ m = ap (λ (z : E). z.0) same ∙ is in
+    ap (option_map (λ (z : E). z.0)) (after-yes d x xs (omega (arith, first, lt))) ∙ ap (λ n. Some n) first
+after-least d m low (x ∷ xs) h lt all (suc k) e at is =
     ⊎_elim
     (λ (p : d < x.0).
-    let first : x.0 ≡ m = omega (arith, all 0 x refl p, rises-get x.0 (x ∷ xs) k e (omega arith, h.1) at, is) in
+    let first : x.0 ≡ m = omega (arith, all 0 x refl p, rises-get x.0 xs k e h.1 at, is) in
     ap (option_map (λ (z : E). z.0)) (after-yes d x xs p) ∙ ap (λ n. Some n) first)
-    (λ (p : x.0 ≤ d). ap (option_map (λ (z : E). z.0)) (after-not d x xs p) ∙ by k at p)
+    (λ (p : x.0 ≤ d).
+    ap (option_map (λ (z : E). z.0)) (after-not d x xs p) ∙ after-least d m x.0 xs h.1 lt (λ i y u l. all (suc i) y u l) k e at is)
     (cases_lt d x.0)
+
+-- The first block for the least of the later deadlines is the first later one.
+pub later-found : (ds : List ℕ) (s : Lists) (v : Due) (d m : ℕ) (found : Option ℕ) → ArePlaced 64 ds s → shown_due ds s ≡ v → Some m ≡ option_map (λ (e : E). e.0) (find (is_after d) (armed_in ds s.lists))
+    → found ≡ find (has_deadline ds m) (list_at s (m % 64)) → option_map (at_deadline m) found ≡ find (is_after d) (armed_of v)
+later-found ds s v d m found w e least finds =
+    ap (option_map (at_deadline m)) finds ∙ first-equal ds s m w ∙ by (find (is_after d) (armed_in ds s.lists)) refl ∙ ap (λ (x : Due). find (is_after d) (armed_of x)) e
   where
-    by : (k : ℕ) → slice_get (x ∷ xs) k ≡ Some e → x.0 ≤ d → option_map (λ (z : E). z.0) (find (is_after d) xs) ≡ Some m
-    by zero t p = let same : x ≡ e = cc in absurd (omega (arith, ap (λ (z : E). z.0) same, is, lt, p))
-    by (suc j) t p = after-least d m x.0 xs h.1 lt (λ i y u l. all (suc i) y u l) j e t is
+    by : (o : Option E) → find (is_after d) (armed_in ds s.lists) ≡ o → find (is_for m) (armed_in ds s.lists) ≡ find (is_after d) (armed_in ds s.lists)
+    by None q = let none : Some m ≡ None = least ∙ ap (option_map (λ (x : E). x.0)) q in absurd (cc)
+    by (Some x) q =
+        let is : Some m ≡ Some x.0 = least ∙ ap (option_map (λ (z : E). z.0)) q in
+        let same : m ≡ x.0 = cc in
+        ap (λ n. find (is_for n) (armed_in ds s.lists)) same ∙ after-for d (armed_in ds s.lists) x q ∙ sym q
 
 -- The least later deadline, by one block after another
 
@@ -307,7 +332,7 @@ IsAtMost (Some least) n = least ≤ n
 
 pub record IsLeastLater (d upto : ℕ) (ds : List ℕ) (s : Lists) (least : Option ℕ) : Type 0 where
   pub all : (b : ℕ) → b < upto → is_linked s b ≡ true → d < get_or ds b 0 → IsAtMost least (get_or ds b 0)
-  pub is : (m : ℕ) → least ≡ Some m → (d < m) × ((b : ℕ) × (is_linked s b ≡ true) × (get_or ds b 0 ≡ m))
+  pub is : (m : ℕ) → least ≡ Some m → (d < m) × (b : ℕ) × (is_linked s b ≡ true) × (get_or ds b 0 ≡ m)
 
 pub least-none : (d : ℕ) (ds : List ℕ) (s : Lists) → IsLeastLater d 0 ds s None
 least-none d ds s = record { all = λ b lt linked later. absurd (omega (arith, lt)); is = λ m e. absurd (cc) }
@@ -340,10 +365,10 @@ least-more d i new ds s least l linked_i later_i e = record {
     there None f n le = absurd le
     there (Some x) f n le = omega (arith, f, le)
 
-    by : (o : Option ℕ) → least ≡ o → new ≡ lesser_of o (get_or ds i 0) → (m : ℕ) → new ≡ m → (d < m) × ((b : ℕ) × (is_linked s b ≡ true) × (get_or ds b 0 ≡ m))
+    by : (o : Option ℕ) → least ≡ o → new ≡ lesser_of o (get_or ds i 0) → (m : ℕ) → new ≡ m → (d < m) × (b : ℕ) × (is_linked s b ≡ true) × (get_or ds b 0 ≡ m)
     by None q f m same = (omega (arith, later_i, f, same), i, linked_i, sym f ∙ same)
     by (Some x) q f m same =
-        let old : (d < x) × ((b : ℕ) × (is_linked s b ≡ true) × (get_or ds b 0 ≡ x)) = l.is x q in
+        let old : (d < x) × (b : ℕ) × (is_linked s b ≡ true) × (get_or ds b 0 ≡ x) = l.is x q in
         ⊎_elim
         (λ (lt : get_or ds i 0 < x). (omega (arith, later_i, f, same, lt), i, linked_i, omega (arith, f, same, lt)))
         (λ (le : x ≤ get_or ds i 0). (omega (arith, old.0, f, same, le), old.1, old.2, omega (arith, old.3, f, same, le)))
@@ -369,7 +394,7 @@ least-all d upto ds s least w long l = sym (by least refl)
         (λ (le : e.0 ≤ d). le)
         (cases_lt d e.0)))
     by (Some m) q =
-        let is : (d < m) × ((b : ℕ) × (is_linked s b ≡ true) × (get_or ds b 0 ≡ m)) = l.is m q in
+        let is : (d < m) × (b : ℕ) × (is_linked s b ≡ true) × (get_or ds b 0 ≡ m) = l.is m q in
         let b : ℕ = is.1 in
         let at : (h : ℕ) × (j : ℕ) × (slice_get (get_or s.lists h []) j ≡ Some b) = get-in-any b s.lists is.2 in
         let here : (k : ℕ) × (slice_get (armed_in ds s.lists) k ≡ Some (entry ds b)) = armed-to ds s at.0 at.1 b w at.2 in

@@ -154,6 +154,10 @@ IsBest deadlines lists (Some e) = slice_get (put_all [] (map (entry deadlines) (
 pub record IsLeast (deadlines : List ℕ) (lists : List (List ℕ)) (best : Option (ℕ × ℕ)) : Type 0 where
   pub below : (ring k block : ℕ) → slice_get (slice_index_or lists ring []) k ≡ Some block → at_most best (slice_index deadlines block) ≡ true
 
+-- Whether a block has this deadline.
+abbrev pub has_deadline : List ℕ → (deadline block : ℕ) → Bool
+has_deadline deadlines deadline block = slice_index deadlines block == deadline
+
 -- The lesser of two deadlines, where there are two.
 abbrev pub lesser_of : Option ℕ → ℕ → ℕ
 lesser_of None deadline = deadline

@@ -35,6 +35,7 @@ impl<'a> Blocks<'a> {
     pub(crate) fn new(rings: &'a Rings, head: usize) -> Blocks<'a>
         requires { head < head_count rings.now }
         ensures names { result ≡ list_at rings.now head }
+        ensures below { All (λ name. name < rings.now.names) result }
         ensures sound { AreSound rings.now }
     {
         Blocks {

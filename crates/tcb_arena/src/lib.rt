@@ -14,6 +14,8 @@
 //!   over the rings that have a block, and over the blocks of those where one may be earlier than
 //!   the best so far: few where the deadlines have many remainders by 64, all armed ones where they
 //!   have one;
+//! - a step of `armed_blocks` looks at all blocks where the deadline is another one than before: it
+//!   is for who reads a state, no turn needs it;
 //! - every other call takes the same few steps whatever stands in the lists.
 //!
 //! ```rust

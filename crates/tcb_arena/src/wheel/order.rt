@@ -1,12 +1,12 @@
 //! The armed blocks in order, as far as the rings tell it: a block that is armed for the same
 //! deadline comes later in the same ring, and of those with a later deadline the least comes first.
 
-ghost use Rattle.std.specs.Prelude.{◌≡◌, ℕ, ◌+◌, ◌<◌, ◌==◌, ◌&&◌, nat_le, not, true, drop, find, length, slice_get, slice_index, Some};
+ghost use Rattle.std.specs.Prelude.{◌≡◌, ℕ, ◌+◌, ◌<◌, ◌%◌, ◌&&◌, nat_le, not, true, drop, find, length, slice_get, slice_index, Some};
 ghost use Rattle.std.specs.Option.{option_map};
 ghost use Rattle.tcb_arena.specs.Blocks.{has_entry};
-ghost use Rattle.tcb_arena.specs.Rings.{is_linked};
+ghost use Rattle.tcb_arena.specs.Rings.{is_linked, list_at, AreSound};
 ghost use Rattle.tcb_arena.specs.RingSets.{ring_count};
-ghost use Rattle.tcb_arena.specs.Due.{armed_in, armed_of, lesser_of, ArePlaced, AreOnce};
+ghost use Rattle.tcb_arena.specs.Due.{armed_in, armed_of, has_deadline, lesser_of, ArePlaced, AreOnce};
 
 use crate::iter::Blocks;
 use crate::links::Rings;
@@ -38,20 +38,10 @@ impl Wheel {
         ensures { (place : ℕ) → slice_get (armed_of self.now) place ≡ Some (deadline, block) →
             result ≡ slice_get (armed_of self.now) (place + 1) }
     {
-        match self.next_equal(deadline, block) {
+        match next_equal(&self.rings, &self.deadlines, deadline, block) {
             Some(next) => Some((deadline, next)),
             None => self.first_later(deadline),
         }
-    }
-
-    // The block that comes after this one and is armed for the same deadline.
-    fn next_equal(&self, deadline: u64, block: usize) -> Option<usize>
-        requires { has_entry block (armed_of self.now) ≡ true }
-        ensures { (place : ℕ) → slice_get (armed_of self.now) place ≡ Some (deadline, block) →
-            option_map (λ next. (deadline, next)) result ≡
-            find (λ e. e.0 == deadline) (drop (place + 1) (armed_of self.now)) }
-    {
-        Blocks::behind(&self.rings, block).find(|next| self.deadlines[*next] == deadline)
     }
 
     // The first armed block of those with a later deadline.
@@ -59,17 +49,39 @@ impl Wheel {
         ensures { result ≡ find (λ e. not (nat_le e.0 deadline)) (armed_of self.now) }
     {
         let later = least_later(&self.rings, &self.deadlines, deadline)?;
-        let block = self.first_equal(later)?;
+        let block = first_equal(&self.rings, &self.deadlines, later)?;
         Some((later, block))
     }
+}
 
-    // The first block of those that are armed for this deadline.
-    fn first_equal(&self, deadline: u64) -> Option<usize>
-        ensures { option_map (λ block. (deadline, block)) result ≡
-            find (λ e. e.0 == deadline) (armed_of self.now) }
-    {
-        Blocks::new(&self.rings, ring_of(deadline)).find(|block| self.deadlines[*block] == deadline)
-    }
+// The block behind this one in its ring that has this deadline, which is its own.
+fn next_equal(rings: &Rings, deadlines: &Vec<u64>, deadline: u64, block: usize) -> Option<usize>
+    requires placed { ArePlaced ring_count deadlines.now.items rings.now }
+    requires block { block < rings.now.names }
+    requires there { is_linked rings.now block ≡ true }
+    ensures next { (ring place : ℕ) → slice_get (list_at rings.now ring) place ≡ Some block →
+        result ≡ find (has_deadline deadlines.now.items deadline)
+        (drop (place + 1) (list_at rings.now ring)) }
+    ensures sound { AreSound rings.now }
+{
+    Blocks::behind(rings, block).find(|next| is_for(deadlines, *next, deadline))
+}
+
+// The first block that is armed for this deadline.
+fn first_equal(rings: &Rings, deadlines: &Vec<u64>, deadline: u64) -> Option<usize>
+    requires { ArePlaced ring_count deadlines.now.items rings.now }
+    ensures { result ≡ find (has_deadline deadlines.now.items deadline)
+        (list_at rings.now (deadline % ring_count)) }
+{
+    Blocks::new(rings, ring_of(deadline)).find(|block| is_for(deadlines, *block, deadline))
+}
+
+// Whether a block has this deadline.
+fn is_for(deadlines: &Vec<u64>, block: usize, deadline: u64) -> bool
+    requires { block < length deadlines.now.items }
+    ensures { result ≡ has_deadline deadlines.now.items deadline block }
+{
+    deadlines[block] == deadline
 }
 
 // The least deadline of an armed block that is later than this one.

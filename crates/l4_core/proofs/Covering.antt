@@ -18,7 +18,7 @@ use Rattle.l4_core_model.specs.Turns.{Duty, CancelsOwn, clock_is, has_told}
 use Rattle.l4_core_model.proofs.Fit.{get_other, get_cases}
 use Rattle.l4_core.specs.Places.{has, count}
 use Rattle.l4_core.specs.Settled.{IsOwn}
-use Rattle.l4_core.specs.Covered.{after_retarget, duty_at, names_nobody, untold_of, or_tell, deleted_duty, or_close, or_refuse, receive_duty, living_duty, duty_of_thread, Covers, CoversOthers}
+use Rattle.l4_core.specs.Covered.{after_retarget, duty_at, names_nobody, untold_of, or_tell, deleted_duty, or_close, or_refuse, receive_duty, living_duty, duty_of_thread, Covers, CoversBut, CoversOthers}
 use Rattle.l4_core.proofs.PlaceSets.{count_less}
 use Rattle.l4_core.proofs.Zeros.{apart_in, is_somewhere, find-filter, get-map, get_apart, send_same}
 use Rattle.l4_core.proofs.Settling.{or_cases}
@@ -156,6 +156,37 @@ covers-unnoted d m cpu l i c idle = record { within = c.within; others = λ o ow
     by o own h (inl same) = subst (λ k. duty_at m cpu l k ≡ None) (sym same) (none (duty_at m cpu l i) idle)
     by o own h (inr apart) = c.others o own (λ same. apart (sym same)) h
 
+-- Of two places the first one was noted, or has no duty.
+pub but-noted : (d e : List ℕ) (m : Machine) (cpu : ℕ) (l : Local) (i j : ℕ) → CoversBut i j d m cpu l → IsOwn m cpu i → ((o : ℕ) → has e o ≡ (has d o || o == i)) → CoversOthers j e m cpu l
+but-noted d e m cpu l i j c own puts = record {
+  within = λ o h. by o (or_cases (has d o) (o == i) (sym (puts o) ∙ h));
+  others = λ o o_own apart h.
+      let parts = or_parts (has d o) (o == i) (sym (puts o) ∙ h) in
+      c.others o o_own (λ same. let there = eq-eqb o i (sym same) in let wrong : true ≡ false = sym there ∙ parts.1 in cc) apart parts.0;
+}
+  where
+    by : (o : ℕ) → (has d o ≡ true) ⊎ ((o == i) ≡ true) → IsOwn m cpu o
+    by o (inl g) = c.within o g
+    by o (inr g) = let same = eqb-true o i g in subst (λ k. IsOwn m cpu k) (sym same) own
+
+pub but-unnoted : (d : List ℕ) (m : Machine) (cpu : ℕ) (l : Local) (i j : ℕ) → CoversBut i j d m cpu l → is_some (duty_at m cpu l i) ≡ false → CoversOthers j d m cpu l
+but-unnoted d m cpu l i j c idle = record { within = c.within; others = λ o own apart h. by o own apart h (cases_eq o i) }
+  where
+    none : (o : Option Duty) → is_some o ≡ false → o ≡ None
+    none None e = refl
+    none (Some duty) e = cc
+
+    by : (o : ℕ) → IsOwn m cpu o → (j ≡ o → ⊥) → has d o ≡ false → (o ≡ i) ⊎ (o ≡ i → ⊥) → duty_at m cpu l o ≡ None
+    by o own apart h (inl same) = subst (λ k. duty_at m cpu l k ≡ None) (sym same) (none (duty_at m cpu l i) idle)
+    by o own apart h (inr ne) = c.others o own (λ same. ne (sym same)) apart h
+
+-- A thread of another processor has no duty here.
+pub others-foreign : (d : List ℕ) (m : Machine) (cpu : ℕ) (l : Local) (i : ℕ) → CoversOthers i d m cpu l → is_own m cpu i ≡ false → Covers d m cpu l
+others-foreign d m cpu l i c foreign = record {
+  within = c.within;
+  others = λ o own h. c.others o own (λ same. let wrong : true ≡ false = sym own.own ∙ ap (is_own m cpu) (sym same) ∙ foreign in cc) h;
+}
+
 -- A processor is told of a deletion.
 pub covers-told : (d : List ℕ) (m : Machine) (cpu : ℕ) (l : Local) (to i : ℕ) → has d i ≡ true → Covers d m cpu l → Covers d m cpu (has_told to i l)
 covers-told d m cpu l to i there c = record {
@@ -207,7 +238,7 @@ covers-turned d m cpu l i owed c lt there = record { within = c.within; others =
         (λ same. turned_refusable m (held m l o) owed (thread l i) ∙ ap (λ k. zero_refusable m (held m l o) (thread l k).send) same) (λ ne. refl)))
         ∙ c.others o own h
 
--- A send is queued, and the places of its receiver and its sender are in where they are of this processor.
+-- A send is queued: the places but those of its receiver and its sender stay covered.
 
 queued_apart : (r j : ℕ) (w : plain.Waiting) (ess : List (List plain.Waiting)) → (w.block ≡ j → ⊥) → list_any (list_any (λ v. j == v.block)) (changed (λ ws. ws ++ w ∷ []) ess r) ≡ list_any (list_any (λ v. j == v.block)) ess
 queued_apart r j w [] ne = refl
@@ -218,13 +249,11 @@ queued_apart zero j w (es ∷ ess) ne = ap (λ b. b || list_any (list_any (λ v.
     pushed (v ∷ vs) = ap (λ b. (j == v.block) || b) (pushed vs)
 queued_apart (suc r) j w (es ∷ ess) ne = ap (λ b. list_any (λ v. j == v.block) es || b) (queued_apart r j w ess ne)
 
-pub covers-queued : (d : List ℕ) (m : Machine) (cpu : ℕ) (l : Local) (r : ℕ) (w : plain.Waiting) → Covers d m cpu l → (IsOwn m cpu r → has d r ≡ true) → (IsOwn m cpu w.block → has d w.block ≡ true) → Covers d m cpu (relists (plain.queued r w) l)
-covers-queued d m cpu l r w c at_r at_w = record { within = c.within; others = others }
+pub but-queued : (d : List ℕ) (m : Machine) (cpu : ℕ) (l : Local) (r : ℕ) (w : plain.Waiting) → Covers d m cpu l → CoversBut r w.block d m cpu (relists (plain.queued r w) l)
+but-queued d m cpu l r w c = record { within = c.within; others = others }
   where
-    others : (o : ℕ) → IsOwn m cpu o → has d o ≡ false → duty_at m cpu (relists (plain.queued r w) l) o ≡ None
-    others o own h =
-        let ne_r : r ≡ o → ⊥ = λ same. apart_in d r o (at_r (subst (λ k. IsOwn m cpu k) (sym same) own)) h same in
-        let ne_w : w.block ≡ o → ⊥ = λ same. apart_in d w.block o (at_w (subst (λ k. IsOwn m cpu k) (sym same) own)) h same in
+    others : (o : ℕ) → IsOwn m cpu o → (r ≡ o → ⊥) → (w.block ≡ o → ⊥) → has d o ≡ false → duty_at m cpu (relists (plain.queued r w) l) o ≡ None
+    others o own ne_r ne_w h =
         let list = get_apart (λ ws. ws ++ w ∷ []) l.lists.waiting r o [] ne_r in
         same_duty m cpu (relists (plain.queued r w) l) l o (nobody_as m (relists (plain.queued r w) l) l (λ j. refl)) refl (queued_apart r o w l.lists.waiting ne_w) list refl refl
         (ap (λ ws. find (λ (v : plain.Waiting). zero_refusable m (held m l o) (thread l v.block).send) ws) list)

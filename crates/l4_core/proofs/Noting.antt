@@ -17,9 +17,9 @@ use Rattle.l4_core.proofs.Fitting.{unqueued, ready_not_sends}
 use Rattle.l4_core.proofs.Opening.{get-map, none_queued}
 use Rattle.l4_core.specs.Places.{has}
 use Rattle.l4_core.specs.Processor.{Processor, with_local}
-use Rattle.l4_core.specs.Covered.{CoversOthers, CoversZeros, IsCovered, duty_at, first_zero, is_zero_send}
+use Rattle.l4_core.specs.Covered.{CoversBut, CoversOthers, CoversZeros, IsCovered, duty_at, first_zero, is_zero_send}
 use Rattle.l4_core.specs.Settled.{IsOwn}
-use Rattle.l4_core.proofs.Covering.{others-comes, covers-filled, covers-put, covers-relisted, covers-changed, covers-kept, covers-queued, covers-stamped, covers-told, covers-turned, covers-unqueued}
+use Rattle.l4_core.proofs.Covering.{others-comes, covers-filled, covers-put, covers-relisted, covers-changed, covers-kept, but-queued, covers-stamped, covers-told, covers-turned, covers-unqueued}
 use Rattle.l4_core.proofs.Zeros.{zeros-relisted, zeros-changed, zeros-comes, zeros-kept, zeros-queued, zeros-stamped, zeros-told, zeros-turned, zeros-unqueued}
 
 or_true : (b : Bool) → (b || true) ≡ true
@@ -63,12 +63,12 @@ covered-changed d z p q i f c lt there dead kept is = subst (IsCovered d z) (sym
 pub covered-unqueued : (d z : List ℕ) (p q : Processor) (i : ℕ) → IsCovered d z p → q ≡ with_local p (relists (plain.unqueued i) p.local) → IsCovered d z q
 covered-unqueued d z p q i c is = subst (IsCovered d z) (sym is) (record { covers = covers-unqueued d p.machine p.cpu p.local i c.covers; waiting = zeros-unqueued z p.local i c.waiting })
 
-pub covered-queued : (d z : List ℕ) (p q : Processor) (r : ℕ) (w : plain.Waiting) → IsCovered d z p → has d r ≡ true → (IsOwn p.machine p.cpu w.block → has d w.block ≡ true) → (is_zero_send (thread p.local w.block).send ≡ true → has z r ≡ true) →
-    q ≡ with_local p (relists (plain.queued r w) p.local) → IsCovered d z q
-covered-queued d z p q r w c at_r at_w zero_there is = subst (IsCovered d z) (sym is) (record {
-  covers = covers-queued d p.machine p.cpu p.local r w c.covers (λ own. at_r) at_w;
-  waiting = zeros-queued z p.local r w c.waiting zero_there;
-})
+-- A send is queued, and its receiver is noted where it may not wait at all.
+pub but_queued : (d z : List ℕ) (p q : Processor) (r : ℕ) (w : plain.Waiting) → IsCovered d z p → q ≡ with_local p (relists (plain.queued r w) p.local) → CoversBut r w.block d q.machine q.cpu q.local
+but_queued d z p q r w c is = subst (λ (x : Processor). CoversBut r w.block d x.machine x.cpu x.local) (sym is) (but-queued d p.machine p.cpu p.local r w c.covers)
+
+pub zeros_queued : (z : List ℕ) (p q : Processor) (r : ℕ) (w : plain.Waiting) → CoversZeros z p.local → (is_zero_send (thread p.local w.block).send ≡ true → has z r ≡ true) → q ≡ with_local p (relists (plain.queued r w) p.local) → CoversZeros z q.local
+zeros_queued z p q r w c there is = subst (λ (x : Processor). CoversZeros z x.local) (sym is) (zeros-queued z p.local r w c there)
 
 -- A thread that is at hand stands in no list of sends.
 pub hand_free : (p : Processor) (i : ℕ) → AreCore p → IsAtHand p i → plain.is_queued p.local.lists i ≡ false

@@ -34,6 +34,11 @@ pub record CoversOthers (place : ℕ) (duties : List ℕ) (m : Machine) (cpu : �
   pub within : (other : ℕ) → has duties other ≡ true → IsOwn m cpu other
   pub others : (other : ℕ) → IsOwn m cpu other → (place ≡ other → ⊥) → has duties other ≡ false → duty_at m cpu l other ≡ None
 
+-- The same of all places but these two.
+pub record CoversBut (one another : ℕ) (duties : List ℕ) (m : Machine) (cpu : ℕ) (l : Local) : Type 0 where
+  pub within : (other : ℕ) → has duties other ≡ true → IsOwn m cpu other
+  pub others : (other : ℕ) → IsOwn m cpu other → (one ≡ other → ⊥) → (another ≡ other → ⊥) → has duties other ≡ false → duty_at m cpu l other ≡ None
+
 abbrev pub CoversZeros : (zeros : List ℕ) → Local → Type 0
 CoversZeros zeros l = (place : ℕ) → has zeros place ≡ false → first_zero l (list_of l.lists place) ≡ None
 

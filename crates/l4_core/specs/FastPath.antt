@@ -1,9 +1,9 @@
 -- The fast path: a send that its receiver takes at once goes from register to register. It stands in no list, and nothing of it is kept.
 use Rattle.std.specs.Prelude.{ℕ, ◌+◌, Bool, false, not, ◌&&◌, Option, Some, None, is_none}
 use Rattle.l4_model.specs.Words.{Id}
-use Rattle.l4_model.specs.Machine.{Machine}
-use Rattle.l4_model.specs.World.{Message, Name, Receive, receive_now}
-use Rattle.l4_model.specs.Rules.{accepts}
+use Rattle.l4_model.specs.Machine.{Machine, Instr, Ipc}
+use Rattle.l4_model.specs.World.{Context, Message, Name, Receive, receive_now}
+use Rattle.l4_model.specs.Rules.{accepts, destination}
 use Rattle.l4_model.specs.Conditions.{◌>>=◌, ◌>>◌}
 use Rattle.l4_model.specs.Effects.{receives}
 use Rattle.l4_model.specs.Steps.{Begin, Queue, Deliver}
@@ -12,6 +12,11 @@ use Rattle.l4_core_model.specs.Local.{Local, declared, destination_place, is_own
 use Rattle.l4_core_model.specs.Acts.{Work, ◌▷◌, does, tells}
 use Rattle.l4_thread.specs.Ipcs.{passes}
 use Rattle.l4_thread.specs.Requests.{propagates}
+
+-- The place of the thread that an Ipc sends to.
+abbrev pub partner_of : Machine → Context → Instr → Option ℕ
+partner_of m c (Ipc to from send_period receive_period) = destination_place m (destination c to)
+partner_of m c _ = None
 
 -- A thread waits, and accepts an ordinary message of another one before those that wait at it.
 abbrev pub takes_at_once : Machine → Local → (r i : ℕ) → Option Receive → Bool

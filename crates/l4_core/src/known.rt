@@ -14,7 +14,7 @@ ghost use Rattle.l4_script.specs.Scripts.{instr_of};
 ghost use Rattle.l4_thread.specs.Requests.{is_end};
 ghost use Rattle.l4_core.specs.Asking.{admitted_act};
 ghost use Rattle.l4_core_model.specs.Plain.{due_block, is_queued};
-ghost use Rattle.l4_core_model.specs.Local.{declared, destination_place, held, is_own, last_name, opening_local, thread};
+ghost use Rattle.l4_core_model.specs.Local.{declared, held, is_own, last_name, opening_local, thread};
 ghost use Rattle.l4_core_model.specs.Acts.{entry, first_acceptable, split_place};
 ghost use Rattle.l4_core_model.specs.Turns.{can_stamp};
 ghost use Rattle.l4_core.specs.Covered.{is_zero_send};
@@ -314,16 +314,6 @@ impl<'m> Known<'m> {
             Some(send) => matches!(send.period(), Period::Zero),
             None => false,
         }
-    }
-
-    /// The place of the thread that a send goes to.
-    pub(crate) fn destination(&self, sender: usize) -> Option<usize>
-        requires { IsSender self.now sender }
-        ensures value { (send : Send) → (thread self.now.local sender).send ≡ Some send → result ≡ destination_place self.now.machine send.to }
-        ensures within { IfSome result (λ place. place < length self.now.machine.threads) }
-    {
-        let to = self.send_of(sender).unwrap().to();
-        self.place_of(to.as_global()?)
     }
 
     /// The place of the receiver of a split send. None where the send is not split.

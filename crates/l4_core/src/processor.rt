@@ -1,7 +1,8 @@
 //! One processor: its turns and its clock.
-ghost use Rattle.std.specs.Prelude.{◌≡◌, ◌+◌, ◌<◌, IfOk, IfSome, is_some, length, slice_get, slice_index_or, true, ℕ, ◌||◌, ◌==◌};
+ghost use Rattle.std.specs.Prelude.{◌≡◌, ◌+◌, ◌<◌, ◌≤◌, IfOk, IfSome, is_some, length, slice_get, slice_index_or, true, ℕ, ◌||◌, ◌==◌};
 ghost use Rattle.std.specs.Option.{option_map};
 ghost use Rattle.l4_model.specs.Words.{clock_limit, period_limit};
+ghost use Rattle.l4_model.specs.Machine.{most_threads};
 ghost use Rattle.l4_model.specs.History.{report_of};
 ghost use Rattle.l4_core_model.specs.Local.{declared, is_own, opening_local, owed_beside, thread};
 ghost use Rattle.l4_types.specs.OwedView.{owed_of};
@@ -12,7 +13,7 @@ ghost use Rattle.l4_types.specs.ReportView.{report_of_view};
 ghost use Rattle.l4_core.specs.Choosing.{choice_of, IsFound, IsPossible};
 ghost use Rattle.l4_core.specs.Processor.{with_local};
 ghost use Rattle.l4_core.specs.Tellings.{IsOpen};
-ghost use Rattle.l4_core.specs.Covered.{Covers, CoversOthers, CoversZeros, is_zero_send};
+ghost use Rattle.l4_core.specs.Covered.{Covers, CoversBut, CoversOthers, CoversZeros, is_zero_send};
 ghost use Rattle.l4_core.specs.Parts.{AreCore};
 ghost use Rattle.l4_core.specs.Places.{has};
 ghost use Rattle.l4_core.specs.Turning.{IsOwnOf, IsTurn};
@@ -106,6 +107,24 @@ impl<'m> Core<'m> {
         ensures machine { IsMachine self.now.machine }
     {
         self.known.cpu()
+    }
+
+    /// How many threads the machine has, at most 1,024.
+    pub fn thread_count(&self) -> usize
+        ensures value { result ≡ length self.now.machine.threads }
+        ensures few { result ≤ most_threads }
+        ensures core { AreCore self.now }
+    {
+        self.known.len()
+    }
+
+    /// Whether the thread at this place is of this processor. Of another one only what letters told
+    /// is known.
+    pub fn is_own(&self, place: usize) -> bool
+        requires { place < length self.now.machine.threads }
+        ensures { result ≡ is_own self.now.machine self.now.cpu place }
+    {
+        self.known.is_own(place)
     }
 
     /// The core's turn: the first duty of a thread, else the first due timeout, else one
@@ -297,6 +316,7 @@ fn note(known: &Known, duties: &mut Places, place: usize)
 
 // Notes that a thread of this processor may have a duty now. All other places with a duty are in
 // the set already.
+#[inline(always)]
 fn note_duty(known: &Known, duties: &mut Places, zeros: &Places, place: usize)
     requires own { IsOwnOf known.now place }
     requires others { CoversOthers place duties.old known.now.machine known.now.cpu known.now.local }
@@ -306,6 +326,46 @@ fn note_duty(known: &Known, duties: &mut Places, zeros: &Places, place: usize)
     let _few = known.len();
     if known.may_have_duty(place, zeros.contains(place)) {
         note(known, duties, place);
+    }
+}
+
+// The same of the first of two places, where the second may have a duty now too.
+fn note_duty_beside(
+    known: &Known<'_>,
+    duties: &mut Places,
+    zeros: &Places,
+    place: usize,
+    other: usize,
+)
+    requires own { IsOwnOf known.now place }
+    requires others { CoversBut place other duties.old known.now.machine known.now.cpu known.now.local }
+    requires zeros { CoversZeros zeros.now known.now.local }
+    ensures { CoversOthers other duties.new known.now.machine known.now.cpu known.now.local }
+{
+    let _few = known.len();
+    if known.may_have_duty(place, zeros.contains(place)) {
+        note(known, duties, place);
+    }
+}
+
+// A send was put into the list of a receiver. This may be a reason for a duty of the receiver, or
+// of the sender where it is of this processor. The other places with a duty are in.
+fn note_queued(
+    known: &Known<'_>,
+    duties: &mut Places,
+    zeros: &Places,
+    receiver: usize,
+    sender: usize,
+)
+    requires receiver { IsOwnOf known.now receiver }
+    requires sender { sender < length known.now.machine.threads }
+    requires others { CoversBut receiver sender duties.old known.now.machine known.now.cpu known.now.local }
+    requires zeros { CoversZeros zeros.now known.now.local }
+    ensures { Covers duties.new known.now.machine known.now.cpu known.now.local }
+{
+    note_duty_beside(known, duties, zeros, receiver, sender);
+    if known.is_own(sender) {
+        note_duty(known, duties, zeros, sender);
     }
 }
 

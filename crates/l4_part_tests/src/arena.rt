@@ -67,6 +67,57 @@ fn first_ones(alloc: Global) -> Option<[Option<usize>; 5]> {
     Some([once_left, elsewhere, first, second, first_at(&arena, 3)])
 }
 
+// Who waits at block 3, in order.
+fn waiting_at_3(arena: &Arena) -> [Option<usize>; 3]
+    requires { length arena.now.waiting ≡ 4 }
+{
+    let mut sends = arena.sends_at(3);
+    [
+        sends.next().map(|send| send.block),
+        sends.next().map(|send| send.block),
+        sends.next().map(|send| send.block),
+    ]
+}
+
+// Those that are queued at block 3, in that order.
+fn queued_at_3(alloc: Global) -> Option<[Option<usize>; 3]> {
+    let mut arena = Arena::new(alloc, 4).ok()?;
+    queue(&mut arena, 2)?;
+    queue(&mut arena, 0)?;
+    Some(waiting_at_3(&arena))
+}
+
+#[test]
+fn sends_are_read_in_the_order_of_their_list(rt: HostRuntime) {
+    assert!(rt; queued_at_3(rt.alloc()) == Some([Some(2), Some(0), None]));
+}
+
+// A block is made ready, unless it is so already.
+fn make_ready(arena: &mut Arena, block: usize) -> Option<()>
+    requires { block < length arena.old.waiting }
+    ensures { length arena.new.waiting ≡ length arena.old.waiting }
+{
+    if arena.is_ready(block) {
+        return None;
+    }
+    arena.push_ready(block);
+    Some(())
+}
+
+// Those that are ready, in that order.
+fn ready_ones(alloc: Global) -> Option<[Option<usize>; 3]> {
+    let mut arena = Arena::new(alloc, 2).ok()?;
+    make_ready(&mut arena, 1)?;
+    make_ready(&mut arena, 0)?;
+    let mut ready = arena.ready_blocks();
+    Some([ready.next(), ready.next(), ready.next()])
+}
+
+#[test]
+fn ready_blocks_are_read_in_order(rt: HostRuntime) {
+    assert!(rt; ready_ones(rt.alloc()) == Some([Some(1), Some(0), None]));
+}
+
 fn is_made(alloc: Global, blocks: usize) -> bool {
     Arena::new(alloc, blocks).is_ok()
 }
@@ -118,12 +169,23 @@ fn are_due_from_70(arena: &mut Arena) -> bool {
         && arena.pop_due(70).is_none()
 }
 
+// The armed blocks by their deadlines, equal ones as they were armed.
+fn all_armed(arena: &Arena) -> [Option<(u64, usize)>; 4] {
+    let mut armed = arena.armed_blocks();
+    [armed.next(), armed.next(), armed.next(), armed.next()]
+}
+
+// Whether they are read in the order in which they are due.
+fn are_read_in_order(arena: &Arena) -> bool {
+    all_armed(arena) == [Some((6, 1)), Some((70, 0)), Some((70, 2)), None]
+}
+
 fn are_of_one_ring(alloc: Global) -> Option<bool> {
     let mut arena = Arena::new(alloc, 3).ok()?;
     arm(&mut arena, 0, 70)?;
     arm(&mut arena, 1, 6)?;
     arm(&mut arena, 2, 70)?;
-    Some(begins_with_one(&arena) && are_due_from_70(&mut arena))
+    Some(begins_with_one(&arena) && are_read_in_order(&arena) && are_due_from_70(&mut arena))
 }
 
 // A ring has the deadlines of one remainder modulo 64.

@@ -79,7 +79,7 @@ rises-lower : (low n : ℕ) (xs : List E) → n ≤ low → Rises low xs → Ris
 rises-lower low n [] l h = h
 rises-lower low n (x ∷ xs) l h = (omega (arith, h.0), h.1)
 
-rises-put : (low : ℕ) (e : E) (xs : List E) → low ≤ e.0 → Rises low xs → Rises low (put_entry e xs)
+pub rises-put : (low : ℕ) (e : E) (xs : List E) → low ≤ e.0 → Rises low xs → Rises low (put_entry e xs)
 rises-put low e [] l h = (l, tt)
 rises-put low e (x ∷ xs) l h =
     let P : List E → Type 0 = λ (ys : List E). Rises low ys in
@@ -135,6 +135,10 @@ without_put_other b low e (x ∷ xs) h ne =
 pub rises-put_all : (es acc : List E) → Rises 0 acc → Rises 0 (put_all acc es)
 rises-put_all [] acc h = h
 rises-put_all (e ∷ es) acc h = rises-put_all es (put_entry e acc) (rises-put 0 e acc (omega arith) h)
+
+pub rises-put_rings : (ls : List (List E)) (acc : List E) → Rises 0 acc → Rises 0 (put_rings acc ls)
+rises-put_rings [] acc h = h
+rises-put_rings (l ∷ ls) acc h = rises-put_rings ls (put_all acc l) (rises-put_all l acc h)
 
 without_put_all : (b : ℕ) (es acc : List E) → Rises 0 acc → put_all (without_block b acc) (without_block b es) ≡ without_block b (put_all acc es)
 without_put_all b [] acc h = refl

@@ -1,15 +1,18 @@
--- The names that are left to a walk are those from its place on.
+-- What is left to a walk stands from its place on: of the names of a list, and of the armed blocks.
 use Rattle.std.specs.Prelude.{slice_get, Some, None, Option, drop}
-use Rattle.std.proofs.Common.{◌≡◌, ◌≢◌, ℕ, ◌+◌, true, false, eqb, List, [], ◌∷◌, map, get_or, refl, sym, ◌∙◌, ap, zero, suc, add-one, arith, ⊎_elim}
-use Rattle.std.proofs.lemmas.Bool.{ne_eqb, eq-eqb, eqb-true, or_left, or_right, or_cases}
+use Rattle.std.proofs.Common.{◌≡◌, ◌≢◌, ℕ, ◌+◌, ◌<◌, ◌≤◌, true, false, eqb, length, List, [], ◌∷◌, map, get_or, refl, sym, ◌∙◌, ap, zero, suc, add-one, arith, ⊎_elim}
+use Rattle.std.proofs.lemmas.Bool.{cond-false, cond-true, ne_eqb, eq-eqb, eqb-true, or_left, or_right, or_cases}
+use Rattle.std.proofs.lemmas.Option.{slice_get-get_or}
 use Rattle.l4_core_model.specs.Plain.{Waiting, Plain, list_of}
 use Rattle.tcb_arena.specs.declared.Sender.{Sender}
-use Rattle.tcb_arena.specs.Due.{Due}
-use Rattle.tcb_arena.specs.Left.{names_from, names_from_any, names_left}
+use Rattle.tcb_arena.specs.Due.{Due, armed_of, times_armed, AreOnce}
+use Rattle.tcb_arena.specs.Left.{entries_from, entries_left, names_from, names_from_any, names_left}
 use Rattle.l4_model.specs.World.{is_in}
 use Rattle.tcb_arena.specs.Rings.{Lists, list_at, AreSound}
 use Rattle.tcb_arena.specs.Shown.{waiting_at, shown_lists}
 use Rattle.tcb_arena.proofs.Finding.{drop_at, drop_past}
+use Rattle.tcb_arena.proofs.Entries.{E}
+use Rattle.tcb_arena.proofs.Once.{entry-apart}
 use Rattle.tcb_arena.proofs.Showing.{list-shown}
 
 is_in-read : (xs : List ℕ) (k x : ℕ) → slice_get xs k ≡ Some x → is_in x xs ≡ true
@@ -77,3 +80,38 @@ pub blocks-of_list : (waiting : Lists) (f : List Sender) (ready : Lists) (due : 
     → list_at waiting h ≡ map (λ (w : Waiting). w.block) (list_of s h)
 blocks-of_list waiting f ready due s h v =
     sym (ap (map (λ (w : Waiting). w.block)) (sym (ap (λ (a : Plain). list_of a h) v) ∙ list-shown f waiting.lists h) ∙ blocks-shown f (list_at waiting h))
+
+-- The armed blocks
+
+entries_from-place : (es : List E) (k : ℕ) (e : E) → times_armed e.1 es ≤ 1 → slice_get es k ≡ Some e → entries_from e.1 es ≡ drop k es
+entries_from-place [] k e once h = absurd (cc)
+entries_from-place (x ∷ xs) zero e once h =
+    let same : x ≡ e = cc in cond-true (eqb e.1 x.1) (x ∷ xs) (entries_from e.1 xs) (eq-eqb e.1 x.1 (ap (λ (z : E). z.1) (sym same)))
+entries_from-place (x ∷ xs) (suc k) e once h =
+    let apart : (e.1 ≢ x.1) × (times_armed e.1 xs ≤ 1) = entry-apart x xs k e once h in
+    cond-false (eqb e.1 x.1) (x ∷ xs) (entries_from e.1 xs) (ne_eqb e.1 x.1 apart.0) ∙ entries_from-place xs k e apart.1 h
+
+entries-at : (es : List E) (k : ℕ) (e : E) → slice_get es k ≡ Some e → drop k es ≡ e ∷ drop (suc k) es
+entries-at [] k e h = absurd (cc)
+entries-at (x ∷ xs) zero e h = let same : x ≡ e = cc in ap (λ (z : E). z ∷ xs) same
+entries-at (x ∷ xs) (suc k) e h = entries-at xs k e h
+
+entries-past : (es : List E) (k : ℕ) → slice_get es k ≡ None → drop k es ≡ []
+entries-past [] zero h = refl
+entries-past [] (suc k) h = refl
+entries-past (x ∷ xs) zero h = absurd (cc)
+entries-past (x ∷ xs) (suc k) h = entries-past xs k h
+
+pub left-armed : (v : Due) (next : Option E) (k : ℕ) → AreOnce v → next ≡ slice_get (armed_of v) k → entries_left (armed_of v) next ≡ drop k (armed_of v)
+left-armed v None k once at = sym (entries-past (armed_of v) k (sym at))
+left-armed v (Some e) k once at = entries_from-place (armed_of v) k e (once.once e.1) (sym at)
+
+pub left-armed_step : (v : Due) (next next' : Option E) (k : ℕ) (e : E) → AreOnce v → next ≡ slice_get (armed_of v) k → next ≡ Some e → next' ≡ slice_get (armed_of v) (k + 1)
+    → entries_left (armed_of v) next ≡ e ∷ entries_left (armed_of v) next'
+left-armed_step v next next' k e once at is at' =
+    left-armed v next k once at ∙ entries-at (armed_of v) k e (sym at ∙ is)
+    ∙ ap (λ (r : List E). e ∷ r) (ap (λ j. drop j (armed_of v)) (sym (add-one k)) ∙ sym (left-armed v next' (k + 1) once at'))
+
+-- Each name of a list is below their count.
+pub below-names : (s : Lists) (h : ℕ) → AreSound s → (k d : ℕ) → k < length (list_at s h) → get_or (list_at s h) k d < s.names
+below-names s h sound k d lt = sound.below h k (get_or (list_at s h) k d) (slice_get-get_or (list_at s h) k d lt)

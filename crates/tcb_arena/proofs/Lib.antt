@@ -5,6 +5,7 @@ pub mod Floors
 pub mod Leaving
 pub mod Lists
 pub mod Once
+pub mod Ordered
 pub mod RingBits
 pub mod Seeking
 pub mod Showing

@@ -82,7 +82,7 @@ get-in b (y ∷ ys) h =
     (λ (t : is_in b ys ≡ true). let p : (k : ℕ) × (slice_get ys k ≡ Some b) = get-in b ys t in (suc p.0, p.1))
     (or_cases (eqb b y) (is_in b ys) h)
 
-get-in-any : (b : ℕ) (ls : List (List ℕ)) → is_in_any b ls ≡ true → (h : ℕ) × (k : ℕ) × (slice_get (get_or ls h []) k ≡ Some b)
+pub get-in-any : (b : ℕ) (ls : List (List ℕ)) → is_in_any b ls ≡ true → (h : ℕ) × (k : ℕ) × (slice_get (get_or ls h []) k ≡ Some b)
 get-in-any b [] h = absurd (cc)
 get-in-any b (l ∷ ls) h =
     ⊎_elim
@@ -105,7 +105,7 @@ once_in_all b (l ∷ ls) h =
     let goal : times_in b l + times_in_all b ls ≤ 1 = omega (arith, here, ih) in goal)
     (cases_Bool (is_in b l))
 
-any-get : (xs : List E) (k : ℕ) (e : E) → slice_get xs k ≡ Some e → list_any (λ (x : E). eqb e.1 x.1) xs ≡ true
+pub any-get : (xs : List E) (k : ℕ) (e : E) → slice_get xs k ≡ Some e → list_any (λ (x : E). eqb e.1 x.1) xs ≡ true
 any-get [] k e h = absurd (cc)
 any-get (x ∷ xs) zero e h = let p : x ≡ e = cc in or_left (eqb e.1 x.1) (list_any (λ (y : E). eqb e.1 y.1) xs) (eq-eqb e.1 x.1 (ap (λ (z : E). z.1) (sym p)))
 any-get (x ∷ xs) (suc k) e h = or_right (eqb e.1 x.1) (list_any (λ (y : E). eqb e.1 y.1) xs) (any-get xs k e h)
@@ -117,6 +117,32 @@ once-shown n ds s v w sound e = record {
       let one : times_in_all b s.lists ≤ 1 = once_in_all b s.lists (λ h i k j p q. sound.apart h i k j b p q) in
       omega (arith, all, one);
 }
+
+times-get : (xs : List E) (k : ℕ) (e : E) → slice_get xs k ≡ Some e → 1 ≤ times_armed e.1 xs
+times-get [] k e h = absurd (cc)
+times-get (x ∷ xs) zero e h =
+    let p : x ≡ e = cc in
+    let i : ℕ = 1 in let o : ℕ = 0 in let one : cond (eqb e.1 x.1) i o ≡ i = ap (λ t. cond t i o) (eq-eqb e.1 x.1 (ap (λ (z : E). z.1) (sym p))) in
+    let goal : 1 ≤ cond (eqb e.1 x.1) 1 0 + times_armed e.1 xs = omega (arith, one) in goal
+times-get (x ∷ xs) (suc k) e h =
+    let rest : 1 ≤ times_armed e.1 xs = times-get xs k e h in
+    let goal : 1 ≤ cond (eqb e.1 x.1) 1 0 + times_armed e.1 xs = omega (arith, rest) in goal
+
+-- A block that is armed once, and not before the others, is another one than the first.
+pub entry-apart : (x : E) (xs : List E) (k : ℕ) (e : E) → times_armed e.1 (x ∷ xs) ≤ 1 → slice_get xs k ≡ Some e → (e.1 ≡ x.1 → ⊥) × (times_armed e.1 xs ≤ 1)
+entry-apart x xs k e once h =
+    let parts : cond (eqb e.1 x.1) 1 0 + times_armed e.1 xs ≤ 1 = once in
+    let one : 1 ≤ times_armed e.1 xs = times-get xs k e h in (
+      λ (same : e.1 ≡ x.1). let i : ℕ = 1 in let o : ℕ = 0 in let first : cond (eqb e.1 x.1) i o ≡ i = ap (λ t. cond t i o) (eq-eqb e.1 x.1 same) in absurd (omega (arith, parts, one, first)),
+      omega (arith, parts),
+    )
+
+-- Each block stands in a ring once.
+pub times-ring : (ds : List ℕ) (s : Lists) (h b : ℕ) → AreSound s → times_armed b (map (entry ds) (get_or s.lists h [])) ≤ 1
+times-ring ds s h b sound =
+    let all : times_armed b (map (entry ds) (get_or s.lists h [])) ≡ times_in b (get_or s.lists h []) = times-entries ds b (get_or s.lists h []) in
+    let one : times_in b (get_or s.lists h []) ≤ 1 = once_in b (get_or s.lists h []) (λ k j p q. (sound.apart h h k j b p q).1) in
+    omega (arith, all, one)
 
 pub within-shown : (n : ℕ) (ds : List ℕ) (s : Lists) (v : Due) → ArePlaced n ds s → shown_due ds s ≡ v → (k : ℕ) (x : E) → slice_get (armed_of v) k ≡ Some x → x.1 < v.blocks
 within-shown n ds s v w e k x h =

@@ -188,7 +188,7 @@ first-least_of (Some z) e (y ∷ ys) h zero x t =
     (λ (p : z.0 ≤ y.0). omega (arith, le, ap (λ (w : E). w.0) (earlier-kept z y p), ap (λ (w : E). w.0) same))
     (cases_lt y.0 z.0)
 
-entry-at : (ds ys : List ℕ) (k b : ℕ) → slice_get ys k ≡ Some b → slice_get (map (entry ds) ys) k ≡ Some (entry ds b)
+pub entry-at : (ds ys : List ℕ) (k b : ℕ) → slice_get ys k ≡ Some b → slice_get (map (entry ds) ys) k ≡ Some (entry ds b)
 entry-at ds [] k b h = absurd (cc)
 entry-at ds (y ∷ ys) zero b h = let same : y ≡ b = cc in ap (λ n. Some (entry ds n)) same
 entry-at ds (y ∷ ys) (suc k) b h = entry-at ds ys k b h

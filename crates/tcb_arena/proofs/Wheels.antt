@@ -11,6 +11,7 @@ use Rattle.tcb_arena.specs.Due.{Due, IsWheel, AreRings, ArePlaced, AreFilled, Ar
 use Rattle.tcb_arena.proofs.Lists.{without_absent, without_all_absent, get_or-without, is_in_any-at}
 use Rattle.tcb_arena.proofs.Entries.{E, any-put_rings, all_entries-without, entries-put, armed-put, armed-without, placed-put, placed-without, entries-at, entry-from, first-put, without_there, is_in-get}
 use Rattle.tcb_arena.proofs.Floors.{floor-armed_in, first-from, floors-armed, floor-armed, floors-disarmed, floor-disarmed, floor-found, floor-none, get-pushed, get-left}
+use Rattle.tcb_arena.proofs.Once.{get-in-any}
 use Rattle.tcb_arena.proofs.Seeking.{earlier-kept, earlier-new}
 
 abbrev due_of : ℕ → List (List E) → Due
@@ -18,6 +19,13 @@ due_of blocks rings = record { blocks = blocks; rings = rings }
 
 pub linked-due : (ds : List ℕ) (s : Lists) (v : Due) (b : ℕ) → shown_due ds s ≡ v → is_linked s b ≡ has_entry b (armed_of v)
 linked-due ds s v b e = sym (any-put_rings ds b s.lists []) ∙ ap (λ (w : Due). has_entry b (armed_of w)) e
+
+-- A block that is armed stands in a ring.
+pub linked-armed : (ds : List ℕ) (s : Lists) (v : Due) (b : ℕ) → ArePlaced 64 ds s → shown_due ds s ≡ v → has_entry b (armed_of v) ≡ true → (is_linked s b ≡ true) × (b < s.names)
+linked-armed ds s v b w e h =
+    let linked : is_linked s b ≡ true = linked-due ds s v b e ∙ h in
+    let at : (i : ℕ) × (k : ℕ) × (slice_get (get_or s.lists i []) k ≡ Some b) = get-in-any b s.lists linked in
+    (linked, omega (arith, w.within at.0 at.1 b at.2, w.names))
 
 -- What the rings of the value are.
 pub are-rings : (ds : List ℕ) (s : Lists) (v : Due) → ArePlaced 64 ds s → shown_due ds s ≡ v → AreRings v.rings (armed_of v)

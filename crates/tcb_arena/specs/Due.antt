@@ -1,5 +1,5 @@
 -- What a contract sees of a `Wheel`: the rings of the armed blocks, and the plain list that they make; and what it keeps of them.
-use Rattle.std.specs.Prelude.{◌≡◌, ℕ, ◌+◌, ◌<◌, ◌≤◌, ◌%◌, ◌==◌, nat_le, Bool, true, false, List, [], ◌∷◌, ◌++◌, length, slice_index, slice_index_or, slice_set, slice_get, Some, None, Option, is_some, map, drop, replicate, if◌then◌else◌, refl}
+use Rattle.std.specs.Prelude.{◌≡◌, ℕ, ◌+◌, ◌<◌, ◌≤◌, ◌%◌, ◌==◌, nat_le, min, Bool, true, false, List, [], ◌∷◌, ◌++◌, length, slice_index, slice_index_or, slice_set, slice_get, Some, None, Option, is_some, map, drop, replicate, if◌then◌else◌, refl}
 use Rattle.std.specs.Option.{option_map}
 use Rattle.std.specs.List.{list_all}
 use Rattle.std.specs.Coded.{Coded, code_by, coded×, coded_ℕ, coded_list}
@@ -153,3 +153,12 @@ IsBest deadlines lists (Some e) = slice_get (put_all [] (map (entry deadlines) (
 -- No block is armed for a deadline before the best one's.
 pub record IsLeast (deadlines : List ℕ) (lists : List (List ℕ)) (best : Option (ℕ × ℕ)) : Type 0 where
   pub below : (ring k block : ℕ) → slice_get (slice_index_or lists ring []) k ≡ Some block → at_most best (slice_index deadlines block) ≡ true
+
+-- Whether a block has this deadline.
+abbrev pub has_deadline : List ℕ → (deadline block : ℕ) → Bool
+has_deadline deadlines deadline block = slice_index deadlines block == deadline
+
+-- The lesser of two deadlines, where there are two.
+abbrev pub lesser_of : Option ℕ → ℕ → ℕ
+lesser_of None deadline = deadline
+lesser_of (Some least) deadline = min least deadline

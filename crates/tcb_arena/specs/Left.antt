@@ -1,6 +1,7 @@
--- The names that are left to a walk along one of several lists.
+-- What is left to a walk along one of several lists, and along the armed blocks.
 use Rattle.std.specs.Prelude.{◌≡◌, ℕ, ◌==◌, List, [], ◌∷◌, if◌then◌else◌, slice_get, Option, Some, None}
 use Rattle.l4_model.specs.World.{is_in}
+use Rattle.tcb_arena.specs.Due.{Due, armed_of, AreOnce}
 use Rattle.tcb_arena.specs.Rings.{Lists, list_at, AreSound}
 
 -- The names of a list from one on.
@@ -24,3 +25,19 @@ pub record IsPlace (s : Lists) (next : Option ℕ) : Type 0 where
   pub head : ℕ
   pub place : ℕ
   pub next_is : next ≡ slice_get (list_at s head) place
+
+-- The entries from that of a block on.
+abbrev pub entries_from : ℕ → List (ℕ × ℕ) → List (ℕ × ℕ)
+entries_from block [] = []
+entries_from block (e ∷ es) = if block == e.1 then e ∷ es else entries_from block es
+
+-- The entries from the next on, if there is one.
+abbrev pub entries_left : List (ℕ × ℕ) → Option (ℕ × ℕ) → List (ℕ × ℕ)
+entries_left es None = []
+entries_left es (Some e) = entries_from e.1 es
+
+-- The next armed block is that of a place, and there is none behind the last.
+pub record IsArmedPlace (s : Due) (next : Option (ℕ × ℕ)) : Type 0 where
+  pub once : AreOnce s
+  pub place : ℕ
+  pub next_is : next ≡ slice_get (armed_of s) place

@@ -14,6 +14,8 @@
 //!   over the rings that have a block. Of a ring they look at the blocks only where one may be
 //!   earlier than the best so far. These are few where the deadlines have many remainders modulo
 //!   64, and all armed blocks where they have one;
+//! - a step of `armed_blocks` looks at all blocks where the deadline is another one than before: it
+//!   is for who reads a state, no turn needs it;
 //! - every other call takes the same few steps whatever stands in the lists.
 //!
 //! ```rust
@@ -35,13 +37,13 @@ use l4_types::ids::{GlobalId, ThreadId};
 use std::alloc::Global;
 use std::marker::Model;
 
+mod iter;
 mod links;
 mod ring_set;
-mod waiting_at;
 mod wheel;
 
+pub use iter::{ArmedBlocks, Blocks, Sends};
 use links::Rings;
-pub use waiting_at::WaitingAt;
 pub use wheel::Wheel;
 
 /// A send that waits.
@@ -145,8 +147,20 @@ impl Arena {
     }
 
     /// The block of the first send at a receiver that a receive phase with this specifier takes
-    /// (manual: Ipc, `FromSpecifier`).
+    /// (manual: Ipc, `FromSpecifier`). Mostly none waits.
+    #[inline(always)]
     pub fn first_accepted(&self, receiver: usize, spec: &ThreadId) -> Option<usize>
+        requires { receiver < length self.now.waiting }
+        ensures { result ≡ first_taken spec.now (list_of self.now receiver) }
+    {
+        match self.waiting.first(receiver) {
+            None => None,
+            Some(_) => self.first_accepted_among(receiver, spec),
+        }
+    }
+
+    // The same, where some wait.
+    fn first_accepted_among(&self, receiver: usize, spec: &ThreadId) -> Option<usize>
         requires { receiver < length self.now.waiting }
         ensures { result ≡ first_taken spec.now (list_of self.now receiver) }
     {
@@ -163,12 +177,34 @@ impl Arena {
     }
 
     /// The blocks whose sends wait at a receiver, in order.
-    pub fn waiting_at(&self, receiver: usize) -> WaitingAt<'_>
+    pub fn waiting_at(&self, receiver: usize) -> Blocks<'_>
         requires { receiver < length self.now.waiting }
         ensures blocks { result ≡ map (λ w. w.block) (list_of self.now receiver) }
         ensures below { All (λ block. block < length self.now.waiting) result }
     {
-        WaitingAt::new(&self.waiting, receiver)
+        Blocks::new(&self.waiting, receiver)
+    }
+
+    /// The sends that wait at a receiver, in order.
+    pub fn sends_at(&self, receiver: usize) -> Sends<'_>
+        requires { receiver < length self.now.waiting }
+        ensures { result ≡ list_of self.now receiver }
+    {
+        Sends::new(&self.waiting, &self.senders, receiver)
+    }
+
+    /// The ready blocks, in order.
+    pub fn ready_blocks(&self) -> Blocks<'_>
+        ensures { result ≡ self.now.ready }
+    {
+        Blocks::new(&self.ready, 0)
+    }
+
+    /// The armed blocks with their deadlines, by rising deadline, equal ones in order of arming.
+    pub fn armed_blocks(&self) -> ArmedBlocks<'_>
+        ensures { result ≡ self.now.armed }
+    {
+        ArmedBlocks::new(&self.wheel)
     }
 
     /// Whether a block is among the ready ones.

@@ -85,7 +85,9 @@ impl Rings {
     /// The name that comes after this one in its list.
     pub fn after(&self, name: usize) -> Option<usize>
         requires { name < self.now.names }
-        ensures { (head k : ℕ) → slice_get (list_at self.now head) k ≡ Some name → result ≡ slice_get (list_at self.now head) (k + 1) }
+        ensures after { (head k : ℕ) → slice_get (list_at self.now head) k ≡ Some name →
+            result ≡ slice_get (list_at self.now head) (k + 1) }
+        ensures sound { AreSound self.now }
     {
         let at = self.next[name];
         if at < self.names { Some(at) } else { None }

@@ -14,6 +14,8 @@ use l4_types::errors::NoMemory;
 use std::alloc::Global;
 use std::marker::Model;
 
+mod order;
+
 // A block armed for `d` stands in ring `d` modulo this, so blocks of equal deadlines share a ring.
 const RINGS: usize = 64;
 
@@ -113,17 +115,7 @@ impl Wheel {
     pub fn least_deadline(&self) -> Option<u64>
         ensures { result ≡ option_map (λ e. e.0) (slice_get (armed_of self.now) 0) }
     {
-        if self.first.is_some() {
-            return Some(self.floor);
-        }
-        let mut floors = self.floors;
-        let (deadline, _) = search(
-            &self.rings,
-            &self.deadlines,
-            self.filled,
-            &mut floors,
-            self.floor,
-        )?;
+        let (deadline, _) = self.first_armed()?;
         Some(deadline)
     }
 

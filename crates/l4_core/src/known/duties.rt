@@ -217,6 +217,7 @@ impl Known<'_> {
 
     /// Whether a thread of this processor has a duty, or a send of timeout zero may wait at it, as
     /// `may_have_zero` says.
+    #[inline(always)]
     pub(crate) fn may_have_duty(&self, place: usize, may_have_zero: bool) -> bool
         requires own { IsOwnOf self.now place }
         requires zeros { may_have_zero ≡ false → first_zero self.now.local (list_of self.now.local.lists place) ≡ None }

@@ -13,38 +13,48 @@ ghost use Rattle.l4_core.specs.Turning.{IsAtHand, IsOwnOf};
 
 use crate::known::Known;
 use l4_script::instructions::Ipc;
-use l4_types::ids::ThreadId;
 use l4_types::message_ref::MessageRef;
 use l4_types::steps::Name;
 
 impl Known<'_> {
-    /// The receiver of a send on the fast path: a thread of this processor that is receiving,
-    /// accepts the sender, and accepts none of those that wait at it. None where the send asks for
-    /// propagation.
-    pub(crate) fn fast_receiver(&self, place: usize, ipc: &Ipc) -> Option<usize>
+    /// The place of the thread that an Ipc of this one sends to now.
+    pub(crate) fn partner(&self, place: usize, ipc: &Ipc) -> Option<usize>
         requires { place < length self.now.machine.threads }
+        ensures value { result ≡ destination_place self.now.machine
+            (destination (thread self.now.local place).context (to_of ipc.now.to)) }
+        ensures within { IfSome result (λ partner. partner < length self.now.machine.threads) }
+    {
+        let to = self.tcb(place).thread().destination(ipc.to());
+        self.place_of(to.as_global()?)
+    }
+
+    /// The receiver that takes at once what the Ipc of a thread sends now to its partner: a thread
+    /// of this processor that waits, and accepts the sender before all that wait at it. A send that
+    /// asks for propagation is none of those.
+    pub(crate) fn fast_receiver(
+        &self,
+        place: usize,
+        ipc: &Ipc,
+        partner: Option<usize>,
+    ) -> Option<usize>
+        requires place { place < length self.now.machine.threads }
+        requires partner { partner ≡ destination_place self.now.machine
+            (destination (thread self.now.local place).context (to_of ipc.now.to)) }
+        requires within { IfSome partner (λ receiver. receiver < length self.now.machine.threads) }
         ensures value { result ≡ fast_receiver self.now.machine self.now.cpu self.now.local place
             (destination (thread self.now.local place).context (to_of ipc.now.to)) }
         ensures own { IfSome result (λ receiver. IsOwnOf self.now receiver) }
     {
+        let _ = ipc;
         if self.tcb(place).thread().propagates() {
             return None;
         }
-        let to = self.tcb(place).thread().destination(ipc.to());
-        let receiver = self.named(to)?;
+        let receiver = partner?;
         if self.is_own(receiver) && self.takes_at_once(receiver, place) {
             Some(receiver)
         } else {
             None
         }
-    }
-
-    // The place of the thread that an id names.
-    fn named(&self, id: ThreadId) -> Option<usize>
-        ensures value { result ≡ destination_place self.now.machine id }
-        ensures within { IfSome result (λ place. place < length self.now.machine.threads) }
-    {
-        self.place_of(id.as_global()?)
     }
 
     // Whether a thread is receiving, accepts an ordinary message of another one, and accepts none

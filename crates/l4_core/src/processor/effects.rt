@@ -26,7 +26,7 @@ ghost use Rattle.l4_core.specs.Processor.{with_local};
 ghost use Rattle.l4_core.specs.Tasks.{IsForeign};
 ghost use Rattle.l4_core.specs.Turning.{begun_by, IsAtHand, IsFree, IsNotSplit, IsOwnOf, IsReceiver, IsSender};
 
-use crate::processor::{Core, note, note_all, note_duty, note_own, note_zero};
+use crate::processor::{Core, note, note_all, note_duty, note_own, note_queued, note_zero};
 use l4_script::instructions::{Instr, Ipc};
 use l4_thread::changes::Change;
 use l4_thread::phases::Began;
@@ -99,10 +99,15 @@ impl Core<'_> {
         requires free { is_queued self.old.local.lists waiting.block ≡ false }
         ensures { self.new ≡ with_local self.old (relists (queued receiver waiting) self.old.local) }
     {
-        note(&self.known, &mut self.duties, receiver);
-        note_own(&self.known, &mut self.duties, waiting.block);
         note_zero(&self.known, &mut self.zeros, receiver, waiting.block);
         self.known.queue(receiver, waiting);
+        note_queued(
+            &self.known,
+            &mut self.duties,
+            &self.zeros,
+            receiver,
+            waiting.block,
+        );
     }
 
     /// Removes a send from the list that it waits in, if any.

@@ -12,6 +12,7 @@ ghost use Rattle.l4_core_model.specs.Local.{declared, thread, held};
 ghost use Rattle.l4_core_model.specs.Acts.{acts, gives_order, obeys, order_goes_to, runs_alone_at};
 ghost use Rattle.l4_thread.specs.Requests.{is_end};
 ghost use Rattle.l4_core.specs.Asking.{admitted_act, is_ipc};
+ghost use Rattle.l4_core.specs.FastPath.{partner_of};
 ghost use Rattle.l4_core.specs.Turning.{Does, IsAtHand, IsOwnOf};
 
 use crate::processor::Core;
@@ -73,10 +74,13 @@ impl Core<'_> {
     {
         let instr = self.known.instruction(place);
         match &instr {
-            Instr::Ipc(ipc) => match self.known.fast_receiver(place, ipc) {
-                Some(receiver) => self.send_fast(receiver, place, ipc, told),
-                None => self.ipc(place, &instr, told),
-            },
+            Instr::Ipc(ipc) => {
+                let partner = self.known.partner(place, ipc);
+                match self.known.fast_receiver(place, ipc, partner) {
+                    Some(receiver) => self.send_fast(receiver, place, ipc, told),
+                    None => self.ipc(place, &instr, partner, told),
+                }
+            }
             Instr::Order(target, what) => self.order(place, &instr, *target, *what, told),
             _ => self.run(place, &instr, told),
         }
@@ -95,11 +99,20 @@ impl Core<'_> {
         self.come_to(place, &Change::Run(*instr));
     }
 
-    // Runs an Ipc.
-    fn ipc<S: Sink>(&mut self, place: usize, instr: &Instr, told: &mut Told<S>)
+    // Runs an Ipc. Its send, where it has one, goes to its partner.
+    fn ipc<S: Sink>(
+        &mut self,
+        place: usize,
+        instr: &Instr,
+        partner: Option<usize>,
+        told: &mut Told<S>,
+    )
         requires hand { IsAtHand self.old place }
         requires instr { instr_of instr.now ≡ instruction (held self.old.machine self.old.local place) }
         requires ipc { is_ipc (instr_of instr.now) ≡ true }
+        requires partner { partner ≡ partner_of self.old.machine
+            (thread self.old.local place).context (instr_of instr.now) }
+        requires found { IfSome partner (λ receiver. receiver < length self.old.machine.threads) }
         requires within { is_end (instr_of instr.now) ≡ false → (thread self.old.local place).context.place < most_instructions }
         requires count { (thread self.old.local place).context.begun < self.old.local.stamp }
         requires room { 3 ≤ told.old.room }
@@ -112,7 +125,7 @@ impl Core<'_> {
             Began::Receive => told.tell(StepRef::Wait(self.known.id(place))),
             Began::Send => {
                 told.tell(StepRef::Begin(self.known.last_name(place)));
-                self.send(place, told);
+                self.send(place, partner, told);
             }
         }
     }

@@ -1,6 +1,6 @@
 //! What becomes of a send: it is refused, queued or delivered here, or goes to its receiver's
 //! processor.
-ghost use Rattle.std.specs.Prelude.{◌≡◌, ◌<◌, ◌≤◌, ◌+◌, Some, None, length, false};
+ghost use Rattle.std.specs.Prelude.{◌≡◌, ◌<◌, ◌≤◌, ◌+◌, Some, None, IfSome, length, false};
 ghost use Rattle.l4_model.specs.World.{Send};
 ghost use Rattle.l4_core_model.specs.Letters.{refusal_step};
 ghost use Rattle.l4_core_model.specs.Local.{thread, is_own};
@@ -109,15 +109,23 @@ impl Core<'_> {
         }
     }
 
-    /// Passes a begun send on to its destination.
-    pub(super) fn send<S: Sink>(&mut self, sender: usize, told: &mut Told<S>)
+    /// A begun send goes to its destination, the thread at a place that was found before.
+    pub(super) fn send<S: Sink>(
+        &mut self,
+        sender: usize,
+        partner: Option<usize>,
+        told: &mut Told<S>,
+    )
         requires sender { IsNewSender self.old sender }
+        requires partner { (send : Send) → (thread self.old.local sender).send ≡ Some send →
+            partner ≡ destination_place self.old.machine send.to }
+        requires within { IfSome partner (λ receiver. receiver < length self.old.machine.threads) }
         requires room { 2 ≤ told.old.room }
         requires slots { 2 ≤ told.old.slots }
         ensures { (send : Send) → (thread self.old.local sender).send ≡ Some send →
             Does (send_goes_to self.old.machine self.old.cpu sender send (destination_place self.old.machine send.to)) self.old self.new told.old told.new }
     {
-        match self.known.destination(sender) {
+        match partner {
             Some(receiver) if self.known.is_own(receiver) => self.arrive(receiver, sender, told),
             Some(receiver) => self.post_send(receiver, sender, told),
             None => self.refuse(sender, Refusal::Nobody, told),

@@ -32,7 +32,7 @@ loop-place-preserved c =
     let after : c.args.floor < c.index-deadline.result.now = omega (arith, from, is, c.if-deadline-floor.false) in
     let P : E → Type 0 = λ (e : E). c.args.floor < e.0 in
     record {
-      at_place = c.after-at.ensures c.args.ring k here;
+      at_place = c.after-at.ensures.after c.args.ring k here;
       best =
           ap (λ (z : E). Some z)
           (c.earlier.ensures

@@ -5,7 +5,7 @@ use Rattle.l4_core.specs.Parts.{AreCore}
 use Rattle.l4_core.specs.Processor.{Processor}
 use Rattle.l4_core.specs.Tellings.{with_step}
 use Rattle.l4_core.specs.Turning.{IsSender}
-use Rattle.l4_core.proofs.Beginning.{new_sender, act_sends}
+use Rattle.l4_core.proofs.Beginning.{new_sender, act_sends, goes_there}
 use Rattle.l4_core.proofs.processor.Core.ipc.Goals as goal
 
 pub last_name-requires : goal.last_name-requires
@@ -18,6 +18,11 @@ pub send-requires-clause-sender : goal.send-requires-clause-sender
 send-requires-clause-sender g c =
     let core = subst AreCore c.self.view_is c.len-few.ensures.core in
     new_sender c.args.self.now c.begin.new.self c.args.place _ core c.requires.hand c.begin.ensures.state (sym c.in-Send.is ∙ c.begin.ensures.began)
+
+pub send-requires-clause-partner : goal.send-requires-clause-partner
+send-requires-clause-partner g c = λ send has.
+    let core = subst AreCore c.self.view_is c.len-few.ensures.core in
+    goes_there c.args.self.now c.begin.new.self c.args.place _ c.args.partner core c.requires.hand (sym c.in-Send.is ∙ c.begin.ensures.began) c.begin.ensures.state c.requires.instr c.requires.partner send has
 
 pub returns-in-Send : goal.returns-in-Send
 returns-in-Send g c =

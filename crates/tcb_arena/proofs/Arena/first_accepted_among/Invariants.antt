@@ -2,7 +2,7 @@ use Rattle.std.specs.Prelude.{slice_get}
 use Rattle.std.proofs.Common.{◌≡◌, [], get_or}
 use Rattle.tcb_arena.specs.Rings.{AreSound}
 use Rattle.tcb_arena.proofs.Finding.{found_from}
-use Rattle.tcb_arena.proofs.Arena.first_accepted.Given as goal
+use Rattle.tcb_arena.proofs.Arena.first_accepted_among.Given as goal
 
 abbrev pub invariant-loop-place : goal.invariant-loop-place
 invariant-loop-place l =

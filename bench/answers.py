@@ -1,7 +1,8 @@
-"""Compares what an auditor tells of a trace with the second emulator: why a step is not possible, and which steps are. Prints counts.
+"""Compares what an auditor tells of a trace with the second emulator: why a step is not possible,
+and which steps are. Prints counts.
 
-The machines and histories are random, as in second.py. Asked are the whole trace of each, a beginning of it, and it with one field spoilt, and with one
-retarget late.
+The machines and histories are random, as in second.py. Asked are the whole trace of each, a
+beginning of it, and it with one field spoilt, and with one retarget late.
 """
 
 import collections
@@ -21,7 +22,7 @@ def answer(machine, history):
     for number, step in enumerate(history, 1):
         reason = reasons.first_false(world, step)
         if reason is not None:
-            # The conditions that tell reasons are others than those by which a world takes steps.
+            # What tells reasons is not that by which a world takes steps.
             assert not world.is_possible(step), (number, step, reason)
             first = f"refused {number} {reason}"
             break
@@ -34,16 +35,24 @@ class Files:
 
     def __init__(self, program, folder, part):
         self.program = program
-        self.machine_file, self.trace_file = f"{folder}/answers-{part}.l4", f"{folder}/answers-{part}.trace"
+        self.machine_file = f"{folder}/answers-{part}.l4"
+        self.trace_file = f"{folder}/answers-{part}.trace"
 
     def compare(self, text, trace, expected):
-        """Tests that the program prints this of a machine text and a trace. Ends with all that is needed to see why, where it prints something else."""
+        """Tests that the program prints this of a machine text and a trace. Ends with all that is
+        needed to see why, where it prints something else."""
         for name, said in (self.machine_file, text), (self.trace_file, trace):
             with open(name, "w") as file:
                 file.write(said)
-        told = subprocess.run([self.program, self.machine_file, self.trace_file], stdout=subprocess.PIPE, stderr=subprocess.STDOUT, text=True)
+        words = [self.program, self.machine_file, self.trace_file]
+        told = subprocess.run(words, stdout=subprocess.PIPE, stderr=subprocess.STDOUT, text=True)
         if told.returncode or told.stdout != expected:
-            sections = [("the machine", text), ("the trace", trace), ("the program says", told.stdout), ("the second emulator says", expected)]
+            sections = [
+                ("the machine", text),
+                ("the trace", trace),
+                ("the program says", told.stdout),
+                ("the second emulator says", expected),
+            ]
             sys.exit("\n".join(f"{head}:\n{body}" for head, body in sections))
 
 
@@ -80,7 +89,8 @@ def tried(files, dice, kind, counts):
 
 
 def main(program, folder, count, part):
-    files, dice, counts = Files(program, folder, part), random.Random(SEED + part), collections.Counter()
+    files, dice = Files(program, folder, part), random.Random(SEED + part)
+    counts = collections.Counter()
     for number in range(count):
         tried(files, dice, KINDS[number % len(KINDS)], counts)
     for what, number in counts.items():

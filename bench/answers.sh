@@ -1,15 +1,17 @@
 #!/bin/bash
-# Compares what an auditor tells of a step that is not possible, the reason and the steps that are possible instead, with the second emulator (answers.py).
-# Takes how many random histories, 1,000 where none is given. It ends at the first difference, and else prints counts.
+# Compares what an auditor tells of a step that is not possible, the reason and the steps that are
+# possible instead, with the second emulator (answers.py). Takes how many random histories, 1,000
+# where none is given. It ends at the first difference, and else prints counts.
 #
-# No command of l4run tells it, so a program that asks an auditor is built beside the repository. Its file ends in .in, since the gate wants no source
-# files but those of the repository's crates.
+# No command of l4run tells it, so a program that asks an auditor is built beside the repository.
+# Its file ends in .in, since the gate wants no source files but those of the repository's crates.
 set -eu -o pipefail
 # shellcheck source=bench/common.sh
 . "$(dirname "$0")/common.sh"
 built=$(mktemp -d)
 mkdir "$built/crates"
-crates="l4_model l4_core_model l4_types l4_words l4_history tcb_arena l4_script l4_thread l4_trace l4_audit"
+crates="l4_model l4_core_model l4_types l4_words l4_history tcb_arena l4_script l4_thread l4_trace"
+crates="$crates l4_audit"
 for crate in $crates; do
     cp -R "$BENCH/../crates/$crate" "$built/crates/"
     grep "^$crate:" "$BENCH/../crates.txt" >>"$built/crates.txt"

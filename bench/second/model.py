@@ -110,7 +110,7 @@ class World:
         return thread in self.members and self.members[thread].receives() and self.first_accepted(thread) is None
 
     def told(self, name):
-        """What the delivery of a send tells besides its name: the receiver, the senders, the tag and the words."""
+        """What the delivery of a send tells besides its name: receiver, senders, tag and words."""
         send = self.sends[name]
         return send.destination, send.shown, send.actual, threads.received_tag(self.machine, send), send.message
 
@@ -357,11 +357,14 @@ class World:
         if isinstance(instruction, machines.Order):
             yield "order", thread, instruction.target, instruction.what
         yield "obey", thread
-        yield from [("retarget", owed.name) for owed in self.owed.values() if owed.originator == thread]
+        own = (owed for owed in self.owed.values() if owed.originator == thread)
+        yield from (("retarget", owed.name) for owed in own)
 
     def possible(self):
-        """Every step but ticks that is possible, in order of declaration of threads, then of the table of steps. A retarget is its originator's."""
-        return [step for thread in self.members for step in self.candidates(thread) if self.is_possible(step)]
+        """Every step but ticks that is possible, in order of declaration of threads, then of the
+        table of steps. A retarget is its originator's."""
+        candidates = (step for thread in self.members for step in self.candidates(thread))
+        return [step for step in candidates if self.is_possible(step)]
 
     # What is said of a world.
 

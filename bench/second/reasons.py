@@ -1,7 +1,8 @@
-"""Why a step is not possible at a world: the first condition of its rule that does not hold, with what the world has in its place.
+"""Why a step is not possible at a world: the first condition of its rule that does not hold, with
+what the world has in its place.
 
-The conditions of a rule are told in its order, each with the reason that is told where it does not hold. They are asked one by one, so that each rests
-on those before it.
+The conditions of a rule are told in its order, each with the reason that is told where it does not
+hold. They are asked one by one, so that each rests on those before it.
 """
 
 from second import machines, threads, words
@@ -40,7 +41,7 @@ def of_receiving(world, thread):
 
 def of_none_accepted(world, thread):
     first = world.first_accepted(thread)
-    yield first is None, f"AcceptsFirst {words.spelled(first.thread) if first else words.NIL}"
+    yield first is None, first and f"AcceptsFirst {words.spelled(first.thread)}"
 
 
 def of_local(world, thread):
@@ -67,7 +68,7 @@ def of_queue(world, name):
 def of_deliver(world, name, receiver, shown, actual, tag, message):
     yield from of_receiver(world, name)
     destination = world.sends[name].destination
-    yield world.members[destination].receives(), f"NotReceiving {world.members[destination].state()}"
+    yield from of_receiving(world, destination)
     first = world.first_accepted(destination)
     yield first is not None, "AcceptsNone"
     yield first == name, f"NotFirst {words.spelled(first.thread)}"
@@ -83,7 +84,8 @@ def of_wait(world, thread):
     yield from of_ready(world, thread)
     context = world.members[thread].context
     ipc = context.instruction()
-    yield isinstance(ipc, machines.Ipc) and context.destination(ipc) == words.NIL and ipc.source != words.NIL, "NoReceivePhase"
+    is_ipc = isinstance(ipc, machines.Ipc) and context.destination(ipc) == words.NIL
+    yield is_ipc and ipc.source != words.NIL, "NoReceivePhase"
 
 
 def of_stimeout(world, name):
@@ -107,7 +109,8 @@ def of_snobody(world, name):
 
 def of_rnobody(world, thread):
     yield from of_receiving(world, thread)
-    yield world.is_closed_for_nobody(thread), f"HasPartner {words.spelled(world.members[thread].source)}"
+    source = world.members[thread].source
+    yield world.is_closed_for_nobody(thread), f"HasPartner {words.spelled(source)}"
     yield from of_none_accepted(world, thread)
 
 
@@ -131,8 +134,10 @@ def of_order(world, caller, target, what):
     yield from of_ready(world, caller)
     context = world.members[caller].context
     order = context.instruction()
-    yield isinstance(order, machines.Order) and threads.is_admitted(world.machine, context, order), "NoOrder"
-    yield order == machines.Order(target, what), f"OtherOrder {words.spelled(order.target)} {order.what}"
+    is_order = isinstance(order, machines.Order)
+    yield is_order and threads.is_admitted(world.machine, context, order), "NoOrder"
+    asked = f"{words.spelled(order.target)} {order.what}"
+    yield order == machines.Order(target, what), f"OtherOrder {asked}"
 
 
 def of_obey(world, caller):

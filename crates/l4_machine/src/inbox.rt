@@ -18,7 +18,7 @@ impl Inbox {
     ghost use Rattle.std.specs.Prelude.{◌≡◌, ◌<◌, ◌++◌, ◌∷◌, ◌↔◌, [], IfOk, IsTrue, OnOk, length, replicate};
     ghost use Rattle.l4_model.specs.World.{changed};
     ghost use Rattle.l4_types.specs.LetterView.{letter_of};
-    ghost use Rattle.l4_machine.specs.Inboxes.{letters_in, AreEmpty, PostsFirst, TakesFirst};
+    ghost use Rattle.l4_machine.specs.Inboxes.{letters_in, AreEmpty, PostsFirst, TakesFirst, TakesFrom};
 
     /// An empty inbox for this many processors.
     pub(crate) fn new(alloc: Global, cpus: u8) -> Result<Inbox, NoMemory>
@@ -34,8 +34,16 @@ impl Inbox {
         ensures { TakesFirst (letters_in self.old) result (letters_in self.new) }
     {
         let from = self.first_poster()?;
-        let letter = self.queues[usize::from(from)].pop_front()?;
+        let letter = self.take_from(from)?;
         Some((from, letter))
+    }
+
+    /// The first of the letters that came from this processor.
+    pub(crate) fn take_from(&mut self, from: u8) -> Option<Letter>
+        requires { from < length (letters_in self.old) }
+        ensures { TakesFrom from (letters_in self.old) result (letters_in self.new) }
+    {
+        self.queues[usize::from(from)].pop_front()
     }
 
     /// Appends a letter from a processor. Where memory is refused, the letter is lost.

@@ -1,0 +1,8 @@
+pub mod OfActs
+pub mod OfTurns
+pub mod OfLetters
+pub mod Mail
+pub mod OfSystems
+pub mod Replayed
+pub mod Named
+pub mod Widened

@@ -1,0 +1,10 @@
+pub mod Causes
+pub mod Diagnostics
+pub mod Faults
+pub mod Judging
+pub mod Operands
+pub mod Placed
+pub mod Readings
+pub mod States
+pub mod Statements
+pub mod Views

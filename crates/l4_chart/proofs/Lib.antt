@@ -1,0 +1,4 @@
+pub mod Ended
+pub mod Lawful
+pub mod Repeated
+pub mod Shown

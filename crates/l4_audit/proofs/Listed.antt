@@ -1,25 +1,40 @@
 -- Each possible step but a tick is listed, and no other, and none twice.
-use Rattle.std.proofs.Common.{◌≡◌, ℕ, ◌≤◌, ◌+◌, zero, suc, Bool, true, false, cond, Option, Some, None, List, [], ◌∷◌, ◌++◌, map, refl, ap, sym, ◌∙◌, subst, arith}
+use Rattle.std.proofs.Common.{◌≡◌, ℕ, ◌≤◌, ◌+◌, zero, suc, Bool, true, false, cond, Option, Some}
+use Rattle.std.proofs.Common.{None, List, [], ◌∷◌, ◌++◌, map, refl, ap, sym, ◌∙◌, subst, arith}
 use Rattle.std.specs.Prelude.{slice_get, filter_map, flat_map, is_some, option_map, ◌==◌, find, ◌↔◌}
 use Rattle.std.specs.List.{cons_option, AllByRecursion}
 use Rattle.std.proofs.lemmas.Bool.{eqb-true}
 use Rattle.std.proofs.lemmas.Option.{slice_get_within, get_or_from_slice_get}
 use Rattle.std.proofs.lemmas.Slice.Eq.{bytes_eq-Decides}
 use Rattle.l4_model.specs.Words.{GlobalId, same_id}
-use Rattle.l4_model.specs.Machine.{Machine, Declaration, What, CancelSend, CancelReceive, CancelBoth, Delete, place_of}
+use Rattle.l4_model.specs.Machine.{Machine, Declaration, What, CancelSend, CancelReceive}
+use Rattle.l4_model.specs.Machine.{CancelBoth, Delete, place_of}
 use Rattle.l4_model.specs.World.{Name, Owed, Asked, World, same_name}
 use Rattle.l4_model.specs.Rules.{received_tag, is_cross}
-use Rattle.l4_model.specs.Conditions.{◌>>=◌, ◌>>◌, Found, Pending, found, undecided, receiver_of, act_of}
-use Rattle.l4_model.specs.Steps.{Step, Local, Begin, Queue, Deliver, Wait, SendTimeout, ReceiveTimeout, SendNobody, ReceiveNobody, SendCancel, ReceiveCancel, Drop, Order, Obey, Tick, Retarget, order_of, next, what_code}
+use Rattle.l4_model.specs.Conditions.{◌>>=◌, ◌>>◌, Found, Pending, found, undecided, receiver_of}
+use Rattle.l4_model.specs.Conditions.{act_of}
+use Rattle.l4_model.specs.Steps.{Step, Local, Begin, Queue, Deliver, Wait, SendTimeout}
+use Rattle.l4_model.specs.Steps.{ReceiveTimeout, SendNobody, ReceiveNobody, SendCancel}
+use Rattle.l4_model.specs.Steps.{ReceiveCancel, Drop, Order, Obey, Tick, Retarget, order_of, next}
+use Rattle.l4_model.specs.Steps.{what_code}
 use Rattle.l4_model.specs.Reached.{AreNamedOnce}
 use Rattle.l4_model.specs.Still.{is_tick}
 use Rattle.l4_model.proofs.Chains.{bind_then, guard_then, some_is, get-map}
-use Rattle.l4_model.proofs.Inversions.{local_taken, begin_taken, queue_taken, deliver_taken, wait_taken, send_timeout_taken, send_nobody_taken, send_cancel_taken, drop_taken, receive_timeout_taken, receive_nobody_taken, receive_cancel_taken, order_taken, obey_taken, retarget_taken}
-use Rattle.l4_model.proofs.Places.{and_true, eqb_same, id_of, known, sender_found, same_id_is, same_name_is, same_name_refl, known_send}
+use Rattle.l4_model.proofs.Inversions.{local_taken, begin_taken, queue_taken, deliver_taken}
+use Rattle.l4_model.proofs.Inversions.{wait_taken, send_timeout_taken, send_nobody_taken}
+use Rattle.l4_model.proofs.Inversions.{send_cancel_taken, drop_taken, receive_timeout_taken}
+use Rattle.l4_model.proofs.Inversions.{receive_nobody_taken, receive_cancel_taken, order_taken}
+use Rattle.l4_model.proofs.Inversions.{obey_taken, retarget_taken}
+use Rattle.l4_model.proofs.Places.{and_true, eqb_same, id_of, known, sender_found, same_id_is}
+use Rattle.l4_model.proofs.Places.{same_name_is, same_name_refl, known_send}
 use Rattle.l4_model.proofs.Worlds.{reached_facts}
 use Rattle.l4_core_model.specs.Local.{declared, undeclared}
 use Rattle.l4_core_model.specs.Runs.{IsMachine}
-use Rattle.l4_audit.specs.Possible.{is_number, name_of, delivery, order, turn, in_order, candidates, where_possible, possible_of, possible, has_number, IsOpen, IsListed, AreListedOnce, ListsPossible}
+use Rattle.l4_audit.specs.Possible.{is_number, told, name_of, coming_name, last_name, delivery}
+use Rattle.l4_audit.specs.Possible.{order, turn}
+use Rattle.l4_audit.specs.Possible.{in_order, candidates}
+use Rattle.l4_audit.specs.Possible.{where_possible, possible_of, possible, has_number, IsOpen}
+use Rattle.l4_audit.specs.Possible.{IsListed, AreListedOnce, ListsPossible}
 
 -- Standing in a list
 
@@ -27,7 +42,8 @@ abbrev IsIn : {A : Type 0} → A → List A → Type 0
 IsIn x xs = (i : ℕ) × (slice_get xs i ≡ Some x)
 
 -- What a list gives by a function that may give nothing.
-in_filter_map : {A B : Type 0} (f : A → Option B) (xs : List A) (i : ℕ) (x : A) (y : B) → slice_get xs i ≡ Some x → f x ≡ Some y → IsIn y (filter_map f xs)
+in_filter_map : {A B : Type 0} (f : A → Option B) (xs : List A) (i : ℕ) (x : A) (y : B) →
+    slice_get xs i ≡ Some x → f x ≡ Some y → IsIn y (filter_map f xs)
 in_filter_map f [] i x y at e = cc
 in_filter_map f (z ∷ xs) zero x y at e = rw (some_is z x at, e) (0, refl)
 in_filter_map {B = B} f (z ∷ xs) (suc i) x y at e = by (f z) (in_filter_map f xs i x y at e)
@@ -36,25 +52,32 @@ in_filter_map {B = B} f (z ∷ xs) (suc i) x y at e = by (f z) (in_filter_map f 
     by None rest = rest
     by (Some v) rest = (suc rest.0, rest.1)
 
-in_left : {A : Type 0} (xs ys : List A) (i : ℕ) (x : A) → slice_get xs i ≡ Some x → IsIn x (xs ++ ys)
+in_left : {A : Type 0} (xs ys : List A) (i : ℕ) (x : A) → slice_get xs i ≡ Some x →
+    IsIn x (xs ++ ys)
 in_left [] ys i x at = cc
 in_left (z ∷ xs) ys zero x at = (0, at)
 in_left (z ∷ xs) ys (suc i) x at = let r = in_left xs ys i x at in (suc r.0, r.1)
 
-in_right : {A : Type 0} (xs ys : List A) (i : ℕ) (x : A) → slice_get ys i ≡ Some x → IsIn x (xs ++ ys)
+in_right : {A : Type 0} (xs ys : List A) (i : ℕ) (x : A) → slice_get ys i ≡ Some x →
+    IsIn x (xs ++ ys)
 in_right [] ys i x at = (i, at)
 in_right (z ∷ xs) ys i x at = let r = in_right xs ys i x at in (suc r.0, r.1)
 
-in_flat_map : {A B : Type 0} (f : A → List B) (xs : List A) (i : ℕ) (x : A) (j : ℕ) (y : B) → slice_get xs i ≡ Some x → slice_get (f x) j ≡ Some y → IsIn y (flat_map f xs)
+in_flat_map : {A B : Type 0} (f : A → List B) (xs : List A) (i : ℕ) (x : A) (j : ℕ) (y : B) →
+    slice_get xs i ≡ Some x → slice_get (f x) j ≡ Some y → IsIn y (flat_map f xs)
 in_flat_map f [] i x j y at here = cc
-in_flat_map f (z ∷ xs) zero x j y at here = in_left (f z) (flat_map f xs) j y (rw (some_is z x at) here)
-in_flat_map f (z ∷ xs) (suc i) x j y at here = let r = in_flat_map f xs i x j y at here in in_right (f z) (flat_map f xs) r.0 y r.1
+in_flat_map f (z ∷ xs) zero x j y at here =
+    in_left (f z) (flat_map f xs) j y (rw (some_is z x at) here)
+in_flat_map f (z ∷ xs) (suc i) x j y at here =
+    let r = in_flat_map f xs i x j y at here in in_right (f z) (flat_map f xs) r.0 y r.1
 
 -- Where an element of two lists stands.
-in_append : {A P : Type 0} (xs ys : List A) (i : ℕ) (x : A) → slice_get (xs ++ ys) i ≡ Some x → (IsIn x xs → P) → (IsIn x ys → P) → P
+in_append : {A P : Type 0} (xs ys : List A) (i : ℕ) (x : A) → slice_get (xs ++ ys) i ≡ Some x →
+    (IsIn x xs → P) → (IsIn x ys → P) → P
 in_append [] ys i x at left right = right (i, at)
 in_append (z ∷ xs) ys zero x at left right = left (0, at)
-in_append (z ∷ xs) ys (suc i) x at left right = in_append xs ys i x at (λ h. left (suc h.0, h.1)) right
+in_append (z ∷ xs) ys (suc i) x at left right =
+    in_append xs ys i x at (λ h. left (suc h.0, h.1)) right
 
 record OfList {A B : Type 0} (f : A → List B) (xs : List A) (y : B) : Type 0 where
   pub i : ℕ
@@ -62,50 +85,73 @@ record OfList {A B : Type 0} (f : A → List B) (xs : List A) (y : B) : Type 0 w
   pub at : slice_get xs i ≡ Some x
   pub inside : IsIn y (f x)
 
-of_flat_map : {A B : Type 0} (f : A → List B) (xs : List A) (j : ℕ) (y : B) → slice_get (flat_map f xs) j ≡ Some y → OfList f xs y
+of_flat_map : {A B : Type 0} (f : A → List B) (xs : List A) (j : ℕ) (y : B) →
+    slice_get (flat_map f xs) j ≡ Some y → OfList f xs y
 of_flat_map f [] j y at = cc
 of_flat_map f (z ∷ xs) j y at =
     in_append (f z) (flat_map f xs) j y at
     (λ here. record { i = 0; x = z; at = refl; inside = here })
-    (λ later. let r = of_flat_map f xs later.0 y later.1 in record { i = suc r.i; x = r.x; at = r.at; inside = r.inside })
+    (λ later.
+    let r = of_flat_map f xs later.0 y later.1 in
+    record { i = suc r.i; x = r.x; at = r.at; inside = r.inside })
 
-find_at : {A : Type 0} (p : A → Bool) (xs : List A) (x : A) → find p xs ≡ Some x → IsIn x xs × (p x ≡ true)
+find_at : {A : Type 0} (p : A → Bool) (xs : List A) (x : A) → find p xs ≡ Some x →
+    IsIn x xs × (p x ≡ true)
 find_at p [] x h = cc
 find_at p (y ∷ xs) x h = by (p y) refl h (find_at p xs x)
   where
-    by : (b : Bool) → p y ≡ b → cond b (Some y) (find p xs) ≡ Some x → (find p xs ≡ Some x → IsIn x xs × (p x ≡ true)) → IsIn x (y ∷ xs) × (p x ≡ true)
+    by : (b : Bool) → p y ≡ b → cond b (Some y) (find p xs) ≡ Some x →
+        (find p xs ≡ Some x → IsIn x xs × (p x ≡ true)) → IsIn x (y ∷ xs) × (p x ≡ true)
     by true is h rest = ((0, h), ap p (sym (some_is y x h)) ∙ is)
     by false is h rest = let r = rest h in ((suc r.0.0, r.0.1), r.1)
 
 -- Each possible step is listed
 
-shown_possible : (m : Machine) (w : World) (step : Step) → is_some (next m w step) ≡ true → where_possible m w (Some step) ≡ Some step
+abbrev listed_of : Machine → World → Declaration → List Step
+listed_of m w d = possible_of m w (found m w d.id)
+
+shown_possible : (m : Machine) (w : World) (step : Step) → is_some (next m w step) ≡ true →
+    where_possible m w (Some step) ≡ Some step
 shown_possible m w step h = rw h refl
 
 -- A candidate is listed where it is possible.
-listed_in : (m : Machine) (w : World) (id : GlobalId) (t : Found) (step : Step) → found m w id ≡ Some t → IsIn (Some step) (candidates m w t) → is_some (next m w step) ≡ true → IsListed step (possible m w)
+listed_in : (m : Machine) (w : World) (id : GlobalId) (t : Found) (step : Step) →
+    found m w id ≡ Some t → IsIn (Some step) (candidates m w t) → is_some (next m w step) ≡ true →
+    IsListed step (possible m w)
 listed_in m w id t step is at h =
     let k = known m w id t is in
     let here : found m w t.declared.id ≡ Some t = ap (found m w) (id_of m w id t is).0 ∙ is in
-    let one = in_filter_map (where_possible m w) (candidates m w t) at.0 (Some step) step at.1 (shown_possible m w step h) in
-    in_flat_map (λ (d : Declaration). possible_of m w (found m w d.id)) m.threads t.at t.declared one.0 step k.declared (ap (λ o. slice_get (possible_of m w o) one.0) here ∙ one.1)
+    let shown = shown_possible m w step h in
+    let one =
+    in_filter_map (where_possible m w) (candidates m w t) at.0 (Some step) step at.1 shown in
+    let there = ap (λ o. slice_get (possible_of m w o) one.0) here ∙ one.1 in
+    in_flat_map (listed_of m w) m.threads t.at t.declared one.0 step k.declared there
 
-named_some : (id : GlobalId) (k : ℕ) → is_number k ≡ true → name_of id k ≡ Some (record { thread = id; k = k })
+named_some : (id : GlobalId) (k : ℕ) → is_number k ≡ true →
+    name_of id k ≡ Some (record { thread = id; k = k })
 named_some id k h = by (is_number k) h
   where
-    by : (b : Bool) → b ≡ true → cond {A = Option Name} b (Some (record { thread = id; k = k })) None ≡ Some (record { thread = id; k = k })
+    by : (b : Bool) → b ≡ true →
+        cond {A = Option Name} b (Some (record { thread = id; k = k })) None
+        ≡ Some (record { thread = id; k = k })
     by true h = refl
     by false h = cc
 
 -- The names of the sends of a thread that was found.
 
-coming_is : (m : Machine) (w : World) (s : Name) (t : Found) → found m w s.thread ≡ Some t → (s.k == t.now.context.begun + 1) ≡ true → is_number s.k ≡ true → name_of t.declared.id (t.now.context.begun + 1) ≡ Some s
+coming_is : (m : Machine) (w : World) (s : Name) (t : Found) → found m w s.thread ≡ Some t →
+    (s.k == t.now.context.begun + 1) ≡ true → is_number s.k ≡ true →
+    name_of t.declared.id (t.now.context.begun + 1) ≡ Some s
 coming_is m w s t is k number =
-    ap (λ id. name_of id (t.now.context.begun + 1)) (id_of m w s.thread t is).0 ∙ ap (name_of s.thread) (sym (eqb-true s.k (t.now.context.begun + 1) k)) ∙ named_some s.thread s.k number
+    ap (λ id. name_of id (t.now.context.begun + 1)) (id_of m w s.thread t is).0
+    ∙ ap (name_of s.thread) (sym (eqb-true s.k (t.now.context.begun + 1) k))
+    ∙ named_some s.thread s.k number
 
-last_is : (m : Machine) (w : World) (s : Name) (p : Pending) → undecided m w s ≡ Some p → is_number s.k ≡ true → name_of p.sender.declared.id p.sender.now.context.begun ≡ Some s
+last_is : (m : Machine) (w : World) (s : Name) (p : Pending) → undecided m w s ≡ Some p →
+    is_number s.k ≡ true → name_of p.sender.declared.id p.sender.now.context.begun ≡ Some s
 last_is m w s p is number =
-    ap (λ id. name_of id p.sender.now.context.begun) (id_of m w s.thread p.sender (sender_found m w s p is)).0
+    let sender = sender_found m w s p is in
+    ap (λ id. name_of id p.sender.now.context.begun) (id_of m w s.thread p.sender sender).0
     ∙ ap (name_of s.thread) (known_send m w s p is).last ∙ named_some s.thread s.k number
 
 what_is : (a b : What) → (what_code a == what_code b) ≡ true → a ≡ b
@@ -129,100 +175,149 @@ what_is Delete Delete h = refl
 same_id_refl : (a : GlobalId) → same_id a a ≡ true
 same_id_refl a = rw (eqb_same a.number, eqb_same a.version)
 
-delivery_is : (m : Machine) (w : World) (s : Name) (p : Pending) (r : Found) → undecided m w s ≡ Some p → receiver_of m w p ≡ Some r →
+delivery_is : (m : Machine) (w : World) (s : Name) (p : Pending) (r : Found) →
+    undecided m w s ≡ Some p → receiver_of m w p ≡ Some r →
     delivery m w (Some s)
-    ≡ Some (Deliver s r.declared.id p.send.message.shown p.send.message.actual (received_tag (is_cross m r.declared.id p.send.message) p.send.message) p.send.message.words)
+    ≡ Some (told s r.declared.id p.send.message (is_cross m r.declared.id p.send.message))
 delivery_is m w s p r is to = rw (is, to) refl
 
-delivery_listed : (m : Machine) (w v : World) (s : Name) (receiver shown actual : GlobalId) (tag : ℕ) (words : List ℕ) → next m w (Deliver s receiver shown actual tag words) ≡ Some v → is_number s.k ≡ true →
+-- A step is listed where the same step, as it is told there, is.
+listed_as : (m : Machine) {v : World} (w : World) (step x : Step) → step ≡ x →
+    next m w step ≡ Some v → (is_some (next m w x) ≡ true → IsListed x (possible m w)) →
+    IsListed step (possible m w)
+listed_as m w step x same h listed =
+    let possible_so : is_some (next m w x) ≡ true =
+    ap (λ y. is_some (next m w y)) (sym same) ∙ ap is_some h in
+    subst (λ y. IsListed y (possible m w)) (sym same) (listed possible_so)
+
+delivery_listed : (m : Machine) (w v : World) (s : Name) (receiver shown actual : GlobalId)
+    (tag : ℕ) (words : List ℕ) →
+    next m w (Deliver s receiver shown actual tag words) ≡ Some v → is_number s.k ≡ true →
     IsListed (Deliver s receiver shown actual tag words) (possible m w)
 delivery_listed m w v s receiver shown actual tag words h number =
     let k = deliver_taken m w v s receiver shown actual tag words h in
     let message = k.p.send.message in
-    let told : Step = Deliver s k.r.declared.id message.shown message.actual (received_tag (is_cross m k.r.declared.id message) message) message.words in
-    let receiver_is : receiver ≡ k.r.declared.id = same_id_is receiver k.r.declared.id k.same_receiver in
-    let tag_is : tag ≡ received_tag (is_cross m k.r.declared.id message) message = eqb-true tag _ k.same_tag ∙ ap (λ r. received_tag (is_cross m r message) message) receiver_is in
-    let same : Deliver s receiver shown actual tag words ≡ told =
+    let cross = is_cross m k.r.declared.id message in
+    let as_sent : Step = told s k.r.declared.id message cross in
+    let receiver_is : receiver ≡ k.r.declared.id =
+    same_id_is receiver k.r.declared.id k.same_receiver in
+    let tag_is : tag ≡ received_tag (is_cross m k.r.declared.id message) message =
+    eqb-true tag _ k.same_tag
+    ∙ ap (λ r. received_tag (is_cross m r message) message) receiver_is in
+    let same : Deliver s receiver shown actual tag words ≡ as_sent =
     ap (λ x. Deliver s x shown actual tag words) receiver_is
-    ∙ ap (λ x. Deliver s k.r.declared.id x actual tag words) (same_id_is shown message.shown k.same_shown)
-    ∙ ap (λ x. Deliver s k.r.declared.id message.shown x tag words) (same_id_is actual message.actual k.same_actual)
+    ∙ ap (λ x. Deliver s k.r.declared.id x actual tag words)
+    (same_id_is shown message.shown k.same_shown)
+    ∙ ap (λ x. Deliver s k.r.declared.id message.shown x tag words)
+    (same_id_is actual message.actual k.same_actual)
     ∙ ap (λ x. Deliver s k.r.declared.id message.shown message.actual x words) tag_is
-    ∙ ap (λ x. Deliver s k.r.declared.id message.shown message.actual (received_tag (is_cross m k.r.declared.id message) message) x) ((bytes_eq-Decides words message.words).0 k.same_words) in
-    let at : slice_get (candidates m w k.p.sender) 3 ≡ Some (Some told) =
-    ap (λ o. Some (delivery m w o)) (last_is m w s k.p k.is_undecided number) ∙ ap Some (delivery_is m w s k.p k.r k.is_undecided k.to) in
-    let possible_so : is_some (next m w told) ≡ true = ap (λ x. is_some (next m w x)) (sym same) ∙ ap is_some h in
-    subst (λ x. IsListed x (possible m w)) (sym same) (listed_in m w s.thread k.p.sender told (sender_found m w s k.p k.is_undecided) (3, at) possible_so)
+    ∙ ap
+    (λ x. Deliver s k.r.declared.id message.shown message.actual (received_tag cross message) x)
+    ((bytes_eq-Decides words message.words).0 k.same_words) in
+    let at : slice_get (candidates m w k.p.sender) 3 ≡ Some (Some as_sent) =
+    ap (λ o. Some (delivery m w o)) (last_is m w s k.p k.is_undecided number)
+    ∙ ap Some (delivery_is m w s k.p k.r k.is_undecided k.to) in
+    let sender = sender_found m w s k.p k.is_undecided in
+    listed_as m w _ as_sent same h (listed_in m w s.thread k.p.sender as_sent sender (3, at))
 
-order_listed : (m : Machine) (w v : World) (caller target : GlobalId) (what : What) → next m w (Order caller target what) ≡ Some v → IsListed (Order caller target what) (possible m w)
+order_listed : (m : Machine) (w v : World) (caller target : GlobalId) (what : What) →
+    next m w (Order caller target what) ≡ Some v →
+    IsListed (Order caller target what) (possible m w)
 order_listed m w v caller target what h =
     let k = order_taken m w v caller target what h in
-    let both = and_true (same_id target k.order.target) (what_code what == what_code k.order.what) k.same_order in
-    let told : Step = Order caller k.order.target k.order.what in
-    let same : Order caller target what ≡ told =
-    ap (λ x. Order caller x what) (same_id_is target k.order.target both.0) ∙ ap (Order caller k.order.target) (what_is what k.order.what both.1) in
-    let at : slice_get (candidates m w k.t) 12 ≡ Some (Some told) =
-    ap (λ x. Some (order x (order_of (act_of m k.t)))) (id_of m w caller k.t k.found).0 ∙ ap (λ o. Some (order caller o)) k.ordered in
-    let possible_so : is_some (next m w told) ≡ true = ap (λ x. is_some (next m w x)) (sym same) ∙ ap is_some h in
-    subst (λ x. IsListed x (possible m w)) (sym same) (listed_in m w caller k.t told k.found (12, at) possible_so)
+    let asked = k.order in
+    let both =
+    and_true (same_id target asked.target) (what_code what == what_code asked.what) k.same_order in
+    let as_asked : Step = Order caller asked.target asked.what in
+    let same : Order caller target what ≡ as_asked =
+    ap (λ x. Order caller x what) (same_id_is target asked.target both.0)
+    ∙ ap (Order caller asked.target) (what_is what asked.what both.1) in
+    let at : slice_get (candidates m w k.t) 12 ≡ Some (Some as_asked) =
+    ap (λ x. Some (order x (order_of (act_of m k.t)))) (id_of m w caller k.t k.found).0
+    ∙ ap (λ o. Some (order caller o)) k.ordered in
+    listed_as m w _ as_asked same h (listed_in m w caller k.t as_asked k.found (12, at))
 
 turn_is : (id : GlobalId) (o : Owed) → id ≡ o.originator → turn id o ≡ Some (Retarget o.send)
 turn_is id o e =
     let same : same_id id o.originator ≡ true = ap (same_id id) (sym e) ∙ same_id_refl id in
     rw same refl
 
-retarget_listed : (m : Machine) (w v : World) (s : Name) → next m w (Retarget s) ≡ Some v → IsListed (Retarget s) (possible m w)
+retarget_listed : (m : Machine) (w v : World) (s : Name) → next m w (Retarget s) ≡ Some v →
+    IsListed (Retarget s) (possible m w)
 retarget_listed m w v s h =
     let k = retarget_taken m w v s h in
     let there = find_at (λ (o : Owed). same_name s o.send) w.owed k.o k.is_owed in
     let same : Retarget s ≡ Retarget k.o.send = ap Retarget (same_name_is s k.o.send there.1) in
     let id : GlobalId = k.t.declared.id in
     let at : slice_get (map (turn id) w.owed) there.0.0 ≡ Some (Some (Retarget k.o.send)) =
-    get-map (turn id) w.owed there.0.0 k.o there.0.1 ∙ ap Some (turn_is id k.o (id_of m w k.o.originator k.t k.found).0) in
+    get-map (turn id) w.owed there.0.0 k.o there.0.1
+    ∙ ap Some (turn_is id k.o (id_of m w k.o.originator k.t k.found).0) in
+    let others = in_order m w k.t id (coming_name k.t) (last_name k.t) in
     let inside : IsIn (Some (Retarget k.o.send)) (candidates m w k.t) =
-    in_right (in_order m w k.t id (name_of id (k.t.now.context.begun + 1)) (name_of id k.t.now.context.begun)) (map (turn id) w.owed) there.0.0 (Some (Retarget k.o.send)) at in
-    let possible_so : is_some (next m w (Retarget k.o.send)) ≡ true = ap (λ x. is_some (next m w x)) (sym same) ∙ ap is_some h in
-    subst (λ x. IsListed x (possible m w)) (sym same) (listed_in m w k.o.originator k.t (Retarget k.o.send) k.found inside possible_so)
+    in_right others (map (turn id) w.owed) there.0.0 (Some (Retarget k.o.send)) at in
+    let as_owed : Step = Retarget k.o.send in
+    listed_as m w _ as_owed same h (listed_in m w k.o.originator k.t as_owed k.found inside)
 
--- One case for each step; the number is the place in the table.
-all_listed : (m : Machine) (w v : World) (step : Step) → next m w step ≡ Some v → is_tick step ≡ false → has_number step ≡ true → IsListed step (possible m w)
+-- A step of a thread, and of its last send, is listed from its place in the table of steps.
+
+of_thread : (m : Machine) (w : World) (id : GlobalId) (t : Found) (n : ℕ) (f : GlobalId → Step) →
+    found m w id ≡ Some t → slice_get (candidates m w t) n ≡ Some (Some (f t.declared.id)) →
+    is_some (next m w (f id)) ≡ true → IsListed (f id) (possible m w)
+of_thread m w id t n f is at h =
+    let there = at ∙ ap (λ x. Some (Some (f x))) (id_of m w id t is).0 in
+    listed_in m w id t (f id) is (n, there) h
+
+of_send : (m : Machine) (w : World) (s : Name) (p : Pending) (n : ℕ) (f : Name → Step) →
+    undecided m w s ≡ Some p → is_number s.k ≡ true →
+    slice_get (candidates m w p.sender) n ≡ Some (option_map f (last_name p.sender)) →
+    is_some (next m w (f s)) ≡ true → IsListed (f s) (possible m w)
+of_send m w s p n f is number at h =
+    let there = at ∙ ap (λ o. Some (option_map f o)) (last_is m w s p is number) in
+    listed_in m w s.thread p.sender (f s) (sender_found m w s p is) (n, there) h
+
+all_listed : (m : Machine) (w v : World) (step : Step) → next m w step ≡ Some v →
+    is_tick step ≡ false → has_number step ≡ true → IsListed step (possible m w)
 all_listed m w v (Local id) h tick number =
     let k = local_taken m w v id h in
-    listed_in m w id k.t (Local id) k.found (0, ap (λ x. Some (Some (Local x))) (id_of m w id k.t k.found).0) (ap is_some h)
+    of_thread m w id k.t 0 Local k.found refl (ap is_some h)
 all_listed m w v (Begin s) h tick number =
     let k = begin_taken m w v s h in
-    listed_in m w s.thread k.t (Begin s) k.found (1, ap (λ o. Some (option_map Begin o)) (coming_is m w s k.t k.found k.next_k number)) (ap is_some h)
+    let there = ap (λ o. Some (option_map Begin o)) (coming_is m w s k.t k.found k.next_k number) in
+    listed_in m w s.thread k.t (Begin s) k.found (1, there) (ap is_some h)
 all_listed m w v (Queue s) h tick number =
     let k = queue_taken m w v s h in
-    listed_in m w s.thread k.p.sender (Queue s) (sender_found m w s k.p k.is_undecided) (2, ap (λ o. Some (option_map Queue o)) (last_is m w s k.p k.is_undecided number)) (ap is_some h)
-all_listed m w v (Deliver s receiver shown actual tag words) h tick number = delivery_listed m w v s receiver shown actual tag words h number
+    of_send m w s k.p 2 Queue k.is_undecided number refl (ap is_some h)
+all_listed m w v (Deliver s receiver shown actual tag words) h tick number =
+    delivery_listed m w v s receiver shown actual tag words h number
 all_listed m w v (Wait id) h tick number =
     let k = wait_taken m w v id h in
-    listed_in m w id k.t (Wait id) k.found (4, ap (λ x. Some (Some (Wait x))) (id_of m w id k.t k.found).0) (ap is_some h)
+    of_thread m w id k.t 4 Wait k.found refl (ap is_some h)
 all_listed m w v (SendTimeout s) h tick number =
     let k = send_timeout_taken m w v s h in
-    listed_in m w s.thread k.p.sender (SendTimeout s) (sender_found m w s k.p k.is_undecided) (5, ap (λ o. Some (option_map SendTimeout o)) (last_is m w s k.p k.is_undecided number)) (ap is_some h)
+    of_send m w s k.p 5 SendTimeout k.is_undecided number refl (ap is_some h)
 all_listed m w v (ReceiveTimeout id) h tick number =
     let k = receive_timeout_taken m w v id h in
-    listed_in m w id k.t (ReceiveTimeout id) k.found (6, ap (λ x. Some (Some (ReceiveTimeout x))) (id_of m w id k.t k.found).0) (ap is_some h)
+    of_thread m w id k.t 6 ReceiveTimeout k.found refl (ap is_some h)
 all_listed m w v (SendNobody s) h tick number =
     let k = send_nobody_taken m w v s h in
-    listed_in m w s.thread k.p.sender (SendNobody s) (sender_found m w s k.p k.is_undecided) (7, ap (λ o. Some (option_map SendNobody o)) (last_is m w s k.p k.is_undecided number)) (ap is_some h)
+    of_send m w s k.p 7 SendNobody k.is_undecided number refl (ap is_some h)
 all_listed m w v (ReceiveNobody id) h tick number =
     let k = receive_nobody_taken m w v id h in
-    listed_in m w id k.t (ReceiveNobody id) k.found (8, ap (λ x. Some (Some (ReceiveNobody x))) (id_of m w id k.t k.found).0) (ap is_some h)
+    of_thread m w id k.t 8 ReceiveNobody k.found refl (ap is_some h)
 all_listed m w v (SendCancel s) h tick number =
     let k = send_cancel_taken m w v s h in
-    listed_in m w s.thread k.p.sender (SendCancel s) (sender_found m w s k.p k.is_undecided) (9, ap (λ o. Some (option_map SendCancel o)) (last_is m w s k.p k.is_undecided number)) (ap is_some h)
+    of_send m w s k.p 9 SendCancel k.is_undecided number refl (ap is_some h)
 all_listed m w v (ReceiveCancel id) h tick number =
     let k = receive_cancel_taken m w v id h in
-    listed_in m w id k.t (ReceiveCancel id) k.found (10, ap (λ x. Some (Some (ReceiveCancel x))) (id_of m w id k.t k.found).0) (ap is_some h)
+    of_thread m w id k.t 10 ReceiveCancel k.found refl (ap is_some h)
 all_listed m w v (Drop s) h tick number =
     let k = drop_taken m w v s h in
-    listed_in m w s.thread k.p.sender (Drop s) (sender_found m w s k.p k.is_undecided) (11, ap (λ o. Some (option_map Drop o)) (last_is m w s k.p k.is_undecided number)) (ap is_some h)
-all_listed m w v (Order caller target what) h tick number = order_listed m w v caller target what h
+    of_send m w s k.p 11 Drop k.is_undecided number refl (ap is_some h)
+all_listed m w v (Order caller target what) h tick number =
+    order_listed m w v caller target what h
 all_listed m w v (Obey id) h tick number =
     let k = obey_taken m w v id h in
-    listed_in m w id k.t (Obey id) k.found (13, ap (λ x. Some (Some (Obey x))) (id_of m w id k.t k.found).0) (ap is_some h)
+    of_thread m w id k.t 13 Obey k.found refl (ap is_some h)
 all_listed m w v (Tick cpu clock) h tick number = cc
 all_listed m w v (Retarget s) h tick number = retarget_listed m w v s h
 
@@ -238,19 +333,24 @@ abbrev originator_named : List Owed → Name → Option GlobalId
 originator_named [] s = None
 originator_named (o ∷ os) s = cond (same_name o.send s) (Some o.originator) (originator_named os s)
 
-all_at : {A : Type 0} (P : A → Type 0) (xs : List A) (i : ℕ) (x : A) → AllByRecursion P xs → slice_get xs i ≡ Some x → P x
+all_at : {A : Type 0} (P : A → Type 0) (xs : List A) (i : ℕ) (x : A) → AllByRecursion P xs →
+    slice_get xs i ≡ Some x → P x
 all_at P [] i x all at = cc
 all_at P (y ∷ xs) zero x all at = subst P (some_is y x at) all.0
 all_at P (y ∷ xs) (suc i) x all at = all_at P xs i x all.1 at
 
-turn_at : (os : List Owed) (j : ℕ) (o : Owed) → AreNamedOnce os → slice_get os j ≡ Some o → (place_named os o.send ≡ j) × (originator_named os o.send ≡ Some o.originator)
+turn_at : (os : List Owed) (j : ℕ) (o : Owed) → AreNamedOnce os → slice_get os j ≡ Some o →
+    (place_named os o.send ≡ j) × (originator_named os o.send ≡ Some o.originator)
 turn_at [] j o once at = cc
 turn_at (x ∷ os) zero o once at =
-    let first : same_name x.send o.send ≡ true = ap (λ (y : Owed). same_name y.send o.send) (some_is x o at) ∙ same_name_refl o.send in
-    let who : Some x.originator ≡ Some o.originator = ap (λ (y : Owed). Some y.originator) (some_is x o at) in
+    let first : same_name x.send o.send ≡ true =
+    ap (λ (y : Owed). same_name y.send o.send) (some_is x o at) ∙ same_name_refl o.send in
+    let who : Some x.originator ≡ Some o.originator =
+    ap (λ (y : Owed). Some y.originator) (some_is x o at) in
     rw first (refl, who)
 turn_at (x ∷ os) (suc j) o once at =
-    let other : same_name x.send o.send ≡ false = all_at (λ (y : Owed). same_name x.send y.send ≡ false) os j o once.0 at in
+    let other : same_name x.send o.send ≡ false =
+    all_at (λ (y : Owed). same_name x.send y.send ≡ false) os j o once.0 at in
     let rest = turn_at os j o once.1 at in
     rw other (ap suc rest.0, rest.1)
 
@@ -301,107 +401,118 @@ record Fits (os : List Owed) (id : GlobalId) (n : ℕ) (step : Step) : Type 0 wh
 -- Each candidate of a list fits its place, counted from a number on.
 abbrev AllFit : List Owed → GlobalId → ℕ → List (Option Step) → Type 0
 AllFit os id n [] = Unit {0}
-AllFit os id n (c ∷ cs) = ((step : Step) → c ≡ Some step → Fits os id n step) × AllFit os id (n + 1) cs
+AllFit os id n (c ∷ cs) =
+    ((step : Step) → c ≡ Some step → Fits os id n step) × AllFit os id (n + 1) cs
+
+also : {A B : Type 0} → A → B → A × B
+also a b = (a, b)
 
 module _ (os : List Owed) (id : GlobalId) where
-  fits_here : (n : ℕ) (x : Step) → Fits os id n x → (step : Step) → Some x ≡ Some step → Fits os id n step
-  fits_here n x fit step e = subst (Fits os id n) (some_is x step e) fit
-
-  fits_named : (n : ℕ) (f : Name → Step) (k : ℕ) → (is_number k ≡ true → Fits os id n (f (record { thread = id; k = k }))) → (step : Step) → option_map f (name_of id k) ≡ Some step → Fits os id n step
-  fits_named n f k fit step e = by (is_number k) refl e
-    where
-      by : (b : Bool) → is_number k ≡ b → option_map f (cond b (Some (record { thread = id; k = k })) None) ≡ Some step → Fits os id n step
-      by true is e = subst (Fits os id n) (some_is _ step e) (fit is)
-      by false is e = cc
-
-  name_is : (k : ℕ) (s : Name) → name_of id k ≡ Some s → (s.thread ≡ id) × (is_number s.k ≡ true)
+  name_is : (k : ℕ) (s : Name) → name_of id k ≡ Some s →
+      (s.thread ≡ id) × (is_number s.k ≡ true)
   name_is k s e = by (is_number k) refl e
     where
-      by : (b : Bool) → is_number k ≡ b → cond b (Some (record { thread = id; k = k })) None ≡ Some s → (s.thread ≡ id) × (is_number s.k ≡ true)
-      by true is e = subst (λ (x : Name). (x.thread ≡ id) × (is_number x.k ≡ true)) (some_is _ s e) (refl, is)
+      by : (b : Bool) → is_number k ≡ b →
+          cond b (Some (record { thread = id; k = k })) None ≡ Some s →
+          (s.thread ≡ id) × (is_number s.k ≡ true)
+      by true is e =
+          subst (λ (x : Name). (x.thread ≡ id) × (is_number x.k ≡ true)) (some_is _ s e) (refl, is)
       by false is e = cc
 
-  fits_delivery : (m : Machine) (w : World) (k : ℕ) (step : Step) → delivery m w (name_of id k) ≡ Some step → Fits os id 3 step
+  fits_step : (n : ℕ) (x : Step) → is_tick x ≡ false → has_number x ≡ true →
+      owner os x ≡ Some id → rank os x ≡ n → (step : Step) → Some x ≡ Some step →
+      Fits os id n step
+  fits_step n x no_tick number owned ranked step e =
+      subst (Fits os id n) (some_is x step e)
+      (record {
+        no_tick = no_tick;
+        number = number;
+        owned = λ once. owned;
+        ranked = λ once. ranked;
+      })
+
+  -- A step of a send, where the send has a name.
+  fits_send : (n : ℕ) (f : Name → Step) (k : ℕ) → ((s : Name) → is_tick (f s) ≡ false) →
+      ((s : Name) → has_number (f s) ≡ is_number s.k) →
+      ((s : Name) → owner os (f s) ≡ Some s.thread) → ((s : Name) → rank os (f s) ≡ n) →
+      (step : Step) → option_map f (name_of id k) ≡ Some step → Fits os id n step
+  fits_send n f k no_tick number owned ranked step e = by (name_of id k) refl e
+    where
+      by : (o : Option Name) → name_of id k ≡ o → option_map f o ≡ Some step → Fits os id n step
+      by None is e = cc
+      by (Some s) is e =
+          let named = name_is k s is in
+          let numbered = number s ∙ named.1 in
+          fits_step n (f s) (no_tick s) numbered (owned s ∙ ap Some named.0) (ranked s) step e
+
+  fits_delivery : (m : Machine) (w : World) (k : ℕ) (step : Step) →
+      delivery m w (name_of id k) ≡ Some step → Fits os id 3 step
   fits_delivery m w k step e =
       bind_then (name_of id k) _ step e λ s is rest.
       bind_then (undecided m w s) _ step rest λ p there rest.
       bind_then (receiver_of m w p) _ step rest λ r to rest.
       let named = name_is k s is in
-      subst (Fits os id 3) (some_is _ step rest) (record { no_tick = refl; number = named.1; owned = λ once. ap Some named.0; ranked = λ once. refl })
+      let message = p.send.message in
+      let x : Step = told s r.declared.id message (is_cross m r.declared.id message) in
+      fits_step 3 x refl named.1 (ap Some named.0) refl step rest
 
-  fits_order : (asked : Option Asked) (step : Step) → order id asked ≡ Some step → Fits os id 12 step
+  fits_order : (asked : Option Asked) (step : Step) → order id asked ≡ Some step →
+      Fits os id 12 step
   fits_order None step e = cc
-  fits_order (Some o) step e = subst (Fits os id 12) (some_is _ step e) (record { no_tick = refl; number = refl; owned = λ once. refl; ranked = λ once. refl })
+  fits_order (Some o) step e = fits_step 12 (Order id o.target o.what) refl refl refl refl step e
 
-  fits_turn : (j : ℕ) (o : Owed) (step : Step) → slice_get os j ≡ Some o → turn id o ≡ Some step → Fits os id (14 + j) step
+  fits_turn : (j : ℕ) (o : Owed) (step : Step) → slice_get os j ≡ Some o → turn id o ≡ Some step →
+      Fits os id (14 + j) step
   fits_turn j o step at e = by (same_id id o.originator) refl e
     where
-      by : (b : Bool) → same_id id o.originator ≡ b → cond b (Some (Retarget o.send)) None ≡ Some step → Fits os id (14 + j) step
+      by : (b : Bool) → same_id id o.originator ≡ b →
+          cond b (Some (Retarget o.send)) None ≡ Some step → Fits os id (14 + j) step
       by true is e =
           subst (Fits os id (14 + j)) (some_is _ step e)
           (record {
             no_tick = refl;
             number = refl;
-            owned = λ once. (turn_at os j o once at).1 ∙ ap Some (sym (same_id_is id o.originator is));
+            owned =
+                λ once. (turn_at os j o once at).1 ∙ ap Some (sym (same_id_is id o.originator is));
             ranked = λ once. ap (λ n. 14 + n) (turn_at os j o once at).0;
           })
       by false is e = cc
 
-  fit_turns : (n : ℕ) (rest : List Owed) → ((j : ℕ) (o : Owed) (step : Step) → slice_get rest j ≡ Some o → turn id o ≡ Some step → Fits os id (n + j) step) → AllFit os id n (map (turn id) rest)
+  fit_turns : (n : ℕ) (rest : List Owed) →
+      ((j : ℕ) (o : Owed) (step : Step) → slice_get rest j ≡ Some o → turn id o ≡ Some step →
+      Fits os id (n + j) step) →
+      AllFit os id n (map (turn id) rest)
   fit_turns n [] each = tt
-  fit_turns n (o ∷ rest) each = (
-    (λ step e. let here : n + 0 ≡ n = omega arith in subst (λ k. Fits os id k step) here (each 0 o step refl e)),
-    fit_turns (n + 1) rest (λ j x step at e. let later : n + suc j ≡ n + 1 + j = omega arith in subst (λ k. Fits os id k step) later (each (suc j) x step at e)),
-  )
+  fit_turns n (o ∷ rest) each =
+      let here : n + 0 ≡ n = omega arith in
+      also (λ step e. subst (λ k. Fits os id k step) here (each 0 o step refl e))
+      (fit_turns (n + 1) rest
+      (λ j x step at e.
+      let later : n + suc j ≡ n + 1 + j = omega arith in
+      subst (λ k. Fits os id k step) later (each (suc j) x step at e)))
 
-  fit_all : (m : Machine) (w : World) (t : Found) (a b : ℕ) → AllFit os id 0 (in_order m w t id (name_of id a) (name_of id b) ++ map (turn id) os)
-  fit_all m w t a b = (
-    fits_here 0 (Local id) (record { no_tick = refl; number = refl; owned = λ once. refl; ranked = λ once. refl }),
-    (
-      fits_named 1 Begin a (λ is. record { no_tick = refl; number = is; owned = λ once. refl; ranked = λ once. refl }),
-      (
-        fits_named 2 Queue b (λ is. record { no_tick = refl; number = is; owned = λ once. refl; ranked = λ once. refl }),
-        (
-          fits_delivery m w b,
-          (
-            fits_here 4 (Wait id) (record { no_tick = refl; number = refl; owned = λ once. refl; ranked = λ once. refl }),
-            (
-              fits_named 5 SendTimeout b (λ is. record { no_tick = refl; number = is; owned = λ once. refl; ranked = λ once. refl }),
-              (
-                fits_here 6 (ReceiveTimeout id) (record { no_tick = refl; number = refl; owned = λ once. refl; ranked = λ once. refl }),
-                (
-                  fits_named 7 SendNobody b (λ is. record { no_tick = refl; number = is; owned = λ once. refl; ranked = λ once. refl }),
-                  (
-                    fits_here 8 (ReceiveNobody id) (record { no_tick = refl; number = refl; owned = λ once. refl; ranked = λ once. refl }),
-                    (
-                      fits_named 9 SendCancel b (λ is. record { no_tick = refl; number = is; owned = λ once. refl; ranked = λ once. refl }),
-                      (
-                        fits_here 10 (ReceiveCancel id) (record { no_tick = refl; number = refl; owned = λ once. refl; ranked = λ once. refl }),
-                        (
-                          fits_named 11 Drop b (λ is. record { no_tick = refl; number = is; owned = λ once. refl; ranked = λ once. refl }),
-                          (
-                            fits_order (order_of (act_of m t)),
-                            (
-                              fits_here 13 (Obey id) (record { no_tick = refl; number = refl; owned = λ once. refl; ranked = λ once. refl }),
-                              fit_turns 14 os fits_turn,
-                            ),
-                          ),
-                        ),
-                      ),
-                    ),
-                  ),
-                ),
-              ),
-            ),
-          ),
-        ),
-      ),
-    ),
-  )
+  fit_all : (m : Machine) (w : World) (t : Found) (a b : ℕ) →
+      AllFit os id 0 (in_order m w t id (name_of id a) (name_of id b) ++ map (turn id) os)
+  fit_all m w t a b =
+      also (fits_step 0 (Local id) refl refl refl refl)
+      (also (fits_send 1 Begin a (λ s. refl) (λ s. refl) (λ s. refl) (λ s. refl))
+      (also (fits_send 2 Queue b (λ s. refl) (λ s. refl) (λ s. refl) (λ s. refl))
+      (also (fits_delivery m w b)
+      (also (fits_step 4 (Wait id) refl refl refl refl)
+      (also (fits_send 5 SendTimeout b (λ s. refl) (λ s. refl) (λ s. refl) (λ s. refl))
+      (also (fits_step 6 (ReceiveTimeout id) refl refl refl refl)
+      (also (fits_send 7 SendNobody b (λ s. refl) (λ s. refl) (λ s. refl) (λ s. refl))
+      (also (fits_step 8 (ReceiveNobody id) refl refl refl refl)
+      (also (fits_send 9 SendCancel b (λ s. refl) (λ s. refl) (λ s. refl) (λ s. refl))
+      (also (fits_step 10 (ReceiveCancel id) refl refl refl refl)
+      (also (fits_send 11 Drop b (λ s. refl) (λ s. refl) (λ s. refl) (λ s. refl))
+      (also (fits_order (order_of (act_of m t)))
+      (also (fits_step 13 (Obey id) refl refl refl refl) (fit_turns 14 os fits_turn))))))))))))))
 
 -- What is listed
 
-candidate_is : (m : Machine) (w : World) (c : Option Step) (step : Step) → where_possible m w c ≡ Some step → (c ≡ Some step) × (is_some (next m w step) ≡ true)
+candidate_is : (m : Machine) (w : World) (c : Option Step) (step : Step) →
+    where_possible m w c ≡ Some step → (c ≡ Some step) × (is_some (next m w step) ≡ true)
 candidate_is m w None step e = cc
 candidate_is m w (Some x) step e =
     guard_then (is_some (next m w x)) (Some x) step e λ possible_so same.
@@ -414,20 +525,36 @@ record Chosen (m : Machine) (w : World) (id : GlobalId) (n : ℕ) (step : Step) 
   fits : Fits w.owed id place step
   possible : is_some (next m w step) ≡ true
 
-chosen : (m : Machine) (w : World) (id : GlobalId) (n : ℕ) (cs : List (Option Step)) (step : Step) → AllFit w.owed id n cs → IsIn step (filter_map (where_possible m w) cs) → Chosen m w id n step
+chosen : (m : Machine) (w : World) (id : GlobalId) (n : ℕ) (cs : List (Option Step)) (step : Step) →
+    AllFit w.owed id n cs → IsIn step (filter_map (where_possible m w) cs) → Chosen m w id n step
 chosen m w id n [] step all inside = let h = inside.1 in cc
-chosen m w id n (c ∷ cs) step all inside = by (where_possible m w c) refl (λ h. chosen m w id (n + 1) cs step all.1 h) inside.0 inside.1
+chosen m w id n (c ∷ cs) step all inside =
+    by (where_possible m w c) refl (λ h. chosen m w id (n + 1) cs step all.1 h) inside.0 inside.1
   where
     later : Chosen m w id (n + 1) step → Chosen m w id n step
-    later k = let from = k.from in record { place = k.place; from = omega (arith, from); fits = k.fits; possible = k.possible }
+    later k =
+        let from = k.from in
+        record {
+          place = k.place;
+          from = omega (arith, from);
+          fits = k.fits;
+          possible = k.possible;
+        }
 
-    by : (o : Option Step) → where_possible m w c ≡ o → (IsIn step (filter_map (where_possible m w) cs) → Chosen m w id (n + 1) step) → (i : ℕ) →
-        slice_get (cons_option o (filter_map (where_possible m w) cs)) i ≡ Some step → Chosen m w id n step
+    by : (o : Option Step) → where_possible m w c ≡ o →
+        (IsIn step (filter_map (where_possible m w) cs) → Chosen m w id (n + 1) step) → (i : ℕ) →
+        slice_get (cons_option o (filter_map (where_possible m w) cs)) i ≡ Some step →
+        Chosen m w id n step
     by None is rest i at = later (rest (i, at))
     by (Some x) is rest zero at =
         let both = candidate_is m w c step (is ∙ at) in
         record { place = n; from = omega arith; fits = all.0 step both.0; possible = both.1 }
     by (Some x) is rest (suc i) at = later (rest (i, at))
+
+fit_found : (m : Machine) (w : World) (t : Found) →
+    AllFit w.owed t.declared.id 0 (candidates m w t)
+fit_found m w t =
+    fit_all w.owed t.declared.id m w t (t.now.context.begun + 1) t.now.context.begun
 
 -- A step that is listed, with the place of its thread.
 record Told (m : Machine) (w : World) (id : GlobalId) (step : Step) : Type 0 where
@@ -435,21 +562,19 @@ record Told (m : Machine) (w : World) (id : GlobalId) (step : Step) : Type 0 whe
   is : found m w id ≡ Some t
   choice : Chosen m w t.declared.id 0 step
 
-told_of : (m : Machine) (w : World) (id : GlobalId) (step : Step) → IsIn step (possible_of m w (found m w id)) → Told m w id step
+told_of : (m : Machine) (w : World) (id : GlobalId) (step : Step) →
+    IsIn step (possible_of m w (found m w id)) → Told m w id step
 told_of m w id step inside = by (found m w id) refl inside
   where
     by : (o : Option Found) → found m w id ≡ o → IsIn step (possible_of m w o) → Told m w id step
     by None is inside = let h = inside.1 in cc
     by (Some t) is inside =
-        record {
-          t = t;
-          is = is;
-          choice = chosen m w t.declared.id 0 (candidates m w t) step (fit_all w.owed t.declared.id m w t (t.now.context.begun + 1) t.now.context.begun) inside;
-        }
+        let choice = chosen m w t.declared.id 0 (candidates m w t) step (fit_found m w t) inside in
+        record { t = t; is = is; choice = choice }
 
 only_open : (m : Machine) (w : World) (step : Step) → IsListed step (possible m w) → IsOpen m w step
 only_open m w step listed =
-    let of = of_flat_map (λ (d : Declaration). possible_of m w (found m w d.id)) m.threads listed.0 step listed.1 in
+    let of = of_flat_map (listed_of m w) m.threads listed.0 step listed.1 in
     let k = (told_of m w of.x.id step of.inside).choice in
     record { possible = k.possible; no_tick = k.fits.no_tick; number = k.fits.number }
 
@@ -457,10 +582,13 @@ some_of : {A : Type 0} (o : Option A) → is_some o ≡ true → (x : A) × (o �
 some_of None h = cc
 some_of (Some x) h = (x, refl)
 
-listed_exactly : (m : Machine) (w : World) (step : Step) → IsListed step (possible m w) ↔ IsOpen m w step
+listed_exactly : (m : Machine) (w : World) (step : Step) →
+    IsListed step (possible m w) ↔ IsOpen m w step
 listed_exactly m w step = (
   only_open m w step,
-  λ is. let v = some_of (next m w step) is.possible in all_listed m w v.0 step v.1 is.no_tick is.number,
+  λ is.
+      let v = some_of (next m w step) is.possible in
+      all_listed m w v.0 step v.1 is.no_tick is.number,
 )
 
 -- None is listed twice
@@ -469,75 +597,102 @@ abbrev AreDifferent : {A : Type 0} → List A → Type 0
 AreDifferent [] = Unit {0}
 AreDifferent (x ∷ xs) = (IsIn x xs → ⊥) × AreDifferent xs
 
-different_at : {A : Type 0} (xs : List A) (i j : ℕ) (x : A) → AreDifferent xs → slice_get xs i ≡ Some x → slice_get xs j ≡ Some x → i ≡ j
+different_at : {A : Type 0} (xs : List A) (i j : ℕ) (x : A) → AreDifferent xs →
+    slice_get xs i ≡ Some x → slice_get xs j ≡ Some x → i ≡ j
 different_at [] i j x d a b = cc
 different_at (y ∷ xs) zero zero x d a b = refl
 different_at (y ∷ xs) zero (suc j) x d a b = absurd (d.0 (j, b ∙ sym a))
 different_at (y ∷ xs) (suc i) zero x d a b = absurd (d.0 (i, a ∙ sym b))
 different_at (y ∷ xs) (suc i) (suc j) x d a b = ap suc (different_at xs i j x d.1 a b)
 
-different_append : {A : Type 0} (xs ys : List A) → AreDifferent xs → AreDifferent ys → ((x : A) → IsIn x xs → IsIn x ys → ⊥) → AreDifferent (xs ++ ys)
+different_append : {A : Type 0} (xs ys : List A) → AreDifferent xs → AreDifferent ys →
+    ((x : A) → IsIn x xs → IsIn x ys → ⊥) → AreDifferent (xs ++ ys)
 different_append [] ys a b apart = b
-different_append (x ∷ xs) ys a b apart =
-    ((λ h. in_append xs ys h.0 x h.1 a.0 (apart x (0, refl))), different_append xs ys a.1 b (λ y p. apart y (suc p.0, p.1)))
+different_append (x ∷ xs) ys a b apart = (
+  (λ h. in_append xs ys h.0 x h.1 a.0 (apart x (0, refl))),
+  different_append xs ys a.1 b (λ y p. apart y (suc p.0, p.1)),
+)
 
 -- Of one thread.
-different_of : (m : Machine) (w : World) (id : GlobalId) (n : ℕ) (cs : List (Option Step)) → AreNamedOnce w.owed → AllFit w.owed id n cs → AreDifferent (filter_map (where_possible m w) cs)
+different_of : (m : Machine) (w : World) (id : GlobalId) (n : ℕ) (cs : List (Option Step)) →
+    AreNamedOnce w.owed → AllFit w.owed id n cs → AreDifferent (filter_map (where_possible m w) cs)
 different_of m w id n [] once all = tt
-different_of m w id n (c ∷ cs) once all = by (where_possible m w c) refl (different_of m w id (n + 1) cs once all.1)
+different_of m w id n (c ∷ cs) once all =
+    by (where_possible m w c) refl (different_of m w id (n + 1) cs once all.1)
   where
-    by : (o : Option Step) → where_possible m w c ≡ o → AreDifferent (filter_map (where_possible m w) cs) → AreDifferent (cons_option o (filter_map (where_possible m w) cs))
+    by : (o : Option Step) → where_possible m w c ≡ o →
+        AreDifferent (filter_map (where_possible m w) cs) →
+        AreDifferent (cons_option o (filter_map (where_possible m w) cs))
     by None is rest = rest
     by (Some x) is rest = (
       (λ h.
           let k = chosen m w id (n + 1) cs x all.1 h in
-          let same : n ≡ k.place = sym ((all.0 x (candidate_is m w c x is).0).ranked once) ∙ k.fits.ranked once in
+          let same : n ≡ k.place =
+          sym ((all.0 x (candidate_is m w c x is).0).ranked once) ∙ k.fits.ranked once in
           let from = k.from in
           omega (arith, same, from)),
       rest,
     )
 
 -- Of one thread after another: a step of theirs has the place of its owner.
-different_all : (g : Declaration → List Step) (key : Step → Option ℕ) (n : ℕ) (ds : List Declaration) → ((i : ℕ) (d : Declaration) (step : Step) → slice_get ds i ≡ Some d → IsIn step (g d) → key step ≡ Some (n + i)) →
+different_all : (g : Declaration → List Step) (key : Step → Option ℕ) (n : ℕ)
+    (ds : List Declaration) →
+    ((i : ℕ) (d : Declaration) (step : Step) → slice_get ds i ≡ Some d → IsIn step (g d) →
+    key step ≡ Some (n + i)) →
     ((d : Declaration) → AreDifferent (g d)) → AreDifferent (flat_map g ds)
 different_all g key n [] keys each = tt
 different_all g key n (d ∷ ds) keys each =
     different_append (g d) (flat_map g ds) (each d)
-    (different_all g key (n + 1) ds (λ i x step at inside. let later : n + suc i ≡ n + 1 + i = omega arith in keys (suc i) x step at inside ∙ ap Some later) each)
+    (different_all g key (n + 1) ds
+    (λ i x step at inside.
+    let later : n + suc i ≡ n + 1 + i = omega arith in
+    keys (suc i) x step at inside ∙ ap Some later)
+    each)
     (λ step here there.
     let of = of_flat_map g ds there.0 step there.1 in
-    let same : n + 0 ≡ n + suc of.i = some_is (n + 0) (n + suc of.i) (sym (keys 0 d step refl here) ∙ keys (suc of.i) of.x step of.at of.inside) in
+    let keyed = sym (keys 0 d step refl here) ∙ keys (suc of.i) of.x step of.at of.inside in
+    let same : n + 0 ≡ n + suc of.i = some_is (n + 0) (n + suc of.i) keyed in
     omega (arith, same))
-
-abbrev listed_of : Machine → World → Declaration → List Step
-listed_of m w d = possible_of m w (found m w d.id)
 
 -- The place of the thread that may be in for a step.
 abbrev owner_place : Machine → World → Step → Option ℕ
 owner_place m w step = owner w.owed step >>= place_of m
 
-placed : (m : Machine) (i : ℕ) (d : Declaration) → IsMachine m → slice_get m.threads i ≡ Some d → place_of m d.id ≡ Some i
+placed : (m : Machine) (i : ℕ) (d : Declaration) → IsMachine m → slice_get m.threads i ≡ Some d →
+    place_of m d.id ≡ Some i
 placed m i d machine at =
     let lt = slice_get_within m.threads i d at in
     let is : declared m i ≡ d = get_or_from_slice_get m.threads i d undeclared at in
     ap (λ (x : Declaration). place_of m x.id) (sym is) ∙ machine.placed i lt
 
-told_at : (m : Machine) (w : World) (i : ℕ) (d : Declaration) (step : Step) → IsMachine m → AreNamedOnce w.owed → slice_get m.threads i ≡ Some d → IsIn step (listed_of m w d) → owner_place m w step ≡ Some i
+told_at : (m : Machine) (w : World) (i : ℕ) (d : Declaration) (step : Step) → IsMachine m →
+    AreNamedOnce w.owed → slice_get m.threads i ≡ Some d → IsIn step (listed_of m w d) →
+    owner_place m w step ≡ Some i
 told_at m w i d step machine once at inside =
     let told = told_of m w d.id step inside in
-    let owned : owner w.owed step ≡ Some d.id = told.choice.fits.owned once ∙ ap Some (id_of m w d.id told.t told.is).0 in
+    let owned : owner w.owed step ≡ Some d.id =
+    told.choice.fits.owned once ∙ ap Some (id_of m w d.id told.t told.is).0 in
     ap (λ o. o >>= place_of m) owned ∙ placed m i d machine at
 
-different_there : (m : Machine) (w : World) (o : Option Found) → AreNamedOnce w.owed → AreDifferent (possible_of m w o)
+different_there : (m : Machine) (w : World) (o : Option Found) → AreNamedOnce w.owed →
+    AreDifferent (possible_of m w o)
 different_there m w None once = tt
-different_there m w (Some t) once = different_of m w t.declared.id 0 (candidates m w t) once (fit_all w.owed t.declared.id m w t (t.now.context.begun + 1) t.now.context.begun)
+different_there m w (Some t) once =
+    different_of m w t.declared.id 0 (candidates m w t) once (fit_found m w t)
 
-listed_once : (m : Machine) (w : World) → IsMachine m → AreNamedOnce w.owed → AreListedOnce (possible m w)
+listed_once : (m : Machine) (w : World) → IsMachine m → AreNamedOnce w.owed →
+    AreListedOnce (possible m w)
 listed_once m w machine once i j step a b =
     different_at (possible m w) i j step
     (different_all (listed_of m w) (owner_place m w) 0 m.threads
-    (λ n d x at inside. let from : n ≡ 0 + n = omega arith in told_at m w n d x machine once at inside ∙ ap Some from)
+    (λ n d x at inside.
+    let from : n ≡ 0 + n = omega arith in
+    told_at m w n d x machine once at inside ∙ ap Some from)
     (λ d. different_there m w (found m w d.id) once)) a b
 
 pub lists_possible : (m : Machine) (w : World) → ListsPossible m w
-lists_possible m w = record { exactly = listed_exactly m w; once = λ machine h r. listed_once m w machine (reached_facts m h w r).owed_once }
+lists_possible m w =
+    record {
+      exactly = listed_exactly m w;
+      once = λ machine h r. listed_once m w machine (reached_facts m h w r).owed_once;
+    }

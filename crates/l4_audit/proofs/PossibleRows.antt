@@ -1,9 +1,11 @@
 -- Worked rows: what is possible behind these steps.
 use Rattle.std.specs.Prelude.{ℕ, ◌≡◌, Option, Some, None, List, [], ◌∷◌, option_map, refl}
 use Rattle.l4_model.specs.Words.{GlobalId, NilThread, AnyThread, GlobalThread, global_id}
-use Rattle.l4_model.specs.Machine.{Instr, Declaration, Machine, ToId, CancelSend, Tag, Ipc, Ask, machine_of}
+use Rattle.l4_model.specs.Machine.{Instr, Declaration, Machine, ToId, CancelSend, Tag, Ipc, Ask}
+use Rattle.l4_model.specs.Machine.{machine_of}
 use Rattle.l4_model.specs.World.{Name}
-use Rattle.l4_model.specs.Steps.{Step, Local, Begin, Queue, Deliver, Wait, SendTimeout, SendCancel, Order, Obey, Tick}
+use Rattle.l4_model.specs.Steps.{Step, Local, Begin, Queue, Deliver, Wait, SendTimeout, SendCancel}
+use Rattle.l4_model.specs.Steps.{Order, Obey, Tick}
 use Rattle.l4_model.specs.History.{reached}
 use Rattle.l4_audit.specs.Possible.{possible}
 
@@ -29,15 +31,19 @@ talking =
 each_in_order : behind talking [] ≡ Some (Local (thread 1) ∷ Wait (thread 2) ∷ [])
 each_in_order = refl
 
-queued_first : behind talking (Local (thread 1) ∷ Begin (first_of 1) ∷ Wait (thread 2) ∷ []) ≡ Some (Queue (first_of 1) ∷ [])
+queued_first :
+    behind talking (Local (thread 1) ∷ Begin (first_of 1) ∷ Wait (thread 2) ∷ [])
+    ≡ Some (Queue (first_of 1) ∷ [])
 queued_first = refl
 
 delivered_then :
-    behind talking (Local (thread 1) ∷ Begin (first_of 1) ∷ Wait (thread 2) ∷ Queue (first_of 1) ∷ [])
+    behind talking
+    (Local (thread 1) ∷ Begin (first_of 1) ∷ Wait (thread 2) ∷ Queue (first_of 1) ∷ [])
     ≡ Some (Deliver (first_of 1) (thread 2) (thread 1) (thread 1) 0x70001 (0 ∷ []) ∷ [])
 delivered_then = refl
 
--- A send waits whose time is over and which is to be cancelled: either may come first. 2.1 has no more instructions.
+-- A send waits whose time is over and which is to be cancelled: either may come first. 2.1 has no
+-- more instructions.
 abbrev cancelling : Machine
 cancelling =
     machine_of 1 (
@@ -45,6 +51,8 @@ cancelling =
     ∷ declared 2 (Ask (GlobalThread (thread 1)) CancelSend ∷ []) ∷ [])
 
 several_of_one :
-    behind cancelling (Begin (first_of 1) ∷ Queue (first_of 1) ∷ Order (thread 2) (thread 1) CancelSend ∷ Obey (thread 2) ∷ Tick 0 5 ∷ [])
+    behind cancelling
+    (Begin (first_of 1) ∷ Queue (first_of 1) ∷ Order (thread 2) (thread 1) CancelSend
+    ∷ Obey (thread 2) ∷ Tick 0 5 ∷ [])
     ≡ Some (SendTimeout (first_of 1) ∷ SendCancel (first_of 1) ∷ Local (thread 2) ∷ [])
 several_of_one = refl

@@ -6,10 +6,14 @@ use Rattle.l4_audit.proofs.world.World.delivery.Goals as goal
 pub is_cross-cross-requires-clause-sender : goal.is_cross-cross-requires-clause-sender
 is_cross-cross-requires-clause-sender c =
     let a = c.args.self.now in
-    rw (ap (λ (x : Audited). x.machine) c.self.view_is) (sender_is_found a.machine a.world c.in_ok-name.name c.in_ok-pending.pending (sym c.undecided.ensures ∙ c.in_ok-pending.was))
+    let there = sym c.undecided.ensures ∙ c.in_ok-pending.was in
+    rw (ap (λ (x : Audited). x.machine) c.self.view_is)
+    (sender_is_found a.machine a.world c.in_ok-name.name c.in_ok-pending.pending there)
 
 pub is_cross-cross-requires-clause-receiver : goal.is_cross-cross-requires-clause-receiver
 is_cross-cross-requires-clause-receiver c =
     let a = c.args.self.now in
+    let to = c.in_ok-pending.pending.send.to in
+    let there = sym c.receiver_of.ensures ∙ c.in_ok-receiver.was in
     rw (ap (λ (x : Audited). x.machine) c.self.view_is)
-    (receiver_is_found a.machine a.world c.in_ok-pending.pending.send.to c.in_ok-receiver.receiver (sym c.receiver_of.ensures ∙ c.in_ok-receiver.was))
+    (receiver_is_found a.machine a.world to c.in_ok-receiver.receiver there)

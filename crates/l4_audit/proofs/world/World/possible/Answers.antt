@@ -13,12 +13,19 @@ pub loop-declared-preserved : goal.loop-declared-preserved
 loop-declared-preserved c =
     let a = c.args.self.now in
     let l = c.loop-declared in
+    let so_far = map step_of l.steps.items in
     let g = λ (d : Declaration). possible_of a.machine a.world (found a.machine a.world d.id) in
-    possible_more g _ (map step_of l.steps.items) _ l.declared-index c.declared-item.result (omega (arith, c.loop-declared-test.true)) c.declared-item.is l.invariant
-    (c.in_ok-push_possible_of.ensures ∙ ap (λ id. map step_of l.steps.items ++ possible_of a.machine a.world (found a.machine a.world id)) c.id.ensures)
+    possible_more g _ so_far _ l.declared-index c.declared-item.result
+    (omega (arith, c.loop-declared-test.true)) c.declared-item.is l.invariant
+    (c.in_ok-push_possible_of.ensures
+    ∙ ap (λ id. so_far ++ possible_of a.machine a.world (found a.machine a.world id)) c.id.ensures)
 
 pub returns : goal.returns
 returns c =
     let a = c.args.self.now in
     let l = c.loop-declared in
-    l.invariant ∙ ap (flat_map (λ (d : Declaration). possible_of a.machine a.world (found a.machine a.world d.id))) (take_whole _ l.declared-index (omega arith) ∙ c.threads-declared-items.ensures.value ∙ ap (λ (x : Audited). x.machine.threads) c.self.view_is)
+    let g = λ (d : Declaration). possible_of a.machine a.world (found a.machine a.world d.id) in
+    l.invariant
+    ∙ ap (flat_map g)
+    (take_whole _ l.declared-index (omega arith) ∙ c.threads-declared-items.ensures.value
+    ∙ ap (λ (x : Audited). x.machine.threads) c.self.view_is)

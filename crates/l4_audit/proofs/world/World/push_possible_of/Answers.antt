@@ -8,8 +8,10 @@ use Rattle.l4_audit.proofs.world.World.push_possible_of.Goals as goal
 pub returns-in-Some : goal.returns-in-Some
 returns-in-Some c =
     let a = c.args.self.now in
-    subst (λ o. OnOk c.push_possible.result (Appends c.args.steps.now.items c.push_possible.new.steps.items (possible_of a.machine a.world o))) c.in-Some.ensures
-    c.push_possible.ensures
+    let old = c.args.steps.now.items in
+    let new = c.push_possible.new.steps.items in
+    subst (λ o. OnOk c.push_possible.result (Appends old new (possible_of a.machine a.world o)))
+    c.in-Some.ensures c.push_possible.ensures
 
 pub returns-in-None : goal.returns-in-None
 returns-in-None c =

@@ -18,9 +18,13 @@ pub loop-owed-preserved : goal.loop-owed-preserved
 loop-owed-preserved c =
     let a = c.args.self.now in
     let l = c.loop-owed in
-    let f = λ (o : Owed). where_possible a.machine a.world (turn c.args.id (owed_of o)) in
-    turns_more f _ (map step_of c.args.steps.now.items) (map step_of l.steps.items) _ l.owed-index c.owed-item.result (omega (arith, c.loop-owed-test.true)) c.owed-item.is l.invariant
-    (c.in_ok-push.ensures ∙ ap (λ o. map step_of l.steps.items ++ option_to_list (where_possible a.machine a.world o)) c.turn.ensures)
+    let g = where_possible a.machine a.world in
+    let f = λ (o : Owed). g (turn c.args.id (owed_of o)) in
+    let start = map step_of c.args.steps.now.items in
+    let so_far = map step_of l.steps.items in
+    turns_more f _ start so_far _ l.owed-index c.owed-item.result
+    (omega (arith, c.loop-owed-test.true)) c.owed-item.is l.invariant
+    (c.in_ok-push.ensures ∙ ap (λ o. so_far ++ option_to_list (g o)) c.turn.ensures)
 
 pub returns : goal.returns
 returns c =
@@ -28,8 +32,13 @@ returns c =
     let l = c.loop-owed in
     let items = c.deref-owed-items.result.now in
     let f = where_possible a.machine a.world in
+    let turn_of = turn c.args.id in
     let start = map step_of c.args.steps.now.items in
-    let owed : map owed_of c.self.inside.owed.items ≡ a.world.owed = ap (λ (x : Audited). x.world.owed) c.self.view_is in
-    let whole = take_whole items l.owed-index (omega arith) ∙ c.deref-owed-items.ensures.value in
-    l.invariant ∙ ap (λ os. start ++ filter_map (λ (o : Owed). f (turn c.args.id (owed_of o))) os) whole
-    ∙ ap (λ ss. start ++ ss) (turns_are f (turn c.args.id) owed_of c.self.inside.owed.items ∙ ap (λ os. filter_map f (map (turn c.args.id) os)) owed)
+    let owed : map owed_of c.self.inside.owed.items ≡ a.world.owed =
+    ap (λ (x : Audited). x.world.owed) c.self.view_is in
+    let whole =
+    take_whole items l.owed-index (omega arith) ∙ c.deref-owed-items.ensures.value in
+    l.invariant ∙ ap (λ os. start ++ filter_map (λ (o : Owed). f (turn_of (owed_of o))) os) whole
+    ∙ ap (λ ss. start ++ ss)
+    (turns_are f turn_of owed_of c.self.inside.owed.items
+    ∙ ap (λ os. filter_map f (map turn_of os)) owed)

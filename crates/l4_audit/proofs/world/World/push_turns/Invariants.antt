@@ -10,4 +10,6 @@ abbrev pub invariant-loop-owed : goal.invariant-loop-owed
 invariant-loop-owed l =
     map step_of l.steps.items
     ≡ map step_of l.fn.steps.items
-    ++ filter_map (λ (o : Owed). where_possible l.self.machine l.self.world (turn l.id (owed_of o))) (take l.owed-index l.owed-items)
+    ++ filter_map
+    (λ (o : Owed). where_possible l.self.machine l.self.world (turn l.id (owed_of o)))
+    (take l.owed-index l.owed-items)

@@ -9,11 +9,16 @@ use Rattle.l4_audit.proofs.world.World.where_possible.Goals as goal
 pub returns-in-Some : goal.returns-in-Some
 returns-in-Some c =
     let a = c.args.self.now in
+    let f = where_possible a.machine a.world in
+    let step = step_of c.in_ok-step.step in
     let told = ap (reason a.machine a.world) (sym c.from.ensures) ∙ sym c.in-Some.ensures in
-    sym (ap (λ o. where_possible a.machine a.world (option_map step_of o)) c.in_ok-step.was ∙ not_pushed a.machine a.world (step_of c.in_ok-step.step) _ told)
+    sym
+    (ap (λ o. f (option_map step_of o)) c.in_ok-step.was ∙ not_pushed a.machine a.world step _ told)
 
 pub returns-in-None : goal.returns-in-None
 returns-in-None c =
     let a = c.args.self.now in
+    let f = where_possible a.machine a.world in
+    let step = step_of c.in_ok-step.step in
     let none = ap (reason a.machine a.world) (sym c.from.ensures) ∙ sym c.in-None.ensures in
-    sym (ap (λ o. where_possible a.machine a.world (option_map step_of o)) c.in_ok-step.was ∙ pushed a.machine a.world (step_of c.in_ok-step.step) none)
+    sym (ap (λ o. f (option_map step_of o)) c.in_ok-step.was ∙ pushed a.machine a.world step none)

@@ -45,7 +45,7 @@ impl<'a> Blocks<'a> {
         }
     }
 
-    /// From behind a block on, which stands in a list.
+    /// From the block on that follows this one in its list. The block stands in a list.
     pub(crate) fn behind(rings: &'a Rings, block: usize) -> Blocks<'a>
         requires block { block < rings.now.names }
         requires there { is_linked rings.now block ≡ true }
@@ -75,8 +75,8 @@ impl<'a> Iterator for Blocks<'a> {
     }
 }
 
-/// Goes over the sends that wait at a receiver, in order. It is seen as the list of those that are
-/// left.
+/// Goes over the sends that wait at a receiver, in order. Its value in contracts is the list of
+/// those that are left.
 #[derive(Drop)]
 pub struct Sends<'a> {
     blocks: Blocks<'a>,
@@ -129,7 +129,7 @@ impl<'a> Iterator for Sends<'a> {
 }
 
 /// Goes over the armed blocks with their deadlines, by rising deadline, equal ones in order of
-/// arming. It is seen as the list of those that are left.
+/// arming. Its value in contracts is the list of those that are left.
 #[derive(Drop)]
 pub struct ArmedBlocks<'a> {
     wheel: &'a Wheel,

@@ -14,8 +14,8 @@
 //!   over the rings that have a block. Of a ring they look at the blocks only where one may be
 //!   earlier than the best so far. These are few where the deadlines have many remainders modulo
 //!   64, and all armed blocks where they have one;
-//! - a step of `armed_blocks` looks at all blocks where the deadline is another one than before: it
-//!   is for who reads a state, no turn needs it;
+//! - a step of `armed_blocks` looks at all blocks, unless the next one has the same deadline. It is
+//!   for readers of a state, and no turn calls it;
 //! - every other call takes the same few steps whatever stands in the lists.
 //!
 //! ```rust

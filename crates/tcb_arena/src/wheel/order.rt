@@ -1,5 +1,5 @@
-//! The armed blocks in order, as far as the rings tell it: a block that is armed for the same
-//! deadline comes later in the same ring, and of those with a later deadline the least comes first.
+//! The armed blocks in the order of their deadlines. Those of one deadline stand in one ring, in
+//! order of arming; the least later deadline is searched among all blocks.
 
 ghost use Rattle.std.specs.Prelude.{◌≡◌, ℕ, ◌+◌, ◌<◌, ◌%◌, ◌&&◌, nat_le, not, true, drop, find, length, slice_get, slice_index, Some};
 ghost use Rattle.std.specs.Option.{option_map};
@@ -13,7 +13,7 @@ use crate::links::Rings;
 use crate::wheel::{Wheel, ring_of, search};
 
 impl Wheel {
-    /// The first armed block with its deadline. Nothing is kept of the look for it.
+    /// The first armed block with its deadline. What the search finds is not kept.
     pub(crate) fn first_armed(&self) -> Option<(u64, usize)>
         ensures first { result ≡ slice_get (armed_of self.now) 0 }
         ensures once { AreOnce self.now }
@@ -32,7 +32,7 @@ impl Wheel {
         )
     }
 
-    /// The armed block that comes after this one, with its deadline.
+    /// The armed block that follows this one, with its deadline.
     pub(crate) fn after(&self, deadline: u64, block: usize) -> Option<(u64, usize)>
         requires { has_entry block (armed_of self.now) ≡ true }
         ensures { (place : ℕ) → slice_get (armed_of self.now) place ≡ Some (deadline, block) →
@@ -44,7 +44,7 @@ impl Wheel {
         }
     }
 
-    // The first armed block of those with a later deadline.
+    // The first armed block with a later deadline.
     fn first_later(&self, deadline: u64) -> Option<(u64, usize)>
         ensures { result ≡ find (λ e. not (nat_le e.0 deadline)) (armed_of self.now) }
     {
@@ -54,7 +54,7 @@ impl Wheel {
     }
 }
 
-// The block behind this one in its ring that has this deadline, which is its own.
+// The next block in the ring of a block that is armed for the same deadline.
 fn next_equal(rings: &Rings, deadlines: &Vec<u64>, deadline: u64, block: usize) -> Option<usize>
     requires placed { ArePlaced ring_count deadlines.now.items rings.now }
     requires block { block < rings.now.names }
@@ -67,7 +67,7 @@ fn next_equal(rings: &Rings, deadlines: &Vec<u64>, deadline: u64, block: usize) 
     Blocks::behind(rings, block).find(|next| is_for(deadlines, *next, deadline))
 }
 
-// The first block that is armed for this deadline.
+// The first block that is armed for a deadline.
 fn first_equal(rings: &Rings, deadlines: &Vec<u64>, deadline: u64) -> Option<usize>
     requires { ArePlaced ring_count deadlines.now.items rings.now }
     ensures { result ≡ find (has_deadline deadlines.now.items deadline)
@@ -84,7 +84,7 @@ fn is_for(deadlines: &Vec<u64>, block: usize, deadline: u64) -> bool
     deadlines[block] == deadline
 }
 
-// The least deadline of an armed block that is later than this one.
+// The least deadline of an armed block that is later than `deadline`.
 fn least_later(rings: &Rings, deadlines: &Vec<u64>, deadline: u64) -> Option<u64>
     requires { ArePlaced ring_count deadlines.now.items rings.now }
     ensures { result ≡ option_map (λ e. e.0) (find (λ e. not (nat_le e.0 deadline))
@@ -99,7 +99,7 @@ fn least_later(rings: &Rings, deadlines: &Vec<u64>, deadline: u64) -> Option<u64
     least
 }
 
-// Whether a block is armed for a later deadline.
+// Whether a block is armed for a deadline later than `deadline`.
 fn is_later(rings: &Rings, deadlines: &Vec<u64>, block: usize, deadline: u64) -> bool
     requires block { block < rings.now.names }
     requires deadlines { length deadlines.now.items ≡ rings.now.names }

@@ -5,7 +5,7 @@ use Rattle.std.proofs.lemmas.Bool.{eqb-true, ltb-true, or_cases}
 use Rattle.l4_model.specs.Machine.{Machine}
 use Rattle.l4_model.specs.History.{reached}
 use Rattle.l4_core_model.specs.Runs.{Run}
-use Rattle.l4_core_model.specs.Schedules.{Entry, replay_entries}
+use Rattle.l4_choices.specs.Entries.{Entry, replay_entries}
 use Rattle.l4_types.specs.declared.reports.Ending.{Ending}
 use Rattle.l4_types.specs.declared.reports.Ending.TheVariants.{Quiet, Spent}
 use Rattle.l4_machine.specs.Entries.{turns_fault}

@@ -8,7 +8,7 @@ use Rattle.std.proofs.lemmas.Bool.Decides.{nat_tests}
 use Rattle.std.proofs.lemmas.List.{length-take, take_all}
 use Rattle.l4_model.specs.Machine.{Machine}
 use Rattle.l4_model.proofs.Faults.{tells_first_fault}
-use Rattle.l4_core_model.specs.Schedules.{Entry}
+use Rattle.l4_choices.specs.Entries.{Entry}
 use Rattle.l4_script.specs.Texts.{machine_of_text}
 use Rattle.l4_machine.specs.Entries.{entries_fault}
 use Rattle.l4_machine.specs.declared.outcome.CompactOutcome.{CompactOutcome}

@@ -9,7 +9,7 @@ use Rattle.l4_model.specs.World.{World}
 use Rattle.l4_model.specs.History.{reached, refused_place, view, waiting as undecided_sends}
 use Rattle.l4_model.specs.Still.{IsStill}
 use Rattle.l4_core_model.specs.Runs.{Run as CoreRun, told, at_rest}
-use Rattle.l4_core_model.specs.Schedules.{Entry, replay_entries}
+use Rattle.l4_choices.specs.Entries.{Entry, replay_entries}
 use Rattle.l4_script.specs.Texts.{machine_of_text}
 use Rattle.l4_script.specs.declared.text.fault.TextFault.{TextFault}
 use Rattle.l4_script.specs.declared.text.fault.TextFaultKind.{TextFaultKind}

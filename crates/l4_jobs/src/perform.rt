@@ -1,7 +1,7 @@
 //! Doing a job over two readers and two writers.
 ghost use Rattle.std.specs.Prelude.{◌≡◌, ◌≢◌, ◌⊎◌, ℕ, List, IfOk, IfErr, Ok, Err, None, Some};
 ghost use Rattle.std.specs.declared.io.ErrorKind.{ErrorKind as Kind};
-ghost use Rattle.l4_core_model.specs.Schedules.{Entry};
+ghost use Rattle.l4_choices.specs.Entries.{Entry};
 ghost use Rattle.l4_machine.specs.Outcomes.{IsCompactReplay, compact_findings_of};
 ghost use Rattle.l4_machine.specs.declared.outcome.RunFault.TheVariants.{NoMemory as RunOutOfMemory};
 ghost use Rattle.l4_script.specs.Texts.{machine_of_text};
@@ -215,8 +215,8 @@ fn job_output<'a, R: Threads + Sync, M: Source, T: Source>(
 /// written, and it is written once. A fault is reported by its one line.
 ///
 /// In a run several processors may work at the same time, each in a host thread. So two runs of
-/// several processors may differ, and each is lawful. A replay takes turns in the order of its
-/// schedule. Its turns take mail first, so for some histories of runs there is no schedule.
+/// several processors may differ, and each is lawful. A replay does what the items of its schedule
+/// ask for, in their order. Each history that a run may have is that of some items.
 pub fn perform<R: Threads + Sync, M: Source, T: Source, W: Sink, E: Sink>(
     rt: &R,
     alloc: Global,

@@ -36,7 +36,10 @@ const REPLAY_EXAMPLE: &str =
 prints the steps of three turns of processor 0.
 
 An item 0 to 15 is one turn of that processor, t0 to t15 one tick of its clock to its least deadline. A turn
-handles a letter first, if one has come. Where there is nothing to do, there is no step.";
+handles a letter first, if one has come. Three items name what else may happen: by 1:0 processor 1
+handles the first letter from processor 0, by c1 it takes a turn of its own though letters may be
+there, by t0:24 the clock of processor 0 goes on to 24. Where there is nothing to do, there is no
+step.";
 
 const AUDIT_EXAMPLE: &str =
     "Example: `l4run audit ping.l4 ping.trace`, with the machine text that `l4run help run` shows and what

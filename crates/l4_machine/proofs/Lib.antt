@@ -23,3 +23,4 @@ pub mod Ticked
 pub mod Turned
 pub mod Sought
 pub mod Enough
+pub mod Walks

@@ -8,7 +8,8 @@ use Rattle.l4_model.specs.History.{IsHistory, Report, reached, view, waiting as 
 use Rattle.l4_model.specs.Laws.{IsLawful}
 use Rattle.l4_model.specs.Still.{IsStill}
 use Rattle.l4_core_model.specs.Runs.{Run, merged, told, at_rest}
-use Rattle.l4_core_model.specs.Schedules.{Entry, run, replay, replay_entries}
+use Rattle.l4_core_model.specs.Schedules.{run, replay}
+use Rattle.l4_choices.specs.Entries.{Entry, replay_entries}
 use Rattle.l4_merge.specs.Rounds.{IsInRounds}
 use Rattle.l4_split.specs.Laws.{IsKnownAtHome}
 use Rattle.l4_types.specs.declared.reports.Ending.{Ending}
@@ -104,6 +105,7 @@ IsCompactOutcome m most o = IsFoundFor m most (compact_findings_of o)
 abbrev pub IsReplayed : Machine → (schedule : List ℕ) → Outcome → Type 0
 IsReplayed m schedule o = IsOutcomeOf m (replay m schedule) (findings_of o)
 
+-- The same of entries, which may name each choice.
 abbrev pub IsCompactReplay : Machine → List Entry → CompactOutcome → Type 0
 IsCompactReplay m entries o = IsOutcomeOf m (replay_entries m entries) (compact_findings_of o)
 

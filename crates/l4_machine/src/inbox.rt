@@ -15,10 +15,10 @@ pub(crate) struct Inbox {
 }
 
 impl Inbox {
-    ghost use Rattle.std.specs.Prelude.{◌≡◌, ◌<◌, ◌++◌, ◌∷◌, ◌↔◌, [], IfOk, IsTrue, OnOk, length, replicate};
+    ghost use Rattle.std.specs.Prelude.{◌≡◌, ◌<◌, ◌++◌, ◌∷◌, ◌↔◌, [], IfOk, IsTrue, OnOk, length, map, replicate, slice_index_or};
     ghost use Rattle.l4_model.specs.World.{changed};
     ghost use Rattle.l4_types.specs.LetterView.{letter_of};
-    ghost use Rattle.l4_machine.specs.Inboxes.{letters_in, AreEmpty, PostsFirst, TakesFirst};
+    ghost use Rattle.l4_machine.specs.Inboxes.{letters_in, AreEmpty, PostsFirst, TakesFirst, TakesFrom};
 
     /// An empty inbox for this many processors.
     pub(crate) fn new(alloc: Global, cpus: u8) -> Result<Inbox, NoMemory>
@@ -34,8 +34,16 @@ impl Inbox {
         ensures { TakesFirst (letters_in self.old) result (letters_in self.new) }
     {
         let from = self.first_poster()?;
-        let letter = self.queues[usize::from(from)].pop_front()?;
+        let letter = self.take_from(from)?;
         Some((from, letter))
+    }
+
+    /// The first of the letters that came from this processor.
+    pub(crate) fn take_from(&mut self, from: u8) -> Option<Letter>
+        requires { from < length (letters_in self.old) }
+        ensures { TakesFrom from (letters_in self.old) result (letters_in self.new) }
+    {
+        self.queues[usize::from(from)].pop_front()
     }
 
     /// Appends a letter from a processor. Where memory is refused, the letter is lost.
@@ -47,6 +55,14 @@ impl Inbox {
         letters.reserve(1)?;
         letters.push_back_reserved(letter);
         Ok(())
+    }
+
+    /// The letters that came from a processor and were not taken yet.
+    pub(crate) fn letters(&self, from: u8) -> &VecDeque<Letter>
+        requires { from < length (letters_in self.now) }
+        ensures { map letter_of result.now.items ≡ slice_index_or (letters_in self.now) from [] }
+    {
+        &self.queues[usize::from(from)]
     }
 
     /// Whether each letter that has come was taken.

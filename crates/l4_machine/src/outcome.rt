@@ -77,10 +77,10 @@ impl CompactOutcome<'_> {
 pub enum RunFault {
     /// Memory was refused.
     NoMemory,
-    /// The number of turns is 0 or above 1,000,000, or a schedule has more than 1,000,000 entries.
+    /// The number of turns is 0 or above 1,000,000, or a schedule has more entries than there may
+    /// be.
     Turns,
-    /// This entry of the schedule, counted from 1, is the first whose processor the machine does
-    /// not have.
+    /// This entry of the schedule, counted from 1, is the first that is none of the machine.
     Schedule(usize),
     /// The processors are not exactly those of the machine, each once.
     Strangers,

@@ -1,17 +1,17 @@
 //! The processors of a replay, which take turns one by one, with the letters under way between
 //! them.
-ghost use Rattle.std.specs.Prelude.{ℕ, ◌≡◌, ◌<◌, ◌↔◌, ◌^◌, [], IfOk, IsTrue, OnOk, length, map, replicate, slice_get};
+ghost use Rattle.std.specs.Prelude.{ℕ, ◌≡◌, ◌<◌, ◌↔◌, ◌^◌, [], IfOk, IsTrue, OnOk, Some, length, map, replicate, slice_get};
 ghost use Rattle.l4_model.specs.Machine.{Machine as MachineOfModel};
-ghost use Rattle.l4_core_model.specs.Runs.{Event, IsMachine, Run, Ticks, opening_run, opening_system, told};
-ghost use Rattle.l4_core_model.specs.Schedules.{attempts, next_turn};
+ghost use Rattle.l4_core_model.specs.Runs.{Event, IsMachine, Run, opening_run, opening_system, told};
+ghost use Rattle.l4_core_model.specs.Schedules.{attempts};
 ghost use Rattle.l4_types.specs.declared.reports.Ending.TheVariants.{Quiet};
-ghost use Rattle.l4_machine.specs.Stations.{events_at, station_of};
+ghost use Rattle.l4_machine.specs.Stations.{events_at, happening, station_of, KnowsPoster};
 ghost use Rattle.l4_machine.specs.Homes.{IsAtHome};
 ghost use Rattle.l4_machine.specs.UnderWay.{deadline_at, letters_of, AreLogsOf, AreResting, CanPost, HasDelivered, HaveNoMail, IsSystem};
 
 use crate::homes::AtHome;
 use crate::laws::law_core_run;
-use crate::station::Station;
+use crate::station::{Choice, Station};
 use l4_core::processor::Core;
 use l4_history::history::History;
 use l4_script::machine::Machine;
@@ -49,30 +49,17 @@ impl<'m> Scheduler<'m> {
         self.order.len()
     }
 
-    /// A turn of a processor, where it has something to do: it handles the first letter of the
-    /// lowest poster, else it is the core's turn.
-    pub(crate) fn take_turn(&mut self, cpu: u8) -> Result<(), NoMemory>
+    /// Tries what is chosen for a processor. Where it can't be done, there is no event.
+    pub(crate) fn attempt(&mut self, cpu: u8, choice: Choice) -> Result<(), NoMemory>
         requires run { HasRun (under_way self.old) }
         requires cpu { cpu < self.old.machine.now.cpus }
+        requires poster { KnowsPoster self.old.machine.now.cpus choice }
         requires few { length (under_way self.old).order < 2 ^ 61 }
-        ensures { OnOk result (GoesOn (λ m r. attempts m r (next_turn m r.system cpu)) (under_way self.old) (under_way self.new)) }
+        ensures { OnOk result (GoesOn (λ m r. attempts m r (happening m r.system cpu choice))
+            (under_way self.old) (under_way self.new)) }
     {
         law_core_run();
-        if !self.stations[usize::from(cpu)].take_turn()? {
-            return Ok(());
-        }
-        self.end_event(cpu)
-    }
-
-    /// Advances the clock of a processor to this value, in ticks, where it may.
-    pub(crate) fn tick(&mut self, cpu: u8, clock: u64) -> Result<(), NoMemory>
-        requires run { HasRun (under_way self.old) }
-        requires cpu { cpu < self.old.machine.now.cpus }
-        requires few { length (under_way self.old).order < 2 ^ 61 }
-        ensures { OnOk result (GoesOn (λ m r. attempts m r (Ticks cpu clock)) (under_way self.old) (under_way self.new)) }
-    {
-        law_core_run();
-        if !self.stations[usize::from(cpu)].tick(clock)? {
+        if !self.stations[usize::from(cpu)].choose(choice)? {
             return Ok(());
         }
         self.end_event(cpu)
@@ -86,6 +73,15 @@ impl<'m> Scheduler<'m> {
     {
         self.order.push(cpu)?;
         deliver(&mut self.stations, cpu)
+    }
+
+    /// A processor with its letters.
+    pub(crate) fn station(&self, cpu: u8) -> &Station<'m>
+        requires run { HasRun (under_way self.now) }
+        requires cpu { cpu < self.now.machine.now.cpus }
+        ensures { slice_get (under_way self.now).stations cpu ≡ Some (station_of result.now) }
+    {
+        &self.stations[usize::from(cpu)]
     }
 
     /// The least deadline that a thread of a processor is armed for, in ticks.
@@ -106,6 +102,13 @@ impl<'m> Scheduler<'m> {
         } else {
             Ending::Spent
         }
+    }
+
+    /// Whether nothing is to be done, armed or under way.
+    pub(crate) fn is_at_rest(&self) -> bool
+        ensures { IsTrue result ↔ AreResting (under_way self.now).stations }
+    {
+        are_at_rest(self.stations.as_slice())
     }
 
     /// Whether no letter is under way.

@@ -19,6 +19,10 @@ QUIET, FAULT, SPENT = 0, 1, 3
 NUMBERS = ["0", "1", "63", "64", "15", "16", "17", "0x3f", "18446744073709551615", "18446744073709551616", "4294967296", "-1", "0x", "00", "1.", ""]
 WORDS = ["never", "zero", "nil", "any", "anylocal", "last", "S", "R", "SR", "1.1", "2.1", "3.65", "1.64", "1.0", "#0000000000000001", "#00004001", "262143.16383", ";", "cpu", "end", "tick", "retarget"]
 BYTES = [0, 9, 10, 13, 32, 59, 127, 128, 255]
+# The items of schedules.
+ITEMS = [
+    *["0"] * 3, "1", "2", "t0", "t1", "t2", "15", "t15", "c0", "c1", "c15", "0:1", "1:0", "1:1", "0:15", "t0:1", "t0:24", "t1:4611686018427387903", "t0:0",
+]
 
 
 def machine(dice):
@@ -83,7 +87,7 @@ def spoilt(dice, told):
 
 
 def schedule(dice):
-    items = [dice.choice(["0", "0", "0", "1", "2", "t0", "t1", "t2", "15", "t15"]) for _ in range(dice.randint(0, 40))]
+    items = [dice.choice(ITEMS) for _ in range(dice.randint(0, 40))]
     told = ",".join(items).encode()
     if dice.random() < 0.5:
         told = spoilt(dice, told).replace(b"\0", b"").decode("utf-8", "ignore").encode()

@@ -8,6 +8,7 @@ import functools
 
 from second import machines, threads, words
 from second.threads import Context, Name, Owed, Phase, Send
+from second.traces import LAST_CLOCK
 from second.words import ErrorCode
 
 
@@ -141,14 +142,13 @@ class Processor:
         self.deadlines = [deadline for deadline in self.deadlines if deadline[1] != block.thread]
 
     def is_due(self):
-        return bool(self.deadlines) and self.deadlines[0][0] <= self.clock
+        return bool(self.deadlines) and self.least_deadline() <= self.clock
+
+    def least_deadline(self):
+        return self.deadlines[0][0]
 
     def can_tick(self):
-        return bool(self.deadlines) and self.deadlines[0][0] > self.clock
-
-    def tick(self):
-        self.clock = self.deadlines[0][0]
-        return "tick", self.cpu, self.clock
+        return bool(self.deadlines) and self.clock < self.least_deadline() <= LAST_CLOCK
 
     # How phases begin and end.
 
@@ -439,15 +439,59 @@ class Processor:
                 self.retarget(owed)
 
 
+# The entries of a schedule. Where what one asks for can't be done, it has no event.
+
+
 @dataclasses.dataclass(frozen=True)
-class Entry:
-    """Of a schedule: a turn of a processor, or a tick of its clock to its least deadline."""
+class Turn:
+    """A turn of a processor: mail first, else what it does by itself."""
 
     cpu: int
-    is_tick: bool = False
 
     def __str__(self):
-        return f"t{self.cpu}" if self.is_tick else f"{self.cpu}"
+        return f"{self.cpu}"
+
+
+@dataclasses.dataclass(frozen=True)
+class Tick:
+    """The clock of a processor goes on to its least deadline."""
+
+    cpu: int
+
+    def __str__(self):
+        return f"t{self.cpu}"
+
+
+@dataclasses.dataclass(frozen=True)
+class TakeLetter:
+    """A processor handles the first letter of one poster."""
+
+    cpu: int
+    poster: int
+
+    def __str__(self):
+        return f"{self.cpu}:{self.poster}"
+
+
+@dataclasses.dataclass(frozen=True)
+class OwnTurn:
+    """A processor does what it does by itself, though mail may be there."""
+
+    cpu: int
+
+    def __str__(self):
+        return f"c{self.cpu}"
+
+
+@dataclasses.dataclass(frozen=True)
+class TickTo:
+    """The clock of a processor goes on to a value."""
+
+    cpu: int
+    clock: int
+
+    def __str__(self):
+        return f"t{self.cpu}:{self.clock}"
 
 
 class Replay:
@@ -473,20 +517,41 @@ class Replay:
 
     def take(self, entry):
         processor = self.processors[entry.cpu]
-        if not entry.is_tick:
-            self.turn(processor)
-        elif processor.can_tick():
-            self.history.append(processor.tick())
+        match entry:
+            case Turn():
+                self.turn(processor)
+            case Tick() if processor.can_tick():
+                self.tick(processor, processor.least_deadline())
+            case TakeLetter(_, poster) if self.mail[processor.cpu][poster]:
+                self.handle(processor, self.mail[processor.cpu][poster])
+            case OwnTurn():
+                self.own_turn(processor)
+            case TickTo(_, clock) if processor.clock < clock <= LAST_CLOCK:
+                self.tick(processor, clock)
+
+    def tick(self, processor, clock):
+        processor.clock = clock
+        self.history.append(("tick", processor.cpu, clock))
 
     def turn(self, processor):
         """Of several processors that have sent some, the mail of the lowest one is handled first."""
         mail = next(filter(None, self.mail[processor.cpu]), None)
         if mail:
-            processor.handle(mail.popleft())
+            self.handle(processor, mail)
         else:
-            work = processor.work()
-            if work:
-                work()
+            self.own_turn(processor)
+
+    def handle(self, processor, mail):
+        processor.handle(mail.popleft())
+        self.end_event(processor)
+
+    def own_turn(self, processor):
+        work = processor.work()
+        if work:
+            work()
+        self.end_event(processor)
+
+    def end_event(self, processor):
         steps, letters = processor.event()
         self.history += steps
         for cpu, letter in letters:

@@ -2,7 +2,7 @@
 late."""
 
 from second import machines, traces, words
-from second.processors import Entry, Replay
+from second.processors import OwnTurn, Replay, TakeLetter, Tick, TickTo, Turn
 
 MOST_CPUS = 16
 MOST_REGISTERS = 63
@@ -50,6 +50,8 @@ LONG = [(30, 90), (60, 150), (60, 150)]
 TICKS = [0, 0.05, 0.1, 0.2]
 # How often a turn or a tick is tried where nothing may be to be done.
 IDLE = 0.015
+# How often an entry of a schedule names a letter, a turn past the mail or a value of a clock.
+CHOICES = [0, 0, 0.1, 0.5, 0.9]
 # So many lines of a trace count as its end.
 NEAR_THE_END = 5
 
@@ -392,10 +394,13 @@ HABITS = [blindly, evenly, steadily, unfairly, unfairly, mail_first, mail_last, 
 def random_replay(dice, machine, lengths):
     """A random schedule with one of these ranges of lengths, and the replay of the machine by it."""
     replay, entries = Replay(machine), []
-    habit, ticks = dice.choice(HABITS), dice.choice(TICKS)
+    habit, ticks, choices = dice.choice(HABITS), dice.choice(TICKS), dice.choice(CHOICES)
     for _ in range(dice.randint(*dice.choice(lengths))):
-        entries.append(next_entry(dice, replay, habit, ticks, entries))
-        replay.take(entries[-1])
+        entry = next_entry(dice, replay, habit, ticks, entries)
+        if dice.random() < choices:
+            entry = choice_for(dice, replay, entry)
+        entries.append(entry)
+        replay.take(entry)
     return entries, replay
 
 
@@ -403,12 +408,32 @@ def next_entry(dice, replay, habit, ticks, entries):
     busy = [processor.cpu for processor in replay.processors if replay.is_busy(processor.cpu)]
     ticking = [processor.cpu for processor in replay.processors if processor.can_tick()]
     if ticking and (not busy or dice.random() < ticks):
-        return Entry(dice.choice(ticking), is_tick=True)
+        return Tick(dice.choice(ticking))
     if not busy or dice.random() < IDLE:
-        return Entry(dice.randrange(len(replay.processors)), is_tick=dice.random() < 0.5)
+        return dice.choice([Turn, Tick])(dice.randrange(len(replay.processors)))
     # Now and then a habit is left.
     favoured = habit(replay, busy, entries) if dice.random() < 0.8 else busy
-    return Entry(dice.choice(favoured or busy))
+    return Turn(dice.choice(favoured or busy))
+
+
+def choice_for(dice, replay, entry):
+    """An entry of the same processor that names what it does."""
+    processor = replay.processors[entry.cpu]
+    if isinstance(entry, Tick):
+        return TickTo(entry.cpu, value_of_clock(dice, processor))
+    posters = [cpu for cpu, mail in enumerate(replay.mail[entry.cpu]) if mail]
+    if posters and dice.random() < 0.6:
+        return TakeLetter(entry.cpu, dice.choice(posters))
+    if dice.random() < IDLE:
+        return TakeLetter(entry.cpu, dice.randrange(len(replay.processors)))
+    return OwnTurn(entry.cpu)
+
+
+def value_of_clock(dice, processor):
+    """Near the clock or a deadline, which may not be where the clock can go on to, and now and then far off."""
+    near = [processor.clock, *(deadline for deadline, _ in processor.deadlines)]
+    value = dice.choice([*near, *near, *near, traces.LAST_CLOCK >> 1]) + dice.randint(-1, 3)
+    return min(max(value, 1), traces.LAST_CLOCK)
 
 
 def spoilt(dice, machine, trace):

@@ -1,10 +1,11 @@
 -- A schedule that was read of a list is lawful on its machine.
 use Rattle.std.proofs.Common.{◌≡◌, ℕ, ◌+◌, Bool, true, false, Option, Some, None, Ok, Err, List, [], ◌∷◌, ◌++◌, length, refl, sym, ap, ◌∙◌, arith, length-append}
 use Rattle.std.specs.Prelude.{if◌then◌else◌, nat_lt, option_map}
+use Rattle.std.proofs.lemmas.Bool.Decides.{nat_tests}
 use Rattle.l4_model.specs.Machine.{Machine}
-use Rattle.l4_core_model.specs.Schedules.{Entry}
+use Rattle.l4_choices.specs.Entries.{Entry}
 use Rattle.l4_machine.specs.declared.outcome.RunFault.TheVariants.{Turns, Schedule}
-use Rattle.l4_machine.specs.Entries.{is_entry, first_stranger, entries_fault, most_entries}
+use Rattle.l4_machine.specs.Entries.{is_entry, first_stranger, entries_fault, most_entries, most_events}
 use Rattle.l4_jobs.specs.Items.{items_of, if_entry, machine_entry, entry_of, or_fault, read_items, schedule_of}
 
 -- One lawful entry more.
@@ -56,5 +57,7 @@ lawful_schedule m list entries h = by (nat_lt most_entries (length (items_of lis
     by true is h = cc
     by false is h =
         let read = read_lawful m (items_of list) [] entries refl h in
-        let few : nat_lt most_entries (length entries) ≡ false = ap (nat_lt most_entries) (read.count ∙ omega arith) ∙ is in
+        let fit : nat_lt most_entries (length entries) ≡ false =
+        ap (nat_lt most_entries) (read.count ∙ omega arith) ∙ is in
+        let few : nat_lt most_events (length entries) ≡ false = grind (arith, nat_tests, fit) in
         ap (λ b. if b then Some Turns else option_map Schedule (first_stranger m 1 entries)) few ∙ ap (option_map Schedule) read.lawful

@@ -5,7 +5,7 @@ use Rattle.std.proofs.lemmas.Bool.{eqb-true, ltb-true, or_cases}
 use Rattle.l4_model.specs.Machine.{Machine}
 use Rattle.l4_model.specs.History.{reached}
 use Rattle.l4_core_model.specs.Runs.{Run}
-use Rattle.l4_core_model.specs.Schedules.{Entry, replay_entries}
+use Rattle.l4_choices.specs.Entries.{Entry, replay_entries}
 use Rattle.l4_types.specs.declared.reports.Ending.{Ending}
 use Rattle.l4_types.specs.declared.reports.Ending.TheVariants.{Quiet, Spent}
 use Rattle.l4_machine.specs.Entries.{turns_fault}
@@ -27,12 +27,12 @@ status_of_rest false = refl
 
 report_is : (m : Machine) (r : Run) (o : Findings) → IsOutcomeOf m r o → IsReport m r (report_text o.threads o.waiting o.ending)
 report_is m r o is =
-    let w = is.possible.0 in
-    let reaches = is.possible.1 in
+    let w = is.is_true.possible.0 in
+    let reaches = is.is_true.possible.1 in
     record {
       world = w;
       reaches = ap (reached m) (sym is.history) ∙ reaches;
-      lines_are = rw (is.threads w reaches, is.waiting w reaches, is.history, ending_is _ o.ending is.quiet) refl;
+      lines_are = rw (is.is_true.threads w reaches, is.is_true.waiting w reaches, is.history, ending_is _ o.ending is.quiet) refl;
     }
 
 shows : (report : Bool) (m : Machine) (r : Run) (o : Findings) → IsOutcomeOf m r o → Shows report m r (lines_of_outcome report o)
@@ -42,6 +42,7 @@ shows false m r o is = ap trace_of is.history
 shown : (report : Bool) (m : Machine) (IsAsked : Run → Type 0) (r : Run) (o : Findings) (lines : List ℕ) (status : ℕ) → IsAsked r → IsOutcomeOf m r o →
     lines ≡ lines_of_outcome report o → status ≡ status_of_ending o.ending → IsRunShown report m IsAsked lines status
 shown report m IsAsked r o lines status asked is written ended = record {
+  is_true = record { findings = o; is_true = is.is_true; lines_are = written; status_is = ended };
   run = r;
   is = asked;
   shows = subst (Shows report m r) (sym written) (shows report m r o is);

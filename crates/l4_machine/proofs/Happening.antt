@@ -22,8 +22,10 @@ use Rattle.l4_split.specs.Laws.{IsLawfulLetter, IsLawfulRun}
 use Rattle.l4_merge.proofs.CoreRuns.{core_run-append}
 use Rattle.l4_core.specs.Processor.{Processor}
 use Rattle.l4_machine.specs.declared.scheduler.Scheduler.{Scheduler}
+use Rattle.l4_machine.specs.declared.station.Choice.{Choice}
+use Rattle.l4_machine.specs.declared.station.Choice.TheVariants as choice
 use Rattle.l4_machine.specs.declared.station.Station as program
-use Rattle.l4_machine.specs.Stations.{Station, station_of, event_of, events_at, letters_from, letters_out, without_letter, HasNoMail, IsFirstPoster, CanGoOn, HasDone, IsHandling, IsOwnTurn, IsNoTurn, IsSameStation, TakesTurn, IsTick, IsNoTick}
+use Rattle.l4_machine.specs.Stations.{Station, station_of, event_of, events_at, happening, letters_from, letters_out, without_letter, HasNoMail, IsFirstPoster, CanGoOn, HasChosen, HasDone, IsHandling, IsOwnTurn, IsNoTurn, IsSameStation, KnowsPoster, TakesTurn, IsTick, IsNoTick}
 use Rattle.l4_machine.specs.UnderWay.{UnderWay, letters_at, letters_of, with_letters, CanPost, under_way, GoesOn, HasDelivered, HasEndedEvent, IsSystem, IsRun}
 use Rattle.l4_machine.proofs.Stamps.{local_stamp, letter_stamp}
 use Rattle.l4_machine.proofs.Delivered.{events_same, stations_same, IsRead}
@@ -131,8 +133,9 @@ same_by old new inbox x d rest = record {
   inbox = rest;
 }
 
-own_happens : (m : Machine) (g : System) (ss : List Station) (cpu : ℕ) (old new : program.Station) → IsSystem m g ss → slice_get ss cpu ≡ Some (station_of old) →
-    IsOwnTurn old new → HasHappened m g (next_turn m g cpu) cpu ss old new
+own_happens : (m : Machine) (g : System) (ss : List Station) (cpu : ℕ) (old new : program.Station) →
+    IsSystem m g ss → slice_get ss cpu ≡ Some (station_of old) → IsOwnTurn old new →
+    HasHappened m g (Turns cpu) cpu ss old new
 own_happens m g ss cpu old new i at t =
     let s = station_of old in
     let it = i.each cpu s at in
@@ -145,7 +148,7 @@ own_happens m g ss cpu old new i at t =
         before = g;
         stations = ss;
         old = s;
-        is = ap (happens m g) (next_is_own m g ss cpu s i at t.no_mail) ∙ rw (here, does) refl;
+        is = rw (here, does) refl;
         system = i;
         at = at;
         same = same_by old new s.inbox t.work t.done t.rest;
@@ -153,44 +156,65 @@ own_happens m g ss cpu old new i at t =
       };
     }
 
-mail_happens : (m : Machine) (g : System) (ss : List Station) (cpu : ℕ) (old new : program.Station) → IsSystem m g ss → slice_get ss cpu ≡ Some (station_of old) →
-    IsHandling old new → HasHappened m g (next_turn m g cpu) cpu ss old new
-mail_happens m g ss cpu old new i at t =
+letter_happens : (m : Machine) (g : System) (ss : List Station) (cpu from : ℕ) (old new : program.Station) →
+    IsSystem m g ss → slice_get ss cpu ≡ Some (station_of old) → from < length (station_of old).inbox →
+    IsHandling from old new → HasHappened m g (Handles cpu from) cpu ss old new
+letter_happens m g ss cpu from old new i at within t =
     let s = station_of old in
     let it = i.each cpu s at in
     let here = local_at m g ss cpu s i at in
-    let first = ap (λ ls. slice_get ls 0) (letters_here m g ss t.from cpu s i at) ∙ t.first in
+    let first = ap (λ ls. slice_get ls 0) (letters_here m g ss from cpu s i at) ∙ t.first in
     let does : handle m cpu old.worker.core.local t.letter ≡ Some t.work = rw (← it.machine, ← it.cpu_is) t.is in
     record {
       work = t.work;
       done = t.done;
       happens = record {
-        before = taken t.from cpu g;
-        stations = changed (without_letter t.from) ss cpu;
-        old = without_letter t.from s;
-        is = ap (happens m g) (next_is_mail m g ss cpu t.from s i at t.poster) ∙ rw (here, first, does) refl;
-        system = taken_system m g ss t.from cpu s t.letter i at t.poster.within t.first;
-        at = get-changed_same (without_letter t.from) ss cpu ∙ ap (option_map (without_letter t.from)) at;
-        same = same_by old new (without_letter t.from s).inbox t.work t.done t.rest;
-        written = changed_twice (without_letter t.from) (station_of new) ss cpu;
+        before = taken from cpu g;
+        stations = changed (without_letter from) ss cpu;
+        old = without_letter from s;
+        is = rw (here, first, does) refl;
+        system = taken_system m g ss from cpu s t.letter i at within t.first;
+        at = get-changed_same (without_letter from) ss cpu ∙ ap (option_map (without_letter from)) at;
+        same = same_by old new (without_letter from s).inbox t.work t.done t.rest;
+        written = changed_twice (without_letter from) (station_of new) ss cpu;
       };
     }
 
-pub turn_happens : (m : Machine) (g : System) (ss : List Station) (cpu : ℕ) (old new : program.Station) → IsSystem m g ss → slice_get ss cpu ≡ Some (station_of old) →
-    TakesTurn true old new → HasHappened m g (next_turn m g cpu) cpu ss old new
-turn_happens m g ss cpu old new i at (inl t) = mail_happens m g ss cpu old new i at t
-turn_happens m g ss cpu old new i at (inr t) = own_happens m g ss cpu old new i at t
+turn_happens : (m : Machine) (g : System) (ss : List Station) (cpu : ℕ) (old new : program.Station) →
+    IsSystem m g ss → slice_get ss cpu ≡ Some (station_of old) → TakesTurn true old new →
+    HasHappened m g (next_turn m g cpu) cpu ss old new
+turn_happens m g ss cpu old new i at (inl t) =
+    subst (λ e. HasHappened m g e cpu ss old new) (sym (next_is_mail m g ss cpu t.from (station_of old) i at t.poster))
+    (letter_happens m g ss cpu t.from old new i at t.poster.within t.handled)
+turn_happens m g ss cpu old new i at (inr t) =
+    subst (λ e. HasHappened m g e cpu ss old new) (sym (next_is_own m g ss cpu (station_of old) i at t.0))
+    (own_happens m g ss cpu old new i at t.1)
 
-pub no_turn_happens : (m : Machine) (g : System) (ss : List Station) (cpu : ℕ) (old new : program.Station) → IsSystem m g ss → slice_get ss cpu ≡ Some (station_of old) →
-    IsNoTurn old new → happens m g (next_turn m g cpu) ≡ None
-no_turn_happens m g ss cpu old new i at t =
+no_own_happens : (m : Machine) (g : System) (ss : List Station) (cpu : ℕ) (old new : program.Station) →
+    IsSystem m g ss → slice_get ss cpu ≡ Some (station_of old) → IsNoTurn old new → happens m g (Turns cpu) ≡ None
+no_own_happens m g ss cpu old new i at t =
     let s = station_of old in
     let it = i.each cpu s at in
     let here = local_at m g ss cpu s i at in
     let none : turn m cpu old.worker.core.local ≡ None = rw (← it.machine, ← it.cpu_is) t.none in
-    ap (happens m g) (next_is_own m g ss cpu s i at t.no_mail) ∙ rw (here, none) refl
+    rw (here, none) refl
 
-pub tick_happens : (m : Machine) (g : System) (ss : List Station) (cpu clock : ℕ) (old new : program.Station) → IsSystem m g ss → slice_get ss cpu ≡ Some (station_of old) →
+no_letter_happens : (m : Machine) (g : System) (ss : List Station) (cpu from : ℕ) (old : program.Station) →
+    IsSystem m g ss → slice_get ss cpu ≡ Some (station_of old) → letters_from from (station_of old) ≡ [] →
+    happens m g (Handles cpu from) ≡ None
+no_letter_happens m g ss cpu from old i at empty =
+    let s = station_of old in
+    let here = local_at m g ss cpu s i at in
+    let none : letters g.mail from cpu ≡ [] = letters_here m g ss from cpu s i at ∙ empty in
+    rw (here, none) refl
+
+no_turn_happens : (m : Machine) (g : System) (ss : List Station) (cpu : ℕ) (old new : program.Station) →
+    IsSystem m g ss → slice_get ss cpu ≡ Some (station_of old) → TakesTurn false old new →
+    happens m g (next_turn m g cpu) ≡ None
+no_turn_happens m g ss cpu old new i at t =
+    ap (happens m g) (next_is_own m g ss cpu (station_of old) i at t.0) ∙ no_own_happens m g ss cpu old new i at t.1
+
+tick_happens : (m : Machine) (g : System) (ss : List Station) (cpu clock : ℕ) (old new : program.Station) → IsSystem m g ss → slice_get ss cpu ≡ Some (station_of old) →
     IsTick clock old new → HasHappened m g (Ticks cpu clock) cpu ss old new
 tick_happens m g ss cpu clock old new i at t =
     let s = station_of old in
@@ -212,7 +236,7 @@ tick_happens m g ss cpu clock old new i at t =
       };
     }
 
-pub no_tick_happens : (m : Machine) (g : System) (ss : List Station) (cpu clock : ℕ) (old new : program.Station) → IsSystem m g ss → slice_get ss cpu ≡ Some (station_of old) →
+no_tick_happens : (m : Machine) (g : System) (ss : List Station) (cpu clock : ℕ) (old new : program.Station) → IsSystem m g ss → slice_get ss cpu ≡ Some (station_of old) →
     IsNoTick clock old new → happens m g (Ticks cpu clock) ≡ None
 no_tick_happens m g ss cpu clock old new i at t =
     let s = station_of old in
@@ -220,6 +244,40 @@ no_tick_happens m g ss cpu clock old new i at t =
     let here = local_at m g ss cpu s i at in
     let none : advance m cpu clock old.worker.core.local ≡ None = ap (λ c. advance m c clock old.worker.core.local) (sym it.cpu_is) ∙ t.none in
     rw (here, none) refl
+
+-- What is chosen happens, or it can't.
+
+pub chosen_happens : (m : Machine) (g : System) (ss : List Station) (cpu : ℕ) (c : Choice) (old new : program.Station) →
+    IsSystem m g ss → slice_get ss cpu ≡ Some (station_of old) → KnowsPoster (length (station_of old).inbox) c →
+    HasChosen c true old new → HasHappened m g (happening m g cpu c) cpu ss old new
+chosen_happens m g ss cpu choice.Turn old new i at known t = turn_happens m g ss cpu old new i at t
+chosen_happens m g ss cpu (choice.Letter from) old new i at known t =
+    letter_happens m g ss cpu from old new i at known t
+chosen_happens m g ss cpu choice.Core old new i at known t = own_happens m g ss cpu old new i at t
+chosen_happens m g ss cpu (choice.Tick clock) old new i at known t = tick_happens m g ss cpu clock old new i at t
+
+-- It can't, and the station is the same.
+pub record HasNotHappened (m : Machine) (g : System) (e : Happening) (old new : program.Station) : Type 0 where
+  pub none : happens m g e ≡ None
+  pub same : IsSameStation old new
+
+pub not_chosen_happens : (m : Machine) (g : System) (ss : List Station) (cpu : ℕ) (c : Choice) (old new : program.Station) →
+    IsSystem m g ss → slice_get ss cpu ≡ Some (station_of old) → HasChosen c false old new →
+    HasNotHappened m g (happening m g cpu c) old new
+not_chosen_happens m g ss cpu choice.Turn old new i at t =
+    record { none = no_turn_happens m g ss cpu old new i at t; same = t.1.same }
+not_chosen_happens m g ss cpu (choice.Letter from) old new i at t =
+    record { none = no_letter_happens m g ss cpu from old i at t.0; same = t.1 }
+not_chosen_happens m g ss cpu choice.Core old new i at t =
+    record { none = no_own_happens m g ss cpu old new i at t; same = t.same }
+not_chosen_happens m g ss cpu (choice.Tick clock) old new i at t =
+    record { none = no_tick_happens m g ss cpu clock old new i at t; same = t.same }
+
+-- A poster that is a processor has a place in each inbox.
+pub knows_poster : (m : Machine) (r : Run) (v : UnderWay) (cpu : ℕ) (s : Station) (c : Choice) → IsRun m r v →
+    slice_get v.stations cpu ≡ Some s → KnowsPoster v.machine.cpus c → KnowsPoster (length s.inbox) c
+knows_poster m r v cpu s c i at known =
+    subst (λ n. KnowsPoster n c) (ap (λ (m : Machine). m.cpus) i.machine ∙ sym (i.system.each cpu s at).inbox) known
 
 -- The letters go to processors that there are
 

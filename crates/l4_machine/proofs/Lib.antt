@@ -19,7 +19,9 @@ pub mod Stations
 pub mod Systems
 pub mod Delivered
 pub mod Told
+pub mod InOrder
 pub mod Ticked
 pub mod Turned
 pub mod Sought
 pub mod Enough
+pub mod Walks

@@ -7,13 +7,17 @@ use Rattle.std.proofs.lemmas.Bool.Decides.{nat_tests}
 use Rattle.std.proofs.lemmas.List.{length-map}
 use Rattle.l4_model.specs.Machine.{Machine}
 use Rattle.l4_model.specs.Conditions.{◌>>=◌}
-use Rattle.l4_core_model.specs.Runs.{Event, Happening, Happened, Ticks, happens, Run}
-use Rattle.l4_core_model.specs.Schedules.{Entry, TickOf, attempts, entry_event, or_stays, replays}
+use Rattle.l4_core_model.specs.Runs.{Event, Happening, Happened, Ticks, happens, Run, opening_run}
+use Rattle.l4_core_model.specs.Schedules.{attempts, entry_of, or_stays, replay}
+use Rattle.l4_choices.specs.Entries.{Entry, TickOf, entry_event, replays, replay_entries, widened}
+use Rattle.l4_choices.proofs.Widened.{widened_replays}
 use Rattle.l4_machine.specs.declared.entries.Entry as code
+use Rattle.l4_machine.specs.declared.outcome.RunFault.{RunFault}
 use Rattle.l4_machine.specs.declared.outcome.RunFault.TheVariants.{Turns, Schedule}
-use Rattle.l4_machine.specs.Entries.{after_entry, entries_fault, entry_from, is_entry, first_stranger, most_entries}
+use Rattle.l4_machine.specs.declared.station.Choice.{Choice}
+use Rattle.l4_machine.specs.Entries.{after_entry, entries_fault, entry_from, fault_of, is_entry, first_stranger, most_entries, most_events, numbered, processor_of, schedule_fault}
 use Rattle.l4_machine.specs.UnderWay.{UnderWay, deadline_at, IsSystem, IsRun, GoesOn}
-use Rattle.l4_machine.specs.Stations.{Station}
+use Rattle.l4_machine.specs.Stations.{Station, happening}
 use Rattle.l4_machine.proofs.Endings.{deadline_here}
 
 -- The order has as many as there are events.
@@ -83,32 +87,72 @@ lawful-next m schedule place entry is own so_far =
     ∙ ap (λ b. if b then first_stranger m (place + 1 + 1) (drop (place + 1) schedule) else Some (place + 1)) own
 
 -- The entries so far are lawful, and the one at hand is not.
-pub stranger_here : (m : Machine) (entries : List code.Entry) (place : ℕ) (other : code.Entry) → length entries ≤ most_entries → place < length entries →
+pub stranger_here : (m : Machine) (entries : List code.Entry) (place : ℕ) (other : code.Entry) → length entries ≤ most_events → place < length entries →
     is_entry m (entry_from (slice_index_or entries place other)) ≡ false →
     first_stranger m 1 (map entry_from entries) ≡ first_stranger m (place + 1) (drop place (map entry_from entries)) →
     entries_fault m (map entry_from entries) ≡ Some (Schedule (place + 1))
 stranger_here m entries place other few within strange so_far =
     let all = map entry_from entries in
     let count : length all ≡ length entries = length-map entries entry_from in
-    let test : nat_lt most_entries (length all) ≡ false = grind (arith, nat_tests, count, few) in
+    let test : nat_lt most_events (length all) ≡ false = grind (arith, nat_tests, count, few) in
     let here : first_stranger m 1 all ≡ Some (place + 1) =
     so_far ∙ ap (first_stranger m (place + 1)) (rest_is all place (entry_from (slice_index_or entries place other)) (entry_at entries place other within))
     ∙ ap (λ b. if b then first_stranger m (place + 1 + 1) (drop (place + 1) all) else Some (place + 1)) strange in
     ap (λ b. if b then Some Turns else option_map Schedule (first_stranger m 1 all)) test ∙ ap (option_map Schedule) here
 
--- What a tick is.
+-- What an entry asks for.
 
-tick_is : (m : Machine) (r : Run) (ss : List Station) (cpu : ℕ) (d : Option ℕ) → IsSystem m r.system ss → deadline_at (slice_get ss cpu) ≡ d →
-    after_entry (TickOf cpu) m r ≡ or_stays r (option_map (Ticks cpu) d >>= happens m r.system)
-tick_is m r ss cpu d i is = ap (λ d. or_stays r (option_map (Ticks cpu) d >>= happens m r.system)) (deadline_here m r.system ss cpu i ∙ is)
+pub tick_asks : (m : Machine) (r : Run) (ss : List Station) (cpu : ℕ) (d : Option ℕ) → IsSystem m r.system ss →
+    deadline_at (slice_get ss cpu) ≡ d → entry_event m r.system (TickOf cpu) ≡ option_map (Ticks cpu) d
+tick_asks m r ss cpu d i is = ap (option_map (Ticks cpu)) (deadline_here m r.system ss cpu i ∙ is)
 
-pub tick_entry : (m : Machine) (r : Run) (ss : List Station) (cpu deadline : ℕ) → IsSystem m r.system ss → deadline_at (slice_get ss cpu) ≡ Some deadline →
-    after_entry (TickOf cpu) m r ≡ attempts m r (Ticks cpu deadline)
-tick_entry m r ss cpu deadline i is = tick_is m r ss cpu (Some deadline) i is
+-- In each run that has come to where its processors are, it asks for this.
+abbrev pub Asks : UnderWay → Entry → Option Choice → Type 0
+Asks u entry c =
+    (m : Machine) (r : Run) → IsRun m r u →
+    entry_event m r.system entry ≡ option_map (happening m r.system (processor_of entry)) c
 
-pub no_tick_entry : (m : Machine) (r : Run) (ss : List Station) (cpu : ℕ) → IsSystem m r.system ss → deadline_at (slice_get ss cpu) ≡ None → after_entry (TickOf cpu) m r ≡ r
-no_tick_entry m r ss cpu i is = tick_is m r ss cpu None i is
+pub entry_tried : (entry : Entry) (cpu : ℕ) (c : Choice) (u v : UnderWay) → cpu ≡ processor_of entry →
+    Asks u entry (Some c) → GoesOn (λ m r. attempts m r (happening m r.system cpu c)) u v →
+    GoesOn (after_entry entry) u v
+entry_tried entry cpu c u v same asks goes = λ m r is.
+    subst (λ q. IsRun m q v)
+    (ap (λ n. attempts m r (happening m r.system n c)) same
+    ∙ sym (ap (λ (o : Option Happening). or_stays r (o >>= happens m r.system)) (asks m r is)))
+    (goes m r is)
+
+pub entry_untried : (entry : Entry) (u : UnderWay) → Asks u entry None → GoesOn (after_entry entry) u u
+entry_untried entry u asks = λ m r is.
+    subst (λ q. IsRun m q u)
+    (sym (ap (λ (o : Option Happening). or_stays r (o >>= happens m r.system)) (asks m r is))) is
 
 pub on_ok : {A E : Type 0} (r : Result A E) (P Q : Type 0) → (P → Q) → OnOk r P → OnOk r Q
 on_ok (Ok x) P Q f h = f h
 on_ok (Err e) P Q f h = h
+
+-- A schedule of numbers.
+
+numbered_widened : (schedule : List ℕ) → map numbered schedule ≡ map widened (map entry_of schedule)
+numbered_widened [] = refl
+numbered_widened (n ∷ ns) = ap (λ es. numbered n ∷ es) (numbered_widened ns)
+
+pub numbers_replayed : (m : Machine) (schedule : List ℕ) (entries : List Entry) → entries ≡ map numbered schedule →
+    replay_entries m entries ≡ replay m schedule
+numbers_replayed m schedule entries same =
+    ap (replay_entries m) (same ∙ numbered_widened schedule)
+    ∙ widened_replays m (map entry_of schedule) (opening_run m)
+
+few_fault : (m : Machine) (entries : List Entry) → length entries ≤ most_entries →
+    fault_of most_entries m entries ≡ fault_of most_events m entries
+few_fault m entries few =
+    let under : nat_lt most_entries (length entries) ≡ false = grind (arith, nat_tests, few) in
+    let over : nat_lt most_events (length entries) ≡ false = grind (arith, nat_tests, few) in
+    let judged : Option RunFault = option_map Schedule (first_stranger m 1 entries) in
+    ap (λ b. if b then Some Turns else judged) (under ∙ sym over)
+
+-- There are no more of them than there may be of the others.
+pub numbers_judged : (m : Machine) (schedule : List ℕ) (entries : List Entry) → length schedule ≤ most_entries →
+    entries ≡ map numbered schedule → schedule_fault m schedule ≡ entries_fault m entries
+numbers_judged m schedule entries few same =
+    let count : length (map numbered schedule) ≡ length schedule = length-map schedule numbered in
+    few_fault m (map numbered schedule) (omega (arith, count, few)) ∙ sym (ap (entries_fault m) same)

@@ -1,6 +1,6 @@
 -- What a station does with the letter that it takes.
-use Rattle.std.proofs.Common.{◌≡◌, ℕ, ◌<◌, true, false, Option, Some, None, List, [], ◌∷◌, ◌++◌, map, length, get_or, refl, ap, sym, ◌∙◌, subst, inl, inr}
-use Rattle.std.specs.Prelude.{◌+◌, slice_get, is_some, IfErr, OnErr, OnOk, Result, Ok, Err}
+use Rattle.std.proofs.Common.{◌≡◌, ℕ, ◌<◌, Bool, true, false, Option, Some, None, List, [], ◌∷◌, ◌++◌, map, length, get_or, refl, ap, sym, ◌∙◌, subst, inl, inr}
+use Rattle.std.specs.Prelude.{◌+◌, slice_get, is_some, OnErr, OnOk, Result, Ok, Err}
 use Rattle.std.specs.Option.{option_map}
 use Rattle.std.proofs.lemmas.Option.{slice_get-get_or, slice_get-map}
 use Rattle.l4_core_model.specs.Acts.{Work}
@@ -13,16 +13,15 @@ use Rattle.l4_types.specs.declared.letters.Letter as letters
 use Rattle.l4_types.specs.LetterView.{letter_of}
 use Rattle.l4_core.specs.Processor.{Processor}
 use Rattle.l4_core.specs.Turning.{work}
-use Rattle.l4_proc.specs.declared.stops.Stop.{Stop}
 use Rattle.l4_proc.specs.declared.stops.Stop.TheVariants as stop
 use Rattle.l4_proc.specs.declared.worker.Worker.{Worker}
-use Rattle.l4_proc.specs.Events.{event_in_hand, stamp_in_hand, IsRefused}
+use Rattle.l4_proc.specs.Events.{event_in_hand, stamp_in_hand, HasNone}
 use Rattle.l4_proc.specs.Logs.{events, HasBegun, HasLetters, IsClosed}
 use Rattle.l4_proc.specs.Working.{HasTakenTurn, HasTickedTo, IsSameWorker}
 use Rattle.l4_proc.proofs.Logging.{begun_closed, begun_events, logged, same_closed, same_events, IsLogged}
 use Rattle.l4_machine.specs.declared.station.Station as program
-use Rattle.l4_machine.specs.Inboxes.{letters_in, TakesFirst}
-use Rattle.l4_machine.specs.Stations.{station_of, event_of, CanGoOn, IsSameStation, IsTick, TakesTurn}
+use Rattle.l4_machine.specs.Inboxes.{letters_in, IsTakenFrom, TakesFirst}
+use Rattle.l4_machine.specs.Stations.{station_of, event_of, letters_from, CanGoOn, CanTurn, HandlesFrom, HasDone, HasTriedTurn, IsHandling, IsNoTurn, IsOwnTurn, IsSameStation, IsTick, TakesCoreTurn, TakesTurn}
 
 -- What the worker of a station has told.
 pub record Keeps (w : Worker) : Type 0 where
@@ -75,79 +74,144 @@ module _ (old w new : Worker) (hand : Option (ℕ × letters.Letter)) (k : Keeps
       ∙ ap (λ c. events old.log ++ event c t.stamp) k.own
       ∙ ap (λ s. events old.log ++ event old.core.cpu s) t.done.event.stamped
 
--- A turn of a station.
-pub station_turned : (old new : program.Station) (w : Worker) (hand : Option (ℕ × letters.Letter)) → Keeps old.worker → IsAtHand old.worker w hand →
-    TakesFirst (letters_in old.inbox) hand (letters_in new.inbox) → HasTakenTurn w new.worker → TakesTurn true old new
-station_turned old new w None k h taken t = inr (record {
+-- What was done.
+station_done : (old new : program.Station) (w : Worker) (hand : Option (ℕ × letters.Letter)) (k : Keeps old.worker)
+    (h : IsAtHand old.worker w hand) (t : HasTakenTurn w new.worker) →
+    HasDone (turned_work old.worker w new.worker hand k h t) old new
+station_done old new w hand k h t = record {
+  core = turned_core_is old.worker w new.worker hand k h t;
+  events = turned_events old.worker w new.worker hand k h t;
+  letters = ap (λ told. told.letters) t.ended.told;
+}
+
+-- It was the core's turn.
+station_turned : (old new : program.Station) (w : Worker) → Keeps old.worker → IsAtHand old.worker w None →
+    letters_in new.inbox ≡ letters_in old.inbox → HasTakenTurn w new.worker → IsOwnTurn old new
+station_turned old new w k h inbox t = record {
   work = turned_work old.worker w new.worker None k h t;
-  no_mail = taken.0;
   is = turned_event old.worker w new.worker None k h t;
-  done = record {
-    core = turned_core_is old.worker w new.worker None k h t;
-    events = turned_events old.worker w new.worker None k h t;
-    letters = ap (λ told. told.letters) t.ended.told;
-  };
-  rest = taken.1;
-})
-station_turned old new w (Some p) k h taken t = inl (record {
+  done = station_done old new w None k h t;
+  rest = inbox;
+}
+
+-- A letter was handled.
+station_handled : (old new : program.Station) (w : Worker) (p : ℕ × letters.Letter) → Keeps old.worker →
+    IsAtHand old.worker w (Some p) →
+    IsTakenFrom p.0 (letters_in old.inbox) (letter_of p.1) (letters_in new.inbox) → HasTakenTurn w new.worker →
+    IsHandling p.0 old new
+station_handled old new w p k h taken t = record {
   letter = letter_of p.1;
-  from = p.0;
   work = turned_work old.worker w new.worker (Some p) k h t;
-  poster = taken.poster;
   first = taken.first;
   is = turned_event old.worker w new.worker (Some p) k h t;
-  done = record {
-    core = turned_core_is old.worker w new.worker (Some p) k h t;
-    events = turned_events old.worker w new.worker (Some p) k h t;
-    letters = ap (λ told. told.letters) t.ended.told;
-  };
+  done = station_done old new w (Some p) k h t;
   rest = taken.rest;
-})
+}
+
+-- Where an event has begun, nothing has happened yet.
+pub begun_station : (old new : program.Station) → letters_in new.inbox ≡ letters_in old.inbox →
+    new.worker.core ≡ old.worker.core → HasBegun old.worker.log new.worker.log → IsSameStation old new
+begun_station old new inbox core log = record {
+  station = ap (λ c. record { core = c; inbox = letters_in new.inbox }) core
+      ∙ ap (λ i. record { core = old.worker.core; inbox = i }) inbox;
+  events = begun_events old.worker.log new.worker.log log;
+}
+
+pub begun_kept : (old new : Worker) → Keeps old → new.core ≡ old.core → new.hand ≡ old.hand →
+    HasBegun old.log new.log → Keeps new
+begun_kept old new k core hand log = record {
+  empty = hand ∙ k.empty;
+  closed = begun_closed old.log new.log log k.closed;
+  own = log.cpu ∙ k.own ∙ sym (ap (λ (c : Processor). c.cpu) core);
+}
 
 -- There was nothing to do.
-pub station_idle : (old new : program.Station) (w : Worker) (hand : Option (ℕ × letters.Letter)) → Keeps old.worker → IsAtHand old.worker w hand →
-    TakesFirst (letters_in old.inbox) hand (letters_in new.inbox) → IsSameWorker w new.worker → IsRefused w.core w.hand stop.Idle → TakesTurn false old new
-station_idle old new w None k h taken same why = record {
-  no_mail = taken.0;
+station_idle : (old new : program.Station) (w : Worker) → IsAtHand old.worker w None →
+    letters_in new.inbox ≡ letters_in old.inbox → IsSameWorker w new.worker → HasNone w.core w.hand →
+    IsNoTurn old new
+station_idle old new w h inbox same why = record {
   none = subst (λ (c : Processor). turn c.machine c.cpu c.local ≡ None) h.core why.none;
   same = record {
-    station = ap (λ c. record { core = c; inbox = letters_in new.inbox }) (same.core ∙ h.core) ∙ ap (λ i. record { core = old.worker.core; inbox = i }) taken.1;
+    station = ap (λ c. record { core = c; inbox = letters_in new.inbox }) (same.core ∙ h.core)
+        ∙ ap (λ i. record { core = old.worker.core; inbox = i }) inbox;
     events = same_events w.log new.worker.log same.log ∙ begun_events old.worker.log w.log h.log;
   };
 }
-station_idle old new w (Some p) k h taken same why = absurd (let none : w.hand ≡ None = why.empty in let some = h.held in cc)
 
-pub idle_kept : (old w new : Worker) (hand : Option (ℕ × letters.Letter)) → Keeps old → IsAtHand old w hand → IsSameWorker w new → IsRefused w.core w.hand stop.Idle → Keeps new
-idle_kept old w new hand k h same why = record {
-  empty = same.hand ∙ why.empty;
-  closed = same_closed w.log new.log same.log (begun_closed old.log w.log h.log k.closed);
-  own = same.log.cpu ∙ h.log.cpu ∙ k.own ∙ sym (ap (λ (c : Processor). c.cpu) (same.core ∙ h.core));
+-- A letter in hand is something to do.
+not_idle : (old w : Worker) (p : ℕ × letters.Letter) → IsAtHand old w (Some p) → HasNone w.core w.hand → ⊥
+not_idle old w p h why = let none : w.hand ≡ None = why.empty in let some = h.held in cc
+
+-- What a station tries
+
+pub core_tried : (b : Bool) (old new : program.Station) (w : Worker) → Keeps old.worker →
+    IsAtHand old.worker w None → letters_in new.inbox ≡ letters_in old.inbox → HasTriedTurn b w new.worker →
+    TakesCoreTurn b old new
+core_tried true old new w k h inbox t = station_turned old new w k h inbox t
+core_tried false old new w k h inbox t = station_idle old new w h inbox t.0 t.1
+
+pub letter_tried : (b : Bool) (old new : program.Station) (w : Worker) (p : ℕ × letters.Letter) → Keeps old.worker →
+    IsAtHand old.worker w (Some p) →
+    IsTakenFrom p.0 (letters_in old.inbox) (letter_of p.1) (letters_in new.inbox) → HasTriedTurn b w new.worker →
+    HandlesFrom p.0 b old new
+letter_tried true old new w p k h taken t = station_handled old new w p k h taken t
+letter_tried false old new w p k h taken t = absurd (not_idle old.worker w p h t.1)
+
+pub turn_tried : (b : Bool) (old new : program.Station) (w : Worker) (hand : Option (ℕ × letters.Letter)) →
+    Keeps old.worker → IsAtHand old.worker w hand →
+    TakesFirst (letters_in old.inbox) hand (letters_in new.inbox) → HasTriedTurn b w new.worker →
+    TakesTurn b old new
+turn_tried true old new w None k h taken t = inr (taken.0, station_turned old new w k h taken.1 t)
+turn_tried true old new w (Some p) k h taken t =
+    inl (record { from = p.0; poster = taken.0; handled = station_handled old new w p k h taken.1 t })
+turn_tried false old new w None k h taken t = (taken.0, station_idle old new w h taken.1 t.0 t.1)
+turn_tried false old new w (Some p) k h taken t = absurd (not_idle old.worker w p h t.1)
+
+-- What is kept, whether there was something to do or not.
+pub tried_kept : (b : Bool) (old w new : Worker) (hand : Option (ℕ × letters.Letter)) → Keeps old →
+    IsAtHand old w hand → HasTriedTurn b w new → Keeps new
+tried_kept true old w new hand k h t = turned_kept old w new hand k h t
+tried_kept false old w new hand k h t = record {
+  empty = t.0.hand ∙ t.1.empty;
+  closed = same_closed w.log new.log t.0.log (begun_closed old.log w.log h.log k.closed);
+  own = t.0.log.cpu ∙ h.log.cpu ∙ k.own ∙ sym (ap (λ (c : Processor). c.cpu) (t.0.core ∙ h.core));
 }
 
 -- A letter that can be handled is not refused, and neither is the core's turn.
-pub not_refused : (old : program.Station) (w : Worker) (hand : Option (ℕ × letters.Letter)) (after : List (List Letter)) (why : Stop) → CanGoOn (station_of old) → IsAtHand old.worker w hand →
-    TakesFirst (letters_in old.inbox) hand after → IsRefused w.core w.hand why → why ≡ stop.Idle
-not_refused old w hand after stop.Idle can h taken why = refl
-not_refused old w hand after stop.Used can h taken why = absurd why
-not_refused old w hand after stop.NoMemory can h taken why = absurd why
-not_refused old w None after stop.Mail can h taken why = absurd (let some = why.here in let none = h.held in cc)
-not_refused old w (Some p) after stop.Mail can h taken why =
+
+-- The letter in hand is the first of its poster.
+abbrev pub IsFirst : program.Station → Option (ℕ × letters.Letter) → Type 0
+IsFirst old None = Unit {0}
+IsFirst old (Some p) = slice_get (letters_from p.0 (station_of old)) 0 ≡ Some (letter_of p.1)
+
+pub first_taken : (old : program.Station) (hand : Option (ℕ × letters.Letter)) (after : List (List Letter)) →
+    TakesFirst (letters_in old.inbox) hand after → IsFirst old hand
+first_taken old None after taken = tt
+first_taken old (Some p) after taken = taken.1.first
+
+pub can_turn : (old : program.Station) (w : Worker) (hand : Option (ℕ × letters.Letter)) → CanGoOn (station_of old) →
+    IsAtHand old.worker w hand → IsFirst old hand → CanTurn w
+can_turn old w hand can h first stop.Idle why = refl
+can_turn old w hand can h first stop.Used why = absurd why
+can_turn old w hand can h first stop.NoMemory why = absurd why
+can_turn old w None can h first stop.Mail why = absurd (let some = why.here in let none = h.held in cc)
+can_turn old w (Some p) can h first stop.Mail why =
     let same : p ≡ why.letter = some_is_same p why.letter (sym h.held ∙ why.here) in
     let core : Processor → Type 0 = λ c. handle c.machine c.cpu c.local (letter_of p.1) ≡ None in
     let none = subst core h.core (subst (λ (l : ℕ × letters.Letter). handle w.core.machine w.core.cpu w.core.local (letter_of l.1) ≡ None) (sym same) why.unlawful) in
-    let lawful = (can.letters p.0 (letter_of p.1) taken.first).lawful in
+    let lawful = (can.letters p.0 (letter_of p.1) first).lawful in
     absurd (let is = ap is_some none in cc)
   where
     some_is_same : {A : Type 0} (a b : A) → Some a ≡ Some b → a ≡ b
     some_is_same a b is = cc
-not_refused old w None after stop.Stamp can h taken why =
+can_turn old w None can h first stop.Stamp why =
     let core : Processor → Type 0 = λ c. can_stamp c.local 0 ≡ false in
     let full = subst core h.core (subst (λ (o : Option (ℕ × letters.Letter)). can_stamp w.core.local (stamp_in_hand o) ≡ false) h.held why.full) in
     absurd (let own = can.own in cc)
-not_refused old w (Some p) after stop.Stamp can h taken why =
+can_turn old w (Some p) can h first stop.Stamp why =
     let core : Processor → Type 0 = λ c. can_stamp c.local p.1.stamp ≡ false in
     let full = subst core h.core (subst (λ (o : Option (ℕ × letters.Letter)). can_stamp w.core.local (stamp_in_hand o) ≡ false) h.held why.full) in
-    let stamp = (can.letters p.0 (letter_of p.1) taken.first).stamp in
+    let stamp = (can.letters p.0 (letter_of p.1) first).stamp in
     absurd cc
 
 -- The clock of a station goes on.
@@ -225,10 +289,3 @@ at_hand old begun w hand core log same held told = record {
 pub tried_tick : (clock : ℕ) (old new : Worker) {A E : Type 0} (r : Result A E) → Keeps old → OnOk r (HasTickedTo clock old new) → OnErr r (IsSameWorker old new) → Keeps new
 tried_tick clock old new (Ok x) k ticked same = ticked_kept clock old new k ticked
 tried_tick clock old new (Err e) k ticked same = same_kept old new k same
-
-pub tried_turn : (old : program.Station) (w new : Worker) (hand : Option (ℕ × letters.Letter)) (after : List (List Letter)) {A : Type 0} (r : Result A Stop) → CanGoOn (station_of old) →
-    IsAtHand old.worker w hand → TakesFirst (letters_in old.inbox) hand after →
-    OnOk r (HasTakenTurn w new) → OnErr r (IsSameWorker w new) → IfErr r (λ why. IsRefused w.core w.hand why) → Keeps new
-tried_turn old w new hand after (Ok x) can h taken turned same why = turned_kept old.worker w new hand (keeps old) h turned
-tried_turn old w new hand after (Err e) can h taken turned same why =
-    idle_kept old.worker w new hand (keeps old) h same (subst (IsRefused w.core w.hand) (not_refused old w hand after e can h taken why) why)

@@ -23,13 +23,20 @@ abbrev pub PostsFirst : List (List Letter) → Option ℕ → Type 0
 PostsFirst queues None = AreEmpty queues
 PostsFirst queues (Some from) = IsFirstFilled queues from
 
--- The first letter of the lowest poster was taken out.
-pub record IsTakenOut (old : List (List Letter)) (from : ℕ) (letter : Letter) (new : List (List Letter)) : Type 0 where
-  pub poster : IsFirstFilled old from
+-- The first letter of one poster was taken out.
+pub record IsTakenFrom (from : ℕ) (old : List (List Letter)) (letter : Letter)
+    (new : List (List Letter)) : Type 0 where
   pub first : slice_get (slice_index_or old from []) 0 ≡ Some letter
   pub rest : new ≡ changed (drop 1) old from
 
 -- It is the one that is taken, where there is any.
-abbrev pub TakesFirst : (old : List (List Letter)) → Option (ℕ × program.Letter) → (new : List (List Letter)) → Type 0
+abbrev pub TakesFrom : (from : ℕ) → (old : List (List Letter)) → Option program.Letter →
+    (new : List (List Letter)) → Type 0
+TakesFrom from old None new = (slice_index_or old from [] ≡ []) × (new ≡ old)
+TakesFrom from old (Some letter) new = IsTakenFrom from old (letter_of letter) new
+
+-- So it is of the lowest poster.
+abbrev pub TakesFirst : (old : List (List Letter)) → Option (ℕ × program.Letter) →
+    (new : List (List Letter)) → Type 0
 TakesFirst old None new = AreEmpty old × (new ≡ old)
-TakesFirst old (Some p) new = IsTakenOut old p.0 (letter_of p.1) new
+TakesFirst old (Some p) new = IsFirstFilled old p.0 × IsTakenFrom p.0 old (letter_of p.1) new

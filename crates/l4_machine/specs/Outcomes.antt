@@ -8,7 +8,8 @@ use Rattle.l4_model.specs.History.{IsHistory, Report, reached, view, waiting as 
 use Rattle.l4_model.specs.Laws.{IsLawful}
 use Rattle.l4_model.specs.Still.{IsStill}
 use Rattle.l4_core_model.specs.Runs.{Run, merged, told, at_rest}
-use Rattle.l4_core_model.specs.Schedules.{Entry, run, replay, replay_entries}
+use Rattle.l4_core_model.specs.Schedules.{run, replay}
+use Rattle.l4_choices.specs.Entries.{Entry, replay_entries}
 use Rattle.l4_merge.specs.Rounds.{IsInRounds}
 use Rattle.l4_split.specs.Laws.{IsKnownAtHome}
 use Rattle.l4_types.specs.declared.reports.Ending.{Ending}
@@ -16,8 +17,9 @@ use Rattle.l4_types.specs.declared.reports.Ending.TheVariants.{Quiet}
 use Rattle.l4_types.specs.StepView.{step_of}
 use Rattle.l4_types.specs.ReportView.{report_of_view}
 use Rattle.l4_machine.specs.Gathers.{merged_steps}
+use Rattle.l4_machine.specs.Ordered.{told_steps}
 use Rattle.l4_machine.specs.declared.run_history.RunHistory.{RunHistory}
-use Rattle.l4_machine.specs.declared.run_history.RunHistory.TheVariants.{Steps, Logs}
+use Rattle.l4_machine.specs.declared.run_history.RunHistory.TheVariants.{Steps, Logs, Ordered}
 use Rattle.l4_machine.specs.declared.outcome.CompactOutcome.{CompactOutcome}
 use Rattle.l4_machine.specs.declared.outcome.Outcome.{Outcome}
 
@@ -38,10 +40,11 @@ findings_of o = record {
   turns = o.turns;
 }
 
--- The steps of a history: those that it has, or those of all logs.
+-- The steps of a history: those that it has, or those of all logs, merged or in the order told.
 abbrev pub steps_of : RunHistory → List Step
 steps_of (Steps history) = history.steps
 steps_of (Logs logs) = merged_steps logs.machine.now logs.processors.items
+steps_of (Ordered logs) = told_steps logs
 
 abbrev pub compact_findings_of : CompactOutcome → Findings
 compact_findings_of o = record {
@@ -52,25 +55,31 @@ compact_findings_of o = record {
   turns = o.turns;
 }
 
--- These are the findings of this core run of the machine.
-pub record IsOutcomeOf (m : Machine) (r : Run) (o : Findings) : Type 0 where
-  -- the history is what the events of the run tell, in order
-  pub history : o.history ≡ told r.events
+-- These findings are true of the machine. Nothing here names a run of processors.
+pub record IsTrueOf (m : Machine) (o : Findings) : Type 0 where
   -- each of its steps is possible at the world that the earlier ones reach from the opening world
   pub possible : IsHistory m o.history
-  -- each send is delivered at most once and unaltered, one sender's messages reach one receiver in sending order, a receive takes its
-  -- first acceptable waiting sender, a deleted thread receives nothing, and every other begun send is refused, dropped or waiting
+  -- each send is delivered at most once and unaltered, one sender's messages reach one receiver in
+  -- sending order, a receive takes its first acceptable waiting sender, a deleted thread receives
+  -- nothing, and every other begun send is refused, dropped or waiting
   pub lawful : IsLawful m o.history
   -- the undecided sends are those of the world that the history reaches, in order of beginning
   pub waiting : (w : World) → reached m o.history ≡ Some w → o.waiting ≡ undecided_sends m w o.history
   -- the threads are those of that world, in order of declaration
   pub threads : (w : World) → reached m o.history ≡ Some w → o.threads ≡ view m w
+  -- where it is quiet, nothing but clocks can go on in that world
+  pub still : o.ending ≡ Quiet → (w : World) → reached m o.history ≡ Some w → IsStill m w
+
+-- These are the findings of this core run of the machine.
+pub record IsOutcomeOf (m : Machine) (r : Run) (o : Findings) : Type 0 where
+  -- they are true of the machine
+  pub is_true : IsTrueOf m o
+  -- the history is what the events of the run tell, in order
+  pub history : o.history ≡ told r.events
   -- the turns are the events of the run
   pub turns : o.turns ≡ length r.events
   -- it is quiet exactly where the run ends at rest, and else spent
   pub quiet : (o.ending ≡ Quiet) ↔ (at_rest m r.system ≡ true)
-  -- and then nothing but clocks can go on in that world
-  pub still : o.ending ≡ Quiet → (w : World) → reached m o.history ≡ Some w → IsStill m w
 
 -- A core run with its events in order of stamp, and of equal ones by processor.
 abbrev pub in_order : Run → Run
@@ -104,6 +113,7 @@ IsCompactOutcome m most o = IsFoundFor m most (compact_findings_of o)
 abbrev pub IsReplayed : Machine → (schedule : List ℕ) → Outcome → Type 0
 IsReplayed m schedule o = IsOutcomeOf m (replay m schedule) (findings_of o)
 
+-- The same of entries, which may name each choice.
 abbrev pub IsCompactReplay : Machine → List Entry → CompactOutcome → Type 0
 IsCompactReplay m entries o = IsOutcomeOf m (replay_entries m entries) (compact_findings_of o)
 

@@ -1,15 +1,24 @@
 -- A processor with the letters that have come to it.
-use Rattle.std.specs.Prelude.{◌≡◌, ℕ, ◌⊎◌, Bool, false, true, Option, None, Some, is_some, List, [], ◌∷◌, ◌++◌, drop, slice_get, slice_index_or}
+use Rattle.std.specs.Prelude.{◌≡◌, ℕ, ◌<◌, ◌⊎◌, Bool, false, true, Option, None, Some, is_some, List, [], ◌∷◌, ◌++◌, drop, slice_get, slice_index_or}
 use Rattle.std.specs.Option.{option_map}
+use Rattle.l4_model.specs.Machine.{Machine}
 use Rattle.l4_model.specs.World.{changed}
 use Rattle.l4_core_model.specs.Acts.{Work}
 use Rattle.l4_core_model.specs.Letters.{Letter}
 use Rattle.l4_core_model.specs.Mail.{handle}
-use Rattle.l4_core_model.specs.Runs.{Event}
+use Rattle.l4_core_model.specs.Runs.{Event, System, Happening, Handles, Turns, Ticks}
+use Rattle.l4_core_model.specs.Schedules.{next_turn}
 use Rattle.l4_core_model.specs.Turns.{advance, can_stamp, is_busy, turn}
 use Rattle.l4_core.specs.Processor.{Processor}
+use Rattle.l4_proc.specs.Events.{HasNone, IsRefused}
 use Rattle.l4_proc.specs.Logs.{events}
+use Rattle.l4_proc.specs.Working.{HasTakenTurn, IsSameWorker}
+use Rattle.l4_proc.specs.declared.stops.Stop.{Stop}
+use Rattle.l4_proc.specs.declared.stops.Stop.TheVariants as stop
+use Rattle.l4_proc.specs.declared.worker.Worker.{Worker}
 use Rattle.l4_machine.specs.Inboxes.{letters_in, AreEmpty, IsFirstFilled}
+use Rattle.l4_machine.specs.declared.station.Choice.{Choice}
+use Rattle.l4_machine.specs.declared.station.Choice.TheVariants as choice
 use Rattle.l4_machine.specs.declared.station.Station as program
 
 -- A processor, and for each processor the letters that came from it and are not handled yet, of which the first is handled first.
@@ -62,6 +71,15 @@ pub record CanGoOn (s : Station) : Type 0 where
   pub own : can_stamp s.core.local 0 ≡ true
   pub letters : (from : ℕ) (letter : Letter) → slice_get (letters_from from s) 0 ≡ Some letter → CanHandle s.core letter
 
+-- A worker that stops at a turn has nothing to do.
+abbrev pub CanTurn : Worker → Type 0
+CanTurn w = (why : Stop) → IsRefused w.core w.hand why → why ≡ stop.Idle
+
+-- A turn was taken, or there was nothing to do.
+abbrev pub HasTriedTurn : Bool → (old new : Worker) → Type 0
+HasTriedTurn true old new = HasTakenTurn old new
+HasTriedTurn false old new = IsSameWorker old new × HasNone old.core old.hand
+
 -- What is told of an event of this processor.
 abbrev pub event_of : Processor → Work → Event
 event_of p x = record { cpu = p.cpu; stamp = x.local.stamp; steps = x.steps }
@@ -72,35 +90,46 @@ pub record HasDone (x : Work) (old new : program.Station) : Type 0 where
   pub events : events_at new ≡ events_at old ++ event_of old.worker.core x ∷ []
   pub letters : letters_out new ≡ x.letters
 
--- The first letter of the lowest poster was handled.
-pub record IsHandling (old new : program.Station) : Type 0 where
+-- The first letter of one poster was handled.
+pub record IsHandling (from : ℕ) (old new : program.Station) : Type 0 where
   pub letter : Letter
-  pub from : ℕ
   pub work : Work
-  pub poster : IsFirstPoster (station_of old) from
   pub first : slice_get (letters_from from (station_of old)) 0 ≡ Some letter
   pub is : handle old.worker.core.machine old.worker.core.cpu old.worker.core.local letter ≡ Some work
   pub done : HasDone work old new
   pub rest : (station_of new).inbox ≡ (without_letter from (station_of old)).inbox
 
--- There was no letter, and it was the core's turn.
+-- So it was where there is one.
+abbrev pub HandlesFrom : (from : ℕ) → Bool → (old new : program.Station) → Type 0
+HandlesFrom from true old new = IsHandling from old new
+HandlesFrom from false old new = (letters_from from (station_of old) ≡ []) × IsSameStation old new
+
+-- It was the core's turn.
 pub record IsOwnTurn (old new : program.Station) : Type 0 where
   pub work : Work
-  pub no_mail : HasNoMail (station_of old)
   pub is : turn old.worker.core.machine old.worker.core.cpu old.worker.core.local ≡ Some work
   pub done : HasDone work old new
   pub rest : (station_of new).inbox ≡ (station_of old).inbox
 
--- There was nothing to do.
+-- The core had nothing to do.
 pub record IsNoTurn (old new : program.Station) : Type 0 where
-  pub no_mail : HasNoMail (station_of old)
   pub none : turn old.worker.core.machine old.worker.core.cpu old.worker.core.local ≡ None
   pub same : IsSameStation old new
 
+abbrev pub TakesCoreTurn : Bool → (old new : program.Station) → Type 0
+TakesCoreTurn true old new = IsOwnTurn old new
+TakesCoreTurn false old new = IsNoTurn old new
+
+-- The first letter of the lowest poster was handled.
+pub record IsHandlingFirst (old new : program.Station) : Type 0 where
+  pub from : ℕ
+  pub poster : IsFirstPoster (station_of old) from
+  pub handled : IsHandling from old new
+
 -- A turn: mail first, and of it that of the lowest poster, else the core's turn.
 abbrev pub TakesTurn : Bool → (old new : program.Station) → Type 0
-TakesTurn true old new = IsHandling old new ⊎ IsOwnTurn old new
-TakesTurn false old new = IsNoTurn old new
+TakesTurn true old new = IsHandlingFirst old new ⊎ (HasNoMail (station_of old) × IsOwnTurn old new)
+TakesTurn false old new = HasNoMail (station_of old) × IsNoTurn old new
 
 -- The clock went on, or it could not.
 pub record IsTick (clock : ℕ) (old new : program.Station) : Type 0 where
@@ -116,6 +145,25 @@ pub record IsNoTick (clock : ℕ) (old new : program.Station) : Type 0 where
 abbrev pub GoesOnTo : (clock : ℕ) → Bool → (old new : program.Station) → Type 0
 GoesOnTo clock true old new = IsTick clock old new
 GoesOnTo clock false old new = IsNoTick clock old new
+
+-- What is chosen was done, or it could not be.
+abbrev pub HasChosen : Choice → Bool → (old new : program.Station) → Type 0
+HasChosen choice.Turn done old new = TakesTurn done old new
+HasChosen (choice.Letter from) done old new = HandlesFrom from done old new
+HasChosen choice.Core done old new = TakesCoreTurn done old new
+HasChosen (choice.Tick clock) done old new = GoesOnTo clock done old new
+
+-- What it is that may happen.
+abbrev pub happening : Machine → System → (cpu : ℕ) → Choice → Happening
+happening m g cpu choice.Turn = next_turn m g cpu
+happening m g cpu (choice.Letter from) = Handles cpu from
+happening m g cpu choice.Core = Turns cpu
+happening m g cpu (choice.Tick clock) = Ticks cpu clock
+
+-- The poster of a letter that is chosen is one of so many processors.
+abbrev pub KnowsPoster : (cpus : ℕ) → Choice → Type 0
+KnowsPoster cpus (choice.Letter from) = from < cpus
+KnowsPoster cpus _ = Unit {0}
 
 -- The least deadline that a thread is armed for.
 abbrev pub deadline_of : Station → Option ℕ

@@ -7,6 +7,7 @@
 //! `run_compact` and `replay_compact` keep the history in 24 bytes a step.
 //!
 //! Which of its histories a run of several processors takes is up to the host; a replay has one.
+//! Each history that a run may have is that of some entries of a replay (`l4_choices`).
 //! That a run succeeds where memory is ample, and that processors work at the same time, is tested
 //! (`l4_host_tests`), in no clause.
 //!
@@ -21,8 +22,10 @@ mod gathering;
 mod homes;
 mod inbox;
 mod laws;
+mod listener;
 mod logs;
 mod merging;
+mod ordered;
 mod outcome;
 mod run_history;
 mod runs;
@@ -31,14 +34,20 @@ mod schedules;
 mod searching;
 mod station;
 mod team;
+mod telling;
 mod unmerged;
 mod waiting;
+mod walk;
+mod workers;
 
 pub use entries::Entry;
 pub use gathering::gather;
 pub use laws::law_core_run;
+pub use listener::Listener;
 pub use logs::Logs;
+pub use ordered::OrderedLogs;
 pub use outcome::{CompactOutcome, Outcome, RunFault};
 pub use run_history::RunHistory;
 pub use runs::{MOST_TURNS, run, run_compact};
-pub use schedules::{MOST_ENTRIES, replay, replay_compact};
+pub use schedules::{MOST_ENTRIES, MOST_EVENTS, replay, replay_compact};
+pub use walk::Walk;

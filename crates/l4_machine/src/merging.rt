@@ -1,14 +1,16 @@
 //! The logs of all processors, merged.
-ghost use Rattle.std.specs.Prelude.{◌≡◌, IfOk, is_some, length, map, slice_get, true};
+ghost use Rattle.std.specs.Prelude.{◌≡◌, IfOk, OnOk, is_some, length, map, slice_get, true};
 ghost use Rattle.std.specs.List.{AllByRecursion, range_with_len};
 ghost use Rattle.l4_core_model.specs.Runs.{told};
 ghost use Rattle.l4_merge.specs.Pasts.{all_events};
 ghost use Rattle.l4_proc.specs.Logs.{events};
-ghost use Rattle.l4_machine.specs.Gathers.{events_of, merged_steps, pasts_of, with_number, AreOfOne, HaveNumbers, IsMerge};
+ghost use Rattle.l4_machine.specs.Gathers.{events_of, merged_steps, pasts_of, with_number};
+ghost use Rattle.l4_machine.specs.Gathers.{AreOfOne, HaveNumbers, IsMerge};
 ghost use Rattle.l4_machine.specs.Outcomes.{steps_of};
 ghost use Rattle.l4_machine.specs.EventsLeft.{left, IsUnmerged};
 ghost use Rattle.l4_machine.specs.Rising.{HaveRisingLogs};
 
+use crate::listener::Listener;
 use crate::logs::Logs;
 use crate::run_history::RunHistory;
 use crate::unmerged::{Unmerged, count_left, tell_all, untold};
@@ -18,8 +20,24 @@ use l4_script::machine::Machine;
 use l4_types::errors::NoMemory;
 use std::alloc::Global;
 
-/// The history of all that the processors of a machine did, in order of stamp, and of equal ones by
-/// processor, and how many events it has.
+/// Tells a listener all that the processors of a machine did, in order of stamp, and of equal ones
+/// by processor.
+pub(crate) fn tell_merged<T: Listener>(
+    alloc: Global,
+    machine: &Machine,
+    processors: &[Processor<'_>],
+    listener: &mut T,
+) -> Result<(), NoMemory>
+    requires rising { HaveRisingLogs machine.now processors.now }
+    requires numbers { HaveNumbers machine.now.cpus processors.now }
+    ensures { OnOk result (T.hears listener.old
+        (merged_steps machine.now processors.now) listener.new) }
+{
+    let mut logs = unmerged_logs(alloc, processors, machine.cpus())?;
+    tell_all(processors, logs.as_mut_slice(), listener)
+}
+
+/// The history of all that they did, in the same order, and how many events it has.
 pub(crate) fn merged_history(
     alloc: Global,
     machine: &Machine,
@@ -28,11 +46,12 @@ pub(crate) fn merged_history(
     requires rising { HaveRisingLogs machine.now processors.now }
     requires numbers { HaveNumbers machine.now.cpus processors.now }
     ensures history { IfOk result (λ r. r.0.steps ≡ merged_steps machine.now processors.now) }
-    ensures events { IfOk result (λ r. r.1 ≡ length (all_events (pasts_of machine.now processors.now))) }
+    ensures events { IfOk result (λ r.
+        r.1 ≡ length (all_events (pasts_of machine.now processors.now))) }
 {
-    let mut logs = unmerged_logs(alloc, processors, machine.cpus())?;
-    let events = count_left(logs.as_slice())?;
-    let history = tell_all(alloc, processors, logs.as_mut_slice())?;
+    let events = count_all(alloc, machine, processors)?;
+    let mut history = History::new(alloc);
+    tell_merged(alloc, machine, processors, &mut history)?;
     Ok((history, events))
 }
 
@@ -43,14 +62,15 @@ fn count_all(
     processors: &[Processor<'_>],
 ) -> Result<usize, NoMemory>
     requires { HaveNumbers machine.now.cpus processors.now }
-    ensures { IfOk result (λ events. events ≡ length (all_events (pasts_of machine.now processors.now))) }
+    ensures { IfOk result (λ events.
+        events ≡ length (all_events (pasts_of machine.now processors.now))) }
 {
     let logs = unmerged_logs(alloc, processors, machine.cpus())?;
     count_left(logs.as_slice())
 }
 
-/// The history of processors that have finished. That of a single one is its log's; that of several
-/// is merged when it is asked for. Nothing is copied.
+/// History and number of events of processors that nobody needs any more. The history of one that
+/// is alone is its log's, and that of several is told when it is asked for. Nothing is copied.
 pub(crate) fn run_history<'m>(
     alloc: Global,
     machine: &'m Machine,
@@ -60,7 +80,8 @@ pub(crate) fn run_history<'m>(
     requires numbers { HaveNumbers machine.now.cpus processors.items }
     requires count { length processors.items ≡ machine.now.cpus }
     ensures history { IfOk result (λ r. IsMerge machine.now processors.entry.items (steps_of r.0)) }
-    ensures events { IfOk result (λ r. r.1 ≡ length (all_events (pasts_of machine.now processors.entry.items))) }
+    ensures events { IfOk result (λ r.
+        r.1 ≡ length (all_events (pasts_of machine.now processors.entry.items))) }
 {
     if machine.cpus() > 1 {
         let events = count_all(alloc, machine, processors.as_slice())?;
@@ -94,7 +115,9 @@ pub(crate) fn unmerged_logs(
 ) -> Result<Vec<Unmerged>, NoMemory>
     requires { HaveNumbers cpus processors.now }
     ensures whole { IfOk result (λ logs. AllByRecursion (IsUnmerged processors.now) logs.items) }
-    ensures events { IfOk result (λ logs. map (left processors.now) logs.items ≡ map (λ cpu. events_of (with_number cpu processors.now)) (range_with_len 0 cpus)) }
+    ensures events { IfOk result (λ logs.
+        map (left processors.now) logs.items ≡
+        map (λ cpu. events_of (with_number cpu processors.now)) (range_with_len 0 cpus)) }
 {
     let mut logs = Vec::new(alloc);
     for cpu in 0..cpus {

@@ -5,7 +5,8 @@ ghost use Rattle.l4_core_model.specs.Local.{Local};
 ghost use Rattle.l4_core_model.specs.Runs.{Run, at_rest, told};
 ghost use Rattle.l4_types.specs.declared.reports.Ending.TheVariants.{Quiet};
 ghost use Rattle.l4_machine.specs.Homes.{EndsIn, IsAtHome};
-ghost use Rattle.l4_machine.specs.Outcomes.{IsOutcomeOf, IsSound, compact_findings_of, findings_of, steps_of};
+ghost use Rattle.l4_machine.specs.Outcomes.{IsOutcomeOf, IsSound, compact_findings_of, findings_of};
+ghost use Rattle.l4_machine.specs.Outcomes.{steps_of};
 ghost use Rattle.l4_machine.specs.declared.outcome.RunFault.TheVariants.{NoMemory as RunNoMemory};
 
 use crate::homes::AtHome;
@@ -62,8 +63,10 @@ impl CompactOutcome<'_> {
     pub(crate) fn into_outcome(self, alloc: Global) -> Result<Outcome, NoMemory>
         ensures { IfOk result (λ o. findings_of o ≡ compact_findings_of self.entry) }
     {
+        let mut history = Vec::new(alloc);
+        self.history.tell(alloc, &mut history)?;
         Ok(Outcome {
-            history: self.history.into_history(alloc)?.to_steps(alloc)?,
+            history,
             waiting: self.waiting,
             threads: self.threads,
             ending: self.ending,
@@ -77,10 +80,10 @@ impl CompactOutcome<'_> {
 pub enum RunFault {
     /// Memory was refused.
     NoMemory,
-    /// The number of turns is 0 or above 1,000,000, or a schedule has more than 1,000,000 entries.
+    /// The number of turns is 0 or above 1,000,000, or a schedule has more entries than there may
+    /// be.
     Turns,
-    /// This entry of the schedule, counted from 1, is the first whose processor the machine does
-    /// not have.
+    /// This entry of the schedule, counted from 1, is the first that is none of the machine.
     Schedule(usize),
     /// The processors are not exactly those of the machine, each once.
     Strangers,
@@ -108,8 +111,10 @@ pub(crate) fn outcome_of<'m>(
     turns: u64,
 ) -> Result<CompactOutcome<'m>, NoMemory>
     requires { IsHistory machine.now (steps_of history) }
-    ensures { IfOk result (λ o. (r : Run) (locals : List Local) → IsSound machine.now r → IsAtHome machine.now locals at_home → EndsIn r locals all_handled →
-        steps_of history.entry ≡ told r.events → turns ≡ length r.events → (ending ≡ Quiet) ↔ (at_rest machine.now r.system ≡ true) →
+    ensures { IfOk result (λ o. (r : Run) (locals : List Local) → IsSound machine.now r →
+        IsAtHome machine.now locals at_home → EndsIn r locals all_handled →
+        steps_of history.entry ≡ told r.events → turns ≡ length r.events →
+        (ending ≡ Quiet) ↔ (at_rest machine.now r.system ≡ true) →
         IsOutcomeOf machine.now r (compact_findings_of o)) }
 {
     law_begun_then_ended();
@@ -135,8 +140,10 @@ fn audited_outcome<'m>(
     turns: u64,
 ) -> Result<CompactOutcome<'m>, NoMemory>
     requires { IsHistory machine.now history.steps }
-    ensures { IfOk result (λ o. (r : Run) → IsSound machine.now r → history.steps ≡ told r.events → turns ≡ length r.events →
-        (ending ≡ Quiet) ↔ (at_rest machine.now r.system ≡ true) → IsOutcomeOf machine.now r (compact_findings_of o)) }
+    ensures { IfOk result (λ o. (r : Run) → IsSound machine.now r → history.steps ≡ told r.events →
+        turns ≡ length r.events →
+        (ending ≡ Quiet) ↔ (at_rest machine.now r.system ≡ true) →
+        IsOutcomeOf machine.now r (compact_findings_of o)) }
 {
     match check_history(alloc, machine, &history) {
         Ok(audit) => Ok(CompactOutcome {

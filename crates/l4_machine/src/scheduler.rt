@@ -1,19 +1,23 @@
 //! The processors of a replay, which take turns one by one, with the letters under way between
 //! them.
-ghost use Rattle.std.specs.Prelude.{ℕ, ◌≡◌, ◌<◌, ◌↔◌, ◌^◌, [], IfOk, IsTrue, OnOk, length, map, replicate, slice_get};
+ghost use Rattle.std.specs.Prelude.{ℕ, ◌≡◌, ◌<◌, ◌↔◌, ◌^◌, [], IfOk, IsTrue, OnOk, Some, length};
+ghost use Rattle.std.specs.Prelude.{map, replicate, slice_get};
 ghost use Rattle.l4_model.specs.Machine.{Machine as MachineOfModel};
-ghost use Rattle.l4_core_model.specs.Runs.{Event, IsMachine, Run, Ticks, opening_run, opening_system, told};
-ghost use Rattle.l4_core_model.specs.Schedules.{attempts, next_turn};
+ghost use Rattle.l4_core_model.specs.Runs.{Event, IsMachine, Run, opening_run, opening_system};
+ghost use Rattle.l4_core_model.specs.Runs.{told};
+ghost use Rattle.l4_core_model.specs.Schedules.{attempts};
 ghost use Rattle.l4_types.specs.declared.reports.Ending.TheVariants.{Quiet};
-ghost use Rattle.l4_machine.specs.Stations.{events_at, station_of};
+ghost use Rattle.l4_machine.specs.Stations.{events_at, happening, station_of, KnowsPoster};
 ghost use Rattle.l4_machine.specs.Homes.{IsAtHome};
-ghost use Rattle.l4_machine.specs.UnderWay.{deadline_at, letters_of, AreLogsOf, AreResting, CanPost, HasDelivered, HaveNoMail, IsSystem};
+ghost use Rattle.l4_machine.specs.Ordered.{told_steps};
+ghost use Rattle.l4_machine.specs.UnderWay.{deadline_at, letters_of, AreResting, CanPost};
+ghost use Rattle.l4_machine.specs.UnderWay.{HasDelivered, HaveNoMail, IsSystem};
 
 use crate::homes::AtHome;
 use crate::laws::law_core_run;
-use crate::station::Station;
+use crate::ordered::OrderedLogs;
+use crate::station::{Choice, Station};
 use l4_core::processor::Core;
-use l4_history::history::History;
 use l4_script::machine::Machine;
 use l4_types::errors::NoMemory;
 use l4_types::reports::Ending;
@@ -29,11 +33,13 @@ pub(crate) struct Scheduler<'m> {
 }
 
 impl<'m> Scheduler<'m> {
-    ghost use Rattle.l4_machine.specs.UnderWay.{letters_of, under_way, CanPost, GoesOn, HasEndedEvent, HasRun, IsRun};
+    ghost use Rattle.l4_machine.specs.UnderWay.{letters_of, under_way, CanPost, GoesOn};
+    ghost use Rattle.l4_machine.specs.UnderWay.{HasEndedEvent, HasRun, IsRun};
 
     /// The processors of a machine where nothing has happened.
     pub(crate) fn new(alloc: Global, machine: &'m Machine) -> Result<Scheduler<'m>, NoMemory>
-        ensures { IfOk result (λ scheduler. IsRun machine.now (opening_run machine.now) (under_way scheduler)) }
+        ensures { IfOk result (λ scheduler.
+            IsRun machine.now (opening_run machine.now) (under_way scheduler)) }
     {
         Ok(Scheduler {
             machine,
@@ -49,30 +55,17 @@ impl<'m> Scheduler<'m> {
         self.order.len()
     }
 
-    /// A turn of a processor, where it has something to do: it handles the first letter of the
-    /// lowest poster, else it is the core's turn.
-    pub(crate) fn take_turn(&mut self, cpu: u8) -> Result<(), NoMemory>
+    /// Tries what is chosen for a processor. Where it can't be done, there is no event.
+    pub(crate) fn attempt(&mut self, cpu: u8, choice: Choice) -> Result<(), NoMemory>
         requires run { HasRun (under_way self.old) }
         requires cpu { cpu < self.old.machine.now.cpus }
+        requires poster { KnowsPoster self.old.machine.now.cpus choice }
         requires few { length (under_way self.old).order < 2 ^ 61 }
-        ensures { OnOk result (GoesOn (λ m r. attempts m r (next_turn m r.system cpu)) (under_way self.old) (under_way self.new)) }
+        ensures { OnOk result (GoesOn (λ m r. attempts m r (happening m r.system cpu choice))
+            (under_way self.old) (under_way self.new)) }
     {
         law_core_run();
-        if !self.stations[usize::from(cpu)].take_turn()? {
-            return Ok(());
-        }
-        self.end_event(cpu)
-    }
-
-    /// Advances the clock of a processor to this value, in ticks, where it may.
-    pub(crate) fn tick(&mut self, cpu: u8, clock: u64) -> Result<(), NoMemory>
-        requires run { HasRun (under_way self.old) }
-        requires cpu { cpu < self.old.machine.now.cpus }
-        requires few { length (under_way self.old).order < 2 ^ 61 }
-        ensures { OnOk result (GoesOn (λ m r. attempts m r (Ticks cpu clock)) (under_way self.old) (under_way self.new)) }
-    {
-        law_core_run();
-        if !self.stations[usize::from(cpu)].tick(clock)? {
+        if !self.stations[usize::from(cpu)].choose(choice)? {
             return Ok(());
         }
         self.end_event(cpu)
@@ -81,11 +74,21 @@ impl<'m> Scheduler<'m> {
     // Notes an event of this processor as the last one, and delivers the letters that it posted.
     fn end_event(&mut self, cpu: u8) -> Result<(), NoMemory>
         requires within { cpu < length self.old.stations.items }
-        requires posted { CanPost cpu (letters_of self.old.stations.items cpu) (map station_of self.old.stations.items) }
+        requires posted { CanPost cpu (letters_of self.old.stations.items cpu)
+            (map station_of self.old.stations.items) }
         ensures { OnOk result (HasEndedEvent cpu self.old self.new) }
     {
         self.order.push(cpu)?;
         deliver(&mut self.stations, cpu)
+    }
+
+    /// A processor with its letters.
+    pub(crate) fn station(&self, cpu: u8) -> &Station<'m>
+        requires run { HasRun (under_way self.now) }
+        requires cpu { cpu < self.now.machine.now.cpus }
+        ensures { slice_get (under_way self.now).stations cpu ≡ Some (station_of result.now) }
+    {
+        &self.stations[usize::from(cpu)]
     }
 
     /// The least deadline that a thread of a processor is armed for, in ticks.
@@ -108,6 +111,13 @@ impl<'m> Scheduler<'m> {
         }
     }
 
+    /// Whether nothing is to be done, armed or under way.
+    pub(crate) fn is_at_rest(&self) -> bool
+        ensures { IsTrue result ↔ AreResting (under_way self.now).stations }
+    {
+        are_at_rest(self.stations.as_slice())
+    }
+
     /// Whether no letter is under way.
     pub(crate) fn has_handled_all(&self) -> bool
         ensures { IsTrue result → HaveNoMail (under_way self.now).stations }
@@ -118,26 +128,30 @@ impl<'m> Scheduler<'m> {
     /// The threads and their last sends, as their own processors have them.
     pub(crate) fn at_home(&self, alloc: Global) -> Result<AtHome, NoMemory>
         requires { HasRun (under_way self.now) }
-        ensures { (m : MachineOfModel) (r : Run) → IsRun m r (under_way self.now) → IfOk result (IsAtHome m r.system.locals) }
+        ensures { (m : MachineOfModel) (r : Run) → IsRun m r (under_way self.now) →
+            IfOk result (IsAtHome m r.system.locals) }
     {
         let _ = self.machine.cpus();
         let cores = cores_of(alloc, self.stations.as_slice())?;
         AtHome::new(alloc, self.machine, cores.as_slice())
     }
 
-    /// The history, in the order of the schedule.
-    pub(crate) fn history(&self, alloc: Global) -> Result<History, NoMemory>
-        requires { HasRun (under_way self.now) }
-        ensures { (m : MachineOfModel) (r : Run) → IsRun m r (under_way self.now) → IfOk result (λ history. history.steps ≡ told r.events) }
+    /// What the processors have in their logs, with the order of their events. Nothing is copied.
+    pub(crate) fn into_logs(self) -> OrderedLogs<'m>
+        requires { HasRun (under_way self) }
+        ensures { (m : MachineOfModel) (r : Run) → IsRun m r (under_way self.entry) →
+            told_steps result ≡ told r.events }
     {
-        history_in_order(alloc, self.stations.as_slice(), self.order.as_slice())
+        OrderedLogs::new(self.stations, self.order)
     }
 }
 
 // The processors of a machine where nothing has happened.
 fn opening_stations<'m>(alloc: Global, machine: &'m Machine) -> Result<Vec<Station<'m>>, NoMemory>
-    ensures system { IfOk result (λ stations. IsSystem machine.now (opening_system machine.now) (map station_of stations.items)) }
-    ensures events { IfOk result (λ stations. map events_at stations.items ≡ replicate machine.now.cpus []) }
+    ensures system { IfOk result (λ stations.
+        IsSystem machine.now (opening_system machine.now) (map station_of stations.items)) }
+    ensures events { IfOk result (λ stations.
+        map events_at stations.items ≡ replicate machine.now.cpus []) }
     ensures lawful { IfOk result (λ stations. IsMachine machine.now) }
 {
     let mut stations = Vec::with_capacity(alloc, usize::from(machine.cpus()))?;
@@ -188,31 +202,12 @@ fn cores_of<'a, 'm>(
     alloc: Global,
     stations: &'a [Station<'m>],
 ) -> Result<Vec<&'a Core<'m>>, NoMemory>
-    ensures { IfOk result (λ cores. map (λ c. c.now) cores.items ≡ map (λ s. s.worker.core) stations.now) }
+    ensures { IfOk result (λ cores.
+        map (λ c. c.now) cores.items ≡ map (λ s. s.worker.core) stations.now) }
 {
     let mut cores = Vec::new(alloc);
     for station in stations {
         cores.push(station.core())?;
     }
     Ok(cores)
-}
-
-// The steps of all events. `order` has the processor of each.
-fn history_in_order(
-    alloc: Global,
-    stations: &[Station<'_>],
-    order: &[u8],
-) -> Result<History, NoMemory>
-    requires { (events : _) × AreLogsOf events order.now (map events_at stations.now) }
-    ensures { (events : _) → AreLogsOf events order.now (map events_at stations.now) → IfOk result (λ history. history.steps ≡ told events) }
-{
-    let mut history = History::new(alloc);
-    let mut next = Vec::from_elem(alloc, 0, stations.len())?;
-    for cpu in order {
-        let cpu = usize::from(*cpu);
-        let event = stations[cpu].log().event(next[cpu]);
-        history.extend(&event.steps)?;
-        next[cpu] += 1;
-    }
-    Ok(history)
 }

@@ -3,14 +3,29 @@ ghost use Rattle.std.specs.Prelude.{◌≡◌, None};
 ghost use Rattle.l4_proc.specs.Logs.{IsClosed};
 
 use crate::inbox::Inbox;
+use crate::workers::take_turn;
 use l4_core::processor::Core;
 use l4_proc::log::Log;
-use l4_proc::stops::{ProcFault, Stop};
+use l4_proc::stops::ProcFault;
 use l4_proc::worker::Worker;
 use l4_script::machine::Machine;
 use l4_types::errors::NoMemory;
 use l4_types::letters::Letter;
 use std::alloc::Global;
+use std::collections::VecDeque;
+
+/// What a processor may do next.
+#[derive(Clone, Copy)]
+pub(crate) enum Choice {
+    /// A turn: mail first, and of it that of the lowest poster, else the core's turn.
+    Turn,
+    /// The first letter of this poster is handled.
+    Letter(u8),
+    /// The core's turn, though mail may be there.
+    Core,
+    /// Advances the clock to this value, in ticks.
+    Tick(u64),
+}
 
 /// A processor, and for each processor the letters that came from it and are not handled yet.
 #[derive(Drop)]
@@ -23,14 +38,19 @@ pub(crate) struct Station<'m> {
 }
 
 impl<'m> Station<'m> {
-    ghost use Rattle.std.specs.Prelude.{◌≡◌, ◌<◌, ◌++◌, [], IfNone, IfOk, IsTrue, OnOk, ◌↔◌, length, replicate, true};
+    ghost use Rattle.std.specs.Prelude.{◌≡◌, ◌<◌, ◌++◌, [], IfNone, IfOk, IsTrue, OnOk, ◌↔◌};
+    ghost use Rattle.std.specs.Prelude.{length, map, replicate, true};
     ghost use Rattle.std.specs.Option.{option_map, option_to_list};
     ghost use Rattle.l4_core_model.specs.Local.{opening_local};
     ghost use Rattle.l4_core_model.specs.Turns.{can_stamp};
     ghost use Rattle.l4_types.specs.LetterView.{letter_of};
     ghost use Rattle.l4_core.specs.Tellings.{posted_of};
     ghost use Rattle.l4_proc.specs.Logs.{IsClosed};
-    ghost use Rattle.l4_machine.specs.Stations.{deadline_of, events_at, letters_out, station_of, with_letter, CanGoOn, GoesOnTo, HasNoMail, IsResting, IsSameStation, TakesTurn};
+    ghost use Rattle.l4_machine.specs.Stations.{deadline_of, events_at, letters_from, letters_out};
+    ghost use Rattle.l4_machine.specs.Stations.{station_of, with_letter, CanGoOn, GoesOnTo};
+    ghost use Rattle.l4_machine.specs.Stations.{HandlesFrom, HasChosen, HasNoMail, IsResting};
+    ghost use Rattle.l4_machine.specs.Stations.{IsSameStation, KnowsPoster, TakesCoreTurn};
+    ghost use Rattle.l4_machine.specs.Stations.{TakesTurn};
 
     /// A processor where nothing has happened. `cpu` is its number, below the machine's count.
     pub(crate) fn new(alloc: Global, machine: &'m Machine, cpu: u8) -> Result<Station<'m>, NoMemory>
@@ -47,24 +67,59 @@ impl<'m> Station<'m> {
         })
     }
 
-    /// Takes a turn: handles the first letter of the lowest poster, else takes the core's turn.
-    /// Returns whether there was an event. Where there is nothing to do, nothing is changed.
-    pub(crate) fn take_turn(&mut self) -> Result<bool, NoMemory>
+    /// Does what is chosen. Answers whether it could be done. Where it could not, nothing is
+    /// changed.
+    pub(crate) fn choose(&mut self, choice: Choice) -> Result<bool, NoMemory>
+        requires can { CanGoOn (station_of self.old) }
+        requires poster { KnowsPoster (length (station_of self.old).inbox) choice }
+        ensures { IfOk result (λ done. HasChosen choice done self.old self.new) }
+    {
+        match choice {
+            Choice::Turn => self.take_turn(),
+            Choice::Letter(from) => self.handle_letter(from),
+            Choice::Core => self.take_core_turn(),
+            Choice::Tick(clock) => self.tick(clock),
+        }
+    }
+
+    // The first letter of the lowest poster is handled; where there is none, it is the core's turn.
+    fn take_turn(&mut self) -> Result<bool, NoMemory>
         requires { CanGoOn (station_of self.old) }
         ensures { IfOk result (λ taken. TakesTurn taken self.old self.new) }
     {
         self.worker.begin()?;
         self.worker.take_in_hand(self.inbox.take());
-        match self.worker.take_turn() {
-            Ok(()) => Ok(true),
-            Err(Stop::Idle) => Ok(false),
-            Err(_) => unreachable!(),
+        Ok(take_turn(&mut self.worker))
+    }
+
+    // The first letter of this poster is handled.
+    fn handle_letter(&mut self, from: u8) -> Result<bool, NoMemory>
+        requires can { CanGoOn (station_of self.old) }
+        requires poster { from < length (station_of self.old).inbox }
+        ensures { IfOk result (λ handled. HandlesFrom from handled self.old self.new) }
+    {
+        self.worker.begin()?;
+        match self.inbox.take_from(from) {
+            Some(letter) => {
+                self.worker.take_in_hand(Some((from, letter)));
+                Ok(take_turn(&mut self.worker))
+            }
+            None => Ok(false),
         }
     }
 
-    /// Advances the clock to this value, in ticks. Returns whether it could. Where not, nothing is
-    /// changed.
-    pub(crate) fn tick(&mut self, clock: u64) -> Result<bool, NoMemory>
+    // It is the core's turn, though letters may have come.
+    fn take_core_turn(&mut self) -> Result<bool, NoMemory>
+        requires { CanGoOn (station_of self.old) }
+        ensures { IfOk result (λ taken. TakesCoreTurn taken self.old self.new) }
+    {
+        let _ = &self.inbox;
+        self.worker.begin()?;
+        Ok(take_turn(&mut self.worker))
+    }
+
+    // The clock goes on to this value, in ticks, where it may.
+    fn tick(&mut self, clock: u64) -> Result<bool, NoMemory>
         requires { can_stamp self.old.worker.core.local 0 ≡ true }
         ensures { IfOk result (λ ticked. GoesOnTo clock ticked self.old self.new) }
     {
@@ -80,7 +135,8 @@ impl<'m> Station<'m> {
     /// The next letter that its last event posted, with the processor that it goes to. Each is
     /// given once.
     pub(crate) fn take_letter(&mut self) -> Option<(u8, Letter)>
-        ensures letters { letters_out self.old ≡ option_to_list (option_map posted_of result) ++ letters_out self.new }
+        ensures letters { letters_out self.old ≡
+            option_to_list (option_map posted_of result) ++ letters_out self.new }
         ensures none { IfNone result (letters_out self.new ≡ []) }
         ensures same { IsSameStation self.old self.new }
     {
@@ -91,7 +147,8 @@ impl<'m> Station<'m> {
     /// Appends a letter from a processor. Where memory is refused, it is lost.
     pub(crate) fn put(&mut self, from: u8, letter: Letter) -> Result<(), NoMemory>
         requires { from < length (station_of self.old).inbox }
-        ensures station { OnOk result (station_of self.new ≡ with_letter from (letter_of letter) (station_of self.old)) }
+        ensures station { OnOk result
+            (station_of self.new ≡ with_letter from (letter_of letter) (station_of self.old)) }
         ensures worker { self.new.worker ≡ self.old.worker }
     {
         self.inbox.put(from, letter)?;
@@ -112,6 +169,15 @@ impl<'m> Station<'m> {
     {
         let _ = &self.inbox;
         self.worker.core()
+    }
+
+    /// The letters that have come from a processor and are not handled yet.
+    pub(crate) fn letters(&self, from: u8) -> &VecDeque<Letter>
+        requires { from < length (station_of self.now).inbox }
+        ensures { map letter_of result.now.items ≡ letters_from from (station_of self.now) }
+    {
+        let _ = &self.worker;
+        self.inbox.letters(from)
     }
 
     /// The events so far.

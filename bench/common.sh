@@ -40,3 +40,23 @@ test_program() {
     fi
     echo "$program"
 }
+
+# Builds a program that is no crate of the repository, beside copies of these crates that it stands on, and puts its path into `program`. Its file is
+# NAME/src/main.rt.in: the gate wants no source files but those of crates. Who calls it removes the folder `built` in the end.
+build_beside() {
+    local name=$1 crate
+    shift
+    built=$(mktemp -d)
+    mkdir -p "$built/crates/$name/src"
+    for crate; do
+        cp -R "$BENCH/../crates/$crate" "$built/crates/"
+        grep "^$crate:" "$BENCH/../crates.txt" >>"$built/crates.txt"
+    done
+    cp "$BENCH/$name/src/main.rt.in" "$built/crates/$name/src/main.rt"
+    echo "$name: $*" >>"$built/crates.txt"
+    cp "$BENCH/../HANDLES" "$built/"
+    # It has no words, so that it answers status 1.
+    (cd "$built/crates/$name" && rt run --jobs 2) >"$built/log" 2>&1 || true
+    program=$built/crates/$name/out/$name
+    [ -x "$program" ] || { cat "$built/log" >&2; rm -rf "$built"; return 1; }
+}

@@ -65,6 +65,7 @@ pub fn do_command<R: Files + AllocGlobal + Threads + Sync>(
     let mut done = Outcome::new(rt.alloc());
     match job_of(rt.alloc(), words.as_slice()) {
         Ok(job) => {
+            let job = job.on_output(false, 0);
             done.status = do_job(rt, case, &job, trace, &mut done);
             audit(rt, case, &job, &mut done)?;
         }

@@ -1,3 +1,4 @@
+pub mod Charted
 pub mod Appending
 pub mod Audited
 pub mod Joined

@@ -5,11 +5,12 @@ use Rattle.std.specs.declared.io.ErrorKind.{ErrorKind}
 use Rattle.l4_model.specs.Machine.{Machine}
 use Rattle.l4_script.specs.Texts.{machine_of_text}
 use Rattle.l4_script.specs.declared.text.fault.TextFault.{TextFault}
-use Rattle.l4_jobs.specs.Jobs.{IsTold, IsTraceFault, IsFaultOf, IsJobFault, IsFaultBehind, IsOpenedFault, IsDone, IsNotDone, IsTrulyDone, IsUnread, TraceGives, file_of, trace_file_of}
+use Rattle.l4_jobs.specs.Jobs.{IsTold, IsTraceFault, IsChartFault, IsFaultOf, IsJobFault, IsFaultBehind, IsOpenedFault, IsDone, IsNotDone, IsTrulyDone, IsUnread, TraceGives, file_of, trace_file_of}
 use Rattle.l4_jobs.specs.Streams.{FileGives}
 use Rattle.l4_jobs.specs.declared.fault.Fault.{Fault}
+use Rattle.l4_jobs.specs.declared.job.ChartJob.{ChartJob}
 use Rattle.l4_jobs.specs.declared.job.Job.{Job}
-use Rattle.l4_jobs.specs.declared.job.Job.TheVariants.{Run, Replay, Audit}
+use Rattle.l4_jobs.specs.declared.job.Job.TheVariants.{Run, Replay, Audit, Chart}
 use Rattle.l4_jobs.proofs.Shown.{true_on}
 
 -- What reading a source may come to, and what a writer takes.
@@ -27,17 +28,25 @@ told_more : (job : Job) (less more : Gives) (told : List ℕ) → IsMore job les
 told_more (Run file turns report) less more told h t = tt
 told_more (Replay file schedule report) less more told h t = tt
 told_more (Audit file name) less more told h t = h (Ok told) t
+told_more (Chart chart) less more told h t = h (Ok told) t
 
 trace_fault_more : (m : Machine) (name : List ℕ) (less more : Gives) (f : Fault) → ((given : Result (List ℕ) ErrorKind) → less given → more given) →
     IsTraceFault m name less f → IsTraceFault m name more f
 trace_fault_more m name less more f h (inl (kind, given, unread)) = inl (kind, h (Err kind) given, unread)
 trace_fault_more m name less more f h (inr (trace, given, faulty)) = inr (trace, h (Ok trace) given, faulty)
 
+chart_fault_more : (chart : ChartJob) (m : Machine) (less more : Gives) (f : Fault) → ((given : Result (List ℕ) ErrorKind) → less given → more given) →
+    IsChartFault chart m less f → IsChartFault chart m more f
+chart_fault_more chart m less more f h (inl is) = inl is
+chart_fault_more chart m less more f h (inr (right, inl (kind, given, unread))) = inr (right, inl (kind, h (Err kind) given, unread))
+chart_fault_more chart m less more f h (inr (right, inr (trace, given, faulty))) = inr (right, inr (trace, h (Ok trace) given, faulty))
+
 fault_more : (job : Job) (m : Result Machine TextFault) (less more : Gives) (f : Fault) → IsMore job less more → IsFaultOf job m less f → IsFaultOf job m more f
 fault_more job (Err e) less more f h is = is
 fault_more (Run file turns report) (Ok m) less more f h is = is
 fault_more (Replay file schedule report) (Ok m) less more f h is = is
 fault_more (Audit file name) (Ok m) less more f h is = trace_fault_more m name.now less more f h is
+fault_more (Chart chart) (Ok m) less more f h is = chart_fault_more chart m less more f h is
 
 job_fault_more : (job : Job) (machine less more : Gives) (f : Fault) → IsMore job less more → IsJobFault job machine less f → IsJobFault job machine more f
 job_fault_more job machine less more f h (inl none) = inl none
@@ -71,8 +80,10 @@ told_on : (job : Job) (machine less more : Gives) (is_fault : Fault → Type 0) 
     ((f : Fault) → IsJobFault job machine less f → is_fault f) →
     IsNotDone job machine less (IsJobFault job machine less) out keeps faults → IsNotDone job machine more is_fault out keeps faults
 told_on job machine less more is_fault out keeps faults h on (inl (f, is, kept, reported)) = inl (f, on f is, kept, reported)
-told_on job machine less more is_fault out keeps faults h on (inr (text, told, lines, status, given, t, s, wrote, reported)) =
-    inr (text, told, lines, status, given, told_more job less more told h t, s, wrote, reported)
+told_on job machine less more is_fault out keeps faults h on (inr (inl (text, told, lines, status, given, t, s, wrote, reported))) =
+    inr (inl (text, told, lines, status, given, told_more job less more told h t, s, wrote, reported))
+told_on job machine less more is_fault out keeps faults h on (inr (inr (text, told, lines, number, given, t, s, cut, wrote, reported))) =
+    inr (inr (text, told, lines, number, given, told_more job less more told h t, s, cut, wrote, reported))
 
 pub not_done_alone : {File : Type 0} (opens : List ℕ → Result File ErrorKind → Type 0) (gives : File → Gives) (job : Job) (machine less : Gives)
     (out : Takes) (keeps : Type 0) (faults : Takes) → trace_file_of job ≡ None → IsNotDone job machine less (IsJobFault job machine less) out keeps faults →
@@ -108,8 +119,10 @@ pub not_done_on_file : {File : Type 0} (opens : List ℕ → Result File ErrorKi
     IsNotDone job (gives file) trace (IsFaultBehind opens gives (trace_file_of job) job (gives file)) out keeps faults →
     IsNotDone job (FileGives opens gives (file_of job)) trace (IsOpenedFault opens gives job) out keeps faults
 not_done_on_file opens gives job trace file out keeps faults o (inl (f, is, kept, reported)) = inl (f, inr (file, o, is), kept, reported)
-not_done_on_file opens gives job trace file out keeps faults o (inr (text, told, lines, status, given, t, s, wrote, reported)) =
-    inr (text, told, lines, status, (file, o, given), t, s, wrote, reported)
+not_done_on_file opens gives job trace file out keeps faults o (inr (inl (text, told, lines, status, given, t, s, wrote, reported))) =
+    inr (inl (text, told, lines, status, (file, o, given), t, s, wrote, reported))
+not_done_on_file opens gives job trace file out keeps faults o (inr (inr (text, told, lines, number, given, t, s, cut, wrote, reported))) =
+    inr (inr (text, told, lines, number, (file, o, given), t, s, cut, wrote, reported))
 
 -- What was done on the file of the machine text is true of the machine there.
 pub truly_on_file : {File : Type 0} (opens : List ℕ → Result File ErrorKind → Type 0) (gives : File → Gives) (job : Job) (trace : Gives)

@@ -25,6 +25,29 @@ schedule_rule = record (new_rule (codes "schedule")) { long = Some (codes "sched
 abbrev pub report_rule : Rule
 report_rule = record (new_rule (codes "report")) { long = Some (codes "report"); action = Some SetTrue }
 
+-- --from N, --to N and --width N, numbers below 2^64. Where they are not given, the first step is 1, the last is any, and 0 stands for the width of the
+-- terminal.
+abbrev pub number_rule : (name default : Text) → Rule
+number_rule name default =
+    record (new_rule name) { long = Some name; value_names = 1; parser = Some (Unsigned 0 18446744073709551615); defaults = default ∷ [] }
+
+abbrev pub from_rule : Rule
+from_rule = number_rule (codes "from") (codes "1")
+
+abbrev pub to_rule : Rule
+to_rule = number_rule (codes "to") (codes "18446744073709551615")
+
+abbrev pub width_rule : Rule
+width_rule = number_rule (codes "width") (codes "0")
+
+-- --threads LIST
+abbrev pub threads_rule : Rule
+threads_rule = record (new_rule (codes "threads")) { long = Some (codes "threads"); value_names = 1 }
+
+-- --ascii, --svg, --html and --mermaid
+abbrev pub flag_rule : (name : Text) → Rule
+flag_rule name = record (new_rule name) { long = Some name; action = Some SetTrue }
+
 abbrev pub run_app : App
 run_app = with_rule (with_rule (with_rule (new_app (codes "run")) file_rule) turns_rule) report_rule
 
@@ -34,12 +57,29 @@ replay_app = with_rule (with_rule (with_rule (new_app (codes "replay")) file_rul
 abbrev pub audit_app : App
 audit_app = with_rule (with_rule (new_app (codes "audit")) file_rule) trace_rule
 
+-- The command `chart`, with its files, the steps, the part that is shown, and the forms.
+abbrev pub traced_app : App
+traced_app = with_rule (with_rule (new_app (codes "chart")) file_rule) trace_rule
+
+abbrev pub steps_app : App
+steps_app = with_rule (with_rule traced_app from_rule) to_rule
+
+abbrev pub part_app : App
+part_app = with_rule (with_rule steps_app threads_rule) width_rule
+
+abbrev pub forms_app : App
+forms_app = with_rule (with_rule part_app (flag_rule (codes "ascii"))) (flag_rule (codes "svg"))
+
+abbrev pub chart_app : App
+chart_app = with_rule (with_rule forms_app (flag_rule (codes "html"))) (flag_rule (codes "mermaid"))
+
 abbrev pub top_app : App
 top_app = let a = new_app (codes "l4run") in record a { top = record a.top { subcommand_required = true } }
 
--- One of the three has to be named.
+-- One of the four has to be named.
 unfoldable pub l4run_app : App
-l4run_app = with_subcommand (with_subcommand (with_subcommand top_app run_app.top) replay_app.top) audit_app.top
+l4run_app =
+    with_subcommand (with_subcommand (with_subcommand (with_subcommand top_app run_app.top) replay_app.top) audit_app.top) chart_app.top
 
 -- What may be wrong with words, or that help is asked for: none of it where they ask for a job.
 abbrev pub faults_of : (words : List Text) → Kinds

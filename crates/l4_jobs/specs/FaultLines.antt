@@ -23,6 +23,7 @@ abbrev pub fault_words : Fault → List ℕ
 fault_words (fault.Text line kind) = codes "line " ++ decimal line ++ codes ": " ++ kind_word kind
 fault_words fault.Turns = codes "turns out of range"
 fault_words (fault.Schedule number) = codes "schedule item " ++ decimal number
+fault_words (fault.Threads number) = codes "threads item " ++ decimal number
 fault_words (fault.Trace line) = codes "trace line " ++ decimal line
 fault_words (fault.Refused step) = codes "refused at step " ++ decimal step
 fault_words fault.NoMemory = codes "no memory"

@@ -25,31 +25,36 @@ use Rattle.l4_trace.specs.Lines.{trace_of}
 use Rattle.l4_trace.specs.Reading.{steps_of}
 use Rattle.l4_trace.specs.declared.fault.TraceFault.{TraceFault}
 use Rattle.l4_trace.specs.declared.fault.TraceFault.TheVariants as trace_fault
+use Rattle.l4_jobs.specs.ChartJobs.{IsCharted, chosen_by, fault_of_chart, fault_of_lines, fault_of_threads, refused_of_steps}
 use Rattle.l4_jobs.specs.FaultLines.{IsReported}
 use Rattle.l4_jobs.specs.Items.{schedule_of}
 use Rattle.l4_jobs.specs.ReportLines.{report_text, passed_line}
 use Rattle.l4_jobs.specs.Streams.{FileGives}
 use Rattle.l4_jobs.specs.declared.fault.Fault.{Fault}
 use Rattle.l4_jobs.specs.declared.fault.Fault.TheVariants as fault
+use Rattle.l4_jobs.specs.declared.job.ChartJob.{ChartJob}
 use Rattle.l4_jobs.specs.declared.job.Job.{Job}
-use Rattle.l4_jobs.specs.declared.job.Job.TheVariants.{Run, Replay, Audit}
+use Rattle.l4_jobs.specs.declared.job.Job.TheVariants.{Run, Replay, Audit, Chart}
 
 -- The names of its files: the machine text's, and the trace's where it reads one.
 abbrev pub file_of : Job → List ℕ
 file_of (Run file turns report) = file.now
 file_of (Replay file schedule report) = file.now
 file_of (Audit file trace) = file.now
+file_of (Chart chart) = chart.file.now
 
 abbrev pub trace_file_of : Job → Option (List ℕ)
 trace_file_of (Run file turns report) = None
 trace_file_of (Replay file schedule report) = None
 trace_file_of (Audit file trace) = Some trace.now
+trace_file_of (Chart chart) = Some chart.trace.now
 
--- The trace that a job goes by: an audit's is what its reader gives, and the others read none.
+-- The trace that a job goes by: that of an audit or a chart is what its reader gives, and the others read none.
 abbrev pub IsTold : Job → (gives : Result (List ℕ) ErrorKind → Type 0) → (trace : List ℕ) → Type 0
 IsTold (Run file turns report) gives trace = Unit {0}
 IsTold (Replay file schedule report) gives trace = Unit {0}
 IsTold (Audit file name) gives trace = gives (Ok trace)
+IsTold (Chart chart) gives trace = gives (Ok trace)
 
 -- The fault of this file that can't be read, by the kind of the error.
 abbrev pub Names : (file : List ℕ) → Fault → Type 0
@@ -113,6 +118,7 @@ abbrev pub fault_of_job : Job → Machine → (trace : List ℕ) → Option Faul
 fault_of_job (Run file turns report) m trace = fault_of_turns turns
 fault_of_job (Replay file schedule report) m trace = fault_of_result (run_by_list m schedule.now)
 fault_of_job (Audit file name) m trace = fault_of_trace m trace
+fault_of_job (Chart chart) m trace = fault_of_chart chart m trace
 
 abbrev pub fault_on : Job → Result Machine TextFault → (trace : List ℕ) → Option Fault
 fault_on job (Err f) trace = Some (text_fault f.line f.kind)
@@ -127,10 +133,22 @@ abbrev pub IsTraceFault : Machine → (name : List ℕ) → (gives : Result (Lis
 IsTraceFault m name gives f =
     ((kind : ErrorKind) × gives (Err kind) × IsUnread name kind f) ⊎ ((trace : List ℕ) × gives (Ok trace) × (fault_of_trace m trace ≡ Some f))
 
+-- The same of a chart, whose list of threads is right.
+abbrev pub IsLinesFault : (name : List ℕ) → (gives : Result (List ℕ) ErrorKind → Type 0) → Fault → Type 0
+IsLinesFault name gives f =
+    ((kind : ErrorKind) × gives (Err kind) × IsUnread name kind f)
+    ⊎ ((trace : List ℕ) × gives (Ok trace) × (fault_of_lines (steps_of trace) ≡ Some f))
+
+abbrev pub IsChartFault : ChartJob → Machine → (gives : Result (List ℕ) ErrorKind → Type 0) → Fault → Type 0
+IsChartFault chart m gives f =
+    (fault_of_threads (chosen_by m chart) ≡ Some f)
+    ⊎ ((fault_of_threads (chosen_by m chart) ≡ None) × IsLinesFault chart.trace.now gives f)
+
 abbrev pub IsFaultOn : Job → Machine → (trace : Result (List ℕ) ErrorKind → Type 0) → Fault → Type 0
 IsFaultOn (Run file turns report) m trace f = fault_of_turns turns ≡ Some f
 IsFaultOn (Replay file schedule report) m trace f = fault_of_result (run_by_list m schedule.now) ≡ Some f
 IsFaultOn (Audit file name) m trace f = IsTraceFault m name.now trace f
+IsFaultOn (Chart chart) m trace f = IsChartFault chart m trace f
 
 abbrev pub IsFaultOf : Job → Result Machine TextFault → (trace : Result (List ℕ) ErrorKind → Type 0) → Fault → Type 0
 IsFaultOf job (Err e) trace f = f ≡ text_fault e.line e.kind
@@ -222,12 +240,14 @@ abbrev pub IsShownOn : Job → Machine → (trace lines : List ℕ) → (status 
 IsShownOn (Run file turns report) m trace lines status = IsRunShown report m (IsRunAsked m turns) lines status
 IsShownOn (Replay file schedule report) m trace lines status = IsRunShown report m (IsReplayAsked m schedule.now) lines status
 IsShownOn (Audit file name) m trace lines status = IsPassed m trace lines × (status ≡ 0)
+IsShownOn (Chart chart) m trace lines status = IsCharted chart m trace lines status
 
 -- They are true of the machine.
 abbrev pub IsTrueOn : Job → Machine → (trace lines : List ℕ) → (status : ℕ) → Type 0
 IsTrueOn (Run file turns report) m trace lines status = IsTrueShown report m lines status
 IsTrueOn (Replay file schedule report) m trace lines status = IsTrueShown report m lines status
 IsTrueOn (Audit file name) m trace lines status = IsPassed m trace lines × (status ≡ 0)
+IsTrueOn (Chart chart) m trace lines status = IsCharted chart m trace lines status
 
 -- The text declares a machine, and these are what the job shows there.
 pub record IsShown (job : Job) (text trace lines : List ℕ) (status : ℕ) : Type 0 where
@@ -251,11 +271,29 @@ IsTrulyDone job machine trace out status =
     (text : List ℕ) × (read : List ℕ) × (lines : List ℕ) × (m : Machine) × machine (Ok text)
     × (machine_of_text text ≡ Ok m) × IsTold job trace read × IsTrueOn job m read lines status × out lines true
 
--- What a job did that has status 1: either nothing was written and its fault was reported, or its lines were written once, which failed, and that was
--- reported.
+-- The first step that is not possible, of a trace that is drawn. No other job shows what comes before one.
+abbrev pub refused_on : Job → Machine → (trace : List ℕ) → Option ℕ
+refused_on (Run file turns report) m trace = None
+refused_on (Replay file schedule report) m trace = None
+refused_on (Audit file name) m trace = None
+refused_on (Chart chart) m trace = refused_of_steps m (steps_of trace)
+
+abbrev pub refused_in : Job → Result Machine TextFault → (trace : List ℕ) → Option ℕ
+refused_in job (Err f) trace = None
+refused_in job (Ok m) trace = refused_on job m trace
+
+-- What a job did that has status 1: either nothing was written and its fault was reported; or its lines were written once, which failed, and that was
+-- reported; or they were written, and the first step of the trace that is not possible was reported.
 abbrev pub IsNotDone : Job → (machine trace : Result (List ℕ) ErrorKind → Type 0) → (is_fault : Fault → Type 0) → (out : List ℕ → Bool → Type 0) →
     (keeps_out : Type 0) → (faults : List ℕ → Bool → Type 0) → Type 0
 IsNotDone job machine trace is_fault out keeps_out faults =
     ((f : Fault) × is_fault f × keeps_out × IsReported faults f)
     ⊎ ((text : List ℕ) × (told : List ℕ) × (lines : List ℕ) × (status : ℕ) × machine (Ok text) × IsTold job trace told
     × IsShown job text told lines status × out lines false × IsReported faults fault.Write)
+    ⊎ ((text : List ℕ) × (told : List ℕ) × (lines : List ℕ) × (number : ℕ) × machine (Ok text) × IsTold job trace told
+    × IsShown job text told lines 1 × (refused_in job (machine_of_text text) told ≡ Some number) × out lines true × IsReported faults (fault.Refused number))
+
+-- What is answered once the lines are written: the status, or that a step is not possible is reported.
+abbrev pub IsEnded : (refused : Option ℕ) → (status result : ℕ) → (keeps_faults : Type 0) → (faults : List ℕ → Bool → Type 0) → Type 0
+IsEnded None status result keeps_faults faults = (result ≡ status) × keeps_faults
+IsEnded (Some number) status result keeps_faults faults = (result ≡ 1) × IsReported faults (fault.Refused number)

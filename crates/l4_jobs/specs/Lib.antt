@@ -1,5 +1,6 @@
 pub mod Asked
 pub mod Audits
+pub mod ChartJobs
 pub mod Commands
 pub mod FaultLines
 pub mod Items

@@ -3,9 +3,11 @@ ghost use Rattle.std.specs.Prelude.{◌≡◌, ◌⊎◌, IfOk, Some};
 ghost use Rattle.std.specs.String.{string_bytes};
 ghost use Rattle.l4_jobs.specs.FaultLines.{kind_word, fault_words, fault_line, IsReported};
 ghost use Rattle.l4_jobs.specs.Jobs.{IsUnread, text_fault, fault_of_run, fault_of_reading};
+ghost use Rattle.l4_jobs.specs.ChartJobs.{fault_of_list};
 ghost use Rattle.l4_jobs.specs.declared.fault.Fault.TheVariants.{NoMemory as OutOfMemory};
 
 use crate::streams::Sink;
+use l4_chart::threads::ThreadsFault;
 use l4_machine::RunFault;
 use l4_script::text::{TextFault, TextFaultKind};
 use l4_trace::fault::TraceFault;
@@ -30,6 +32,9 @@ pub enum Fault<'a> {
     Turns,
     /// This item of the schedule, counted from 1, is no item, or names no processor of the machine.
     Schedule(usize),
+    /// This item of the list of threads, counted from 1, is the first that is no thread of the
+    /// machine.
+    Threads(usize),
     /// This line of the trace, counted from 1, is the first that spells no step, or has no line
     /// end.
     Trace(usize),
@@ -81,6 +86,17 @@ impl From<TraceFault> for Fault<'_> {
     }
 }
 
+impl From<ThreadsFault> for Fault<'_> {
+    ghost from_gives = { λ of fault. fault ≡ fault_of_list of };
+
+    fn from(fault: ThreadsFault) -> Self {
+        match fault {
+            ThreadsFault::NoMemory => Fault::NoMemory,
+            ThreadsFault::Item(number) => Fault::Threads(number),
+        }
+    }
+}
+
 impl From<NoMemory> for Fault<'_> {
     ghost from_gives = { λ _ fault. fault ≡ OutOfMemory };
 
@@ -116,6 +132,7 @@ impl Display for Fault<'_> {
             Fault::Text { line, kind } => write!(f, "line {line}: {}", spelled_kind(*kind)),
             Fault::Turns => f.write_str("turns out of range"),
             Fault::Schedule(number) => write!(f, "schedule item {number}"),
+            Fault::Threads(number) => write!(f, "threads item {number}"),
             Fault::Trace(line) => write!(f, "trace line {line}"),
             Fault::Refused(step) => write!(f, "refused at step {step}"),
             Fault::NoMemory => f.write_str("no memory"),

@@ -17,6 +17,7 @@
 #![tactic(auto)]
 
 pub mod audits;
+mod charts;
 pub mod fault;
 pub mod files;
 pub mod items;

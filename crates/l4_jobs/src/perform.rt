@@ -9,12 +9,13 @@ ghost use Rattle.l4_jobs.specs.Items.{schedule_of};
 ghost use Rattle.l4_jobs.specs.Jobs.{IsUnread, IsTold, file_of, trace_file_of, IsShown, IsShownOn};
 ghost use Rattle.l4_jobs.specs.Jobs.{IsRunShown, IsPassed, IsTraceFault, IsFaultOn, IsFaultOf};
 ghost use Rattle.l4_jobs.specs.Jobs.{IsJobFault, IsDone, IsNotDone, IsRunAsked, IsReplayAsked};
-ghost use Rattle.l4_jobs.specs.Jobs.{IsTrulyDone};
+ghost use Rattle.l4_jobs.specs.Jobs.{IsEnded, IsTrulyDone, refused_in, refused_on};
 ghost use Rattle.l4_jobs.specs.Jobs.{run_by_list, fault_of, fault_of_result, fault_of_turns};
 ghost use Rattle.l4_jobs.specs.Jobs.{lines_of_outcome, status_of_ending};
 ghost use Rattle.l4_jobs.specs.declared.fault.Fault.TheVariants.{NoMemory as OutOfMemory};
 
 use crate::audits::audited;
+use crate::charts::chart_output;
 use crate::fault::{Fault, report, unread};
 use crate::items::schedule_of;
 use crate::job::Job;
@@ -30,11 +31,13 @@ use l4_types::reports::Ending;
 use std::alloc::Global;
 use std::thread::Threads;
 
-/// What a job prints, and its exit status.
+/// What a job prints, its exit status, and the first step of a trace that is not possible, where
+/// what comes before it is printed.
 #[derive(Drop)]
-struct Output {
-    lines: Vec<u8>,
-    status: u8,
+pub(crate) struct Output {
+    pub(crate) lines: Vec<u8>,
+    pub(crate) status: u8,
+    pub(crate) refused: Option<usize>,
 }
 
 // The machine text of this name. Of one that is too long, one byte more than a text may have is
@@ -108,11 +111,13 @@ fn output_of_run(
     ensures lines { IfOk result (λ output.
         output.lines.items ≡ lines_of_outcome report (compact_findings_of outcome.entry)) }
     ensures status { IfOk result (λ output. output.status ≡ status_of_ending outcome.entry.ending) }
+    ensures whole { IfOk result (λ output. output.refused ≡ None) }
 {
     let status = status(outcome.ending);
     Ok(Output {
         lines: lines_of(alloc, report, outcome)?,
         status,
+        refused: None,
     })
 }
 
@@ -127,6 +132,7 @@ fn run_output<'a, R: Threads + Sync>(
     ensures ok { IfOk result (λ output.
         IsRunShown report machine.now (IsRunAsked machine.now turns) output.lines.items
         output.status) }
+    ensures whole { IfOk result (λ output. output.refused ≡ None) }
     ensures err { IfErr result (λ fault. (fault ≡ OutOfMemory) ⊎
         (fault_of_turns turns ≡ Some fault)) }
 {
@@ -144,6 +150,7 @@ fn replay_output<'a>(
     ensures ok { IfOk result (λ output.
         IsRunShown report machine.now (IsReplayAsked machine.now list.now) output.lines.items
         output.status) }
+    ensures whole { IfOk result (λ output. output.refused ≡ None) }
     ensures err { IfErr result (λ fault. (fault ≡ OutOfMemory) ⊎
         (fault_of_result (run_by_list machine.now list.now) ≡ Some fault)) }
 {
@@ -160,6 +167,7 @@ fn audit_output<'a, T: Source>(
 ) -> Result<Output, Fault<'a>>
     ensures ok { IfOk result (λ output. (told : List ℕ) × T.gives trace.old (Ok told) ×
         IsPassed machine.now told output.lines.items × (output.status ≡ 0)) }
+    ensures whole { IfOk result (λ output. output.refused ≡ None) }
     ensures err { IfErr result (λ fault. (fault ≡ OutOfMemory) ⊎
         IsTraceFault machine.now name.now (T.gives trace.old) fault) }
 {
@@ -168,10 +176,14 @@ fn audit_output<'a, T: Source>(
         Err(kind) => return Err(unread(name, kind)),
     };
     let lines = audited(alloc, machine, told.as_slice())?;
-    Ok(Output { lines, status: 0 })
+    Ok(Output {
+        lines,
+        status: 0,
+        refused: None,
+    })
 }
 
-// What a job prints for a machine. Only an audit reads the trace.
+// What a job prints for a machine. Only an audit and a chart read the trace.
 fn output_on<'a, R: Threads + Sync, T: Source>(
     rt: &R,
     alloc: Global,
@@ -180,7 +192,8 @@ fn output_on<'a, R: Threads + Sync, T: Source>(
     trace: &mut T,
 ) -> Result<Output, Fault<'a>>
     ensures ok { IfOk result (λ output. (told : List ℕ) × IsTold job.now (T.gives trace.old) told ×
-        IsShownOn job.now machine.now told output.lines.items output.status) }
+        IsShownOn job.now machine.now told output.lines.items output.status ×
+        (output.refused ≡ refused_on job.now machine.now told)) }
     ensures err { IfErr result (λ fault. (fault ≡ OutOfMemory) ⊎
         IsFaultOn job.now machine.now (T.gives trace.old) fault) }
     ensures unread { trace_file_of job.now ≡ None → trace.new ≡ trace.old }
@@ -193,6 +206,7 @@ fn output_on<'a, R: Threads + Sync, T: Source>(
             ..
         } => replay_output(alloc, machine, schedule, report),
         Job::Audit { trace: name, .. } => audit_output(alloc, machine, name, trace),
+        Job::Chart(chart) => chart_output(alloc, machine, &chart, trace),
     }
 }
 
@@ -205,7 +219,8 @@ fn output_of<'a, R: Threads + Sync, T: Source>(
     trace: &mut T,
 ) -> Result<Output, Fault<'a>>
     ensures ok { IfOk result (λ output. (told : List ℕ) × IsTold job.now (T.gives trace.old) told ×
-        IsShown job.now text.now told output.lines.items output.status) }
+        IsShown job.now text.now told output.lines.items output.status ×
+        (output.refused ≡ refused_in job.now (machine_of_text text.now) told)) }
     ensures err { IfErr result (λ fault. (fault ≡ OutOfMemory) ⊎
         IsFaultOf job.now (machine_of_text text.now) (T.gives trace.old) fault) }
     ensures unread { trace_file_of job.now ≡ None → trace.new ≡ trace.old }
@@ -225,7 +240,8 @@ fn job_output<'a, R: Threads + Sync, M: Source, T: Source>(
     ensures shown { IfOk result (λ output.
         (text : List ℕ) × (told : List ℕ) × M.gives machine.old (Ok text) ×
         IsTold job.now (T.gives trace.old) told ×
-        IsShown job.now text told output.lines.items output.status) }
+        IsShown job.now text told output.lines.items output.status ×
+        (output.refused ≡ refused_in job.now (machine_of_text text) told)) }
     ensures err { IfErr result (IsJobFault job.now (M.gives machine.old) (T.gives trace.old)) }
     ensures unread { trace_file_of job.now ≡ None → trace.new ≡ trace.old }
 {
@@ -233,10 +249,23 @@ fn job_output<'a, R: Threads + Sync, M: Source, T: Source>(
     output_of(rt, alloc, job, text.as_slice(), trace)
 }
 
-/// Does a job, and returns the exit status: 0 where a run came to rest or a trace passed, 3 where a
-/// run did not come to rest, 1 where a fault was reported instead. The machine text is judged
-/// before the trace is read; only an audit reads one. The output is made whole before any of it is
-/// written, and it is written once. A fault is reported by its one line.
+// What is answered once the lines are written. A step that is not possible is reported then.
+fn ended<E: Sink>(alloc: Global, faults: &mut E, output: &Output) -> u8
+    ensures { IsEnded output.now.refused output.now.status result (faults.new ≡ faults.old)
+        (E.takes faults.old faults.new) }
+{
+    match output.refused {
+        None => output.status,
+        Some(step) => report(alloc, faults, &Fault::Refused(step)),
+    }
+}
+
+/// Does a job, and returns the exit status: 0 where a run came to rest, a trace passed or all of it
+/// was drawn, 3 where a run did not come to rest, 1 where a fault was reported instead. Where a
+/// step of a trace that is drawn is not possible, the steps before it are, and then the fault is
+/// reported. The machine text is judged before anything is read of the trace, and only an audit and
+/// a chart read that. The output is made whole before any of it is written, and it is written once.
+/// A fault is reported by its one line.
 ///
 /// In a run several processors may work at the same time, each in a host thread. So two runs of
 /// several processors may differ, and each is lawful. A replay does what the items of its schedule
@@ -272,7 +301,7 @@ pub fn perform<R: Threads + Sync, M: Source, T: Source, W: Sink, E: Sink>(
         Err(fault) => return report(alloc, faults, &fault),
     };
     match out.put(output.lines.as_slice()) {
-        Ok(()) => output.status,
+        Ok(()) => ended(alloc, faults, &output),
         Err(_) => report(alloc, faults, &Fault::Write),
     }
 }

@@ -1,20 +1,24 @@
 //! What the words of the command line ask for.
-ghost use Rattle.std.specs.Prelude.{◌≡◌, ◌∷◌, [], false, IfOk, IfErr, IfSome, Some, map};
+ghost use Rattle.std.specs.Prelude.{◌≡◌, ◌∷◌, [], false, IfOk, IfErr, IfSome, IsTrue, Some, map};
 ghost use Rattle.std.specs.Prelude.{option_and_then};
 ghost use Rattle.clap.specs.Words.{app_of, rule_of, rows_of, found_of, subcommand_of};
 ghost use Rattle.clap.specs.Words.{subcommand_rows_of, kind_of};
 ghost use Rattle.clap.specs.declared.builder.command.Command.TheViews.{out-Command};
 ghost use Rattle.clap.specs.declared.error.kind.ErrorKind.TheVariants.{OutOfMemory as MemoryKind};
+ghost use Rattle.clap.specs.declared.error.kind.ErrorKind.TheVariants.{ArgumentConflict};
 ghost use Rattle.l4_jobs.specs.Asked.{asked_by, asked_in, asked_of, report_in, run_in, replay_in};
-ghost use Rattle.l4_jobs.specs.Asked.{audit_in, IsRefusal};
+ghost use Rattle.l4_jobs.specs.Asked.{audit_in, chart_in, number_in, flag_in, flags_in, form_of};
+ghost use Rattle.l4_jobs.specs.Asked.{excluded_in, wrong_in, IsRefusal};
 ghost use Rattle.l4_jobs.specs.Commands.{file_rule, trace_rule, turns_rule, schedule_rule};
-ghost use Rattle.l4_jobs.specs.Commands.{report_rule, run_app, replay_app, audit_app, l4run_app};
-ghost use Rattle.l4_jobs.specs.Commands.{faults_of};
+ghost use Rattle.l4_jobs.specs.Commands.{report_rule, number_rule, threads_rule, flag_rule};
+ghost use Rattle.l4_jobs.specs.Commands.{run_app, replay_app, audit_app, traced_app, steps_app};
+ghost use Rattle.l4_jobs.specs.Commands.{part_app, forms_app, chart_app, l4run_app, faults_of};
 ghost use Rattle.l4_jobs.specs.declared.words.WordsFault.TheVariants.{NoMemory as OutOfMemory};
 
-use crate::job::Job;
+use crate::job::{ChartJob, Job};
 use clap::error::ErrorKind;
 use clap::{Arg, ArgAction, ArgMatches, Command, Error, value_parser};
+use l4_chart::drawing::Form;
 use std::alloc::{AllocError, Global};
 
 const RUN_EXAMPLE: &str = "Example: `l4run run ping.l4`, where the file ping.l4 has the lines
@@ -51,6 +55,31 @@ const AUDIT_EXAMPLE: &str =
 `l4run run ping.l4` printed, prints `passed 8 quiet`: these are 8 steps that the machine can take, and then nothing
 but its clock can go on; `spent` stands there where more can. A trace is refused at its first step that is not
 possible.";
+
+const CHART_EXAMPLE: &str =
+    "Example: `l4run chart ping.l4 ping.trace`, with the machine text that `l4run help run` shows and what
+`l4run run ping.l4` printed, prints
+
+   cpu         0 ---------
+  step       1.1       2.1
+     1         *         |  local 1.1
+     2         |         w  wait 2.1
+     3         *         |  local 1.1
+     4         o         |  begin 1.1#1
+     5         q         |  queue 1.1#1
+     6         +-------->|  deliver 1.1#1 2.1 1.1 1.1 70001 a
+     7         |         *  local 2.1
+     8         *         |  local 1.1
+
+On a terminal that shows them there are lines in place of these characters, unless `TERM` is dumb. Without
+`--width` a text is as wide as `COLUMNS` says, else 80. Where a step is not possible, the steps before it are
+drawn, and the status is 1.";
+
+const TWO_FORMS: &str =
+    "error: only one of '--ascii', '--svg', '--html' and '--mermaid' can be given
+
+For more information, try '--help'.
+";
 
 /// Why the words ask for no job.
 #[derive(Debug, Drop)]
@@ -126,6 +155,40 @@ fn report_arg<'a>(alloc: Global) -> Arg<'a>
         .action(ArgAction::SetTrue)
 }
 
+// An option with a number below 2^64.
+fn number_arg<'a>(alloc: Global, name: &'a str, help: &'a str, default: &'a str) -> Arg<'a>
+    ensures rule { rule_of result ≡ number_rule name.entry.now default.entry.now }
+    ensures local { result.global ≡ false }
+{
+    Arg::new(alloc, name)
+        .long(name)
+        .value_name("N")
+        .help(help)
+        .value_parser(value_parser!(u64))
+        .default_value(default)
+        .hide_default_value(true)
+}
+
+fn threads_arg<'a>(alloc: Global) -> Arg<'a>
+    ensures rule { rule_of result ≡ threads_rule }
+    ensures local { result.global ≡ false }
+{
+    Arg::new(alloc, "threads")
+        .long("threads")
+        .value_name("LIST")
+        .help("Shows these threads alone, joined by commas")
+}
+
+fn flag_arg<'a>(alloc: Global, name: &'a str, help: &'a str) -> Arg<'a>
+    ensures rule { rule_of result ≡ flag_rule name.entry.now }
+    ensures local { result.global ≡ false }
+{
+    Arg::new(alloc, name)
+        .long(name)
+        .help(help)
+        .action(ArgAction::SetTrue)
+}
+
 fn run_command<'a>(alloc: Global) -> Result<Command<'a>, AllocError>
     ensures app { IfOk result (λ command. app_of command ≡ run_app) }
     ensures local { IfOk result (λ command. (out-Command command).has_globals ≡ false) }
@@ -164,17 +227,79 @@ fn audit_command<'a>(alloc: Global) -> Result<Command<'a>, AllocError>
     audit.arg(file)?.arg(trace)
 }
 
+// The command `chart` with its files.
+fn traced_command<'a>(alloc: Global) -> Result<Command<'a>, AllocError>
+    ensures app { IfOk result (λ command. app_of command ≡ traced_app) }
+    ensures local { IfOk result (λ command. (out-Command command).has_globals ≡ false) }
+{
+    let file = file_arg(alloc);
+    let trace = trace_arg(alloc);
+    let chart = Command::new(alloc, "chart")
+        .about("Draws a trace: threads, steps, and an arrow for each delivery")
+        .after_help(CHART_EXAMPLE);
+    chart.arg(file)?.arg(trace)
+}
+
+// With what says which steps are shown.
+fn steps_command<'a>(alloc: Global) -> Result<Command<'a>, AllocError>
+    ensures app { IfOk result (λ command. app_of command ≡ steps_app) }
+    ensures local { IfOk result (λ command. (out-Command command).has_globals ≡ false) }
+{
+    let first = number_arg(alloc, "from", "Begins with this step, counted from 1", "1");
+    let last = number_arg(alloc, "to", "Ends with this step", "18446744073709551615");
+    let chart = traced_command(alloc)?;
+    chart.arg(first)?.arg(last)
+}
+
+// With what says which threads are shown, and how wide a text is.
+fn part_command<'a>(alloc: Global) -> Result<Command<'a>, AllocError>
+    ensures app { IfOk result (λ command. app_of command ≡ part_app) }
+    ensures local { IfOk result (λ command. (out-Command command).has_globals ≡ false) }
+{
+    let threads = threads_arg(alloc);
+    let width = number_arg(alloc, "width", "Lays a text out for N columns", "0");
+    let chart = steps_command(alloc)?;
+    chart.arg(threads)?.arg(width)
+}
+
+// With two of the forms.
+fn forms_command<'a>(alloc: Global) -> Result<Command<'a>, AllocError>
+    ensures app { IfOk result (λ command. app_of command ≡ forms_app) }
+    ensures local { IfOk result (λ command. (out-Command command).has_globals ≡ false) }
+{
+    let ascii = flag_arg(
+        alloc,
+        "ascii",
+        "Draws with characters that any terminal has",
+    );
+    let svg = flag_arg(alloc, "svg", "Prints a picture, an SVG file");
+    let chart = part_command(alloc)?;
+    chart.arg(ascii)?.arg(svg)
+}
+
+fn chart_command<'a>(alloc: Global) -> Result<Command<'a>, AllocError>
+    ensures app { IfOk result (λ command. app_of command ≡ chart_app) }
+    ensures local { IfOk result (λ command. (out-Command command).has_globals ≡ false) }
+{
+    let html = flag_arg(alloc, "html", "Prints a page, an HTML file");
+    let mermaid = flag_arg(alloc, "mermaid", "Prints a sequence diagram of Mermaid");
+    let chart = forms_command(alloc)?;
+    chart.arg(html)?.arg(mermaid)
+}
+
 fn l4run_command<'a>(alloc: Global) -> Result<Command<'a>, AllocError>
     ensures { IfOk result (λ command. app_of command ≡ l4run_app) }
 {
     let run = run_command(alloc)?;
     let replay = replay_command(alloc)?;
     let audit = audit_command(alloc)?;
+    let chart = chart_command(alloc)?;
     let l4run = Command::new(alloc, "l4run")
         .about("Emulates the Ipc system call of the L4 kernel, version X.2")
         .after_help(RUN_EXAMPLE)
         .subcommand_required(true);
-    l4run.subcommand(run)?.subcommand(replay)?.subcommand(audit)
+    let with_runs = l4run.subcommand(run)?.subcommand(replay)?;
+    with_runs.subcommand(audit)?.subcommand(chart)
 }
 
 // Whether the matches ask for a report.
@@ -218,6 +343,74 @@ fn audit_job<'a>(matches: &ArgMatches<'a>) -> Option<Job<'a>>
     })
 }
 
+// Whether the matches have a flag.
+fn flag(matches: &ArgMatches<'_>, name: &str) -> Option<bool>
+    ensures { IfSome result (λ given.
+        flag_in name.now (rows_of (found_of matches.now)) ≡ Some given) }
+{
+    matches.get_one(name)
+}
+
+/// The forms of a chart that are asked for.
+#[derive(Clone, Copy)]
+struct Flags {
+    ascii: bool,
+    svg: bool,
+    html: bool,
+    mermaid: bool,
+}
+
+// The forms that the matches of `chart` ask for.
+fn given_flags(matches: &ArgMatches<'_>) -> Option<Flags>
+    ensures { IfSome result (λ flags. flags_in (rows_of (found_of matches.now)) ≡ Some flags) }
+{
+    Some(Flags {
+        ascii: flag(matches, "ascii")?,
+        svg: flag(matches, "svg")?,
+        html: flag(matches, "html")?,
+        mermaid: flag(matches, "mermaid")?,
+    })
+}
+
+// The form of a chart. None where two are asked for.
+fn form_of(flags: &Flags) -> Option<Form>
+    ensures { result ≡ form_of flags.now }
+{
+    match (flags.ascii, flags.svg, flags.html, flags.mermaid) {
+        (false, false, false, false) => Some(Form::Lines),
+        (true, false, false, false) => Some(Form::Ascii),
+        (false, true, false, false) => Some(Form::Svg),
+        (false, false, true, false) => Some(Form::Html),
+        (false, false, false, true) => Some(Form::Mermaid),
+        _ => None,
+    }
+}
+
+// A number of the matches.
+fn number(matches: &ArgMatches<'_>, name: &str) -> Option<u64>
+    ensures { IfSome result (λ number.
+        number_in name.now (rows_of (found_of matches.now)) ≡ Some number) }
+{
+    let number = matches.get_one::<u64>(name)?;
+    Some(number)
+}
+
+// The job of the matches of `chart`.
+fn chart_job<'a>(matches: &ArgMatches<'a>) -> Option<Job<'a>>
+    ensures { IfSome result (λ job.
+        chart_in (rows_of (found_of matches.now)) ≡ Some (asked_by job)) }
+{
+    Some(Job::Chart(ChartJob {
+        file: matches.get_str("file")?,
+        trace: matches.get_str("trace")?,
+        first: number(matches, "from")?,
+        last: number(matches, "to")?,
+        threads: matches.get_str("threads"),
+        form: form_of(&given_flags(matches)?)?,
+        width: number(matches, "width")?,
+    }))
+}
+
 fn job_of_matches<'a>(matches: &ArgMatches<'a>) -> Option<Job<'a>>
     ensures { IfSome result (λ job.
         option_and_then asked_in (subcommand_rows_of matches.now) ≡ Some (asked_by job)) }
@@ -227,6 +420,7 @@ fn job_of_matches<'a>(matches: &ArgMatches<'a>) -> Option<Job<'a>>
         "run" => run_job(matches),
         "replay" => replay_job(matches),
         "audit" => audit_job(matches),
+        "chart" => chart_job(matches),
         _ => None,
     }
 }
@@ -259,6 +453,29 @@ fn matches_of<'a>(alloc: Global, words: &'a [&'a str]) -> Result<ArgMatches<'a>,
     }
 }
 
+// Whether the matches have words that exclude each other: of `chart`, two forms.
+fn has_excluded(matches: &ArgMatches<'_>) -> bool
+    ensures { IsTrue result → excluded_in (subcommand_rows_of matches.now) ≡ ArgumentConflict ∷ [] }
+{
+    match matches.subcommand() {
+        Some(("chart", chart)) => match given_flags(chart) {
+            Some(flags) => form_of(&flags).is_none(),
+            None => false,
+        },
+        _ => false,
+    }
+}
+
+// What is wrong with words that exclude each other.
+fn excluded(alloc: Global) -> WordsFault
+    ensures { IsRefusal (ArgumentConflict ∷ []) result }
+{
+    match String::from_str(alloc, TWO_FORMS) {
+        Ok(text) => WordsFault::Usage(text),
+        Err(_) => WordsFault::NoMemory,
+    }
+}
+
 /// Reads the words of a command line, of which the first is the program's name.
 ///
 /// `Help`: they ask for help. `Usage`: they are wrong. Else `NoMemory`.
@@ -266,8 +483,14 @@ pub fn job_of<'a>(alloc: Global, words: &'a [&'a str]) -> Result<Job<'a>, WordsF
     ensures ok { IfOk result (λ job.
         asked_of (map (λ word. word.now) words.now) ≡ Some (asked_by job)) }
     ensures right { IfOk result (λ job. faults_of (map (λ word. word.now) words.now) ≡ []) }
-    ensures err { IfErr result (IsRefusal (faults_of (map (λ word. word.now) words.now))) }
+    ensures err { IfErr result (IsRefusal (wrong_in (map (λ word. word.now) words.now))) }
 {
-    let matches = matches_of(alloc, words)?;
+    let matches = match matches_of(alloc, words) {
+        Ok(matches) => matches,
+        Err(fault) => return Err(fault),
+    };
+    if has_excluded(&matches) {
+        return Err(excluded(alloc));
+    }
     job_of_matches(&matches).ok_or(WordsFault::NoMemory)
 }

@@ -12,6 +12,7 @@
 //! l4run run examples/first.l4
 //! l4run replay examples/first.l4 --schedule 0,0,0 --report
 //! l4run audit examples/first.l4 examples/first.trace
+//! l4run chart examples/first.l4 examples/first.trace
 //! ```
 #![tactic(auto)]
 
@@ -21,20 +22,38 @@ use l4_jobs::refusal::refuse;
 use l4_jobs::streams::Sink;
 use l4_jobs::words::job_of;
 use std::alloc::{AllocError, Global};
+use std::io::IsTerminal;
 use std::process::ExitCode;
 use std::rt::{Env, Files};
 use std::thread::Threads;
 use std::{env, io};
 
+// Whether the output shows lines: it is a terminal, and not one that `TERM` calls dumb.
+fn shows_lines<R: Env + AllocGlobal>(rt: &R, is_terminal: bool) -> bool {
+    is_terminal && !matches!(env::var(rt, "TERM"), Ok(term) if term.as_str() == "dumb")
+}
+
+// How many columns the output has, as `COLUMNS` says, or 0.
+fn columns<R: Env + AllocGlobal>(rt: &R) -> u64 {
+    match env::var(rt, "COLUMNS") {
+        Ok(columns) => columns.as_str().parse().unwrap_or(0),
+        Err(_) => 0,
+    }
+}
+
 // Does what the words ask for.
-fn on_words<R: Files + AllocGlobal + Threads + Sync, W: Sink, E: Sink>(
+fn on_words<R: Files + Env + AllocGlobal + Threads + Sync, W: Sink, E: Sink>(
     rt: &R,
     words: &[&str],
+    is_terminal: bool,
     out: &mut W,
     faults: &mut E,
 ) -> u8 {
     match job_of(rt.alloc(), words) {
-        Ok(job) => perform_on_files(rt, rt.alloc(), rt, &job, out, faults),
+        Ok(job) => {
+            let job = job.on_output(shows_lines(rt, is_terminal), columns(rt));
+            perform_on_files(rt, rt.alloc(), rt, &job, out, faults)
+        }
         Err(fault) => refuse(rt.alloc(), &fault, out, faults),
     }
 }
@@ -45,6 +64,7 @@ fn texts<'a>(alloc: Global, words: &'a [String]) -> Result<Vec<&'a str>, AllocEr
 
 fn run_program<R: Files + Env + AllocGlobal + Threads + Sync, W: Sink, E: Sink>(
     rt: &R,
+    is_terminal: bool,
     out: &mut W,
     faults: &mut E,
 ) -> u8 {
@@ -63,11 +83,12 @@ fn run_program<R: Files + Env + AllocGlobal + Threads + Sync, W: Sink, E: Sink>(
         return report(rt.alloc(), faults, &Fault::NoMemory);
     };
     match texts(rt.alloc(), owned.as_slice()) {
-        Ok(words) => on_words(rt, words.as_slice(), out, faults),
+        Ok(words) => on_words(rt, words.as_slice(), is_terminal, out, faults),
         Err(_) => report(rt.alloc(), faults, &Fault::NoMemory),
     }
 }
 
 fn main(rt: HostRuntime) -> ExitCode {
-    ExitCode::from(run_program(&rt, &mut rt.stdout(), &mut rt.stderr()))
+    let is_terminal = rt.stdout().is_terminal();
+    ExitCode::from(run_program(&rt, is_terminal, &mut rt.stdout(), &mut rt.stderr()))
 }

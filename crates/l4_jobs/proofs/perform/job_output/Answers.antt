@@ -4,7 +4,7 @@ use Rattle.l4_jobs.proofs.perform.job_output.Goals as goal
 
 pub returns-clause-shown : goal.returns-clause-shown
 returns-clause-shown g c =
-    IfOk-weaker c.output_of.result _ _ (λ o s. shown_given _ (g.M.Source.gives c.args.machine.now) (g.T.Source.gives c.args.trace.now) _ _ _ _
+    IfOk-weaker c.output_of.result _ _ (λ o s. shown_given _ (g.M.Source.gives c.args.machine.now) (g.T.Source.gives c.args.trace.now) _ _ _ _ _
     c.in_ok-text.ensures.ok c.as_slice.ensures.value s) c.output_of.ensures.ok
 
 pub returns-clause-err : goal.returns-clause-err

@@ -1,0 +1,5 @@
+pub mod Ended
+pub mod Lawful
+pub mod Repeated
+pub mod Shown
+pub mod Under

@@ -1,0 +1,76 @@
+-- What a loop has made of a list, and what is left of it.
+use Rattle.std.proofs.Common.{◌≡◌, ◌∙◌, ℕ, ◌+◌, zero, suc, Bool, true, false, cond, Option, None, List, [], ◌∷◌, ◌++◌, ◌<◌, length, drop, take, get_or, refl, ap, sym, arith, append_assoc, append-nil, add-one, add-zero, zero-add}
+use Rattle.std.specs.Prelude.{slice_get, Some, filter, filter_map, flat_map}
+use Rattle.std.specs.Option.{option_to_list}
+use Rattle.std.specs.List.{cons_option, enumerate_from, range_with_len}
+use Rattle.std.proofs.lemmas.List.{drop_more, take_more}
+use Rattle.std.proofs.lemmas.List.Concat.{flat_map-append}
+use Rattle.std.proofs.lemmas.List.Elements.{filter_map-append}
+use Rattle.std.proofs.lemmas.Option.{get_or_from_slice_get, slice_get_within}
+
+-- What is left of a list begins with its next element.
+pub left-next : {A : Type 0} (xs : List A) (i : ℕ) (x : A) → slice_get xs i ≡ Some x → drop i xs ≡ x ∷ drop (i + 1) xs
+left-next {A} xs i x is =
+    drop_more xs i x (slice_get_within xs i x is) ∙ ap (λ (y : A). y ∷ drop (i + 1) xs) (get_or_from_slice_get xs i x x is)
+
+-- The next numbered element is kept or not.
+pub kept_next : {A : Type 0} (p : ℕ × A → Bool) (xs : List A) (i : ℕ) (x : A) (old new : List (ℕ × A)) → slice_get xs i ≡ Some x →
+    new ≡ cond (p (i + 1, x)) (old ++ (i + 1, x) ∷ []) old →
+    new ++ filter p (enumerate_from (i + 1 + 1) (drop (i + 1) xs)) ≡ old ++ filter p (enumerate_from (i + 1) (drop i xs))
+kept_next {A} p xs i x old new at is =
+    by (p (i + 1, x)) is ∙ ap (λ (l : List A). old ++ filter p (enumerate_from (i + 1) l)) (sym (left-next xs i x at))
+  where
+    by : (b : Bool) → new ≡ cond b (old ++ (i + 1, x) ∷ []) old →
+        new ++ filter p (enumerate_from (i + 1 + 1) (drop (i + 1) xs))
+        ≡ old ++ cond b ((i + 1, x) ∷ filter p (enumerate_from (i + 1 + 1) (drop (i + 1) xs))) (filter p (enumerate_from (i + 1 + 1) (drop (i + 1) xs)))
+    by true e = ap (λ n. n ++ filter p (enumerate_from (i + 1 + 1) (drop (i + 1) xs))) e ∙ append_assoc old ((i + 1, x) ∷ []) _
+    by false e = ap (λ n. n ++ filter p (enumerate_from (i + 1 + 1) (drop (i + 1) xs))) e
+
+pub kept_yes : {A : Type 0} (p : ℕ × A → Bool) (xs : List A) (i : ℕ) (x : A) (old new : List (ℕ × A)) → slice_get xs i ≡ Some x →
+    p (i + 1, x) ≡ true → new ≡ old ++ (i + 1, x) ∷ [] →
+    new ++ filter p (enumerate_from (i + 1 + 1) (drop (i + 1) xs)) ≡ old ++ filter p (enumerate_from (i + 1) (drop i xs))
+kept_yes p xs i x old new at kept is = kept_next p xs i x old new at (rw kept is)
+
+pub kept_no : {A : Type 0} (p : ℕ × A → Bool) (xs : List A) (i : ℕ) (x : A) (old new : List (ℕ × A)) → slice_get xs i ≡ Some x →
+    p (i + 1, x) ≡ false → new ≡ old →
+    new ++ filter p (enumerate_from (i + 1 + 1) (drop (i + 1) xs)) ≡ old ++ filter p (enumerate_from (i + 1) (drop i xs))
+kept_no p xs i x old new at not_kept is = kept_next p xs i x old new at (rw not_kept is)
+
+-- The next place is written.
+pub written_next : {A B : Type 0} (f : ℕ × A → List B) (xs : List A) (i : ℕ) (x : A) (old new : List B) → slice_get xs i ≡ Some x →
+    new ≡ old ++ f (i, x) →
+    new ++ flat_map f (enumerate_from (i + 1) (drop (i + 1) xs)) ≡ old ++ flat_map f (enumerate_from i (drop i xs))
+written_next {A} f xs i x old new at is =
+    ap (λ n. n ++ flat_map f (enumerate_from (i + 1) (drop (i + 1) xs))) is ∙ append_assoc old (f (i, x)) _
+    ∙ ap (λ (l : List A). old ++ flat_map f (enumerate_from i l)) (sym (left-next xs i x at))
+
+range_suc : (a n : ℕ) → range_with_len a (suc n) ≡ range_with_len a n ++ (a + n) ∷ []
+range_suc a zero = ap (λ (x : ℕ). x ∷ []) (sym (add-zero a))
+range_suc a (suc n) =
+    let next : a + 1 + n ≡ a + suc n = omega arith in
+    ap (λ l. a ∷ l) (range_suc (a + 1) n ∙ ap (λ (x : ℕ). range_with_len (a + 1) n ++ x ∷ []) next)
+
+-- One number more.
+pub flat_map-range_suc : {A : Type 0} (f : ℕ → List A) (n : ℕ) →
+    flat_map f (range_with_len 0 (suc n)) ≡ flat_map f (range_with_len 0 n) ++ f n
+flat_map-range_suc f n =
+    ap (flat_map f) (range_suc 0 n) ∙ flat_map-append f (range_with_len 0 n) ((0 + n) ∷ [])
+    ∙ ap (λ l. flat_map f (range_with_len 0 n) ++ l) (append-nil (f (0 + n)) ∙ ap f (zero-add n))
+
+pub flat_map-range_more : {A : Type 0} (f : ℕ → List A) (n : ℕ) →
+    flat_map f (range_with_len 0 (n + 1)) ≡ flat_map f (range_with_len 0 n) ++ f n
+flat_map-range_more f n = rw add-one (flat_map-range_suc f n)
+
+single : {B : Type 0} (o : Option B) → cons_option o [] ≡ option_to_list o
+single None = refl
+single (Some y) = refl
+
+-- What is found for the next element is appended.
+pub found_next : {A B : Type 0} (f : A → Option B) (xs : List A) (i : ℕ) (x : A) (begun old new : List B) → i < length xs → x ≡ get_or xs i x →
+    old ≡ begun ++ filter_map f (take i xs) → new ≡ old ++ option_to_list (f x) → new ≡ begun ++ filter_map f (take (i + 1) xs)
+found_next {A} f xs i x begun old new within at is more =
+    let next : filter_map f (take (i + 1) xs) ≡ filter_map f (take i xs) ++ option_to_list (f x) =
+    ap (filter_map f) (take_more xs i x within) ∙ ap (λ (y : A). filter_map f (take i xs ++ y ∷ [])) (sym at)
+    ∙ filter_map-append f (take i xs) (x ∷ []) ∙ ap (λ l. filter_map f (take i xs) ++ l) (single (f x)) in
+    more ∙ ap (λ l. l ++ option_to_list (f x)) is ∙ append_assoc begun (filter_map f (take i xs)) (option_to_list (f x))
+    ∙ ap (λ l. begun ++ l) (sym next)

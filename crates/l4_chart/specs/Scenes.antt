@@ -1,0 +1,29 @@
+-- Where the parts of a picture stand, in whole pixels.
+use Rattle.std.specs.Prelude.{ℕ, ◌+◌, ◌-◌, ◌*◌, ◌/◌, ◌^◌, max, min, Option, Some, None, List, length}
+use Rattle.l4_chart.specs.Layouts.{widest}
+use Rattle.l4_chart.specs.declared.columns.Column.{Column}
+use Rattle.l4_chart.specs.declared.scene.Scene.{Scene}
+
+-- 72 pixels from one thread to the next, or more where ids are long: 8 for each character, and for two spaces.
+abbrev pub column_step : (longest : ℕ) → ℕ
+column_step longest = max (longest * 8 + 16) 72
+
+abbrev pub scene_of : List Column → (rows : ℕ) → Scene
+scene_of columns rows = record { step = column_step (widest columns); columns = length columns; rows = rows }
+
+-- So many steps from a start on. Pixels are counted by words.
+abbrev pub at : (start step count : ℕ) → ℕ
+at start step count = min (step * count + start) (2 ^ 64 - 1)
+
+-- The line of a thread is in the middle of its column, behind 64 pixels for the numbers.
+abbrev pub column_x : Scene → (place : ℕ) → ℕ
+column_x s place = at (min (64 + s.step / 2) (2 ^ 64 - 1)) s.step place
+
+-- A row takes 24 pixels, below 56 for the heading.
+abbrev pub row_y : (row : ℕ) → ℕ
+row_y row = at 68 24 row
+
+-- An arrow ends at the line of a thread, or at the edge where the thread is not shown.
+abbrev pub end_x : Scene → Option ℕ → ℕ
+end_x s (Some place) = column_x s place
+end_x s None = 52

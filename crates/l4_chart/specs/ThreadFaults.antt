@@ -1,0 +1,10 @@
+-- Why a list names no threads.
+use Rattle.std.specs.Prelude.{ℕ, ◌≡◌, Result, Err, List, ⊤}
+use Rattle.l4_model.specs.Words.{GlobalId}
+use Rattle.l4_chart.specs.declared.threads.ThreadsFault.{ThreadsFault}
+use Rattle.l4_chart.specs.declared.threads.ThreadsFault.TheVariants.{NoMemory, Item}
+
+-- Its first item that names none, unless memory ran out.
+abbrev pub IsThreadsFault : Result (List GlobalId) ℕ → ThreadsFault → Type 0
+IsThreadsFault named NoMemory = ⊤
+IsThreadsFault named (Item number) = named ≡ Err number

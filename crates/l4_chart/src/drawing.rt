@@ -1,0 +1,47 @@
+//! A chart in each of its forms.
+ghost use Rattle.std.specs.Prelude.{IfOk, map};
+ghost use Rattle.l4_chart.specs.Charts.{row_of};
+ghost use Rattle.l4_chart.specs.Drawings.{IsDrawing};
+
+use crate::chart::Chart;
+use crate::glyphs::{ASCII, LINES};
+use crate::html::html_of;
+use crate::mermaid::mermaid_of;
+use crate::svg::svg_of;
+use crate::text::text_of;
+use l4_types::errors::NoMemory;
+use std::alloc::Global;
+
+/// A form of a chart.
+#[derive(Clone, Copy, Debug, PartialEq, Eq)]
+pub enum Form {
+    /// Text for a terminal that shows lines.
+    Lines,
+    /// Text for any terminal.
+    Ascii,
+    /// A picture, an SVG file that stands alone.
+    Svg,
+    /// A page, an HTML file that stands alone.
+    Html,
+    /// A sequence diagram of Mermaid.
+    Mermaid,
+}
+
+/// A chart in a form. A text is laid out for a terminal of so many columns.
+pub fn drawing_of(
+    alloc: Global,
+    chart: &Chart<'_>,
+    form: Form,
+    width: usize,
+) -> Result<Vec<u8>, NoMemory>
+    ensures { IfOk result (λ drawing. IsDrawing form width chart.now.columns.items
+        (map row_of chart.now.rows.items) drawing.items) }
+{
+    match form {
+        Form::Lines => text_of(alloc, chart, &LINES, width),
+        Form::Ascii => text_of(alloc, chart, &ASCII, width),
+        Form::Svg => Ok(svg_of(alloc, chart)?.into_bytes()),
+        Form::Html => Ok(html_of(alloc, chart)?.into_bytes()),
+        Form::Mermaid => Ok(mermaid_of(alloc, chart)?.into_bytes()),
+    }
+}

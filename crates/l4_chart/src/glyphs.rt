@@ -1,0 +1,113 @@
+//! The characters that a chart is drawn with.
+ghost use Rattle.std.specs.Prelude.{◌≡◌};
+ghost use Rattle.l4_chart.specs.Cells.{glyph_of};
+
+use crate::marks::Kind;
+
+/// The characters that a chart is drawn with. Each takes one column of a terminal.
+#[derive(Clone, Copy, Debug, PartialEq, Eq)]
+pub struct Glyphs {
+    /// The line of a thread.
+    pub line: char,
+    /// An arrow over the line of a thread that it does not concern.
+    pub cross: char,
+    /// The sender of an arrow to the right.
+    pub right_start: char,
+    /// The sender of an arrow to the left.
+    pub left_start: char,
+    /// An arrow between two lines.
+    pub shaft: char,
+    /// The head of an arrow to the right.
+    pub right_head: char,
+    /// The head of an arrow to the left.
+    pub left_head: char,
+    /// A thread whose processor's clock goes on.
+    pub clock: char,
+    /// Between the threads of a processor, in the heading.
+    pub bracket: char,
+    /// In place of what is cut off a line.
+    pub cut: char,
+    /// The step of the first kind.
+    pub local: char,
+    /// A send begins.
+    pub begin: char,
+    /// A send is appended to a list.
+    pub queue: char,
+    /// A receive phase begins.
+    pub wait: char,
+    /// A send fails.
+    pub send_failure: char,
+    /// A receive phase fails.
+    pub receive_failure: char,
+    /// A cancellation or a deletion is asked for.
+    pub order: char,
+    /// It is done.
+    pub obey: char,
+    /// An originator turns.
+    pub retarget: char,
+}
+
+/// For a terminal that shows lines.
+pub const LINES: Glyphs = Glyphs {
+    line: '│',
+    cross: '┼',
+    right_start: '├',
+    left_start: '┤',
+    shaft: '─',
+    right_head: '►',
+    left_head: '◄',
+    clock: '╪',
+    bracket: '─',
+    cut: '…',
+    local: '•',
+    begin: '○',
+    queue: '□',
+    wait: '◇',
+    send_failure: '✗',
+    receive_failure: '⊗',
+    order: '▲',
+    obey: '▼',
+    retarget: '↻',
+};
+
+/// For any terminal.
+pub const ASCII: Glyphs = Glyphs {
+    line: '|',
+    cross: '-',
+    right_start: '+',
+    left_start: '+',
+    shaft: '-',
+    right_head: '>',
+    left_head: '<',
+    clock: '=',
+    bracket: '-',
+    cut: '~',
+    local: '*',
+    begin: 'o',
+    queue: 'q',
+    wait: 'w',
+    send_failure: 'x',
+    receive_failure: 'X',
+    order: '!',
+    obey: 'v',
+    retarget: '@',
+};
+
+impl Glyphs {
+    /// The character of a step of one thread.
+    pub fn of_kind(&self, kind: Kind) -> char
+        ensures { result ≡ glyph_of self.now kind }
+    {
+        match kind {
+            Kind::Local => self.local,
+            Kind::Begin => self.begin,
+            Kind::Queue => self.queue,
+            Kind::Wait => self.wait,
+            Kind::SendFailure => self.send_failure,
+            Kind::ReceiveFailure => self.receive_failure,
+            Kind::Order => self.order,
+            Kind::Obey => self.obey,
+            Kind::Retarget => self.retarget,
+        }
+    }
+}

@@ -1,0 +1,25 @@
+//! Charts of histories: columns are threads under their processors, rows are steps, and arrows are
+//! deliveries.
+//!
+//! `Chart::new` says what stands in a chart of a part of a history. Contracts see its columns and
+//! rows as lists: each step of the part is a row, and the arrows are exactly the deliveries, each
+//! from its sender to its receiver.
+#![tactic(auto)]
+
+pub mod cells;
+pub mod chart;
+pub mod columns;
+pub mod drawing;
+pub mod glyphs;
+pub mod html;
+mod ink;
+pub mod layout;
+pub mod marks;
+pub mod mermaid;
+pub mod refused;
+pub mod scene;
+mod shapes;
+pub mod svg;
+pub mod text;
+pub mod threads;
+pub mod window;

@@ -1,0 +1,95 @@
+//! What each step shows in a chart.
+ghost use Rattle.std.specs.Prelude.{◌≡◌};
+ghost use Rattle.l4_types.specs.StepView.{seen};
+ghost use Rattle.l4_chart.specs.Marks.{mark_of};
+
+use l4_types::ids::GlobalId;
+use l4_types::step_ref::StepRef;
+use l4_types::steps::Step;
+
+/// What a step of one thread is.
+#[derive(Clone, Copy, Debug, PartialEq, Eq)]
+pub enum Kind {
+    /// The thread runs an instruction that concerns nobody else, or ends.
+    Local,
+    /// It begins a send.
+    Begin,
+    /// Its send is appended to the list of the receiver.
+    Queue,
+    /// It begins a receive phase without a send phase.
+    Wait,
+    /// Its send is refused, cancelled or dropped.
+    SendFailure,
+    /// Its receive phase is refused or cancelled.
+    ReceiveFailure,
+    /// It asks for a cancellation or a deletion.
+    Order,
+    /// What it asked for is done.
+    Obey,
+    /// The originator of its send turns to the receiver (profile 2).
+    Retarget,
+}
+
+/// What a step shows.
+#[derive(Clone, Copy, Debug, PartialEq, Eq)]
+pub enum Mark {
+    /// A step of one thread.
+    Point {
+        /// The thread. Of a step of a send it is the one that began the send.
+        thread: GlobalId,
+        /// What the step is.
+        kind: Kind,
+    },
+    /// A delivery.
+    Arrow {
+        /// The thread that began the send.
+        sender: GlobalId,
+        /// The thread that got the message.
+        receiver: GlobalId,
+    },
+    /// The clock of a processor goes on.
+    Clock {
+        /// The processor, 0 to 15.
+        cpu: u8,
+        /// What its clock has become, in ticks of a microsecond.
+        clock: u64,
+    },
+}
+
+fn point(thread: GlobalId, kind: Kind) -> Mark
+    ensures { result ≡ Mark.Point thread kind }
+{
+    Mark::Point { thread, kind }
+}
+
+fn arrow(sender: GlobalId, receiver: GlobalId) -> Mark
+    ensures { result ≡ Mark.Arrow sender receiver }
+{
+    Mark::Arrow { sender, receiver }
+}
+
+/// What a step shows.
+pub fn mark_of(step: &StepRef<'_>) -> Mark
+    ensures { result ≡ mark_of (seen step.now) }
+{
+    match step {
+        Step::Local(thread) => point(*thread, Kind::Local),
+        Step::Begin(name) => point(name.thread(), Kind::Begin),
+        Step::Queue(name) => point(name.thread(), Kind::Queue),
+        Step::Deliver(delivery) => arrow(delivery.name.thread(), delivery.receiver),
+        Step::Wait(thread) => point(*thread, Kind::Wait),
+        Step::SendTimeout(name)
+        | Step::SendNobody(name)
+        | Step::SendCancel(name)
+        | Step::Drop(name) => point(name.thread(), Kind::SendFailure),
+        Step::ReceiveTimeout(thread) | Step::ReceiveNobody(thread) | Step::ReceiveCancel(thread) =>
+            point(*thread, Kind::ReceiveFailure),
+        Step::Order { caller, .. } => point(*caller, Kind::Order),
+        Step::Obey(caller) => point(*caller, Kind::Obey),
+        Step::Tick(tick) => Mark::Clock {
+            cpu: tick.cpu(),
+            clock: tick.clock(),
+        },
+        Step::Retarget(name) => point(name.thread(), Kind::Retarget),
+    }
+}

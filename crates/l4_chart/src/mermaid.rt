@@ -1,0 +1,107 @@
+//! A chart as text for Mermaid, which draws sequence diagrams.
+
+use crate::chart::{Chart, Row};
+use crate::columns::Column;
+use crate::marks::Mark;
+use crate::text::words_of;
+use l4_types::errors::NoMemory;
+use l4_types::ids::GlobalId;
+use std::alloc::{AllocError, Global};
+
+// The name of a thread. A dot may not stand in it.
+fn push_name(out: &mut String, thread: GlobalId) -> Result<(), AllocError> {
+    let number = thread.number();
+    let version = thread.version();
+    write!(out, "T{number}_{version}")
+}
+
+fn push_participant(out: &mut String, column: &Column) -> Result<(), AllocError> {
+    let number = column.id.number();
+    let version = column.id.version();
+    out.push_str("  participant ")?;
+    push_name(out, column.id)?;
+    writeln!(out, " as {number}.{version}")
+}
+
+// The threads, those of a processor in a box.
+fn push_participants(out: &mut String, columns: &[Column]) -> Result<(), AllocError> {
+    let mut before = None;
+    for column in columns {
+        if before != Some(column.cpu) {
+            if before.is_some() {
+                out.push_str("  end\n")?;
+            }
+            let cpu = column.cpu;
+            writeln!(out, "  box cpu {cpu}")?;
+        }
+        push_participant(out, column)?;
+        before = Some(column.cpu);
+    }
+    if before.is_some() {
+        out.push_str("  end\n")?;
+    }
+    Ok(())
+}
+
+// A line, where a `#` would begin a comment.
+fn push_line(out: &mut String, line: &str) -> Result<(), AllocError> {
+    for character in line.chars() {
+        if character == '#' {
+            out.push_str("#35;")?;
+        } else {
+            out.push(character)?;
+        }
+    }
+    out.push('\n')
+}
+
+// A note over the threads of a processor. Where none of them is shown, it is a comment.
+fn push_clock(out: &mut String, columns: &[Column], cpu: u8) -> Result<(), AllocError> {
+    let first = columns.iter().find(|column| column.cpu == cpu);
+    let last = columns.iter().rfind(|column| column.cpu == cpu);
+    match (first, last) {
+        (Some(first), Some(last)) => {
+            out.push_str("  Note over ")?;
+            push_name(out, first.id)?;
+            if first == last {
+                return Ok(());
+            }
+            out.push(',')?;
+            push_name(out, last.id)
+        }
+        _ => out.push_str("  %% "),
+    }
+}
+
+fn push_row(out: &mut String, columns: &[Column], row: &Row<'_>) -> Result<(), NoMemory> {
+    let alloc = *out.allocator();
+    let words = words_of(alloc, &row.step)?;
+    let line = String::from_utf8_lossy(alloc, words.as_slice())?;
+    match row.mark() {
+        Mark::Point { thread, .. } => {
+            out.push_str("  Note over ")?;
+            push_name(out, thread)?;
+        }
+        Mark::Arrow { sender, receiver } => {
+            out.push_str("  ")?;
+            push_name(out, sender)?;
+            out.push_str("->>")?;
+            push_name(out, receiver)?;
+        }
+        Mark::Clock { cpu, .. } => push_clock(out, columns, cpu)?,
+    }
+    out.push_str(": ")?;
+    push_line(out, line.as_str())?;
+    Ok(())
+}
+
+/// A chart as a sequence diagram of Mermaid: a message for each delivery, and a note for each other
+/// step. A thread that is not shown has no processor there.
+pub fn mermaid_of(alloc: Global, chart: &Chart<'_>) -> Result<String, NoMemory> {
+    let mut out = String::from_str(alloc, "sequenceDiagram\n")?;
+    push_participants(&mut out, chart.columns.as_slice())?;
+    for row in &chart.rows {
+        push_row(&mut out, chart.columns.as_slice(), row)?;
+    }
+    Ok(out)
+}

@@ -1,0 +1,94 @@
+//! Which part of a history a chart shows.
+ghost use Rattle.std.specs.Prelude.{◌≡◌, ◌&&◌, nat_le, is_none};
+ghost use Rattle.std.specs.List.{list_any};
+ghost use Rattle.std.specs.Option.{option_copied};
+ghost use Rattle.l4_model.specs.Words.{same_id};
+ghost use Rattle.l4_chart.specs.Charts.{is_chosen};
+ghost use Rattle.l4_chart.specs.Windows.{until_refused};
+
+use l4_types::ids::GlobalId;
+use std::marker::Model;
+
+// Whether a thread is one of these.
+fn has_thread(threads: &[GlobalId], thread: GlobalId) -> bool
+    ensures { result ≡ list_any (λ chosen. same_id chosen thread) threads.now }
+{
+    threads.iter().any(|chosen| *chosen == thread)
+}
+
+/// The steps from one number to another, both of them shown, and the threads that are chosen.
+#[derive(Debug, Drop)]
+pub struct Window<'a> {
+    first: usize,
+    last: usize,
+    threads: Option<&'a [GlobalId]>,
+}
+
+impl<'a> Model for Window<'a> {
+    ghost use Rattle.std.specs.Option.{option_copied};
+    ghost use Rattle.l4_chart.specs.Windows.{Part};
+
+    ghost Value = { Part };
+
+    ghost view = { λ w. record {
+      first = w.first;
+      last = w.last;
+      threads = option_copied w.threads;
+    } };
+}
+
+impl<'a> Window<'a> {
+    /// The steps from one number to another, counted from 1, of these threads, or of all.
+    pub fn new(first: usize, last: usize, threads: Option<&'a [GlobalId]>) -> Window<'a>
+        ensures { result ≡ record {
+          first = first;
+          last = last;
+          threads = option_copied threads.entry;
+        } }
+    {
+        Window {
+            first,
+            last,
+            threads,
+        }
+    }
+
+    /// What of it stands before the first step that is not possible.
+    pub fn until_refused(&self, refused: Option<usize>) -> Window<'a>
+        ensures { result ≡ until_refused refused self.now }
+    {
+        let last = match refused {
+            Some(number) => self.last.min(number.saturating_sub(1)),
+            None => self.last,
+        };
+        Window {
+            first: self.first,
+            last,
+            threads: self.threads,
+        }
+    }
+
+    /// Whether a thread is chosen.
+    pub fn is_chosen(&self, thread: GlobalId) -> bool
+        ensures { result ≡ is_chosen self.now.threads thread }
+    {
+        match self.threads {
+            None => true,
+            Some(threads) => has_thread(threads, thread),
+        }
+    }
+
+    /// Whether the step of this number, counted from 1, is one of its steps.
+    pub fn has_number(&self, number: usize) -> bool
+        ensures { result ≡ (nat_le self.now.first number && nat_le number self.now.last) }
+    {
+        self.first <= number && number <= self.last
+    }
+
+    /// Whether all threads are shown.
+    pub fn has_all_threads(&self) -> bool
+        ensures { result ≡ is_none self.now.threads }
+    {
+        self.threads.is_none()
+    }
+}

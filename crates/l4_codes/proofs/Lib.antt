@@ -1,0 +1,3 @@
+pub mod Writing
+mod IdKinds
+mod Phases

@@ -1,0 +1,199 @@
+-- Core runs that choices lead to.
+use Rattle.std.proofs.Common.{◌≡◌, ℕ, ◌+◌, ◌*◌, ◌/◌, ◌%◌, ◌<◌, ◌≤◌, true, false, Option, None, Some, List, [], ◌∷◌, ◌++◌, length, get_or, take, drop, refl, ap, sym, subst, ◌∙◌, arith, length-append}
+use Rattle.std.specs.Prelude.{IsSome, is_some, slice_get}
+use Rattle.std.specs.Option.{option_map}
+use Rattle.std.proofs.lemmas.List.{length-map, take-append-drop, take_more}
+use Rattle.l4_model.specs.Machine.{Machine}
+use Rattle.l4_model.specs.Conditions.{◌>>=◌}
+use Rattle.std.proofs.lemmas.Option.{slice_get-get_or}
+use Rattle.l4_core_model.specs.Local.{opening_local}
+use Rattle.l4_core_model.specs.Runs.{Event, IsMachine, System, Run, opening_run, opening_system}
+use Rattle.l4_choices.specs.Entries.{Entry}
+use Rattle.l4_machine.specs.Entries.{after_entry as after_entry_of_run, is_entry, is_entry_of}
+use Rattle.l4_machine.specs.Stations.{Station}
+use Rattle.l4_machine.specs.UnderWay.{UnderWay, GoesOn, HasRun, IsRun}
+use Rattle.l4_states.specs.Choices.{after_choices, after_entry, choice, choice_of, state_after, state_in}
+use Rattle.l4_states.proofs.Endings.{replayed}
+use Rattle.l4_states.proofs.Following.{after-append, has_reached}
+use Rattle.l4_states.proofs.Reached.{reached_within}
+use Rattle.l4_endings.specs.Walked.{AreChoices, IsWalked}
+use Rattle.l4_endings.proofs.Possible.{number_below}
+
+-- Where choices lead, some of them do.
+pub choices_before : (m : Machine) (g : System) (s t : List ℕ) →
+    IsSome (after_choices m g (s ++ t)) → IsSome (after_choices m g s)
+choices_before m g [] t some = refl
+choices_before m g (e ∷ s) t some =
+    by (after_entry m g (choice m e)) (λ h. choices_before m h s t) some
+  where
+    by : (o : Option System) →
+        ((h : System) → IsSome (after_choices m h (s ++ t)) → IsSome (after_choices m h s)) →
+        IsSome (o >>= λ h. after_choices m h (s ++ t)) → IsSome (o >>= λ h. after_choices m h s)
+    by None rest some = some
+    by (Some h) rest some = rest h some
+
+pub walked_start : (m : Machine) (w : UnderWay) → IsRun m (opening_run m) w → IsWalked m [] w
+walked_start m w is = record { run = opening_run m; is = is; leads = refl; events = refl }
+
+pub has_run : (m : Machine) (s : List ℕ) (w : UnderWay) → IsWalked m s w → HasRun w
+has_run m s w walked = (m, (walked.run, walked.is))
+
+-- One choice more
+
+record IsOn (m : Machine) (s : List ℕ) (w : UnderWay) (e : ℕ) (walked : IsWalked m s w) : Type 0 where
+  pub next : System
+  pub leads : after_entry m walked.run.system (choice m e) ≡ Some next
+
+next_is : (m : Machine) (s : List ℕ) (w : UnderWay) (e : ℕ) (walked : IsWalked m s w) →
+    after_choices m (opening_system m) (s ++ e ∷ [])
+    ≡ after_entry m walked.run.system (choice m e)
+next_is m s w e walked =
+    after-append m (opening_system m) s e
+    ∙ ap (λ (o : Option System). o >>= λ h. after_entry m h (choice m e)) walked.leads
+
+on : (m : Machine) (s : List ℕ) (w : UnderWay) (e : ℕ) (walked : IsWalked m s w) →
+    AreChoices m (s ++ e ∷ []) → IsOn m s w e walked
+on m s w e walked some =
+    by (after_entry m walked.run.system (choice m e)) refl
+    (subst IsSome (next_is m s w e walked) some)
+  where
+    by : (o : Option System) → after_entry m walked.run.system (choice m e) ≡ o → IsSome o →
+        IsOn m s w e walked
+    by None is some = absurd cc
+    by (Some h) is some = record { next = h; leads = is }
+
+pub locals_of_run : (m : Machine) (r : Run) (w : UnderWay) → IsRun m r w →
+    length r.system.locals ≡ m.cpus
+locals_of_run m r w is =
+    ap length is.system.locals ∙ length-map w.stations (λ (s : Station). s.core.local)
+    ∙ is.system.for_each
+
+pub next_below : (m : Machine) (s : List ℕ) (w : UnderWay) (e : ℕ) → IsWalked m s w →
+    AreChoices m (s ++ e ∷ []) → e < m.cpus * (m.cpus + 2)
+next_below m s w e walked some =
+    let o = on m s w e walked some in
+    number_below m walked.run.system o.next e (locals_of_run m walked.run w walked.is) o.leads
+
+pub walked_on : (m : Machine) (s : List ℕ) (w v : UnderWay) (e : ℕ) (entry : Entry) →
+    IsWalked m s w → AreChoices m (s ++ e ∷ []) → entry ≡ choice m e →
+    GoesOn (after_entry_of_run entry) w v → IsWalked m (s ++ e ∷ []) v
+walked_on m s w v e entry walked some same goes =
+    let o = on m s w e walked some in
+    let r = replayed m (e ∷ []) walked.run o.next
+    (ap (λ (p : Option System). p >>= λ h. Some h) o.leads) in
+    let is : IsRun m (after_entry_of_run (choice m e) m walked.run) v
+    = subst (λ (n : Entry). IsRun m (after_entry_of_run n m walked.run) v) same
+    (goes m walked.run walked.is) in
+    record {
+      run = after_entry_of_run (choice m e) m walked.run;
+      is = is;
+      leads = next_is m s w e walked ∙ o.leads ∙ ap (λ (g : System). Some g) (sym r.system);
+      events = r.count ∙ omega (arith, walked.events, length-append s (e ∷ []));
+    }
+
+-- Of a list of choices the next one
+
+-- as many events as there were choices
+pub order_length : (m : Machine) (s : List ℕ) (w : UnderWay) → IsWalked m s w →
+    length w.order ≡ length s
+order_length m s w walked =
+    ap length walked.is.events.order
+    ∙ length-map walked.run.events (λ (e : Event). e.cpu) ∙ walked.events
+
+up_to : (m : Machine) (s : List ℕ) (i : ℕ) → AreChoices m s → AreChoices m (take i s)
+up_to m s i some =
+    choices_before m (opening_system m) (take i s) (drop i s)
+    (subst (AreChoices m) (sym (take-append-drop i s)) some)
+
+-- with the ones before it
+before_it : (s : List ℕ) (i e : ℕ) → i < length s → e ≡ get_or s i 0 →
+    take i s ++ e ∷ [] ≡ take (i + 1) s
+before_it s i e inside is =
+    ap (λ k. take i s ++ k ∷ []) is ∙ sym (take_more s i 0 inside)
+
+pub is_choice : (m : Machine) (s : List ℕ) (i e : ℕ) → AreChoices m s → i < length s →
+    e ≡ get_or s i 0 → AreChoices m (take i s ++ e ∷ [])
+is_choice m s i e some inside is =
+    subst (AreChoices m) (sym (before_it s i e inside is)) (up_to m s (i + 1) some)
+
+pub walked_more : (m : Machine) (s : List ℕ) (w v : UnderWay) (i e : ℕ) (entry : Entry) →
+    IsWalked m (take i s) w → AreChoices m s → i < length s → e ≡ get_or s i 0 →
+    entry ≡ choice m e → GoesOn (after_entry_of_run entry) w v → IsWalked m (take (i + 1) s) v
+walked_more m s w v i e entry walked some inside is same goes =
+    subst (λ (t : List ℕ). IsWalked m t v) (before_it s i e inside is)
+    (walked_on m (take i s) w v e entry walked (is_choice m s i e some inside is) same goes)
+
+-- The entry of a choice, where it is told by the number of processors.
+pub entry_is : (m : Machine) (cpus e : ℕ) (entry : Entry) → cpus ≡ m.cpus →
+    entry ≡ choice_of cpus (e / (cpus + 2)) (e % (cpus + 2)) → entry ≡ choice m e
+entry_is m cpus e entry same is =
+    is ∙ ap (λ n. choice_of n (e / (n + 2)) (e % (n + 2))) same
+
+-- A choice that leads on from some choices is below their count.
+pub number_at : (m : Machine) (s : List ℕ) (i e : ℕ) → IsMachine m → AreChoices m s →
+    i < length s → e ≡ get_or s i 0 → e < m.cpus * (m.cpus + 2)
+number_at m s i e machine some inside is =
+    by (after_choices m (opening_system m) (take i s)) refl
+    (subst IsSome (after-append m (opening_system m) (take i s) e) (is_choice m s i e some inside is))
+  where
+    by : (o : Option System) → after_choices m (opening_system m) (take i s) ≡ o →
+        IsSome (o >>= λ g. after_entry m g (choice m e)) → e < m.cpus * (m.cpus + 2)
+    by None at some = absurd cc
+    by (Some g) at some = within (after_entry m g (choice m e)) refl some
+      where
+        within : (o : Option System) → after_entry m g (choice m e) ≡ o → IsSome o →
+            e < m.cpus * (m.cpus + 2)
+        within None leads some = absurd cc
+        within (Some h) leads some =
+            let b = reached_within m g machine (has_reached m (take i s) g at) in
+            number_below m g h e b.locals leads
+
+-- Whether one choice more leads on
+
+pub leads_on : (m : Machine) (s : List ℕ) (w : UnderWay) (e : ℕ) (walked : IsWalked m s w) →
+    is_some (after_entry m walked.run.system (choice m e)) ≡ true → AreChoices m (s ++ e ∷ [])
+leads_on m s w e walked possible =
+    subst IsSome (sym (next_is m s w e walked))
+    (by (after_entry m walked.run.system (choice m e)) possible)
+  where
+    by : (o : Option System) → is_some o ≡ true → IsSome o
+    by None is = cc
+    by (Some g) is = refl
+
+pub leads_nowhere : (m : Machine) (s : List ℕ) (w : UnderWay) (e : ℕ) (walked : IsWalked m s w) →
+    is_some (after_entry m walked.run.system (choice m e)) ≡ false →
+    state_after m (s ++ e ∷ []) ≡ None
+leads_nowhere m s w e walked impossible =
+    ap (option_map (state_in m)) (next_is m s w e walked
+    ∙ by (after_entry m walked.run.system (choice m e)) impossible)
+  where
+    by : (o : Option System) → is_some o ≡ false → o ≡ None
+    by None is = refl
+    by (Some g) is = cc
+
+pub none_above : (m : Machine) (s : List ℕ) (w : UnderWay) (e : ℕ) → IsWalked m s w →
+    m.cpus * (m.cpus + 2) ≤ e → state_after m (s ++ e ∷ []) ≡ None
+none_above m s w e walked above =
+    ap (option_map (state_in m)) (next_is m s w e walked
+    ∙ by (after_entry m walked.run.system (choice m e)) refl)
+  where
+    by : (o : Option System) → after_entry m walked.run.system (choice m e) ≡ o → o ≡ None
+    by None is = refl
+    by (Some h) is =
+        let b = number_below m walked.run.system h e (locals_of_run m walked.run w walked.is) is in
+        absurd (omega (arith, b, above))
+
+pub lawful_here : (m : Machine) (s : List ℕ) (w : UnderWay) (cpus : ℕ) (entry : Entry) →
+    IsWalked m s w → cpus ≡ m.cpus → is_entry_of cpus entry ≡ true →
+    is_entry w.machine entry ≡ true
+lawful_here m s w cpus entry walked same lawful =
+    ap (λ n. is_entry_of n entry)
+    (ap (λ (n : Machine). n.cpus) walked.is.machine ∙ sym same)
+    ∙ lawful
+
+-- A processor of a run has a local state.
+pub local_here : (m : Machine) (r : Run) (w : UnderWay) (cpu : ℕ) → IsRun m r w → cpu < m.cpus →
+    slice_get r.system.locals cpu ≡ Some (get_or r.system.locals cpu (opening_local m 0))
+local_here m r w cpu is own =
+    slice_get-get_or r.system.locals cpu (opening_local m 0)
+    (omega (arith, own, locals_of_run m r w is))

@@ -1,0 +1,112 @@
+//! The endings of a machine.
+ghost use Rattle.std.specs.Prelude.{ℕ, ◌≡◌, ◌<◌, ◌≤◌, ◌++◌, ◌∷◌, [], IfOk, OnOk, length, map, true};
+ghost use Rattle.l4_explore.specs.Search.{seen_at};
+ghost use Rattle.l4_states.specs.Endings.{ends_of, entries_of, AreAllEndings, AreEndings};
+ghost use Rattle.l4_endings.specs.Deepest.{IsDeepest};
+ghost use Rattle.l4_endings.specs.Tried.{entries_from, told};
+ghost use Rattle.l4_endings.specs.Walked.{AreChoices};
+
+use crate::choices::choice;
+use crate::tried::Choices;
+use l4_explore::found::Found;
+use l4_explore::search::explore;
+use l4_machine::Entry;
+use l4_script::machine::Machine;
+use l4_types::errors::NoMemory;
+use std::alloc::Global;
+
+/// What a search for endings has come to.
+#[derive(Drop)]
+pub struct FoundEndings {
+    /// The endings, each by the entries that lead there: a shortest schedule, and of these the
+    /// first. The shorter ones come first.
+    pub endings: Vec<Vec<Entry>>,
+    /// How many states were found, at rest or not, of which no two are alike.
+    pub states: usize,
+    /// All states that core runs of at most so many events lead to are among them. Where the search
+    /// is whole, no state is farther away, and one is as far.
+    pub depth: usize,
+    /// Whether longer core runs lead to no more.
+    pub is_whole: bool,
+}
+
+/// The endings of all core runs of a machine, of at most so many events, whose ticks go to the
+/// least deadline of their processor: each once, of those that differ in stamps only, or in the
+/// order of letters of different pairs of processors. At most so many states are looked at; where
+/// there is one more, those that fewer events lead to are all there. A search that is not whole
+/// was cut off: there is a state that so many events lead to, and no fewer, or one state more.
+///
+/// `NoMemory`: memory was refused.
+pub fn endings(
+    alloc: Global,
+    machine: &Machine,
+    depth: u32,
+    most: u32,
+) -> Result<FoundEndings, NoMemory>
+    requires { 0 < most }
+    ensures all { IfOk result (λ r.
+        AreAllEndings machine.now (told r.endings.items) r.depth r.is_whole) }
+    ensures found { IfOk result (λ r.
+        AreEndings machine.now (told r.endings.items) r.states depth most r.depth r.is_whole) }
+    ensures few { IfOk result (λ r. r.states ≤ most) }
+    ensures whole { IfOk result (λ r.
+        r.is_whole ≡ true → (r.depth < depth) × IsDeepest machine.now r.depth) }
+{
+    let _ = machine.cpus();
+    let explored = explore(alloc, &Choices { machine }, depth, most)?;
+    Ok(FoundEndings {
+        endings: ends(alloc, machine, &explored.found)?,
+        states: explored.found.len(),
+        depth: explored.depth,
+        is_whole: explored.is_whole,
+    })
+}
+
+// The entries that lead to those that are ends.
+fn ends(alloc: Global, machine: &Machine, found: &Found) -> Result<Vec<Vec<Entry>>, NoMemory>
+    requires { (i : ℕ) → i < length found.now →
+        AreChoices machine.now (seen_at found.now i).schedule }
+    ensures { IfOk result (λ ends.
+        told ends.items ≡ map (entries_of machine.now) (ends_of found.now)) }
+{
+    let mut ends = Vec::new(alloc);
+    for place in 0..found.len() {
+        list_end(alloc, machine, found, place, &mut ends)?;
+    }
+    Ok(ends)
+}
+
+// Appends the entries that lead to one of them, where it is an end.
+fn list_end(
+    alloc: Global,
+    machine: &Machine,
+    found: &Found,
+    place: usize,
+    ends: &mut Vec<Vec<Entry>>,
+) -> Result<(), NoMemory>
+    requires place { place < length found.now }
+    requires choices { AreChoices machine.now (seen_at found.now place).schedule }
+    ensures { OnOk result (told ends.new.items ≡ told ends.old.items
+        ++ map (entries_of machine.now) (ends_of (seen_at found.now place ∷ []))) }
+{
+    if !found.is_end(place) {
+        return Ok(());
+    }
+    let schedule = found.schedule(alloc, place)?;
+    ends.push(entries_of(alloc, machine, &schedule)?)?;
+    Ok(())
+}
+
+// The entries of choices.
+fn entries_of(alloc: Global, machine: &Machine, numbers: &[u16]) -> Result<Vec<Entry>, NoMemory>
+    requires { AreChoices machine.now numbers.now }
+    ensures { IfOk result (λ entries.
+        entries_from entries.items ≡ entries_of machine.now numbers.now) }
+{
+    let cpus = machine.cpus();
+    let mut entries = Vec::with_capacity(alloc, numbers.len())?;
+    for number in numbers {
+        entries.push(choice(cpus, *number))?;
+    }
+    Ok(entries)
+}

@@ -1,0 +1,92 @@
+-- What a chart of a trace shows, and why there is none.
+use Rattle.std.specs.Prelude.{◌≡◌, ◌==◌, ℕ, Bool, true, false, if◌then◌else◌, Option, Some, None, Result, Ok, Err, List}
+use Rattle.std.specs.Option.{option_copied}
+use Rattle.l4_model.specs.Words.{GlobalId}
+use Rattle.l4_model.specs.Machine.{Machine}
+use Rattle.l4_model.specs.Steps.{Step}
+use Rattle.l4_model.specs.History.{refused_place}
+use Rattle.l4_chart.specs.Charts.{columns_of, rows_of}
+use Rattle.l4_chart.specs.Drawings.{IsDrawing}
+use Rattle.l4_chart.specs.Threads.{threads_of}
+use Rattle.l4_chart.specs.Windows.{Part, until_refused}
+use Rattle.l4_chart.specs.declared.threads.ThreadsFault.{ThreadsFault}
+use Rattle.l4_chart.specs.declared.threads.ThreadsFault.TheVariants as threads_fault
+use Rattle.l4_trace.specs.Reading.{steps_of}
+use Rattle.l4_jobs.specs.declared.fault.Fault.{Fault}
+use Rattle.l4_jobs.specs.declared.fault.Fault.TheVariants as fault
+use Rattle.l4_chart.specs.declared.drawing.Form.{Form}
+use Rattle.l4_chart.specs.declared.drawing.Form.TheVariants.{Lines, Ascii}
+use Rattle.l4_jobs.specs.declared.job.ChartJob.{ChartJob}
+use Rattle.l4_jobs.specs.declared.job.Job.{Job}
+use Rattle.l4_jobs.specs.declared.job.Job.TheVariants.{Chart}
+
+-- The threads that are shown: all where there is no list.
+abbrev pub some_threads : Result (List GlobalId) ℕ → Result (Option (List GlobalId)) ℕ
+some_threads (Ok threads) = Ok (Some threads)
+some_threads (Err number) = Err number
+
+abbrev pub chosen_threads : Machine → (list : Option (List ℕ)) → Result (Option (List GlobalId)) ℕ
+chosen_threads m None = Ok None
+chosen_threads m (Some list) = some_threads (threads_of m list)
+
+abbrev pub chosen_by : Machine → ChartJob → Result (Option (List GlobalId)) ℕ
+chosen_by m chart = chosen_threads m (option_copied chart.threads)
+
+abbrev pub part_of : ChartJob → Option (List GlobalId) → Part
+part_of chart threads = record { first = chart.first; last = chart.last; threads = threads }
+
+-- The columns of a terminal: where none are given, 80.
+abbrev pub width_of : ChartJob → ℕ
+width_of chart = if chart.width == 0 then 80 else chart.width
+
+-- The exit status where each step is possible, and where one is not.
+abbrev pub status_of_refused : Option ℕ → ℕ
+status_of_refused None = 0
+status_of_refused (Some number) = 1
+
+-- These are the lines of the chart: of the steps before the first that is not possible, and of the chosen threads.
+pub record IsCharted (chart : ChartJob) (m : Machine) (trace lines : List ℕ) (status : ℕ) : Type 0 where
+  pub threads : Option (List GlobalId)
+  pub chosen : chosen_by m chart ≡ Ok threads
+  pub steps : List Step
+  pub reads : steps_of trace ≡ Ok steps
+  pub drawn : IsDrawing chart.form (width_of chart) (columns_of m threads) (rows_of m (until_refused (refused_place m steps) (part_of chart threads)) steps) lines
+  pub status_is : status ≡ status_of_refused (refused_place m steps)
+
+-- Its fault on a list of threads, and on a trace whose lines are not those of steps. The list is judged first.
+abbrev pub fault_of_list : ThreadsFault → Fault
+fault_of_list threads_fault.NoMemory = fault.NoMemory
+fault_of_list (threads_fault.Item number) = fault.Threads number
+
+abbrev pub fault_of_threads : Result (Option (List GlobalId)) ℕ → Option Fault
+fault_of_threads (Ok threads) = None
+fault_of_threads (Err number) = Some (fault.Threads number)
+
+abbrev pub fault_of_lines : Result (List Step) ℕ → Option Fault
+fault_of_lines (Ok steps) = None
+fault_of_lines (Err line) = Some (fault.Trace line)
+
+abbrev pub or_later : Option Fault → Option Fault → Option Fault
+or_later None later = later
+or_later (Some f) later = Some f
+
+abbrev pub fault_of_chart : ChartJob → Machine → (trace : List ℕ) → Option Fault
+fault_of_chart chart m trace = or_later (fault_of_threads (chosen_by m chart)) (fault_of_lines (steps_of trace))
+
+-- The first step of a trace that is not possible.
+abbrev pub refused_of_steps : Machine → Result (List Step) ℕ → Option ℕ
+refused_of_steps m (Ok steps) = refused_place m steps
+refused_of_steps m (Err line) = None
+
+-- The form and the width of a chart for an output that may show lines, and may have this many columns. What was asked for stays.
+abbrev pub form_on : (shows_lines : Bool) → Form → Form
+form_on true form = form
+form_on false Lines = Ascii
+form_on false form = form
+
+abbrev pub width_on : (columns width : ℕ) → ℕ
+width_on columns width = if width == 0 then columns else width
+
+abbrev pub on_output : (shows_lines : Bool) → (columns : ℕ) → Job → Job
+on_output shows_lines columns (Chart c) = Chart (record c { form = form_on shows_lines c.form; width = width_on columns c.width })
+on_output shows_lines columns job = job

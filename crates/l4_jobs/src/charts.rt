@@ -1,0 +1,132 @@
+//! The chart of a trace.
+ghost use Rattle.std.specs.Prelude.{◌≡◌, ◌⊎◌, ℕ, List, IfOk, IfErr, Ok, Err, Some};
+ghost use Rattle.std.specs.Option.{option_copied, option_map};
+ghost use Rattle.l4_model.specs.History.{refused_place};
+ghost use Rattle.l4_chart.specs.Charts.{columns_of, rows_of};
+ghost use Rattle.l4_chart.specs.Drawings.{IsDrawing};
+ghost use Rattle.l4_chart.specs.Windows.{until_refused};
+ghost use Rattle.l4_jobs.specs.ChartJobs.{IsCharted, chosen_by, fault_of_threads, part_of};
+ghost use Rattle.l4_jobs.specs.ChartJobs.{refused_of_steps, status_of_refused, width_of};
+ghost use Rattle.l4_jobs.specs.Jobs.{IsChartFault};
+ghost use Rattle.l4_jobs.specs.declared.fault.Fault.TheVariants.{NoMemory as OutOfMemory};
+ghost use Rattle.l4_trace.specs.Reading.{steps_of};
+
+use crate::fault::{Fault, unread};
+use crate::job::ChartJob;
+use crate::perform::Output;
+use crate::streams::Source;
+use l4_chart::chart::Chart;
+use l4_chart::drawing::drawing_of;
+use l4_chart::refused::refused_step;
+use l4_chart::threads::threads_of;
+use l4_chart::window::Window;
+use l4_history::history::History;
+use l4_script::machine::Machine;
+use l4_trace::reading::read_history;
+use l4_types::errors::NoMemory;
+use l4_types::ids::GlobalId;
+use std::alloc::Global;
+
+// As wide as a terminal that does not say how wide it is.
+const DEFAULT_WIDTH: usize = 80;
+
+// The threads that are shown, where there is a list of them.
+fn listed_threads<'a>(
+    alloc: Global,
+    machine: &Machine,
+    chart: &ChartJob<'_>,
+) -> Result<Option<Vec<GlobalId>>, Fault<'a>>
+    ensures ok { IfOk result (λ threads. chosen_by machine.now chart.now ≡
+        Ok (option_map (λ listed. listed.items) threads)) }
+    ensures err { IfErr result (λ fault. (fault ≡ OutOfMemory) ⊎
+        (fault_of_threads (chosen_by machine.now chart.now) ≡ Some fault)) }
+{
+    match chart.threads {
+        None => Ok(None),
+        Some(list) => Ok(Some(threads_of(alloc, machine, list)?)),
+    }
+}
+
+// The same threads, looked at.
+fn list_of<'v>(threads: &'v Option<Vec<GlobalId>>) -> Option<&'v [GlobalId]>
+    ensures { option_copied result ≡ option_map (λ listed. listed.items) threads.now }
+{
+    match threads {
+        Some(listed) => Some(listed.as_slice()),
+        None => None,
+    }
+}
+
+// For how many columns a text is laid out.
+fn width_of(chart: &ChartJob<'_>) -> usize
+    ensures { result ≡ width_of chart.now }
+{
+    if chart.width == 0 {
+        DEFAULT_WIDTH
+    } else {
+        chart.width as usize
+    }
+}
+
+// The exit status by the first step that is not possible.
+fn status_of_refused(refused: Option<usize>) -> u8
+    ensures { result ≡ status_of_refused refused }
+{
+    match refused {
+        None => 0,
+        Some(_) => 1,
+    }
+}
+
+// What the chart of a history prints, with these threads or all.
+fn drawn(
+    alloc: Global,
+    machine: &Machine,
+    chart: &ChartJob<'_>,
+    threads: Option<&[GlobalId]>,
+    history: &History,
+) -> Result<Output, NoMemory>
+    ensures refused { IfOk result (λ output.
+        output.refused ≡ refused_place machine.now history.now.steps) }
+    ensures status { IfOk result (λ output.
+        output.status ≡ status_of_refused (refused_place machine.now history.now.steps)) }
+    ensures lines { IfOk result (λ output. IsDrawing chart.now.form (width_of chart.now)
+        (columns_of machine.now (option_copied threads.entry))
+        (rows_of machine.now
+        (until_refused (refused_place machine.now history.now.steps)
+        (part_of chart.now (option_copied threads.entry)))
+        history.now.steps) output.lines.items) }
+{
+    let refused = refused_step(alloc, machine, history)?;
+    let all = Window::new(chart.first as usize, chart.last as usize, threads);
+    let window = all.until_refused(refused);
+    let shown = Chart::new(alloc, machine, history, &window)?;
+    Ok(Output {
+        lines: drawing_of(alloc, &shown, chart.form, width_of(chart))?,
+        status: status_of_refused(refused),
+        refused,
+    })
+}
+
+// What the chart of the trace in the file of its name prints.
+pub(crate) fn chart_output<'a, T: Source>(
+    alloc: Global,
+    machine: &Machine,
+    chart: &ChartJob<'a>,
+    trace: &mut T,
+) -> Result<Output, Fault<'a>>
+    ensures ok { IfOk result (λ output. (told : List ℕ) × T.gives trace.old (Ok told) ×
+        IsCharted chart.now machine.now told output.lines.items output.status ×
+        (output.refused ≡ refused_of_steps machine.now (steps_of told))) }
+    ensures err { IfErr result (λ fault. (fault ≡ OutOfMemory) ⊎
+        IsChartFault chart.now machine.now (T.gives trace.old) fault) }
+{
+    let threads = listed_threads(alloc, machine, chart)?;
+    let told = match trace.read_whole(alloc) {
+        Ok(told) => told,
+        Err(kind) => return Err(unread(chart.trace, kind)),
+    };
+    let history = read_history(alloc, told.as_slice())?;
+    let listed = list_of(&threads);
+    Ok(drawn(alloc, machine, chart, listed, &history)?)
+}

@@ -25,4 +25,5 @@ pub mod perform;
 pub mod refusal;
 pub mod report_lines;
 pub mod streams;
+mod trace_lines;
 pub mod words;

@@ -15,11 +15,11 @@ use crate::items::schedule_of;
 use crate::job::Job;
 use crate::report_lines::write_report;
 use crate::streams::{Sink, Source};
+use crate::trace_lines::trace_of;
 use l4_machine::{CompactOutcome, RunFault, replay_compact, run_compact};
 use l4_proc::gate::Open;
 use l4_script::machine::Machine;
 use l4_script::text::MOST_BYTES;
-use l4_trace::traces::trace_history;
 use l4_types::errors::NoMemory;
 use l4_types::reports::Ending;
 use std::alloc::Global;
@@ -66,7 +66,7 @@ fn lines_of(alloc: Global, report: bool, outcome: CompactOutcome<'_>) -> Result<
     ensures { IfOk result (λ lines. lines.items ≡ lines_of_outcome report (compact_findings_of outcome.entry)) }
 {
     if !report {
-        return trace_history(alloc, &outcome.history.into_history(alloc)?);
+        return trace_of(alloc, &outcome.history);
     }
     let mut lines = Vec::new(alloc);
     write_report(

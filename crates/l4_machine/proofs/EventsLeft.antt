@@ -1,5 +1,5 @@
 -- The events of several logs, told one by one, come out merged.
-use Rattle.std.proofs.Common.{◌≡◌, ℕ, zero, suc, ◌+◌, ◌<◌, ◌≤◌, Bool, true, false, cond, nat_le, Option, Some, None, List, [], ◌∷◌, ◌++◌, map, set, refl, drop, length, length-append, append_assoc, ap, ap₂, sym, ◌∙◌, subst, arith}
+use Rattle.std.proofs.Common.{◌≡◌, ℕ, zero, suc, ◌+◌, ◌<◌, ◌≤◌, Bool, true, false, cond, nat_le, Option, Some, None, List, [], ◌∷◌, ◌++◌, map, set, refl, drop, length, length-append, ap, ap₂, sym, ◌∙◌, subst, arith}
 use Rattle.std.specs.Prelude.{is_some, slice_get, slice_index_or}
 use Rattle.std.specs.Option.{option_map}
 use Rattle.std.specs.List.{AllByRecursion, flat_map, range_with_len}
@@ -22,7 +22,7 @@ use Rattle.l4_merge.specs.Pasts.{all_events}
 use Rattle.l4_proc.specs.Logs.{events}
 use Rattle.l4_proc.specs.declared.processor.Processor.{Processor}
 use Rattle.l4_machine.specs.Gathers.{with_number, events_of, pasts_of, AreOfOne, IsMerge, IsOneOf}
-use Rattle.l4_machine.specs.EventsLeft.{all_left, first_stamp, least_place, left, lower, HasToldFirst, IsUnmerged}
+use Rattle.l4_machine.specs.EventsLeft.{all_left, first_stamp, least_place, left, lower, HasTakenFirst, IsUnmerged}
 use Rattle.l4_machine.specs.Rising.{AreRising, RiseFrom}
 use Rattle.l4_machine.specs.declared.unmerged.Unmerged.{Unmerged}
 use Rattle.l4_machine.proofs.InOneHand.{found}
@@ -300,17 +300,17 @@ some_left [] (suc n) some = absurd cc
 some_left (e ∷ es) zero some = omega arith
 some_left (e ∷ es) (suc n) some = let rest = some_left es n some in omega arith
 
--- The next event is told.
-pub record IsTaken (ps : List Processor) (olds news : List Unmerged) (before after : List Step) : Type 0 where
+-- The next event is taken. These are its steps.
+pub record IsTaken (ps : List Processor) (olds news : List Unmerged) (steps : List Step) : Type 0 where
   pub whole : AllByRecursion (IsUnmerged ps) news
   pub rising : RiseFrom 0 (map (left ps) news)
   pub less : length (all_left ps news) < length (all_left ps olds)
-  pub told : before ++ told (merged (all_left ps olds)) ≡ after ++ told (merged (all_left ps news))
+  pub told : told (merged (all_left ps olds)) ≡ steps ++ told (merged (all_left ps news))
 
-pub taken : (ps : List Processor) (us : List Unmerged) (place : ℕ) (d new : Unmerged) (before after : List Step) → AllByRecursion (IsUnmerged ps) us →
+pub taken : (ps : List Processor) (us : List Unmerged) (place : ℕ) (d new : Unmerged) (steps : List Step) → AllByRecursion (IsUnmerged ps) us →
     RiseFrom 0 (map (left ps) us) → option_map (λ (first : ℕ × ℕ). first.0) (least_place (map (λ (u : Unmerged). u.stamp) us)) ≡ Some place →
-    HasToldFirst ps (slice_index_or us place d) new before after → IsTaken ps us (set us place new) before after
-taken ps us place d new before after all rise is has =
+    HasTakenFirst ps (slice_index_or us place d) new steps → IsTaken ps us (set us place new) steps
+taken ps us place d new steps all rise is has =
     let next = (chosen ps us place all rise is).next in
     let there = at_place ps us place d (next.event ∷ next.rest) all next.here in
     let both : has.event ∷ left ps new ≡ next.event ∷ next.rest = sym has.first ∙ there.2 in
@@ -324,10 +324,9 @@ taken ps us place d new before after all rise is has =
       whole = all-set ps us place new all has.whole;
       rising = subst (RiseFrom 0) (sym news) (rise_on 0 (map (left ps) us) place next.event next.rest rise next.here);
       less = let lt = shorter (map (left ps) us) place next.event next.rest next.here in omega (arith, lt, ap length olds, ap length left_over);
-      told = ap (λ es. before ++ told (merged es)) olds
-          ∙ ap (λ es. before ++ told es) next.merges
-          ∙ ap (λ (e : Event). before ++ (e.steps ++ told (merged (joined (set (map (left ps) us) place next.rest))))) (sym event)
-          ∙ sym (append_assoc before has.event.steps (told (merged (joined (set (map (left ps) us) place next.rest)))))
+      told = ap (λ es. told (merged es)) olds
+          ∙ ap told next.merges
+          ∙ ap (λ (e : Event). e.steps ++ told (merged (joined (set (map (left ps) us) place next.rest)))) (sym event)
           ∙ ap₂ (λ (xs : List Step) (es : List Event). xs ++ told (merged es)) (sym has.told) (sym left_over);
     }
 

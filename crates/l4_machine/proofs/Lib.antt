@@ -19,6 +19,7 @@ pub mod Stations
 pub mod Systems
 pub mod Delivered
 pub mod Told
+pub mod InOrder
 pub mod Ticked
 pub mod Turned
 pub mod Sought

@@ -1,11 +1,11 @@
 -- Events told in their order, each from the log of its processor.
-use Rattle.std.proofs.Common.{◌≡◌, ℕ, zero, suc, ◌+◌, ◌<◌, ◌≤◌, Bool, true, false, Option, Some, None, List, [], ◌∷◌, ◌++◌, map, length, take, get_or, set, refl, ap, sym, ◌∙◌, subst, arith, append-nil, append_assoc}
+use Rattle.std.proofs.Common.{◌≡◌, ℕ, zero, suc, ◌+◌, ◌-◌, ◌<◌, ◌≤◌, Bool, true, false, Option, Some, None, List, [], ◌∷◌, ◌++◌, map, length, take, get_or, set, refl, ap, sym, ◌∙◌, subst, arith, append-nil, append_assoc}
 use Rattle.std.specs.Prelude.{filter, replicate, slice_get, ◌==◌, if◌then◌else◌}
 use Rattle.std.specs.Option.{option_map}
 use Rattle.std.specs.List.{AllByRecursion}
 use Rattle.std.proofs.lemmas.Bool.{eq-eqb, eqb-false, eqb-true}
 use Rattle.std.proofs.lemmas.Option.{slice_get_within, slice_get-get_or, slice_get-map}
-use Rattle.std.proofs.lemmas.List.{get_or-set_other, get_or-set_same, length-append, length-set, map-append}
+use Rattle.std.proofs.lemmas.List.{get_or-set_other, get_or-set_same, length-append, length-map, length-set, map-append, take_all}
 use Rattle.l4_model.specs.Steps.{Step}
 use Rattle.l4_model.specs.World.{changed}
 use Rattle.l4_model.proofs.Chains.{get-changed_other, get-changed_same, length-changed, some_is}
@@ -28,15 +28,15 @@ filter-more {A} p (y ∷ ys) x = by (p y) (filter-more p ys x)
     by true more = ap (λ zs. y ∷ zs) more
     by false more = more
 
-kept_one : {A : Type 0} (p : A → Bool) (x : A) (b : Bool) → p x ≡ b → filter p (x ∷ []) ≡ (if b then x ∷ [] else [])
+pub kept_one : {A : Type 0} (p : A → Bool) (x : A) (b : Bool) → p x ≡ b → filter p (x ∷ []) ≡ (if b then x ∷ [] else [])
 kept_one {A} p x b is = ap (λ (c : Bool). if c then x ∷ [] else []) is
 
-all_weaker : {A : Type 0} (P Q : A → Type 0) → ((x : A) → P x → Q x) → (xs : List A) → AllByRecursion P xs → AllByRecursion Q xs
+pub all_weaker : {A : Type 0} (P Q : A → Type 0) → ((x : A) → P x → Q x) → (xs : List A) → AllByRecursion P xs → AllByRecursion Q xs
 all_weaker P Q f [] a = tt
 all_weaker P Q f (x ∷ xs) a = (f x a.0, all_weaker P Q f xs a.1)
 
 -- What is at a place after a change.
-changed_else : {A : Type 0} (P : ℕ → A → Type 0) (f : A → A) (xs : List A) (i j : ℕ) (y : A) →
+pub changed_else : {A : Type 0} (P : ℕ → A → Type 0) (f : A → A) (xs : List A) (i j : ℕ) (y : A) →
     ((x : A) → slice_get xs i ≡ Some x → P i (f x)) → ((i == j) ≡ false → slice_get xs j ≡ Some y → P j y) → slice_get (changed f xs i) j ≡ Some y → P j y
 changed_else {A} P f xs i j y here there at = by (i == j) refl
   where
@@ -81,14 +81,14 @@ logs_opened n = record { order = refl; within = tt; each = λ cpu log at. none n
     none (suc n) zero log at = let same : [] ≡ log = cc in sym same
     none (suc n) (suc cpu) log at = none n cpu log at
 
--- Telling
+-- What is told
 
 -- How many of the first events are of this processor.
 abbrev pub count_first : (events : List Event) → (i cpu : ℕ) → ℕ
 count_first events i cpu = length (filter (λ (x : Event). x.cpu == cpu) (take i events))
 
 -- The next event of a processor in its log is the one that is told next.
-pub next_in_log : (events : List Event) (i : ℕ) (e : Event) → slice_get events i ≡ Some e →
+next_in_log : (events : List Event) (i : ℕ) (e : Event) → slice_get events i ≡ Some e →
     slice_get (filter (λ (x : Event). x.cpu == e.cpu) events) (count_first events i e.cpu) ≡ Some e
 next_in_log [] i e at = absurd cc
 next_in_log (x ∷ xs) zero e at = let same : x ≡ e = cc in first x same
@@ -117,9 +117,19 @@ told-last : (events : List Event) (e : Event) → told (events ++ e ∷ []) ≡ 
 told-last [] e = append-nil e.steps
 told-last (x ∷ events) e = ap (λ ys. x.steps ++ ys) (told-last events e) ∙ sym (append_assoc x.steps (told events) e.steps)
 
--- So many of the events are told, and of each log those that stand before.
-pub record AreToldTo (events : List Event) (i : ℕ) (history : List Step) (places : List ℕ) (cpus : ℕ) : Type 0 where
-  pub steps : history ≡ told (take i events)
+-- One event more is told, and all are.
+
+pub told_more : (events : List Event) (i : ℕ) (e : Event) → slice_get events i ≡ Some e →
+    told (take (i + 1) events) ≡ told (take i events) ++ e.steps
+told_more events i e is = ap told (take-more events i e is) ∙ told-last (take i events) e
+
+pub told_all : (events : List Event) (i : ℕ) → length events ≤ i → told (take i events) ≡ told events
+told_all events i all = ap told (take_all i events all)
+
+-- Where the events stand in their logs
+
+-- So many events of each log are among the first events.
+pub record ArePlaces (events : List Event) (i : ℕ) (places : List ℕ) (cpus : ℕ) : Type 0 where
   pub size : length places ≡ cpus
   pub next : (cpu : ℕ) → cpu < cpus → get_or places cpu 0 ≡ count_first events i cpu
 
@@ -139,101 +149,155 @@ length-replicate : {A : Type 0} (n : ℕ) (x : A) → length (replicate n x) ≡
 length-replicate zero x = refl
 length-replicate (suc n) x = ap suc (length-replicate n x)
 
-none_told : (events : List Event) → told (take 0 events) ≡ []
+pub none_told : (events : List Event) → told (take 0 events) ≡ []
 none_told [] = refl
 none_told (x ∷ xs) = refl
 
-pub told_none : (events : List Event) (cpus : ℕ) → AreToldTo events 0 [] (replicate cpus 0) cpus
-told_none events cpus = record {
-  steps = sym (none_told events);
+pub places_none : (events : List Event) (cpus : ℕ) → ArePlaces events 0 (replicate cpus 0) cpus
+places_none events cpus = record {
   size = length-replicate cpus 0;
   next = λ cpu lt. zeros_at cpus cpu ∙ sym (none_first events cpu);
 }
+
+pub places_all : (ss : List program.Station) (events : List Event) (order : List ℕ) → AreLogsOf events order (map events_at ss) →
+    ArePlaces events (length order) (map (λ (s : program.Station). length (events_at s)) ss) (length ss)
+places_all ss events order are = record {
+  size = length-map ss (λ (s : program.Station). length (events_at s));
+  next = λ cpu lt. size ss cpu lt (filter (λ (e : Event). e.cpu == cpu) events) (λ log is. are.each cpu log is)
+      ∙ ap (λ (es : List Event). length (filter (λ (e : Event). e.cpu == cpu) es)) (sym whole);
+}
+  where
+    many : length order ≡ length events
+    many = ap length are.order ∙ length-map events (λ (e : Event). e.cpu)
+
+    whole : take (length order) events ≡ events
+    whole = take_all (length order) events (omega (arith, many))
+
+    size : (ss : List program.Station) (cpu : ℕ) → cpu < length ss → (all : List Event) →
+        ((log : List Event) → slice_get (map events_at ss) cpu ≡ Some log → log ≡ all) →
+        get_or (map (λ (s : program.Station). length (events_at s)) ss) cpu 0 ≡ length all
+    size [] cpu lt all each = absurd (omega arith)
+    size (s ∷ ss) zero lt all each = ap length (each (events_at s) refl)
+    size (s ∷ ss) (suc cpu) lt all each = size ss cpu (omega arith) all each
 
 read_zero : (xs : List ℕ) (i at : ℕ) → i < length xs → at ≡ get_or xs i at → at ≡ get_or xs i 0
 read_zero [] i at lt is = absurd (omega arith)
 read_zero (x ∷ xs) zero at lt is = is
 read_zero (x ∷ xs) (suc i) at lt is = read_zero xs i at (omega arith) is
 
-pub told_next : (events : List Event) (i : ℕ) (e : Event) (steps : List Step) (next : List ℕ) (cpus at : ℕ) → AreToldTo events i steps next cpus → slice_get events i ≡ Some e → e.cpu < cpus →
-    at ≡ get_or next e.cpu at → AreToldTo events (i + 1) (steps ++ e.steps) (set next e.cpu (at + 1)) cpus
-told_next events i e steps next cpus at a is lt read = record {
-  steps = ap (λ xs. xs ++ e.steps) a.steps ∙ sym (ap told (take-more events i e is) ∙ told-last (take i events) e);
-  size = length-set next e.cpu (at + 1) ∙ a.size;
-  next = λ cpu within. by cpu within (e.cpu == cpu) refl;
-}
-  where
-    size : length next ≡ cpus
-    size = a.size
-
-    now : at ≡ count_first events i e.cpu
-    now = read_zero next e.cpu at (omega (arith, size, lt)) read ∙ a.next e.cpu lt
-
-    more : (cpu : ℕ) → count_first events (i + 1) cpu ≡ length (filter (λ (x : Event). x.cpu == cpu) (take i events) ++ filter (λ (x : Event). x.cpu == cpu) (e ∷ []))
-    more cpu =
-        ap (λ xs. length (filter (λ (x : Event). x.cpu == cpu) xs)) (take-more events i e is)
-        ∙ ap length (filter-more (λ (x : Event). x.cpu == cpu) (take i events) e)
-
-    by : (cpu : ℕ) → cpu < cpus → (b : Bool) → (e.cpu == cpu) ≡ b → get_or (set next e.cpu (at + 1)) cpu 0 ≡ count_first events (i + 1) cpu
-    by cpu within true same =
-        let here : e.cpu ≡ cpu = eqb-true e.cpu cpu same in
-        let one = ap (λ xs. length (filter (λ (x : Event). x.cpu == cpu) (take i events) ++ xs)) (kept_one (λ (x : Event). x.cpu == cpu) e true same) in
-        let longer = length-append (filter (λ (x : Event). x.cpu == cpu) (take i events)) (e ∷ []) in
-        let counted : at ≡ count_first events i cpu = now ∙ ap (count_first events i) here in
-        ap (λ k. get_or (set next k (at + 1)) cpu 0) here ∙ get_or-set_same next cpu (at + 1) 0 (omega (arith, size, within))
-        ∙ ap (λ k. k + 1) counted ∙ sym (more cpu ∙ one ∙ longer)
-    by cpu within false other =
-        get_or-set_other next e.cpu cpu (at + 1) 0 (λ same. eqb-false e.cpu cpu other (sym same)) ∙ a.next cpu within
-        ∙ sym (more cpu ∙ ap (λ xs. length (filter (λ (x : Event). x.cpu == cpu) (take i events) ++ xs)) (kept_one (λ (x : Event). x.cpu == cpu) e false other)
-        ∙ ap length (append-nil (filter (λ (x : Event). x.cpu == cpu) (take i events))))
+place_is : (events : List Event) (i cpu at cpus : ℕ) (places : List ℕ) → ArePlaces events i places cpus → cpu < cpus → at ≡ get_or places cpu at →
+    at ≡ count_first events i cpu
+place_is events i cpu at cpus places are lt read = let size = are.size in read_zero places cpu at (omega arith) read ∙ are.next cpu lt
 
 -- The event that is told next.
-pub record IsNext (events : List Event) (i cpu cpus : ℕ) : Type 0 where
+pub record IsNext (events : List Event) (i cpu : ℕ) : Type 0 where
   pub event : Event
   pub is : slice_get events i ≡ Some event
   pub own : event.cpu ≡ cpu
-  pub within : cpu < cpus
 
-pub next_of : (events : List Event) (order : List ℕ) (logs : List (List Event)) (i cpu other : ℕ) → AreLogsOf events order logs → i < length order → cpu ≡ get_or order i other →
-    IsNext events i cpu (length logs)
+pub next_of : (events : List Event) (order : List ℕ) (logs : List (List Event)) (i cpu other : ℕ) → AreLogsOf events order logs → i < length order →
+    cpu ≡ get_or order i other → IsNext events i cpu
 next_of events order logs i cpu other are lt at =
-    by events i are.within (ap (λ ns. slice_get ns i) (sym are.order) ∙ slice_get-get_or order i other lt ∙ ap Some (sym at))
+    by events i (ap (λ ns. slice_get ns i) (sym are.order) ∙ slice_get-get_or order i other lt ∙ ap Some (sym at))
   where
-    by : (events : List Event) (i : ℕ) → AllByRecursion (λ e. e.cpu < length logs) events → slice_get (map (λ (e : Event). e.cpu) events) i ≡ Some cpu → IsNext events i cpu (length logs)
+    by : (events : List Event) (i : ℕ) → slice_get (map (λ (e : Event). e.cpu) events) i ≡ Some cpu → IsNext events i cpu
+    by [] i is = absurd cc
+    by (e ∷ es) zero is = let same : e.cpu ≡ cpu = cc in record { event = e; is = refl; own = same }
+    by (e ∷ es) (suc i) is = let n = by es i is in record { event = n.event; is = n.is; own = n.own }
+
+pub next_within : (events : List Event) (order : List ℕ) (logs : List (List Event)) (i cpu : ℕ) → AreLogsOf events order logs → IsNext events i cpu → cpu < length logs
+next_within events order logs i cpu are n = by events i are.within n.is
+  where
+    by : (events : List Event) (i : ℕ) → AllByRecursion (λ e. e.cpu < length logs) events → slice_get events i ≡ Some n.event → cpu < length logs
     by [] i all is = absurd cc
     by (e ∷ es) zero all is =
-        let same : e.cpu ≡ cpu = cc in
-        record { event = e; is = refl; own = same; within = subst (λ n. n < length logs) same all.0 }
-    by (e ∷ es) (suc i) all is = let n = by es i all.1 is in record { event = n.event; is = n.is; own = n.own; within = n.within }
+        let same : e ≡ n.event = cc in
+        subst (λ k. k < length logs) (ap (λ (e : Event). e.cpu) same ∙ n.own) all.0
+    by (e ∷ es) (suc i) all is = by es i all.1 is
+
+count_more : (events : List Event) (i : ℕ) (e : Event) (cpu : ℕ) → slice_get events i ≡ Some e →
+    count_first events (i + 1) cpu ≡ count_first events i cpu + length (filter (λ (x : Event). x.cpu == cpu) (e ∷ []))
+count_more events i e cpu at =
+    ap (λ xs. length (filter (λ (x : Event). x.cpu == cpu) xs)) (take-more events i e at)
+    ∙ ap length (filter-more (λ (x : Event). x.cpu == cpu) (take i events) e)
+    ∙ length-append (filter (λ (x : Event). x.cpu == cpu) (take i events)) (filter (λ (x : Event). x.cpu == cpu) (e ∷ []))
+
+count_own : (events : List Event) (i cpu : ℕ) → IsNext events i cpu → count_first events (i + 1) cpu ≡ count_first events i cpu + 1
+count_own events i cpu n =
+    count_more events i n.event cpu n.is
+    ∙ ap (λ xs. count_first events i cpu + length xs) (kept_one (λ (x : Event). x.cpu == cpu) n.event true (eq-eqb n.event.cpu cpu n.own))
+
+count_other : (events : List Event) (i cpu other : ℕ) → IsNext events i cpu → (cpu == other) ≡ false → count_first events (i + 1) other ≡ count_first events i other
+count_other events i cpu other n apart =
+    let none : count_first events i other + 0 ≡ count_first events i other = omega arith in
+    count_more events i n.event other n.is
+    ∙ ap (λ xs. count_first events i other + length xs) (kept_one (λ (x : Event). x.cpu == other) n.event false (ap (λ k. k == other) n.own ∙ apart))
+    ∙ none
+
+pub places_next : (events : List Event) (i cpu at cpus : ℕ) (places : List ℕ) → ArePlaces events i places cpus → IsNext events i cpu → cpu < cpus →
+    at ≡ get_or places cpu at → ArePlaces events (i + 1) (set places cpu (at + 1)) cpus
+places_next events i cpu at cpus places are n lt read = record {
+  size = length-set places cpu (at + 1) ∙ are.size;
+  next = λ c within. by c within (cpu == c) refl;
+}
+  where
+    size : length places ≡ cpus
+    size = are.size
+
+    by : (c : ℕ) → c < cpus → (b : Bool) → (cpu == c) ≡ b → get_or (set places cpu (at + 1)) c 0 ≡ count_first events (i + 1) c
+    by c within true same =
+        let here : cpu ≡ c = eqb-true cpu c same in
+        subst (λ k. get_or (set places cpu (at + 1)) k 0 ≡ count_first events (i + 1) k) here
+        (get_or-set_same places cpu (at + 1) 0 (omega (arith, size, lt)) ∙ ap (λ k. k + 1) (place_is events i cpu at cpus places are lt read)
+        ∙ sym (count_own events i cpu n))
+    by c within false other =
+        get_or-set_other places cpu c (at + 1) 0 (λ same. eqb-false cpu c other (sym same)) ∙ are.next c within ∙ sym (count_other events i cpu c n other)
+
+-- The place behind the event of a processor is not the first one.
+pub place_behind : (events : List Event) (i cpu at cpus : ℕ) (places : List ℕ) → ArePlaces events (i + 1) places cpus → IsNext events i cpu → cpu < cpus →
+    at ≡ get_or places cpu at → at ≡ count_first events i cpu + 1
+place_behind events i cpu at cpus places are n lt read = place_is events (i + 1) cpu at cpus places are lt read ∙ count_own events i cpu n
+
+pub places_back : (events : List Event) (i cpu at cpus : ℕ) (places : List ℕ) → ArePlaces events (i + 1) places cpus → IsNext events i cpu → cpu < cpus →
+    at ≡ get_or places cpu at → ArePlaces events i (set places cpu (at - 1)) cpus
+places_back events i cpu at cpus places are n lt read = record {
+  size = length-set places cpu (at - 1) ∙ are.size;
+  next = λ c within. by c within (cpu == c) refl;
+}
+  where
+    size : length places ≡ cpus
+    size = are.size
+
+    behind : at ≡ count_first events i cpu + 1
+    behind = place_behind events i cpu at cpus places are n lt read
+
+    by : (c : ℕ) → c < cpus → (b : Bool) → (cpu == c) ≡ b → get_or (set places cpu (at - 1)) c 0 ≡ count_first events i c
+    by c within true same =
+        let here : cpu ≡ c = eqb-true cpu c same in
+        let less : at - 1 ≡ count_first events i cpu = omega (arith, behind) in
+        subst (λ k. get_or (set places cpu (at - 1)) k 0 ≡ count_first events i k) here
+        (get_or-set_same places cpu (at - 1) 0 (omega (arith, size, lt)) ∙ less)
+    by c within false other =
+        get_or-set_other places cpu c (at - 1) 0 (λ same. eqb-false cpu c other (sym same)) ∙ are.next c within ∙ count_other events i cpu c n other
 
 -- It stands at its place in the log of its processor.
-pub next_here : (events : List Event) (order : List ℕ) (logs : List (List Event)) (history : List Step) (places : List ℕ) (i cpu at : ℕ) (log : List Event) → AreLogsOf events order logs →
-    AreToldTo events i history places (length logs) → (n : IsNext events i cpu (length logs)) → slice_get logs cpu ≡ Some log → at ≡ get_or places cpu at → slice_get log at ≡ Some n.event
-next_here events order logs history places i cpu at log are told n there read =
-    let size = told.size in
-    let within = n.within in
-    let place : at ≡ count_first events i n.event.cpu = read_zero places cpu at (omega arith) read ∙ told.next cpu n.within ∙ ap (count_first events i) (sym n.own) in
+pub next_here : (events : List Event) (order : List ℕ) (logs : List (List Event)) (i cpu at cpus : ℕ) (places : List ℕ) (log : List Event) →
+    AreLogsOf events order logs → ArePlaces events i places cpus → (n : IsNext events i cpu) → cpu < cpus → slice_get logs cpu ≡ Some log → at ≡ get_or places cpu at →
+    slice_get log at ≡ Some n.event
+next_here events order logs i cpu at cpus places log are stand n lt there read =
     ap (λ l. slice_get l at) (are.each cpu log there)
     ∙ ap (λ k. slice_get (filter (λ (e : Event). e.cpu == k) events) at) (sym n.own)
-    ∙ ap (slice_get (filter (λ (e : Event). e.cpu == n.event.cpu) events)) place
+    ∙ ap (slice_get (filter (λ (e : Event). e.cpu == n.event.cpu) events)) (place_is events i cpu at cpus places stand lt read ∙ ap (count_first events i) (sym n.own))
     ∙ next_in_log events i n.event n.is
 
--- A place in a log is below its length, and the next one is told of one event more.
+-- A place in a log is below its length.
 pub place_within : (log : List Event) (at : ℕ) (e : Event) → slice_get log at ≡ Some e → at < length log
 place_within log at e is = slice_get_within log at e is
 
-pub next_told : (events : List Event) (i cpu cpus known at : ℕ) (history steps : List Step) (places : List ℕ) (e : Event) → AreToldTo events i history places cpus → (n : IsNext events i cpu known) →
-    cpu < cpus → at ≡ get_or places cpu at → e ≡ n.event → steps ≡ history ++ e.steps → AreToldTo events (i + 1) steps (set places cpu (at + 1)) cpus
-next_told events i cpu cpus known at history steps places e told n lt read same is =
-    subst (λ k. AreToldTo events (i + 1) steps (set places k (at + 1)) cpus) n.own
-    (subst (λ ls. AreToldTo events (i + 1) ls (set places n.event.cpu (at + 1)) cpus) (sym (is ∙ ap (λ (e : Event). history ++ e.steps) same))
-    (told_next events i n.event history places cpus at told n.is (subst (λ k. k < cpus) (sym n.own) lt) (read ∙ ap (λ k. get_or places k at) (sym n.own))))
-
 -- It is no greater than how many events are told.
-pub place_fits : (events : List Event) (i cpu at : ℕ) (history : List Step) (places : List ℕ) (cpus : ℕ) → AreToldTo events i history places cpus → cpu < cpus → at ≡ get_or places cpu at → at ≤ i
-place_fits events i cpu at history places cpus told lt read =
-    let size = told.size in
-    let place : at ≡ count_first events i cpu = read_zero places cpu at (omega arith) read ∙ told.next cpu lt in
+pub place_fits : (events : List Event) (i cpu at cpus : ℕ) (places : List ℕ) → ArePlaces events i places cpus → cpu < cpus → at ≡ get_or places cpu at → at ≤ i
+place_fits events i cpu at cpus places are lt read =
+    let place = place_is events i cpu at cpus places are lt read in
     let few = counted (take i events) cpu in
     let all = taken events i in
     omega arith

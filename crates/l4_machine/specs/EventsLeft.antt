@@ -1,5 +1,5 @@
 -- Logs whose events are told one by one.
-use Rattle.std.specs.Prelude.{◌≡◌, ℕ, suc, ◌-◌, ◌≤◌, ◌<◌, ◌++◌, if◌then◌else◌, nat_le, Option, Some, None, List, [], ◌∷◌, length, drop, slice_get}
+use Rattle.std.specs.Prelude.{◌≡◌, ℕ, suc, ◌-◌, ◌≤◌, ◌<◌, if◌then◌else◌, nat_le, Option, Some, None, List, [], ◌∷◌, length, drop, slice_get}
 use Rattle.std.specs.List.{flat_map}
 use Rattle.l4_model.specs.Steps.{Step}
 use Rattle.l4_core_model.specs.Runs.{Event}
@@ -25,12 +25,12 @@ pub record IsUnmerged (ps : List Processor) (u : Unmerged) : Type 0 where
   pub few : u.left ≤ u.count
   pub stamp : u.stamp ≡ first_stamp (left ps u)
 
--- The first event that was left is told.
-pub record HasToldFirst (ps : List Processor) (old new : Unmerged) (before after : List Step) : Type 0 where
+-- The first event that was left is taken. These are its steps.
+pub record HasTakenFirst (ps : List Processor) (old new : Unmerged) (steps : List Step) : Type 0 where
   pub event : Event
   pub first : left ps old ≡ event ∷ left ps new
   pub whole : IsUnmerged ps new
-  pub told : after ≡ before ++ event.steps
+  pub told : steps ≡ event.steps
 
 -- Of a first stamp and of what is the least of the others, with its place among these.
 abbrev pub lower : Option ℕ → Option (ℕ × ℕ) → Option (ℕ × ℕ)

@@ -7,6 +7,8 @@ pub mod Homes
 pub mod Outcomes
 pub mod Rising
 pub mod Inboxes
+pub mod InOrder
+pub mod Ordered
 pub mod Stations
 pub mod Teams
 pub mod UnderWay

@@ -2,7 +2,8 @@
 ghost use Rattle.l4_machine.specs.Gathers.{HaveNumbers};
 ghost use Rattle.l4_machine.specs.Rising.{HaveRisingLogs, HaveRisingLogs-prop};
 
-use crate::merging::merged_history;
+use crate::listener::Listener;
+use crate::merging::tell_merged;
 use crate::searching::waiting_sends;
 use crate::waiting::Search;
 use l4_history::history::History;
@@ -23,7 +24,7 @@ pub struct Logs<'m> {
 }
 
 impl<'m> Logs<'m> {
-    ghost use Rattle.std.specs.Prelude.{◌≡◌, IfOk, filter_map};
+    ghost use Rattle.std.specs.Prelude.{◌≡◌, IfOk, OnOk, filter_map};
     ghost use Rattle.l4_machine.specs.Gathers.{merged_steps, AreOfOne};
     ghost use Rattle.l4_machine.specs.Waiting.{sought, AreBegunOnce, IsSearch};
 
@@ -40,11 +41,20 @@ impl<'m> Logs<'m> {
         }
     }
 
-    /// The steps of all logs, in order of stamp, and of equal ones by processor.
-    pub(crate) fn merge(&self, alloc: Global) -> Result<History, NoMemory>
+    /// Tells a listener the steps of all logs, in order of stamp, and of equal ones by processor.
+    pub(crate) fn tell<T: Listener>(&self, alloc: Global, listener: &mut T) -> Result<(), NoMemory>
+        ensures { OnOk result (T.hears listener.old
+            (merged_steps self.now.machine.now self.now.processors.items) listener.new) }
+    {
+        tell_merged(alloc, self.machine, self.processors.as_slice(), listener)
+    }
+
+    /// These steps in compact form.
+    pub(crate) fn to_history(&self, alloc: Global) -> Result<History, NoMemory>
         ensures { IfOk result (λ history. history.steps ≡ merged_steps self.now.machine.now self.now.processors.items) }
     {
-        let (history, _) = merged_history(alloc, self.machine, self.processors.as_slice())?;
+        let mut history = History::new(alloc);
+        self.tell(alloc, &mut history)?;
         Ok(history)
     }
 

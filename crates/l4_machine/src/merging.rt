@@ -1,5 +1,5 @@
 //! The logs of all processors, merged.
-ghost use Rattle.std.specs.Prelude.{◌≡◌, IfOk, is_some, length, map, slice_get, true};
+ghost use Rattle.std.specs.Prelude.{◌≡◌, IfOk, OnOk, is_some, length, map, slice_get, true};
 ghost use Rattle.std.specs.List.{AllByRecursion, range_with_len};
 ghost use Rattle.l4_core_model.specs.Runs.{told};
 ghost use Rattle.l4_merge.specs.Pasts.{all_events};
@@ -9,6 +9,7 @@ ghost use Rattle.l4_machine.specs.Outcomes.{steps_of};
 ghost use Rattle.l4_machine.specs.EventsLeft.{left, IsUnmerged};
 ghost use Rattle.l4_machine.specs.Rising.{HaveRisingLogs};
 
+use crate::listener::Listener;
 use crate::logs::Logs;
 use crate::run_history::RunHistory;
 use crate::unmerged::{Unmerged, count_left, tell_all, untold};
@@ -18,8 +19,23 @@ use l4_script::machine::Machine;
 use l4_types::errors::NoMemory;
 use std::alloc::Global;
 
-/// The history of all that the processors of a machine did, in order of stamp, and of equal ones by
-/// processor, and how many events it has.
+/// Tells a listener all that the processors of a machine did, in order of stamp, and of equal ones
+/// by processor.
+pub(crate) fn tell_merged<T: Listener>(
+    alloc: Global,
+    machine: &Machine,
+    processors: &[Processor<'_>],
+    listener: &mut T,
+) -> Result<(), NoMemory>
+    requires rising { HaveRisingLogs machine.now processors.now }
+    requires numbers { HaveNumbers machine.now.cpus processors.now }
+    ensures { OnOk result (T.hears listener.old (merged_steps machine.now processors.now) listener.new) }
+{
+    let mut logs = unmerged_logs(alloc, processors, machine.cpus())?;
+    tell_all(processors, logs.as_mut_slice(), listener)
+}
+
+/// The history of all that they did, in the same order, and how many events it has.
 pub(crate) fn merged_history(
     alloc: Global,
     machine: &Machine,
@@ -30,9 +46,9 @@ pub(crate) fn merged_history(
     ensures history { IfOk result (λ r. r.0.steps ≡ merged_steps machine.now processors.now) }
     ensures events { IfOk result (λ r. r.1 ≡ length (all_events (pasts_of machine.now processors.now))) }
 {
-    let mut logs = unmerged_logs(alloc, processors, machine.cpus())?;
-    let events = count_left(logs.as_slice())?;
-    let history = tell_all(alloc, processors, logs.as_mut_slice())?;
+    let events = count_all(alloc, machine, processors)?;
+    let mut history = History::new(alloc);
+    tell_merged(alloc, machine, processors, &mut history)?;
     Ok((history, events))
 }
 
@@ -49,8 +65,8 @@ fn count_all(
     count_left(logs.as_slice())
 }
 
-/// The history of processors that have finished. That of a single one is its log's; that of several
-/// is merged when it is asked for. Nothing is copied.
+/// History and number of events of processors that nobody needs any more. The history of one that
+/// is alone is its log's, and that of several is told when it is asked for. Nothing is copied.
 pub(crate) fn run_history<'m>(
     alloc: Global,
     machine: &'m Machine,

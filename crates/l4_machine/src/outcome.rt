@@ -62,8 +62,10 @@ impl CompactOutcome<'_> {
     pub(crate) fn into_outcome(self, alloc: Global) -> Result<Outcome, NoMemory>
         ensures { IfOk result (λ o. findings_of o ≡ compact_findings_of self.entry) }
     {
+        let mut history = Vec::new(alloc);
+        self.history.tell(alloc, &mut history)?;
         Ok(Outcome {
-            history: self.history.into_history(alloc)?.to_steps(alloc)?,
+            history,
             waiting: self.waiting,
             threads: self.threads,
             ending: self.ending,

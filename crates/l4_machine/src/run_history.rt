@@ -1,9 +1,11 @@
 //! The history of an outcome.
-ghost use Rattle.std.specs.Prelude.{◌≡◌, IfOk, filter_map};
+ghost use Rattle.std.specs.Prelude.{◌≡◌, IfOk, OnOk, filter_map};
 ghost use Rattle.l4_machine.specs.Outcomes.{steps_of};
 ghost use Rattle.l4_machine.specs.Waiting.{sought, AreBegunOnce, IsSearch};
 
+use crate::listener::Listener;
 use crate::logs::Logs;
+use crate::ordered::OrderedLogs;
 use crate::waiting::Search;
 use l4_history::history::History;
 use l4_types::errors::NoMemory;
@@ -11,24 +13,40 @@ use l4_types::ids::ThreadId;
 use l4_types::steps::Name;
 use std::alloc::Global;
 
-/// The history of an outcome: its steps, or the logs that they are merged from on demand.
+/// The history of an outcome: its steps, or the logs that they are told from on demand.
 #[derive(Drop)]
 pub enum RunHistory<'m> {
     /// The steps in compact form.
     Steps(History),
-    /// The logs of several processors.
+    /// The logs of several processors, which are merged.
     Logs(Logs<'m>),
+    /// The logs of a replay, with the order of their events.
+    Ordered(OrderedLogs<'m>),
 }
 
 impl RunHistory<'_> {
-    /// The steps in compact form. Those of logs come in order of stamp, and of equal ones by
-    /// processor. `NoMemory`: memory was refused, and the history is gone.
+    /// Tells a listener the steps: those of a run in order of stamp, and of equal ones by
+    /// processor, and those of a replay in the order told. No step is copied. `NoMemory`: memory
+    /// was refused, and the listener may have heard some of them.
+    pub fn tell<T: Listener>(&self, alloc: Global, listener: &mut T) -> Result<(), NoMemory>
+        ensures { OnOk result (T.hears listener.old (steps_of self.now) listener.new) }
+    {
+        match self {
+            RunHistory::Steps(history) => listener.hear(history.steps()),
+            RunHistory::Logs(logs) => logs.tell(alloc, listener),
+            RunHistory::Ordered(logs) => logs.tell(alloc, listener),
+        }
+    }
+
+    /// The steps in compact form, in the same order. `NoMemory`: memory was refused, and the
+    /// history is gone.
     pub fn into_history(self, alloc: Global) -> Result<History, NoMemory>
         ensures { IfOk result (λ history. history.steps ≡ steps_of self.entry) }
     {
         match self {
             RunHistory::Steps(history) => Ok(history),
-            RunHistory::Logs(logs) => logs.merge(alloc),
+            RunHistory::Logs(logs) => logs.to_history(alloc),
+            RunHistory::Ordered(logs) => logs.to_history(alloc),
         }
     }
 
@@ -45,6 +63,7 @@ impl RunHistory<'_> {
         match self {
             RunHistory::Steps(history) => search.of_history(alloc, history),
             RunHistory::Logs(logs) => logs.waiting(alloc, search),
+            RunHistory::Ordered(logs) => logs.waiting(alloc, search),
         }
     }
 }

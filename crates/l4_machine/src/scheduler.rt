@@ -7,13 +7,14 @@ ghost use Rattle.l4_core_model.specs.Schedules.{attempts};
 ghost use Rattle.l4_types.specs.declared.reports.Ending.TheVariants.{Quiet};
 ghost use Rattle.l4_machine.specs.Stations.{events_at, happening, station_of, KnowsPoster};
 ghost use Rattle.l4_machine.specs.Homes.{IsAtHome};
-ghost use Rattle.l4_machine.specs.UnderWay.{deadline_at, letters_of, AreLogsOf, AreResting, CanPost, HasDelivered, HaveNoMail, IsSystem};
+ghost use Rattle.l4_machine.specs.Ordered.{told_steps};
+ghost use Rattle.l4_machine.specs.UnderWay.{deadline_at, letters_of, AreResting, CanPost, HasDelivered, HaveNoMail, IsSystem};
 
 use crate::homes::AtHome;
 use crate::laws::law_core_run;
+use crate::ordered::OrderedLogs;
 use crate::station::{Choice, Station};
 use l4_core::processor::Core;
-use l4_history::history::History;
 use l4_script::machine::Machine;
 use l4_types::errors::NoMemory;
 use l4_types::reports::Ending;
@@ -112,12 +113,13 @@ impl<'m> Scheduler<'m> {
         AtHome::new(alloc, self.machine, cores.as_slice())
     }
 
-    /// The history, in the order of the schedule.
-    pub(crate) fn history(&self, alloc: Global) -> Result<History, NoMemory>
-        requires { HasRun (under_way self.now) }
-        ensures { (m : MachineOfModel) (r : Run) → IsRun m r (under_way self.now) → IfOk result (λ history. history.steps ≡ told r.events) }
+    /// What the processors have in their logs, with the order of their events. Nothing is copied.
+    pub(crate) fn into_logs(self) -> OrderedLogs<'m>
+        requires { HasRun (under_way self) }
+        ensures { (m : MachineOfModel) (r : Run) → IsRun m r (under_way self.entry) →
+            told_steps result ≡ told r.events }
     {
-        history_in_order(alloc, self.stations.as_slice(), self.order.as_slice())
+        OrderedLogs::new(self.stations, self.order)
     }
 }
 
@@ -182,24 +184,4 @@ fn cores_of<'a, 'm>(
         cores.push(station.core())?;
     }
     Ok(cores)
-}
-
-// The steps of all events. `order` has the processor of each.
-fn history_in_order(
-    alloc: Global,
-    stations: &[Station<'_>],
-    order: &[u8],
-) -> Result<History, NoMemory>
-    requires { (events : _) × AreLogsOf events order.now (map events_at stations.now) }
-    ensures { (events : _) → AreLogsOf events order.now (map events_at stations.now) → IfOk result (λ history. history.steps ≡ told events) }
-{
-    let mut history = History::new(alloc);
-    let mut next = Vec::from_elem(alloc, 0, stations.len())?;
-    for cpu in order {
-        let cpu = usize::from(*cpu);
-        let event = stations[cpu].log().event(next[cpu]);
-        history.extend(&event.steps)?;
-        next[cpu] += 1;
-    }
-    Ok(history)
 }

@@ -92,11 +92,11 @@ fn outcome_of_entries<'m>(
     let ending = run.ending();
     let all_handled = run.has_handled_all();
     let at_home = run.at_home(alloc)?;
-    let history = run.history(alloc)?;
+    let logs = run.into_logs();
     Ok(outcome_of(
         alloc,
         machine,
-        RunHistory::Steps(history),
+        RunHistory::Ordered(logs),
         at_home,
         all_handled,
         ending,

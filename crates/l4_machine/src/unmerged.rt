@@ -5,15 +5,15 @@ ghost use Rattle.std.specs.Option.{option_map};
 ghost use Rattle.l4_core_model.specs.Runs.{merged, told};
 ghost use Rattle.l4_proc.specs.Logs.{events};
 ghost use Rattle.l4_proc.specs.declared.processor.Processor.{Processor as ProcessorOfMachine};
-ghost use Rattle.l4_machine.specs.EventsLeft.{all_left, least_place, left, HasToldFirst, IsUnmerged};
+ghost use Rattle.l4_machine.specs.EventsLeft.{all_left, least_place, left, HasTakenFirst, IsUnmerged};
 ghost use Rattle.l4_machine.specs.Rising.{RiseFrom};
 ghost use Rattle.l4_machine.specs.Gathers.{events_of};
 
-use l4_history::history::History;
+use crate::listener::Listener;
+use l4_history::steps::Steps;
 use l4_proc::log::Log;
 use l4_proc::processor::Processor;
 use l4_types::errors::NoMemory;
-use std::alloc::Global;
 
 /// A log whose last events are still to be merged.
 #[derive(Clone, Copy)]
@@ -89,37 +89,33 @@ pub(crate) fn first_place(logs: &[Unmerged]) -> Option<usize>
     }
 }
 
-// Appends the steps of the first event that is left of a log.
-fn tell_first(
-    processors: &[Processor<'_>],
-    log: &mut Unmerged,
-    history: &mut History,
-) -> Result<(), NoMemory>
+// Takes the first event that is left of a log. Answers its steps.
+fn take_first<'a>(processors: &'a [Processor<'_>], log: &mut Unmerged) -> Steps<'a>
     requires whole { IsUnmerged processors.now log.old }
     requires some { is_some log.old.stamp ≡ true }
-    ensures { OnOk result (HasToldFirst processors.now log.old log.new history.old.steps history.new.steps) }
+    ensures { HasTakenFirst processors.now log.old log.new result }
 {
     let events = processors[log.place].log();
     let first = events.event(log.count - log.left);
-    history.extend(&first.steps)?;
     log.left -= 1;
     log.stamp = stamp_of(events, log.count - log.left);
-    Ok(())
+    first.steps
 }
 
-/// Merges all that is left of logs that stand in order of their processors.
-pub(crate) fn tell_all(
-    alloc: Global,
+/// Tells a listener all that is left of logs that stand in order of their processors.
+pub(crate) fn tell_all<T: Listener>(
     processors: &[Processor<'_>],
     logs: &mut [Unmerged],
-) -> Result<History, NoMemory>
+    listener: &mut T,
+) -> Result<(), NoMemory>
     requires whole { AllByRecursion (IsUnmerged processors.now) logs.old }
     requires rising { RiseFrom 0 (map (left processors.now) logs.old) }
-    ensures { IfOk result (λ history. history.steps ≡ told (merged (all_left processors.now logs.old))) }
+    ensures { OnOk result (T.hears listener.old
+        (told (merged (all_left processors.now logs.old))) listener.new) }
 {
-    let mut history = History::new(alloc);
     while let Some(place) = first_place(logs) {
-        tell_first(processors, &mut logs[place], &mut history)?;
+        let steps = take_first(processors, &mut logs[place]);
+        listener.hear(steps)?;
     }
-    Ok(history)
+    Ok(())
 }

@@ -1,5 +1,5 @@
 //! The sends of a run that are undecided.
-ghost use Rattle.std.specs.Prelude.{◌≡◌, ◌<◌, ◌≤◌, ◌+◌, ◌++◌, [], IfOk, IfSome, OnOk, drop, false, filter_map, length, slice_get, take};
+ghost use Rattle.std.specs.Prelude.{◌≡◌, ◌<◌, ◌≤◌, ◌+◌, ◌++◌, [], IfOk, IfSome, OnOk, drop, false, filter_map, length, reverse, slice_get, take};
 ghost use Rattle.std.specs.List.{AllByRecursion};
 ghost use Rattle.l4_machine.specs.Homes.{sent_to, IsNotBelow};
 ghost use Rattle.l4_machine.specs.Waiting.{count_undecided, sought, AreBegunOnce, IsSearch};
@@ -117,6 +117,29 @@ impl<'a> Search<'a> {
         ensures { OnOk result (sends.new.items ≡ sends.old.items ++ filter_map (sought self.now) (drop start (take end history.now.steps))) }
     {
         for place in start..end {
+            if let Some(send) = self.send_at(history, place) {
+                sends.push(send)?;
+            }
+        }
+        Ok(())
+    }
+
+    /// The same, but that it puts them from the last to the first.
+    pub(crate) fn push_from_back(
+        &self,
+        history: &History,
+        start: usize,
+        end: usize,
+        sends: &mut Vec<(Name, ThreadId)>,
+    ) -> Result<(), NoMemory>
+        requires search { IsSearch self.now }
+        requires within { end ≤ length history.now.steps }
+        ensures { OnOk result (sends.new.items ≡ sends.old.items ++
+            reverse (filter_map (sought self.now) (drop start (take end history.now.steps)))) }
+    {
+        let mut place = end;
+        while place > start {
+            place -= 1;
             if let Some(send) = self.send_at(history, place) {
                 sends.push(send)?;
             }

@@ -15,8 +15,8 @@ at_home-requires c =
     let m = c.args.machine.now in
     (m, (replay_entries m (map entry_from c.args.entries.now), c.in_ok-take_all.ensures.ok m (opening_run m) c.in_ok-run.ensures))
 
-pub history-requires : goal.history-requires
-history-requires c =
+pub into_logs-requires : goal.into_logs-requires
+into_logs-requires c =
     let m = c.args.machine.now in
     (m, (replay_entries m (map entry_from c.args.entries.now), c.in_ok-take_all.ensures.ok m (opening_run m) c.in_ok-run.ensures))
 
@@ -26,7 +26,7 @@ outcome_of-requires c =
     let r = replay_entries m (map entry_from c.args.entries.now) in
     let i = c.in_ok-take_all.ensures.ok m (opening_run m) c.in_ok-run.ensures in
     let s = sound m r (c.law_core_run.ensures.lawful m r i.lawful i.core_run) in
-    subst (IsHistory m) (sym (c.in_ok-history.ensures m r i)) s.possible
+    subst (IsHistory m) (sym (c.into_logs-logs.ensures m r i)) s.possible
 
 pub returns-clause-ok : goal.returns-clause-ok
 returns-clause-ok c =
@@ -36,6 +36,6 @@ returns-clause-ok c =
     let s = sound m r (c.law_core_run.ensures.lawful m r i.lawful i.core_run) in
     let home : IsAtHome m r.system.locals c.in_ok-at_home.at_home = c.in_ok-at_home.ensures m r i in
     let ends : EndsIn r r.system.locals c.has_handled_all-all_handled.result = record { here = refl; handled = λ e. stations_handled m r.system _ i.system (c.has_handled_all-all_handled.ensures e) } in
-    c.in_ok-outcome_of.ensures r r.system.locals s home ends (c.in_ok-history.ensures m r i)
+    c.in_ok-outcome_of.ensures r r.system.locals s home ends (c.into_logs-logs.ensures m r i)
     (c.events-turns.ensures ∙ as_many m r _ i)
     (λ e. rests m r.system _ i.system (c.ending-ending.ensures.0 e), λ e. c.ending-ending.ensures.1 (are_resting m r.system _ i.system e))

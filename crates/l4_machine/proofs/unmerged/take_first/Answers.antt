@@ -1,4 +1,4 @@
-use Rattle.std.proofs.Common.{◌≡◌, ◌+◌, ◌-◌, ◌∷◌, ◌∙◌, ap, sym, arith, drop, length, List}
+use Rattle.std.proofs.Common.{◌≡◌, ◌+◌, ◌-◌, ◌∷◌, ◌∙◌, ap, sym, arith, drop, length, refl, List}
 use Rattle.std.specs.Prelude.{is_some, slice_get}
 use Rattle.std.specs.Option.{option_map}
 use Rattle.l4_core_model.specs.Runs.{Event}
@@ -6,7 +6,7 @@ use Rattle.l4_proc.specs.Logs.{event_of}
 use Rattle.l4_machine.specs.Gathers.{events_of}
 use Rattle.l4_machine.proofs.EventsLeft.{one_less, some_left, stamp_left}
 use Rattle.l4_machine.proofs.InLogs.{log_at}
-use Rattle.l4_machine.proofs.unmerged.tell_first.Goals as goal
+use Rattle.l4_machine.proofs.unmerged.take_first.Goals as goal
 
 pub event-first-requires-clause-within : goal.event-first-requires-clause-within
 event-first-requires-clause-within c =
@@ -35,5 +35,5 @@ returns c =
         stamp = c.stamp_of-log.ensures ∙ ap (λ (es : List Event). option_map (λ (e : Event). e.stamp) (slice_get es (u.count - (u.left - 1)))) (sym same)
             ∙ stamp_left es (u.count - (u.left - 1));
       };
-      told = c.in_ok-extend.ensures.ok;
+      told = refl;
     }

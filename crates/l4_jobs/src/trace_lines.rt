@@ -1,0 +1,44 @@
+//! The trace of a run, written as its history tells the steps.
+ghost use Rattle.std.specs.Prelude.{◌≡◌, ◌++◌, List, IfOk};
+ghost use Rattle.std.proofs.Common.{◌∙◌, ap, append-nil, append_assoc, sym};
+ghost use Rattle.std.proofs.lemmas.Grind.{flat_map-append};
+ghost use Rattle.l4_machine.specs.Outcomes.{steps_of};
+ghost use Rattle.l4_trace.specs.Lines.{line_of, trace_of};
+
+use l4_history::steps::Steps;
+use l4_machine::{Listener, RunHistory};
+use l4_trace::traces::TraceWriter;
+use l4_types::errors::NoMemory;
+use std::alloc::Global;
+
+// Writes the lines of the steps that it hears.
+#[derive(Drop)]
+struct Writer {
+    trace: TraceWriter,
+}
+
+impl Listener for Writer {
+    ghost hears = { λ old steps new. new.trace.lines.items ≡ old.trace.lines.items ++ trace_of steps };
+
+    ghost heard_none = { λ old. sym (append-nil old.trace.lines.items) };
+
+    ghost heard_both = { λ old between new first second one two.
+        two ∙ ap (λ lines. lines ++ trace_of second) one
+        ∙ append_assoc old.trace.lines.items (trace_of first) (trace_of second)
+        ∙ ap (λ lines. old.trace.lines.items ++ lines) (sym (flat_map-append line_of first second)) };
+
+    fn hear(&mut self, steps: Steps<'_>) -> Result<(), NoMemory> {
+        self.trace.write(steps)
+    }
+}
+
+/// The line of each step of a history. No step is copied.
+pub(crate) fn trace_of(alloc: Global, history: &RunHistory<'_>) -> Result<Vec<u8>, NoMemory>
+    ensures { IfOk result (λ lines. lines.items ≡ trace_of (steps_of history.now)) }
+{
+    let mut writer = Writer {
+        trace: TraceWriter::new(alloc),
+    };
+    history.tell(alloc, &mut writer)?;
+    Ok(writer.trace.into_lines())
+}

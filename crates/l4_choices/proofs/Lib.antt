@@ -4,5 +4,4 @@ pub mod OfLetters
 pub mod Mail
 pub mod OfSystems
 pub mod Replayed
-pub mod Named
 pub mod Widened

@@ -1,8 +1,6 @@
 -- Schedules whose entries can name each choice of a core run.
-use Rattle.std.specs.Prelude.{ℕ, ◌≡◌, ◌&&◌, nat_lt, Bool, true, Option, Some, List, [], ◌∷◌, map}
-use Rattle.std.specs.List.{list_all}
+use Rattle.std.specs.Prelude.{ℕ, ◌≡◌, Option, Some, List, [], ◌∷◌, map}
 use Rattle.std.specs.Option.{option_map}
-use Rattle.l4_model.specs.Words.{clock_limit}
 use Rattle.l4_model.specs.Machine.{Machine}
 use Rattle.l4_model.specs.Conditions.{◌>>=◌}
 use Rattle.l4_core_model.specs.Runs.{System, Happening, Handles, Turns, Ticks, happens, Run, core_run, opening_run}
@@ -36,15 +34,6 @@ replays m r (entry ∷ entries) =
 abbrev pub replay_entries : Machine → List Entry → Run
 replay_entries m entries = replays m (opening_run m) entries
 
--- An entry is one of so many processors where these have its own and that of its letter, and where
--- a clock may go on to its value.
-abbrev pub is_entry_of : (cpus : ℕ) → Entry → Bool
-is_entry_of cpus (TurnOf cpu) = nat_lt cpu cpus
-is_entry_of cpus (TickOf cpu) = nat_lt cpu cpus
-is_entry_of cpus (LetterOf cpu from) = nat_lt cpu cpus && nat_lt from cpus
-is_entry_of cpus (CoreOf cpu) = nat_lt cpu cpus
-is_entry_of cpus (TickTo cpu clock) = nat_lt cpu cpus && nat_lt 0 clock && nat_lt clock clock_limit
-
 -- The entries that numbers stand for are among them.
 abbrev pub widened : plain.Entry → Entry
 widened (plain.TurnOf cpu) = TurnOf cpu
@@ -56,13 +45,8 @@ entry_of (Handles cpu from) = LetterOf cpu from
 entry_of (Turns cpu) = CoreOf cpu
 entry_of (Ticks cpu clock) = TickTo cpu clock
 
--- A core run is the replay of these entries, and all of them are of its processors.
-pub record IsReplay (m : Machine) (entries : List Entry) (r : Run) : Type 0 where
-  pub same : replay_entries m entries ≡ r
-  pub named : list_all (is_entry_of m.cpus) entries ≡ true
-
 -- Every core run is the replay of what happened in it.
 abbrev pub AreReplayed : Machine → Type 0
 AreReplayed m =
     (happenings : List Happening) (r : Run) → core_run m (opening_run m) happenings ≡ Some r →
-    IsReplay m (map entry_of happenings) r
+    replay_entries m (map entry_of happenings) ≡ r

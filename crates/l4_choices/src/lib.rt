@@ -22,7 +22,7 @@ ghost use Rattle.l4_choices.specs.Alike.{AreAlike, IsAlike};
 ghost use Rattle.l4_choices.specs.Entries.{AreReplayed, replays, widened};
 
 /// Every core run is the replay of the entries that name what happened in it: the same events, so
-/// the same history, and the same state at the end. These entries are of its processors.
+/// the same history, and the same state at the end.
 pub fn law_replayed()
     ensures { (m : Machine) → AreReplayed m }
 {}

@@ -7,11 +7,12 @@ use Rattle.std.proofs.lemmas.Bool.Decides.{nat_tests}
 use Rattle.std.proofs.lemmas.Fmt.{decimal_digit, decimal_step}
 use Rattle.std.proofs.lemmas.Iterator.Adapters.{position_from-zero}
 use Rattle.l4_model.specs.Words.{clock_limit}
-use Rattle.l4_choices.specs.Entries.{Entry, TurnOf, TickOf, LetterOf, CoreOf, TickTo, is_entry_of}
+use Rattle.l4_choices.specs.Entries.{Entry, TurnOf, TickOf, LetterOf, CoreOf, TickTo}
 use Rattle.l4_words.specs.Numbers.{number_of}
 use Rattle.l4_words.proofs.Above.{joined_at}
 use Rattle.l4_words.proofs.Found.{mapped, some_bind, some_then}
 use Rattle.l4_words.proofs.Numerals.{decimal_is_read, decimal_is_written}
+use Rattle.l4_machine.specs.Entries.{is_entry_of}
 use Rattle.l4_jobs.specs.Items.{processor_of, clock_of, is_colon, at_colon, by_colon, letter_between, turn_of, tick_between, tick_of, entry_of, item_of}
 
 teen : (p : ℕ) → 10 ≤ p → p < 16 → decimal p ≡ 49 ∷ (48 + (p - 10)) ∷ []

@@ -2,9 +2,9 @@
 ghost use Rattle.std.specs.Prelude.{◌≡◌, ◌≤◌, ◌⊎◌, ◌==◌, ◌++◌, ◌∷◌, [], ℕ, List, IfOk, IfErr, MatchOption, OnOk, Ok, Err, Some, length, count_by, map, true};
 ghost use Rattle.std.specs.Option.{option_map};
 ghost use Rattle.l4_model.specs.Machine.{most_processors};
-ghost use Rattle.l4_choices.specs.Entries.{Entry as ModelEntry, is_entry_of};
+ghost use Rattle.l4_choices.specs.Entries.{Entry as ModelEntry};
 ghost use Rattle.l4_machine.specs.declared.outcome.RunFault.TheVariants.{NoMemory as OutOfMemory};
-ghost use Rattle.l4_machine.specs.Entries.{entry_from, most_entries};
+ghost use Rattle.l4_machine.specs.Entries.{entry_from, is_entry_of, most_entries};
 ghost use Rattle.l4_jobs.specs.Items.{items_of, clock_of, processor_of, entry_of, item_of, letter_between, machine_entry, read_items, schedule_of, tick_between, tick_of, turn_of};
 
 use l4_machine::{Entry, MOST_ENTRIES, RunFault};

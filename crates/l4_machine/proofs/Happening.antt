@@ -156,10 +156,8 @@ own_happens m g ss cpu old new i at t =
       };
     }
 
-letter_happens : (m : Machine) (g : System) (ss : List Station) (cpu from : ℕ)
-    (old new : program.Station) →
-    IsSystem m g ss → slice_get ss cpu ≡ Some (station_of old) →
-    from < length (station_of old).inbox →
+letter_happens : (m : Machine) (g : System) (ss : List Station) (cpu from : ℕ) (old new : program.Station) →
+    IsSystem m g ss → slice_get ss cpu ≡ Some (station_of old) → from < length (station_of old).inbox →
     IsHandling from old new → HasHappened m g (Handles cpu from) cpu ss old new
 letter_happens m g ss cpu from old new i at within t =
     let s = station_of old in
@@ -176,30 +174,24 @@ letter_happens m g ss cpu from old new i at within t =
         old = without_letter from s;
         is = rw (here, first, does) refl;
         system = taken_system m g ss from cpu s t.letter i at within t.first;
-        at = get-changed_same (without_letter from) ss cpu
-            ∙ ap (option_map (without_letter from)) at;
+        at = get-changed_same (without_letter from) ss cpu ∙ ap (option_map (without_letter from)) at;
         same = same_by old new (without_letter from s).inbox t.work t.done t.rest;
         written = changed_twice (without_letter from) (station_of new) ss cpu;
       };
     }
 
-turn_happens : (m : Machine) (g : System) (ss : List Station) (cpu : ℕ)
-    (old new : program.Station) →
+turn_happens : (m : Machine) (g : System) (ss : List Station) (cpu : ℕ) (old new : program.Station) →
     IsSystem m g ss → slice_get ss cpu ≡ Some (station_of old) → TakesTurn true old new →
     HasHappened m g (next_turn m g cpu) cpu ss old new
 turn_happens m g ss cpu old new i at (inl t) =
-    subst (λ e. HasHappened m g e cpu ss old new)
-    (sym (next_is_mail m g ss cpu t.from (station_of old) i at t.poster))
+    subst (λ e. HasHappened m g e cpu ss old new) (sym (next_is_mail m g ss cpu t.from (station_of old) i at t.poster))
     (letter_happens m g ss cpu t.from old new i at t.poster.within t.handled)
 turn_happens m g ss cpu old new i at (inr t) =
-    subst (λ e. HasHappened m g e cpu ss old new)
-    (sym (next_is_own m g ss cpu (station_of old) i at t.0))
+    subst (λ e. HasHappened m g e cpu ss old new) (sym (next_is_own m g ss cpu (station_of old) i at t.0))
     (own_happens m g ss cpu old new i at t.1)
 
-no_own_happens : (m : Machine) (g : System) (ss : List Station) (cpu : ℕ)
-    (old new : program.Station) →
-    IsSystem m g ss → slice_get ss cpu ≡ Some (station_of old) → IsNoTurn old new →
-    happens m g (Turns cpu) ≡ None
+no_own_happens : (m : Machine) (g : System) (ss : List Station) (cpu : ℕ) (old new : program.Station) →
+    IsSystem m g ss → slice_get ss cpu ≡ Some (station_of old) → IsNoTurn old new → happens m g (Turns cpu) ≡ None
 no_own_happens m g ss cpu old new i at t =
     let s = station_of old in
     let it = i.each cpu s at in
@@ -207,10 +199,8 @@ no_own_happens m g ss cpu old new i at t =
     let none : turn m cpu old.worker.core.local ≡ None = rw (← it.machine, ← it.cpu_is) t.none in
     rw (here, none) refl
 
-no_letter_happens : (m : Machine) (g : System) (ss : List Station) (cpu from : ℕ)
-    (old : program.Station) →
-    IsSystem m g ss → slice_get ss cpu ≡ Some (station_of old) →
-    letters_from from (station_of old) ≡ [] →
+no_letter_happens : (m : Machine) (g : System) (ss : List Station) (cpu from : ℕ) (old : program.Station) →
+    IsSystem m g ss → slice_get ss cpu ≡ Some (station_of old) → letters_from from (station_of old) ≡ [] →
     happens m g (Handles cpu from) ≡ None
 no_letter_happens m g ss cpu from old i at empty =
     let s = station_of old in
@@ -218,16 +208,13 @@ no_letter_happens m g ss cpu from old i at empty =
     let none : letters g.mail from cpu ≡ [] = letters_here m g ss from cpu s i at ∙ empty in
     rw (here, none) refl
 
-no_turn_happens : (m : Machine) (g : System) (ss : List Station) (cpu : ℕ)
-    (old new : program.Station) →
+no_turn_happens : (m : Machine) (g : System) (ss : List Station) (cpu : ℕ) (old new : program.Station) →
     IsSystem m g ss → slice_get ss cpu ≡ Some (station_of old) → TakesTurn false old new →
     happens m g (next_turn m g cpu) ≡ None
 no_turn_happens m g ss cpu old new i at t =
-    ap (happens m g) (next_is_own m g ss cpu (station_of old) i at t.0)
-    ∙ no_own_happens m g ss cpu old new i at t.1
+    ap (happens m g) (next_is_own m g ss cpu (station_of old) i at t.0) ∙ no_own_happens m g ss cpu old new i at t.1
 
-tick_happens : (m : Machine) (g : System) (ss : List Station) (cpu clock : ℕ)
-    (old new : program.Station) → IsSystem m g ss → slice_get ss cpu ≡ Some (station_of old) →
+tick_happens : (m : Machine) (g : System) (ss : List Station) (cpu clock : ℕ) (old new : program.Station) → IsSystem m g ss → slice_get ss cpu ≡ Some (station_of old) →
     IsTick clock old new → HasHappened m g (Ticks cpu clock) cpu ss old new
 tick_happens m g ss cpu clock old new i at t =
     let s = station_of old in
@@ -249,8 +236,7 @@ tick_happens m g ss cpu clock old new i at t =
       };
     }
 
-no_tick_happens : (m : Machine) (g : System) (ss : List Station) (cpu clock : ℕ)
-    (old new : program.Station) → IsSystem m g ss → slice_get ss cpu ≡ Some (station_of old) →
+no_tick_happens : (m : Machine) (g : System) (ss : List Station) (cpu clock : ℕ) (old new : program.Station) → IsSystem m g ss → slice_get ss cpu ≡ Some (station_of old) →
     IsNoTick clock old new → happens m g (Ticks cpu clock) ≡ None
 no_tick_happens m g ss cpu clock old new i at t =
     let s = station_of old in
@@ -261,26 +247,21 @@ no_tick_happens m g ss cpu clock old new i at t =
 
 -- What is chosen happens, or it can't.
 
-pub chosen_happens : (m : Machine) (g : System) (ss : List Station) (cpu : ℕ) (c : Choice)
-    (old new : program.Station) →
-    IsSystem m g ss → slice_get ss cpu ≡ Some (station_of old) →
-    KnowsPoster (length (station_of old).inbox) c →
+pub chosen_happens : (m : Machine) (g : System) (ss : List Station) (cpu : ℕ) (c : Choice) (old new : program.Station) →
+    IsSystem m g ss → slice_get ss cpu ≡ Some (station_of old) → KnowsPoster (length (station_of old).inbox) c →
     HasChosen c true old new → HasHappened m g (happening m g cpu c) cpu ss old new
 chosen_happens m g ss cpu choice.Turn old new i at known t = turn_happens m g ss cpu old new i at t
 chosen_happens m g ss cpu (choice.Letter from) old new i at known t =
     letter_happens m g ss cpu from old new i at known t
 chosen_happens m g ss cpu choice.Core old new i at known t = own_happens m g ss cpu old new i at t
-chosen_happens m g ss cpu (choice.Tick clock) old new i at known t =
-    tick_happens m g ss cpu clock old new i at t
+chosen_happens m g ss cpu (choice.Tick clock) old new i at known t = tick_happens m g ss cpu clock old new i at t
 
 -- It can't, and the station is the same.
-pub record HasNotHappened (m : Machine) (g : System) (e : Happening) (old new : program.Station)
-    : Type 0 where
+pub record HasNotHappened (m : Machine) (g : System) (e : Happening) (old new : program.Station) : Type 0 where
   pub none : happens m g e ≡ None
   pub same : IsSameStation old new
 
-pub not_chosen_happens : (m : Machine) (g : System) (ss : List Station) (cpu : ℕ) (c : Choice)
-    (old new : program.Station) →
+pub not_chosen_happens : (m : Machine) (g : System) (ss : List Station) (cpu : ℕ) (c : Choice) (old new : program.Station) →
     IsSystem m g ss → slice_get ss cpu ≡ Some (station_of old) → HasChosen c false old new →
     HasNotHappened m g (happening m g cpu c) old new
 not_chosen_happens m g ss cpu choice.Turn old new i at t =
@@ -293,12 +274,10 @@ not_chosen_happens m g ss cpu (choice.Tick clock) old new i at t =
     record { none = no_tick_happens m g ss cpu clock old new i at t; same = t.same }
 
 -- A poster that is a processor has a place in each inbox.
-pub knows_poster : (m : Machine) (r : Run) (v : UnderWay) (cpu : ℕ) (s : Station) (c : Choice) →
-    IsRun m r v → slice_get v.stations cpu ≡ Some s → KnowsPoster v.machine.cpus c →
-    KnowsPoster (length s.inbox) c
+pub knows_poster : (m : Machine) (r : Run) (v : UnderWay) (cpu : ℕ) (s : Station) (c : Choice) → IsRun m r v →
+    slice_get v.stations cpu ≡ Some s → KnowsPoster v.machine.cpus c → KnowsPoster (length s.inbox) c
 knows_poster m r v cpu s c i at known =
-    subst (λ n. KnowsPoster n c)
-    (ap (λ (m : Machine). m.cpus) i.machine ∙ sym (i.system.each cpu s at).inbox) known
+    subst (λ n. KnowsPoster n c) (ap (λ (m : Machine). m.cpus) i.machine ∙ sym (i.system.each cpu s at).inbox) known
 
 -- The letters go to processors that there are
 

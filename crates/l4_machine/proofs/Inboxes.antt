@@ -40,8 +40,7 @@ comes qs from letter old new lt at is =
     (ap (map letter_of) is ∙ map-append letter_of old.items (letter ∷ []))
 
 -- The first letter of a queue that is not empty.
-first_of : (qs : List Queue) (from : ℕ) (old : Queue) (letter : program.Letter) → from < length qs →
-    old ≡ get_or qs from old → 0 < deque_len old → letter ≡ get_or old.items 0 letter →
+first_of : (qs : List Queue) (from : ℕ) (old : Queue) (letter : program.Letter) → from < length qs → old ≡ get_or qs from old → 0 < deque_len old → letter ≡ get_or old.items 0 letter →
     slice_get (get_or (map queue qs) from []) 0 ≡ Some (letter_of letter)
 first_of qs from old letter within at filled first =
     let size = old.ok.0 in
@@ -56,9 +55,7 @@ map-drop : (ls : List program.Letter) → map letter_of (drop 1 ls) ≡ drop 1 (
 map-drop [] = refl
 map-drop (l ∷ ls) = refl
 
-taken_out : (qs : List Queue) (from : ℕ) (old new : Queue) → from < length qs →
-    old ≡ get_or qs from old → new.items ≡ drop 1 old.items →
-    map queue (set qs from new) ≡ changed (drop 1) (map queue qs) from
+taken_out : (qs : List Queue) (from : ℕ) (old new : Queue) → from < length qs → old ≡ get_or qs from old → new.items ≡ drop 1 old.items → map queue (set qs from new) ≡ changed (drop 1) (map queue qs) from
 taken_out qs from old new within at rest = queue_written queue (drop 1) qs from old new within at (ap (map letter_of) rest ∙ map-drop old.items)
 
 pub below_next : (P : ℕ → Type 0) (n k : ℕ) → ((k : ℕ) → k < n → P k) → P n → k < n + 1 → P k
@@ -82,8 +79,7 @@ nothing_there q b is empty = no_letters q (eqb-true (deque_len q) 0 (sym is ∙ 
 -- What is taken of one poster.
 pub taken_from : (qs : List Queue) (from : ℕ) (old new : Queue) (o : Option program.Letter) →
     from < length qs → old ≡ get_or qs from old → IfSome o (λ x. x ≡ get_or old.items 0 x) →
-    MatchOption o ((deque_len old ≡ 0) × (deque_len new ≡ 0))
-    (λ x. deque_len new + 1 ≡ deque_len old) →
+    MatchOption o ((deque_len old ≡ 0) × (deque_len new ≡ 0)) (λ x. deque_len new + 1 ≡ deque_len old) →
     new.items ≡ drop 1 old.items → TakesFrom from (map queue qs) o (map queue (set qs from new))
 taken_from qs from old new None within at first count rest =
     let empty = no_letters old count.0 in (

@@ -24,3 +24,4 @@ pub mod Ticked
 pub mod Turned
 pub mod Sought
 pub mod Enough
+pub mod Walks

@@ -87,8 +87,7 @@ lawful-next m schedule place entry is own so_far =
     ∙ ap (λ b. if b then first_stranger m (place + 1 + 1) (drop (place + 1) schedule) else Some (place + 1)) own
 
 -- The entries so far are lawful, and the one at hand is not.
-pub stranger_here : (m : Machine) (entries : List code.Entry) (place : ℕ) (other : code.Entry) →
-    length entries ≤ most_events → place < length entries →
+pub stranger_here : (m : Machine) (entries : List code.Entry) (place : ℕ) (other : code.Entry) → length entries ≤ most_events → place < length entries →
     is_entry m (entry_from (slice_index_or entries place other)) ≡ false →
     first_stranger m 1 (map entry_from entries) ≡ first_stranger m (place + 1) (drop place (map entry_from entries)) →
     entries_fault m (map entry_from entries) ≡ Some (Schedule (place + 1))
@@ -103,9 +102,8 @@ stranger_here m entries place other few within strange so_far =
 
 -- What an entry asks for.
 
-pub tick_asks : (m : Machine) (r : Run) (ss : List Station) (cpu : ℕ) (d : Option ℕ) →
-    IsSystem m r.system ss → deadline_at (slice_get ss cpu) ≡ d →
-    entry_event m r.system (TickOf cpu) ≡ option_map (Ticks cpu) d
+pub tick_asks : (m : Machine) (r : Run) (ss : List Station) (cpu : ℕ) (d : Option ℕ) → IsSystem m r.system ss →
+    deadline_at (slice_get ss cpu) ≡ d → entry_event m r.system (TickOf cpu) ≡ option_map (Ticks cpu) d
 tick_asks m r ss cpu d i is = ap (option_map (Ticks cpu)) (deadline_here m r.system ss cpu i ∙ is)
 
 -- In each run that has come to where its processors are, it asks for this.
@@ -114,8 +112,7 @@ Asks u entry c =
     (m : Machine) (r : Run) → IsRun m r u →
     entry_event m r.system entry ≡ option_map (happening m r.system (processor_of entry)) c
 
-pub entry_tried : (entry : Entry) (cpu : ℕ) (c : Choice) (u v : UnderWay) →
-    cpu ≡ processor_of entry →
+pub entry_tried : (entry : Entry) (cpu : ℕ) (c : Choice) (u v : UnderWay) → cpu ≡ processor_of entry →
     Asks u entry (Some c) → GoesOn (λ m r. attempts m r (happening m r.system cpu c)) u v →
     GoesOn (after_entry entry) u v
 entry_tried entry cpu c u v same asks goes = λ m r is.
@@ -124,8 +121,7 @@ entry_tried entry cpu c u v same asks goes = λ m r is.
     ∙ sym (ap (λ (o : Option Happening). or_stays r (o >>= happens m r.system)) (asks m r is)))
     (goes m r is)
 
-pub entry_untried : (entry : Entry) (u : UnderWay) → Asks u entry None →
-    GoesOn (after_entry entry) u u
+pub entry_untried : (entry : Entry) (u : UnderWay) → Asks u entry None → GoesOn (after_entry entry) u u
 entry_untried entry u asks = λ m r is.
     subst (λ q. IsRun m q u)
     (sym (ap (λ (o : Option Happening). or_stays r (o >>= happens m r.system)) (asks m r is))) is
@@ -140,8 +136,7 @@ numbered_widened : (schedule : List ℕ) → map numbered schedule ≡ map widen
 numbered_widened [] = refl
 numbered_widened (n ∷ ns) = ap (λ es. numbered n ∷ es) (numbered_widened ns)
 
-pub numbers_replayed : (m : Machine) (schedule : List ℕ) (entries : List Entry) →
-    entries ≡ map numbered schedule →
+pub numbers_replayed : (m : Machine) (schedule : List ℕ) (entries : List Entry) → entries ≡ map numbered schedule →
     replay_entries m entries ≡ replay m schedule
 numbers_replayed m schedule entries same =
     ap (replay_entries m) (same ∙ numbered_widened schedule)
@@ -156,10 +151,8 @@ few_fault m entries few =
     ap (λ b. if b then Some Turns else judged) (under ∙ sym over)
 
 -- There are no more of them than there may be of the others.
-pub numbers_judged : (m : Machine) (schedule : List ℕ) (entries : List Entry) →
-    length schedule ≤ most_entries →
+pub numbers_judged : (m : Machine) (schedule : List ℕ) (entries : List Entry) → length schedule ≤ most_entries →
     entries ≡ map numbered schedule → schedule_fault m schedule ≡ entries_fault m entries
 numbers_judged m schedule entries few same =
     let count : length (map numbered schedule) ≡ length schedule = length-map schedule numbered in
-    few_fault m (map numbered schedule) (omega (arith, count, few))
-    ∙ sym (ap (entries_fault m) same)
+    few_fault m (map numbered schedule) (omega (arith, count, few)) ∙ sym (ap (entries_fault m) same)

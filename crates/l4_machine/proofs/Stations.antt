@@ -75,8 +75,7 @@ module _ (old w new : Worker) (hand : Option (ℕ × letters.Letter)) (k : Keeps
       ∙ ap (λ s. events old.log ++ event old.core.cpu s) t.done.event.stamped
 
 -- What was done.
-station_done : (old new : program.Station) (w : Worker) (hand : Option (ℕ × letters.Letter))
-    (k : Keeps old.worker)
+station_done : (old new : program.Station) (w : Worker) (hand : Option (ℕ × letters.Letter)) (k : Keeps old.worker)
     (h : IsAtHand old.worker w hand) (t : HasTakenTurn w new.worker) →
     HasDone (turned_work old.worker w new.worker hand k h t) old new
 station_done old new w hand k h t = record {
@@ -86,8 +85,7 @@ station_done old new w hand k h t = record {
 }
 
 -- It was the core's turn.
-station_turned : (old new : program.Station) (w : Worker) → Keeps old.worker →
-    IsAtHand old.worker w None →
+station_turned : (old new : program.Station) (w : Worker) → Keeps old.worker → IsAtHand old.worker w None →
     letters_in new.inbox ≡ letters_in old.inbox → HasTakenTurn w new.worker → IsOwnTurn old new
 station_turned old new w k h inbox t = record {
   work = turned_work old.worker w new.worker None k h t;
@@ -97,11 +95,9 @@ station_turned old new w k h inbox t = record {
 }
 
 -- A letter was handled.
-station_handled : (old new : program.Station) (w : Worker) (p : ℕ × letters.Letter) →
-    Keeps old.worker →
+station_handled : (old new : program.Station) (w : Worker) (p : ℕ × letters.Letter) → Keeps old.worker →
     IsAtHand old.worker w (Some p) →
-    IsTakenFrom p.0 (letters_in old.inbox) (letter_of p.1) (letters_in new.inbox) →
-    HasTakenTurn w new.worker →
+    IsTakenFrom p.0 (letters_in old.inbox) (letter_of p.1) (letters_in new.inbox) → HasTakenTurn w new.worker →
     IsHandling p.0 old new
 station_handled old new w p k h taken t = record {
   letter = letter_of p.1;
@@ -114,8 +110,7 @@ station_handled old new w p k h taken t = record {
 
 -- Where an event has begun, nothing has happened yet.
 pub begun_station : (old new : program.Station) → letters_in new.inbox ≡ letters_in old.inbox →
-    new.worker.core ≡ old.worker.core → HasBegun old.worker.log new.worker.log →
-    IsSameStation old new
+    new.worker.core ≡ old.worker.core → HasBegun old.worker.log new.worker.log → IsSameStation old new
 begun_station old new inbox core log = record {
   station = ap (λ c. record { core = c; inbox = letters_in new.inbox }) core
       ∙ ap (λ i. record { core = old.worker.core; inbox = i }) inbox;
@@ -132,8 +127,7 @@ begun_kept old new k core hand log = record {
 
 -- There was nothing to do.
 station_idle : (old new : program.Station) (w : Worker) → IsAtHand old.worker w None →
-    letters_in new.inbox ≡ letters_in old.inbox → IsSameWorker w new.worker →
-    HasNone w.core w.hand →
+    letters_in new.inbox ≡ letters_in old.inbox → IsSameWorker w new.worker → HasNone w.core w.hand →
     IsNoTurn old new
 station_idle old new w h inbox same why = record {
   none = subst (λ (c : Processor). turn c.machine c.cpu c.local ≡ None) h.core why.none;
@@ -145,37 +139,31 @@ station_idle old new w h inbox same why = record {
 }
 
 -- A letter in hand is something to do.
-not_idle : (old w : Worker) (p : ℕ × letters.Letter) → IsAtHand old w (Some p) →
-    HasNone w.core w.hand → ⊥
+not_idle : (old w : Worker) (p : ℕ × letters.Letter) → IsAtHand old w (Some p) → HasNone w.core w.hand → ⊥
 not_idle old w p h why = let none : w.hand ≡ None = why.empty in let some = h.held in cc
 
 -- What a station tries
 
 pub core_tried : (b : Bool) (old new : program.Station) (w : Worker) → Keeps old.worker →
-    IsAtHand old.worker w None → letters_in new.inbox ≡ letters_in old.inbox →
-    HasTriedTurn b w new.worker →
+    IsAtHand old.worker w None → letters_in new.inbox ≡ letters_in old.inbox → HasTriedTurn b w new.worker →
     TakesCoreTurn b old new
 core_tried true old new w k h inbox t = station_turned old new w k h inbox t
 core_tried false old new w k h inbox t = station_idle old new w h inbox t.0 t.1
 
-pub letter_tried : (b : Bool) (old new : program.Station) (w : Worker) (p : ℕ × letters.Letter) →
-    Keeps old.worker →
+pub letter_tried : (b : Bool) (old new : program.Station) (w : Worker) (p : ℕ × letters.Letter) → Keeps old.worker →
     IsAtHand old.worker w (Some p) →
-    IsTakenFrom p.0 (letters_in old.inbox) (letter_of p.1) (letters_in new.inbox) →
-    HasTriedTurn b w new.worker →
+    IsTakenFrom p.0 (letters_in old.inbox) (letter_of p.1) (letters_in new.inbox) → HasTriedTurn b w new.worker →
     HandlesFrom p.0 b old new
 letter_tried true old new w p k h taken t = station_handled old new w p k h taken t
 letter_tried false old new w p k h taken t = absurd (not_idle old.worker w p h t.1)
 
-pub turn_tried : (b : Bool) (old new : program.Station) (w : Worker)
-    (hand : Option (ℕ × letters.Letter)) →
+pub turn_tried : (b : Bool) (old new : program.Station) (w : Worker) (hand : Option (ℕ × letters.Letter)) →
     Keeps old.worker → IsAtHand old.worker w hand →
     TakesFirst (letters_in old.inbox) hand (letters_in new.inbox) → HasTriedTurn b w new.worker →
     TakesTurn b old new
 turn_tried true old new w None k h taken t = inr (taken.0, station_turned old new w k h taken.1 t)
 turn_tried true old new w (Some p) k h taken t =
-    let handled = station_handled old new w p k h taken.1 t in
-    inl (record { from = p.0; poster = taken.0; handled = handled })
+    inl (record { from = p.0; poster = taken.0; handled = station_handled old new w p k h taken.1 t })
 turn_tried false old new w None k h taken t = (taken.0, station_idle old new w h taken.1 t.0 t.1)
 turn_tried false old new w (Some p) k h taken t = absurd (not_idle old.worker w p h t.1)
 
@@ -196,20 +184,17 @@ abbrev pub IsFirst : program.Station → Option (ℕ × letters.Letter) → Type
 IsFirst old None = Unit {0}
 IsFirst old (Some p) = slice_get (letters_from p.0 (station_of old)) 0 ≡ Some (letter_of p.1)
 
-pub first_taken : (old : program.Station) (hand : Option (ℕ × letters.Letter))
-    (after : List (List Letter)) →
+pub first_taken : (old : program.Station) (hand : Option (ℕ × letters.Letter)) (after : List (List Letter)) →
     TakesFirst (letters_in old.inbox) hand after → IsFirst old hand
 first_taken old None after taken = tt
 first_taken old (Some p) after taken = taken.1.first
 
-pub can_turn : (old : program.Station) (w : Worker) (hand : Option (ℕ × letters.Letter)) →
-    CanGoOn (station_of old) →
+pub can_turn : (old : program.Station) (w : Worker) (hand : Option (ℕ × letters.Letter)) → CanGoOn (station_of old) →
     IsAtHand old.worker w hand → IsFirst old hand → CanTurn w
 can_turn old w hand can h first stop.Idle why = refl
 can_turn old w hand can h first stop.Used why = absurd why
 can_turn old w hand can h first stop.NoMemory why = absurd why
-can_turn old w None can h first stop.Mail why =
-    absurd (let some = why.here in let none = h.held in cc)
+can_turn old w None can h first stop.Mail why = absurd (let some = why.here in let none = h.held in cc)
 can_turn old w (Some p) can h first stop.Mail why =
     let same : p ≡ why.letter = some_is_same p why.letter (sym h.held ∙ why.here) in
     let core : Processor → Type 0 = λ c. handle c.machine c.cpu c.local (letter_of p.1) ≡ None in

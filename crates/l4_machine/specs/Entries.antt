@@ -1,11 +1,12 @@
 -- How many turns a run has, and which schedules a machine has.
-use Rattle.std.specs.Prelude.{ℕ, ◌+◌, ◌==◌, ◌||◌, nat_lt, Bool, if◌then◌else◌, Option, Some, None, List, [], ◌∷◌, length, map}
+use Rattle.std.specs.Prelude.{ℕ, ◌+◌, ◌==◌, ◌&&◌, ◌||◌, nat_lt, Bool, if◌then◌else◌, Option, Some, None, List, [], ◌∷◌, length, map}
 use Rattle.std.specs.Option.{option_map}
 use Rattle.l4_model.specs.Machine.{Machine}
+use Rattle.l4_model.specs.Words.{clock_limit}
 use Rattle.l4_model.specs.Conditions.{◌>>=◌}
 use Rattle.l4_core_model.specs.Runs.{Run, happens}
 use Rattle.l4_core_model.specs.Schedules.{entry_of, or_stays}
-use Rattle.l4_choices.specs.Entries.{Entry, TurnOf, TickOf, LetterOf, CoreOf, TickTo, entry_event, is_entry_of, widened}
+use Rattle.l4_choices.specs.Entries.{Entry, TurnOf, TickOf, LetterOf, CoreOf, TickTo, entry_event, widened}
 use Rattle.l4_machine.specs.declared.entries.Entry as code
 use Rattle.l4_machine.specs.declared.entries.Entry.TheVariants as variant
 use Rattle.l4_machine.specs.declared.outcome.RunFault.{RunFault}
@@ -50,7 +51,15 @@ processor_of (TickTo cpu clock) = cpu
 abbrev pub after_entry : Entry → Machine → Run → Run
 after_entry entry m r = or_stays r (entry_event m r.system entry >>= happens m r.system)
 
--- An entry is one of the machine where it is one of as many processors.
+-- An entry is one of so many processors where these have its own and that of its letter, and where
+-- a clock may go on to its value.
+abbrev pub is_entry_of : (cpus : ℕ) → Entry → Bool
+is_entry_of cpus (TurnOf cpu) = nat_lt cpu cpus
+is_entry_of cpus (TickOf cpu) = nat_lt cpu cpus
+is_entry_of cpus (LetterOf cpu from) = nat_lt cpu cpus && nat_lt from cpus
+is_entry_of cpus (CoreOf cpu) = nat_lt cpu cpus
+is_entry_of cpus (TickTo cpu clock) = nat_lt cpu cpus && nat_lt 0 clock && nat_lt clock clock_limit
+
 abbrev pub is_entry : Machine → Entry → Bool
 is_entry m entry = is_entry_of m.cpus entry
 

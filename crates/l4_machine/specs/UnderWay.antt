@@ -6,6 +6,7 @@ use Rattle.l4_model.specs.World.{changed}
 use Rattle.l4_core_model.specs.Letters.{Letter}
 use Rattle.l4_core_model.specs.Runs.{Event, System, letters, Run, IsMachine}
 use Rattle.l4_core_model.specs.Laws.{IsCoreRun}
+use Rattle.l4_core.specs.Processor.{Processor}
 use Rattle.l4_machine.specs.declared.scheduler.Scheduler.{Scheduler}
 use Rattle.l4_machine.specs.declared.station.Station as program
 use Rattle.l4_machine.specs.Stations.{Station, events_at, letters_from, letters_out, station_of, with_letter, deadline_of, HasNoMail, IsResting}
@@ -83,6 +84,12 @@ pub record IsSystem (m : Machine) (g : System) (ss : List Station) : Type 0 wher
   pub each : (cpu : ℕ) (s : Station) → slice_get ss cpu ≡ Some s → IsStation m cpu s
   pub locals : g.locals ≡ map (λ s. s.core.local) ss
   pub mail : (from to : ℕ) → letters g.mail from to ≡ letters_at from (slice_get ss to)
+
+-- It is a processor of the machine, as this state has it.
+pub record IsProcessorOf (m : Machine) (g : System) (cpu : ℕ) (p : Processor) : Type 0 where
+  pub machine : p.machine ≡ m
+  pub cpu_is : p.cpu ≡ cpu
+  pub local : slice_get g.locals cpu ≡ Some p.local
 
 -- Each event stands in the log of its processor, in order, and these are the processors.
 pub record AreLogsOf (events : List Event) (cpus : List ℕ) (logs : List (List Event)) : Type 0 where

@@ -15,7 +15,7 @@ pub(crate) struct Inbox {
 }
 
 impl Inbox {
-    ghost use Rattle.std.specs.Prelude.{◌≡◌, ◌<◌, ◌++◌, ◌∷◌, ◌↔◌, [], IfOk, IsTrue, OnOk, length, replicate};
+    ghost use Rattle.std.specs.Prelude.{◌≡◌, ◌<◌, ◌++◌, ◌∷◌, ◌↔◌, [], IfOk, IsTrue, OnOk, length, map, replicate, slice_index_or};
     ghost use Rattle.l4_model.specs.World.{changed};
     ghost use Rattle.l4_types.specs.LetterView.{letter_of};
     ghost use Rattle.l4_machine.specs.Inboxes.{letters_in, AreEmpty, PostsFirst, TakesFirst, TakesFrom};
@@ -55,6 +55,14 @@ impl Inbox {
         letters.reserve(1)?;
         letters.push_back_reserved(letter);
         Ok(())
+    }
+
+    /// The letters that came from a processor and were not taken yet.
+    pub(crate) fn letters(&self, from: u8) -> &VecDeque<Letter>
+        requires { from < length (letters_in self.now) }
+        ensures { map letter_of result.now.items ≡ slice_index_or (letters_in self.now) from [] }
+    {
+        &self.queues[usize::from(from)]
     }
 
     /// Whether each letter that has come was taken.

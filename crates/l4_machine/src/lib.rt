@@ -37,6 +37,7 @@ mod team;
 mod telling;
 mod unmerged;
 mod waiting;
+mod walk;
 mod workers;
 
 pub use entries::Entry;
@@ -49,3 +50,4 @@ pub use outcome::{CompactOutcome, Outcome, RunFault};
 pub use run_history::RunHistory;
 pub use runs::{MOST_TURNS, run, run_compact};
 pub use schedules::{MOST_ENTRIES, MOST_EVENTS, replay, replay_compact};
+pub use walk::Walk;

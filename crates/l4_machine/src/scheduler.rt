@@ -1,6 +1,6 @@
 //! The processors of a replay, which take turns one by one, with the letters under way between
 //! them.
-ghost use Rattle.std.specs.Prelude.{ℕ, ◌≡◌, ◌<◌, ◌↔◌, ◌^◌, [], IfOk, IsTrue, OnOk, length, map, replicate, slice_get};
+ghost use Rattle.std.specs.Prelude.{ℕ, ◌≡◌, ◌<◌, ◌↔◌, ◌^◌, [], IfOk, IsTrue, OnOk, Some, length, map, replicate, slice_get};
 ghost use Rattle.l4_model.specs.Machine.{Machine as MachineOfModel};
 ghost use Rattle.l4_core_model.specs.Runs.{Event, IsMachine, Run, opening_run, opening_system, told};
 ghost use Rattle.l4_core_model.specs.Schedules.{attempts};
@@ -76,6 +76,15 @@ impl<'m> Scheduler<'m> {
         deliver(&mut self.stations, cpu)
     }
 
+    /// A processor with its letters.
+    pub(crate) fn station(&self, cpu: u8) -> &Station<'m>
+        requires run { HasRun (under_way self.now) }
+        requires cpu { cpu < self.now.machine.now.cpus }
+        ensures { slice_get (under_way self.now).stations cpu ≡ Some (station_of result.now) }
+    {
+        &self.stations[usize::from(cpu)]
+    }
+
     /// The least deadline that a thread of a processor is armed for, in ticks.
     pub(crate) fn least_deadline(&self, cpu: u8) -> Option<u64>
         requires run { HasRun (under_way self.now) }
@@ -94,6 +103,13 @@ impl<'m> Scheduler<'m> {
         } else {
             Ending::Spent
         }
+    }
+
+    /// Whether nothing is to be done, armed or under way.
+    pub(crate) fn is_at_rest(&self) -> bool
+        ensures { IsTrue result ↔ AreResting (under_way self.now).stations }
+    {
+        are_at_rest(self.stations.as_slice())
     }
 
     /// Whether no letter is under way.

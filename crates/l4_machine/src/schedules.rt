@@ -43,8 +43,8 @@ fn choice_of(run: &Scheduler<'_>, entry: Entry) -> Option<Choice>
     }
 }
 
-// Does what an entry asks for, where it can be done.
-fn take(run: &mut Scheduler<'_>, entry: Entry) -> Result<(), NoMemory>
+/// Does what an entry asks for, where it can be done.
+pub(crate) fn take(run: &mut Scheduler<'_>, entry: Entry) -> Result<(), NoMemory>
     requires run { HasRun (under_way run.old) }
     requires few { length (under_way run.old).order < 2 ^ 61 }
     requires processor { is_entry run.old.machine.now (entry_from entry) ≡ true }

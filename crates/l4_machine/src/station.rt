@@ -12,6 +12,7 @@ use l4_script::machine::Machine;
 use l4_types::errors::NoMemory;
 use l4_types::letters::Letter;
 use std::alloc::Global;
+use std::collections::VecDeque;
 
 /// What a processor may do next.
 #[derive(Clone, Copy)]
@@ -37,14 +38,14 @@ pub(crate) struct Station<'m> {
 }
 
 impl<'m> Station<'m> {
-    ghost use Rattle.std.specs.Prelude.{◌≡◌, ◌<◌, ◌++◌, [], IfNone, IfOk, IsTrue, OnOk, ◌↔◌, length, replicate, true};
+    ghost use Rattle.std.specs.Prelude.{◌≡◌, ◌<◌, ◌++◌, [], IfNone, IfOk, IsTrue, OnOk, ◌↔◌, length, map, replicate, true};
     ghost use Rattle.std.specs.Option.{option_map, option_to_list};
     ghost use Rattle.l4_core_model.specs.Local.{opening_local};
     ghost use Rattle.l4_core_model.specs.Turns.{can_stamp};
     ghost use Rattle.l4_types.specs.LetterView.{letter_of};
     ghost use Rattle.l4_core.specs.Tellings.{posted_of};
     ghost use Rattle.l4_proc.specs.Logs.{IsClosed};
-    ghost use Rattle.l4_machine.specs.Stations.{deadline_of, events_at, letters_out, station_of, with_letter, CanGoOn, GoesOnTo, HandlesFrom, HasChosen, HasNoMail, IsResting, IsSameStation, KnowsPoster, TakesCoreTurn, TakesTurn};
+    ghost use Rattle.l4_machine.specs.Stations.{deadline_of, events_at, letters_from, letters_out, station_of, with_letter, CanGoOn, GoesOnTo, HandlesFrom, HasChosen, HasNoMail, IsResting, IsSameStation, KnowsPoster, TakesCoreTurn, TakesTurn};
 
     /// A processor where nothing has happened. `cpu` is its number, below the machine's count.
     pub(crate) fn new(alloc: Global, machine: &'m Machine, cpu: u8) -> Result<Station<'m>, NoMemory>
@@ -161,6 +162,15 @@ impl<'m> Station<'m> {
     {
         let _ = &self.inbox;
         self.worker.core()
+    }
+
+    /// The letters that have come from a processor and are not handled yet.
+    pub(crate) fn letters(&self, from: u8) -> &VecDeque<Letter>
+        requires { from < length (station_of self.now).inbox }
+        ensures { map letter_of result.now.items ≡ letters_from from (station_of self.now) }
+    {
+        let _ = &self.worker;
+        self.inbox.letters(from)
     }
 
     /// The events so far.

@@ -1,10 +1,6 @@
 use Rattle.l4_core_model.specs.Runs.{opening_run}
-use Rattle.l4_choices.proofs.Named.{all_named}
 use Rattle.l4_choices.proofs.Replayed.{replayed}
 use Rattle.l4_choices.proofs.law_replayed.Goals as goal
 
 pub returns : goal.returns
-returns c = λ m happenings r h. record {
-  same = replayed m happenings (opening_run m) r h;
-  named = all_named m happenings r h;
-}
+returns c = λ m happenings r h. replayed m happenings (opening_run m) r h

@@ -14,9 +14,7 @@ returns-in-Some c =
     let new = under_way c.attempt.new.self in
     on_ok c.attempt.result (GoesOn (λ m r. attempts m r (happening m r.system cpu choice)) old new)
     (GoesOn (after_entry entry) old new)
-    (entry_tried entry cpu choice old new c.processor.ensures c.in-Some.ensures.asks)
-    c.attempt.ensures
+    (entry_tried entry cpu choice old new c.processor.ensures c.in-Some.ensures.asks) c.attempt.ensures
 
 pub returns-in-None : goal.returns-in-None
-returns-in-None c = entry_untried (entry_from c.args.entry) (under_way c.args.run.now)
-    c.in-None.ensures.asks
+returns-in-None c = entry_untried (entry_from c.args.entry) (under_way c.args.run.now) c.in-None.ensures.asks

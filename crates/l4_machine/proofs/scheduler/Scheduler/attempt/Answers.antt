@@ -12,12 +12,8 @@ choose-requires-clause-can c =
     let is = c.requires.run.1.1 in
     let v = under_way c.args.self.now in
     let ss = c.args.self.now.stations.items in
-    let old = c.index_mut.result.now in
-    let read = c.index_mut.ensures.value in
-    let cpu = c.args.cpu in
-    let here = stands m r v cpu c.from.result ss old is refl c.from.ensures c.requires.cpu read in
-    let few = few_events m r v is c.requires.few in
-    can_go_on c.law_core_run.ensures.lawful m r v cpu (station_of old) is few here.at
+    let here = stands m r v c.args.cpu c.from.result ss c.index_mut.result.now is refl c.from.ensures c.requires.cpu c.index_mut.ensures.value in
+    can_go_on c.law_core_run.ensures.lawful m r v c.args.cpu (station_of c.index_mut.result.now) is (few_events m r v is c.requires.few) here.at
 
 pub choose-requires-clause-poster : goal.choose-requires-clause-poster
 choose-requires-clause-poster c =
@@ -26,11 +22,8 @@ choose-requires-clause-poster c =
     let is = c.requires.run.1.1 in
     let v = under_way c.args.self.now in
     let ss = c.args.self.now.stations.items in
-    let old = c.index_mut.result.now in
-    let read = c.index_mut.ensures.value in
-    let cpu = c.args.cpu in
-    let here = stands m r v cpu c.from.result ss old is refl c.from.ensures c.requires.cpu read in
-    knows_poster m r v cpu (station_of old) c.args.choice is here.at c.requires.poster
+    let here = stands m r v c.args.cpu c.from.result ss c.index_mut.result.now is refl c.from.ensures c.requires.cpu c.index_mut.ensures.value in
+    knows_poster m r v c.args.cpu (station_of c.index_mut.result.now) c.args.choice is here.at c.requires.poster
 
 pub returns-then-not-branch : goal.returns-then-not-branch
 returns-then-not-branch c = λ m r is.
@@ -38,16 +31,10 @@ returns-then-not-branch c = λ m r is.
     let ss = c.args.self.now.stations.items in
     let old = c.index_mut.result.now in
     let new = c.choose.new.self in
-    let read = c.index_mut.ensures.value in
-    let cpu = c.args.cpu in
-    let i = c.from.result in
-    let choice = c.args.choice in
-    let here = stands m r v cpu i ss old is refl c.from.ensures c.requires.cpu read in
-    let no = c.if-not-branch.true in
-    let chosen = subst (λ b. HasChosen choice b old new) no c.in_ok-choose.ensures in
-    let stays = not_chosen_happens m r.system v.stations cpu choice old new is.system here.at
-    chosen in
-    nothing_told m r v _ (happening m r.system cpu choice) i ss old new is refl refl here.read
+    let here = stands m r v c.args.cpu c.from.result ss old is refl c.from.ensures c.requires.cpu c.index_mut.ensures.value in
+    let chosen = subst (λ b. HasChosen c.args.choice b old new) c.if-not-branch.true c.in_ok-choose.ensures in
+    let stays = not_chosen_happens m r.system v.stations c.args.cpu c.args.choice old new is.system here.at chosen in
+    nothing_told m r v _ (happening m r.system c.args.cpu c.args.choice) c.from.result ss old new is refl refl here.read
     stays.none stays.same refl refl refl refl
 
 pub end_event-requires-clause-within : goal.end_event-requires-clause-within
@@ -57,10 +44,7 @@ end_event-requires-clause-within c =
     let is = c.requires.run.1.1 in
     let v = under_way c.args.self.now in
     let ss = c.args.self.now.stations.items in
-    let old = c.index_mut.result.now in
-    let read = c.index_mut.ensures.value in
-    let cpu = c.args.cpu in
-    let here = stands m r v cpu c.from.result ss old is refl c.from.ensures c.requires.cpu read in
+    let here = stands m r v c.args.cpu c.from.result ss c.index_mut.result.now is refl c.from.ensures c.requires.cpu c.index_mut.ensures.value in
     let within = here.read.within in
     let same = c.from.ensures in
     let size = length-set ss c.from.result c.choose.new.self in
@@ -75,37 +59,22 @@ end_event-requires-clause-posted c =
     let ss = c.args.self.now.stations.items in
     let old = c.index_mut.result.now in
     let new = c.choose.new.self in
-    let read = c.index_mut.ensures.value in
-    let cpu = c.args.cpu in
-    let i = c.from.result in
-    let choice = c.args.choice in
-    let here = stands m r v cpu i ss old is refl c.from.ensures c.requires.cpu read in
-    let known = knows_poster m r v cpu (station_of old) choice is here.at c.requires.poster in
-    let yes = c.if-not-branch.false in
-    let chosen = subst (λ b. HasChosen choice b old new) yes c.in_ok-choose.ensures in
-    let happens = chosen_happens m r.system v.stations cpu choice old new is.system here.at
-    known chosen in
-    can_deliver c.law_core_run.ensures.lawful m r v (happening m r.system cpu choice) cpu i ss old
-    new is refl c.from.ensures here happens
+    let here = stands m r v c.args.cpu c.from.result ss old is refl c.from.ensures c.requires.cpu c.index_mut.ensures.value in
+    let known = knows_poster m r v c.args.cpu (station_of old) c.args.choice is here.at c.requires.poster in
+    let chosen = subst (λ b. HasChosen c.args.choice b old new) c.if-not-branch.false c.in_ok-choose.ensures in
+    can_deliver c.law_core_run.ensures.lawful m r v (happening m r.system c.args.cpu c.args.choice) c.args.cpu c.from.result ss old new is
+    refl c.from.ensures here (chosen_happens m r.system v.stations c.args.cpu c.args.choice old new is.system here.at known chosen)
 
 pub returns : goal.returns
 returns c =
-    let first = c.args.self.now in
-    let v = under_way first in
-    let ss = first.stations.items in
+    let v = under_way c.args.self.now in
+    let ss = c.args.self.now.stations.items in
     let old = c.index_mut.result.now in
     let new = c.choose.new.self in
-    let read = c.index_mut.ensures.value in
-    let cpu = c.args.cpu in
-    let i = c.from.result in
-    let choice = c.args.choice in
-    let yes = c.if-not-branch.false in
-    let chosen = subst (λ b. HasChosen choice b old new) yes c.in_ok-choose.ensures in
-    ended c.law_core_run.ensures.lawful (λ m r. happening m r.system cpu choice) first _
-    c.end_event.new.self cpu i old new c.end_event.result refl refl refl c.from.ensures
+    let chosen = subst (λ b. HasChosen c.args.choice b old new) c.if-not-branch.false c.in_ok-choose.ensures in
+    ended c.law_core_run.ensures.lawful (λ m r. happening m r.system c.args.cpu c.args.choice) c.args.self.now _ c.end_event.new.self
+    c.args.cpu c.from.result old new c.end_event.result refl refl refl c.from.ensures
     (λ m r is.
-    let here = stands m r v cpu i ss old is refl c.from.ensures c.requires.cpu read in
-    let known = knows_poster m r v cpu (station_of old) choice is here.at c.requires.poster in
-    let happens = chosen_happens m r.system v.stations cpu choice old new is.system here.at
-    known chosen in
-    (here, happens)) c.end_event.ensures
+    let here = stands m r v c.args.cpu c.from.result ss old is refl c.from.ensures c.requires.cpu c.index_mut.ensures.value in
+    let known = knows_poster m r v c.args.cpu (station_of old) c.args.choice is here.at c.requires.poster in
+    (here, chosen_happens m r.system v.stations c.args.cpu c.args.choice old new is.system here.at known chosen)) c.end_event.ensures

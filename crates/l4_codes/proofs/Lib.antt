@@ -1,0 +1,3 @@
+mod Writing
+mod IdKinds
+mod Phases

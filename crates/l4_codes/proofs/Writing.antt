@@ -1,0 +1,117 @@
+-- What is written one after the other.
+use Rattle.std.proofs.Common.{◌≡◌, ℕ, zero, suc, ◌+◌, ◌*◌, ◌/◌, ◌%◌, ◌<◌, ◌≤◌, Bool, true, false, cond, ◌==◌, nat_lt, List, [], ◌∷◌, ◌++◌, length, get_or, drop, Result, Ok, Err, OnOk, refl, sym, ap, ◌∙◌, subst, arith, append_assoc}
+use Rattle.std.proofs.Math.Seq.{drop-cons}
+use Rattle.std.proofs.lemmas.Bool.{lt-ltb, le-ltb, eqb-true, eq-eqb}
+use Rattle.l4_states.specs.Bytes.{bytes_from, put_by, put_number, longest_run, ended, tokens_from, put_tokens, Above, Zeros}
+use Rattle.l4_states.specs.Codes.{each, length_code, number_code}
+use Rattle.l4_codes.specs.Written.{Written, with_numbers, Writes, zero_bytes, zeros_told, room, IsLeft}
+
+-- One value, and then another.
+pub then : (f g : List ℕ → List ℕ) (a b c : Written) → Writes f a b → Writes g b c → Writes (λ rest. f (g rest)) a c
+then f g a b c u v rest = v rest ∙ u (g rest)
+
+-- And then a last one, by a call that may have failed.
+pub last : {E : Type 0} (r : Result (Unit {0}) E) (f g : List ℕ → List ℕ) (a b c : Written) → Writes f a b → OnOk r (Writes g b c) →
+    OnOk r (Writes (λ rest. f (g rest)) a c)
+last (Ok x) f g a b c u v = λ rest. v rest ∙ u (g rest)
+last (Err e) f g a b c u v = tt
+
+-- The same value, told otherwise.
+pub same_last : {E : Type 0} (r : Result (Unit {0}) E) (f g : List ℕ → List ℕ) (a b : Written) → ((rest : List ℕ) → f rest ≡ g rest) →
+    OnOk r (Writes f a b) → OnOk r (Writes g a b)
+same_last (Ok x) f g a b same u = λ rest. u rest ∙ ap (with_numbers a) (same rest)
+same_last (Err e) f g a b same u = tt
+
+-- A number
+
+pub begun : (number : ℕ) (old : List ℕ) → number < 18446744073709551616 → IsLeft number number old old
+begun number old fits = record { more = 9; fits = fits; same = λ rest. refl }
+
+pub goes_on : (number left : ℕ) (old new : List ℕ) → 128 ≤ left → IsLeft number left old new →
+    IsLeft number (left / 128) old (new ++ (left % 128 + 128) ∷ [])
+goes_on number left old new large is = by is.more is.fits is.same
+  where
+    by : (more : ℕ) → left < room more → ((rest : List ℕ) → new ++ put_by more left rest ≡ old ++ put_number number rest) →
+        IsLeft number (left / 128) old (new ++ (left % 128 + 128) ∷ [])
+    by zero fits same = absurd (omega arith)
+    by (suc more) fits same = record {
+      more = more;
+      fits = omega arith;
+      same = λ rest.
+          append_assoc new ((left % 128 + 128) ∷ []) (put_by more (left / 128) rest)
+          ∙ sym (ap (λ b. new ++ cond b (left ∷ rest) ((left % 128 + 128) ∷ put_by more (left / 128) rest)) (le-ltb left 128 large))
+          ∙ same rest;
+    }
+
+pub over : (number left : ℕ) (old new : List ℕ) → left < 128 → IsLeft number left old new → (rest : List ℕ) →
+    (new ++ left ∷ []) ++ rest ≡ old ++ put_number number rest
+over number left old new small is rest = by is.more is.same
+  where
+    by : (more : ℕ) → ((rest : List ℕ) → new ++ put_by more left rest ≡ old ++ put_number number rest) →
+        (new ++ left ∷ []) ++ rest ≡ old ++ put_number number rest
+    by zero same = append_assoc new (left ∷ []) rest ∙ same rest
+    by (suc more) same =
+        append_assoc new (left ∷ []) rest
+        ∙ sym (ap (λ b. new ++ cond b (left ∷ rest) ((left % 128 + 128) ∷ put_by more (left / 128) rest)) (lt-ltb left 128 small))
+        ∙ same rest
+
+-- Zeros
+
+zeros_in_front : (count n : ℕ) (rest : List ℕ) → bytes_from count (suc n ∷ rest) ≡ zero_bytes count ++ put_number (suc n) (bytes_from 0 rest)
+zeros_in_front zero n rest = refl
+zeros_in_front (suc count) n rest = refl
+
+pub no_more : (w : Written) → with_numbers w [] ≡ (zeros_told w).bytes
+no_more w = by w.zeros
+  where
+    by : (count : ℕ) → w.bytes ++ bytes_from count [] ≡ w.bytes ++ zero_bytes count
+    by zero = refl
+    by (suc count) = refl
+
+-- A number that is not 0 was written behind them.
+pub another : (w : Written) (bytes : List ℕ) (n : ℕ) → (n ≡ 0 → ⊥) →
+    ((rest : List ℕ) → bytes ++ rest ≡ (zeros_told w).bytes ++ put_number n rest) → Writes (number_code n) w (record { bytes = bytes; zeros = 0 })
+another w bytes zero some same rest = absurd (some refl)
+another w bytes (suc n) some same rest =
+    same (bytes_from 0 rest) ∙ append_assoc w.bytes (zero_bytes w.zeros) (put_number (suc n) (bytes_from 0 rest))
+    ∙ ap (λ bs. w.bytes ++ bs) (sym (zeros_in_front w.zeros n rest))
+
+-- One zero more.
+pub full_run : (w : Written) → w.zeros ≡ 255 → Writes (number_code 0) w (record { bytes = (zeros_told w).bytes; zeros = 1 })
+full_run w full rest = by w.zeros full
+  where
+    by : (count : ℕ) → count ≡ 255 → (w.bytes ++ zero_bytes count) ++ bytes_from 1 rest ≡ w.bytes ++ bytes_from count (0 ∷ rest)
+    by count e = subst (λ z. (w.bytes ++ zero_bytes z) ++ bytes_from 1 rest ≡ w.bytes ++ bytes_from z (0 ∷ rest)) (sym e)
+        (append_assoc w.bytes (0 ∷ 255 ∷ []) (bytes_from 1 rest))
+
+pub longer_run : (w : Written) → (w.zeros ≡ 255 → ⊥) → Writes (number_code 0) w (record { bytes = w.bytes; zeros = w.zeros + 1 })
+longer_run w other rest = by (w.zeros == longest_run) refl
+  where
+    by : (b : Bool) → (w.zeros == longest_run) ≡ b → with_numbers (record { bytes = w.bytes; zeros = w.zeros + 1 }) rest ≡ with_numbers w (0 ∷ rest)
+    by true e = absurd (other (eqb-true w.zeros longest_run e))
+    by false e =
+        ap (λ z. w.bytes ++ bytes_from z rest) (let s : w.zeros + 1 ≡ suc w.zeros = omega arith in s)
+        ∙ ap (λ b. w.bytes ++ put_tokens (cond b (Zeros longest_run ∷ tokens_from 1 rest) (tokens_from (suc w.zeros) rest))) (sym e)
+
+-- Lists
+
+-- One of a list was written, and the others are left.
+pub each_on : {A : Type 0} (code : A → List ℕ → List ℕ) (xs : List A) (i : ℕ) (d : A) (a b c : Written) → i < length xs →
+    ((rest : List ℕ) → with_numbers b (each code (drop i xs) rest) ≡ with_numbers a (each code xs rest)) → Writes (code (get_or xs i d)) b c →
+    (rest : List ℕ) → with_numbers c (each code (drop (i + 1) xs) rest) ≡ with_numbers a (each code xs rest)
+each_on code xs i d a b c lt before one rest =
+    one (each code (drop (i + 1) xs) rest)
+    ∙ ap (λ ys. with_numbers b (each code ys rest)) (sym (drop-cons xs i d lt ∙ ap (λ k. get_or xs i d ∷ drop k xs) (let s : suc i ≡ i + 1 = omega arith in s)))
+    ∙ before rest
+
+-- The length of a list that has always so many.
+
+pub usual_length : (usual n : ℕ) → n ≡ usual → length_code usual n ≡ 0
+usual_length usual n e = ap (λ b. cond b 0 (n + 1)) (eq-eqb n usual e)
+
+pub other_length : (usual n : ℕ) → (n ≡ usual → ⊥) → length_code usual n ≡ n + 1
+other_length usual n ne = by (n == usual) refl
+  where
+    by : (b : Bool) → (n == usual) ≡ b → length_code usual n ≡ n + 1
+    by true e = absurd (ne (eqb-true n usual e))
+    by false e = ap (λ b. cond b 0 (n + 1)) e

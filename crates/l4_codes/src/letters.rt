@@ -1,0 +1,139 @@
+//! Letters.
+ghost use Rattle.std.specs.Prelude.{OnOk, map};
+ghost use Rattle.l4_choices.specs.Alike.{contents};
+ghost use Rattle.l4_states.specs.Codes.{cause_code, chained, content_code, owed_code, refusal_code, result_code};
+ghost use Rattle.l4_types.specs.LetterView.{cause_of_withdrawal, content_of, decision_of, letter_of, refusal_of_send};
+ghost use Rattle.l4_types.specs.OwedView.{owed_of};
+ghost use Rattle.l4_codes.specs.Written.{Writes};
+
+use crate::code::Code;
+use crate::ids::{put_global, put_name};
+use crate::messages::put_message;
+use crate::threads::put_what;
+use l4_types::letters::{Cause, Content, Decision, Letter, Refusal};
+use l4_types::message_ref::MessageRef;
+use l4_types::owed::Owed;
+use std::alloc::AllocError;
+use std::collections::VecDeque;
+
+/// What letters tell, in order.
+///
+/// `AllocError`: memory was refused.
+pub fn put_letters(code: &mut Code, letters: &VecDeque<Letter>) -> Result<(), AllocError>
+    ensures { OnOk result (Writes
+        (chained content_code (contents (map letter_of letters.now.items)))
+        code.old code.new) }
+{
+    for letter in letters {
+        code.put(1)?;
+        put_content(code, &letter.content)?;
+    }
+    code.put(0)
+}
+
+/// An owed retarget.
+///
+/// `AllocError`: memory was refused.
+pub fn put_owed(code: &mut Code, owed: &Owed) -> Result<(), AllocError>
+    ensures { OnOk result (Writes (owed_code (owed_of owed.now)) code.old code.new) }
+{
+    put_name(code, owed.send)?;
+    put_global(code, owed.originator)?;
+    put_global(code, owed.old_partner)?;
+    put_global(code, owed.new_partner)
+}
+
+// How a send is refused.
+fn put_refusal(code: &mut Code, refusal: Refusal) -> Result<(), AllocError>
+    ensures { OnOk result (Writes (refusal_code (refusal_of_send refusal)) code.old code.new) }
+{
+    match refusal {
+        Refusal::TimedOut => code.put(0),
+        Refusal::Nobody => code.put(1),
+        Refusal::Cancelled => code.put(2),
+        Refusal::Dropped => code.put(3),
+    }
+}
+
+// How a send is decided.
+fn put_decision(code: &mut Code, decision: Decision) -> Result<(), AllocError>
+    ensures { OnOk result (Writes (result_code (decision_of decision)) code.old code.new) }
+{
+    match decision {
+        Decision::Delivered => code.put(0),
+        Decision::Refused(refusal) => {
+            code.put(1)?;
+            put_refusal(code, refusal)
+        }
+    }
+}
+
+// Why a send is withdrawn.
+fn put_cause(code: &mut Code, cause: Cause) -> Result<(), AllocError>
+    ensures { OnOk result (Writes (cause_code (cause_of_withdrawal cause)) code.old code.new) }
+{
+    match cause {
+        Cause::ByTimeout => code.put(0),
+        Cause::ByCancel => code.put(1),
+        Cause::ByDeletion => code.put(2),
+    }
+}
+
+/// What a letter tells.
+///
+/// `AllocError`: memory was refused.
+pub fn put_content(code: &mut Code, content: &Content) -> Result<(), AllocError>
+    ensures { OnOk result (Writes (content_code (content_of content.now)) code.old code.new) }
+{
+    match content {
+        Content::Send {
+            name,
+            receiver,
+            message,
+            zero_timeout,
+        } => {
+            code.put(0)?;
+            put_name(code, *name)?;
+            put_global(code, *receiver)?;
+            put_message(code, &MessageRef::from(message))?;
+            code.put_flag(*zero_timeout)
+        }
+        Content::Done { name, decision } => {
+            code.put(1)?;
+            put_name(code, *name)?;
+            put_decision(code, *decision)
+        }
+        Content::Withdraw {
+            name,
+            receiver,
+            cause,
+        } => {
+            code.put(2)?;
+            put_name(code, *name)?;
+            put_global(code, *receiver)?;
+            put_cause(code, *cause)
+        }
+        Content::Gone(id) => {
+            code.put(3)?;
+            put_global(code, *id)
+        }
+        Content::Order {
+            caller,
+            target,
+            what,
+        } => {
+            code.put(4)?;
+            put_global(code, *caller)?;
+            put_global(code, *target)?;
+            put_what(code, *what)
+        }
+        Content::OrderDone(caller) => {
+            code.put(5)?;
+            put_global(code, *caller)
+        }
+        Content::Retarget(owed) => {
+            code.put(6)?;
+            put_owed(code, owed)
+        }
+    }
+}

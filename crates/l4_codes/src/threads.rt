@@ -1,0 +1,117 @@
+//! Threads.
+ghost use Rattle.std.specs.Prelude.{OnOk};
+ghost use Rattle.l4_states.specs.Codes.{asked_code, context_code, optional, phase_code, send_code, thread_code};
+ghost use Rattle.l4_types.specs.StepView.{what_of};
+ghost use Rattle.l4_model.specs.Steps.{what_code};
+ghost use Rattle.l4_states.specs.Codes.{number_code};
+ghost use Rattle.l4_codes.specs.States.{state_number};
+ghost use Rattle.l4_codes.specs.Written.{Writes};
+
+use crate::code::Code;
+use crate::ids::{put_global, put_id};
+use crate::messages::{put_receive, put_send};
+use l4_thread::orders::Asked;
+use l4_thread::sends::SendRef;
+use l4_thread::tcb::Tcb;
+use l4_thread::thread::Thread;
+use l4_types::registers::MESSAGE_REGISTERS;
+use l4_types::reports::State;
+use l4_types::steps::What;
+use std::alloc::AllocError;
+
+/// A cancellation or a deletion.
+///
+/// `AllocError`: memory was refused.
+pub fn put_what(code: &mut Code, what: What) -> Result<(), AllocError>
+    ensures { OnOk result (Writes (number_code (what_code (what_of what))) code.old code.new) }
+{
+    match what {
+        What::CancelSend => code.put(0),
+        What::CancelReceive => code.put(1),
+        What::CancelBoth => code.put(2),
+        What::Delete => code.put(3),
+    }
+}
+
+// The send of a thread, where there is one.
+fn put_send_of(code: &mut Code, send: Option<SendRef<'_>>) -> Result<(), AllocError>
+    ensures { OnOk result (Writes (optional send_code send.entry) code.old code.new) }
+{
+    match send {
+        None => code.put(0),
+        Some(send) => {
+            code.put(1)?;
+            put_send(code, &send)
+        }
+    }
+}
+
+// What a thread has asked of another, where there is something.
+fn put_order_of(code: &mut Code, order: Option<Asked>) -> Result<(), AllocError>
+    ensures { OnOk result (Writes (optional asked_code order) code.old code.new) }
+{
+    match order {
+        None => code.put(0),
+        Some(order) => {
+            code.put(1)?;
+            put_global(code, order.target())?;
+            put_what(code, order.what())
+        }
+    }
+}
+
+// The phase of a thread.
+fn put_phase(code: &mut Code, block: &Tcb) -> Result<(), AllocError>
+    ensures { OnOk result (Writes (phase_code block.now.thread.phase) code.old code.new) }
+{
+    let Some(receive) = block.receiving() else {
+        return put_state(code, block.state());
+    };
+    let since = block.receiving_since().unwrap();
+    code.put(2)?;
+    put_receive(code, *receive)?;
+    code.put(since)
+}
+
+// Which phase a thread is in.
+fn put_state(code: &mut Code, state: State) -> Result<(), AllocError>
+    ensures { OnOk result (Writes (number_code (state_number state)) code.old code.new) }
+{
+    match state {
+        State::Ready => code.put(0),
+        State::Sending => code.put(1),
+        State::Receiving => code.put(2),
+        State::Ordering => code.put(3),
+        State::Ended => code.put(4),
+        State::Deleted => code.put(5),
+    }
+}
+
+// Registers, place in the script, number of sends.
+fn put_context(code: &mut Code, thread: &Thread) -> Result<(), AllocError>
+    ensures { OnOk result (Writes (context_code thread.now.context) code.old code.new) }
+{
+    let regs = thread.regs();
+    let words = regs.words.as_slice();
+    code.put_length(MESSAGE_REGISTERS, words.len())?;
+    code.put_all(words)?;
+    code.put(regs.error)?;
+    put_id(code, regs.from)?;
+    put_id(code, regs.actual)?;
+    code.put(thread.place() as u64)?;
+    code.put(thread.begun())
+}
+
+/// A thread.
+///
+/// `AllocError`: memory was refused.
+pub fn put_thread(code: &mut Code, block: &Tcb) -> Result<(), AllocError>
+    ensures { OnOk result (Writes (thread_code block.now.thread) code.old code.new) }
+{
+    put_context(code, block.thread())?;
+    put_phase(code, block)?;
+    put_send_of(code, block.send())?;
+    put_order_of(code, block.order())?;
+    code.put_flag(block.is_send_cancelled())?;
+    code.put_flag(block.is_receive_cancelled())
+}

@@ -1,0 +1,4 @@
+pub mod Possible
+pub mod Walking
+pub mod Nexts
+pub mod Ending

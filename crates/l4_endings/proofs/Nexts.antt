@@ -1,0 +1,56 @@
+-- All that leads on, listed one by one.
+use Rattle.std.proofs.Common.{◌≡◌, ℕ, ◌+◌, ◌<◌, ◌≤◌, ◌⊎◌, inl, inr, Option, None, Some, List, [], ◌∷◌, ◌++◌, refl, ap, sym, subst, ◌∙◌, arith}
+use Rattle.std.proofs.lemmas.Bool.{cases_lt}
+use Rattle.l4_explore.specs.Tries.{State, Next, IsNext, AreNexts}
+
+module _ (f : List ℕ → Option State) (s : List ℕ) where
+  -- All of those below a number.
+  abbrev pub AreUpTo : (from n : ℕ) → List Next → Type 0
+  AreUpTo from n [] = (e : ℕ) → from ≤ e → e < n → f (s ++ e ∷ []) ≡ None
+  AreUpTo from n (x ∷ xs) = (x.entry < n) × IsNext f s from x × AreUpTo (x.entry + 1) n xs
+
+  pub none_yet : AreUpTo 0 0 []
+  none_yet e least less = absurd (omega (arith, less))
+
+  below_next : (n e : ℕ) → e < n + 1 → (e < n) ⊎ (e ≡ n)
+  below_next n e less = by (cases_lt e n)
+    where
+      by : (e < n) ⊎ (n ≤ e) → (e < n) ⊎ (e ≡ n)
+      by (inl l) = inl l
+      by (inr le) = inr (omega (arith, less, le))
+
+  -- One that does not lead on
+  pub skipped : (from n : ℕ) (xs : List Next) → AreUpTo from n xs → f (s ++ n ∷ []) ≡ None →
+      AreUpTo from (n + 1) xs
+  skipped from n [] all none e least less = by (below_next n e less)
+    where
+      by : (e < n) ⊎ (e ≡ n) → f (s ++ e ∷ []) ≡ None
+      by (inl l) = all e least l
+      by (inr same) = ap (λ k. f (s ++ k ∷ [])) same ∙ none
+  skipped from n (x ∷ xs) all none =
+      (omega (arith, all.0), all.1, skipped (x.entry + 1) n xs all.2 none)
+
+  -- One that does
+  pub listed : (from n : ℕ) (xs : List Next) (state : State) → from ≤ n → AreUpTo from n xs →
+      f (s ++ n ∷ []) ≡ Some state →
+      AreUpTo from (n + 1) (xs ++ record { entry = n; state = state } ∷ [])
+  listed from n [] state least all leads = (
+    omega arith,
+    record { later = least; first = all; leads = leads },
+    λ e from less. absurd (omega (arith, from, less)),
+  )
+  listed from n (x ∷ xs) state least all leads = (
+    omega (arith, all.0),
+    all.1,
+    listed (x.entry + 1) n xs state (omega (arith, all.0)) all.2 leads,
+  )
+
+  -- Above the last number there is none.
+  pub all_nexts : (from n : ℕ) (xs : List Next) → AreUpTo from n xs →
+      ((e : ℕ) → n ≤ e → f (s ++ e ∷ []) ≡ None) → AreNexts f s from xs
+  all_nexts from n [] all none e least = by (cases_lt e n)
+    where
+      by : (e < n) ⊎ (n ≤ e) → f (s ++ e ∷ []) ≡ None
+      by (inl l) = all e least l
+      by (inr le) = none e le
+  all_nexts from n (x ∷ xs) all none = (all.1, all_nexts (x.entry + 1) n xs all.2 none)

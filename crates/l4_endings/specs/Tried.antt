@@ -1,0 +1,17 @@
+-- What is tried of a machine.
+use Rattle.std.specs.Prelude.{List, map}
+use Rattle.l4_model.specs.Machine.{Machine}
+use Rattle.l4_core_model.specs.Runs.{IsMachine}
+use Rattle.l4_choices.specs.Entries.{Entry}
+use Rattle.l4_explore.specs.Tries.{AreSchedules}
+use Rattle.l4_machine.specs.Entries.{entry_from}
+use Rattle.l4_machine.specs.declared.entries.Entry as code
+use Rattle.l4_states.specs.Choices.{state_after}
+use Rattle.l4_states.proofs.Following.{are_schedules}
+
+-- Choices have what a search asks for.
+pub schedules : (m : Machine) → IsMachine m → AreSchedules (state_after m)
+schedules m machine = are_schedules m machine
+
+abbrev pub entries_from : List code.Entry → List Entry
+entries_from entries = map entry_from entries

@@ -1,0 +1,17 @@
+-- A core run under way in the program that choices have led to.
+use Rattle.std.specs.Prelude.{ℕ, ◌≡◌, Some, List, IsSome, length}
+use Rattle.l4_model.specs.Machine.{Machine}
+use Rattle.l4_core_model.specs.Runs.{Run, opening_system}
+use Rattle.l4_states.specs.Choices.{after_choices}
+use Rattle.l4_machine.specs.UnderWay.{UnderWay, IsRun}
+
+-- Choices lead to a state.
+abbrev pub AreChoices : Machine → List ℕ → Type 0
+AreChoices m numbers = IsSome (after_choices m (opening_system m) numbers)
+
+-- It is a core run to the state that these choices lead to, with an event for each.
+pub record IsWalked (m : Machine) (numbers : List ℕ) (w : UnderWay) : Type 0 where
+  pub run : Run
+  pub is : IsRun m run w
+  pub leads : after_choices m (opening_system m) numbers ≡ Some run.system
+  pub events : length run.events ≡ length numbers

@@ -1,0 +1,93 @@
+//! What may happen next, by numbers.
+ghost use Rattle.std.specs.Prelude.{ℕ, ◌≡◌, ◌<◌, ◌*◌, ◌+◌, ◌/◌, ◌%◌, Some, is_some, slice_get, true};
+ghost use Rattle.l4_model.specs.Machine.{Machine as MachineOfModel};
+ghost use Rattle.l4_core_model.specs.Runs.{Run, System};
+ghost use Rattle.l4_choices.specs.Entries.{TickOf};
+ghost use Rattle.l4_machine.specs.Entries.{entry_from, is_entry_of};
+ghost use Rattle.l4_machine.specs.UnderWay.{HasRun, IsRun};
+ghost use Rattle.l4_states.specs.Choices.{after_entry, choice, choice_of};
+
+use l4_core::processor::Core;
+use l4_machine::{Entry, Walk};
+use l4_split::law_of_core_runs;
+use l4_types::steps::CLOCKS;
+
+/// How many choices there are: of each processor the letters of each poster, the turn of its core
+/// and the tick to its least deadline. At most 288.
+pub(crate) fn choice_count(cpus: u8) -> u16
+    requires { cpus < 17 }
+    ensures { result ≡ cpus * (cpus + 2) }
+{
+    u16::from(cpus) * (u16::from(cpus) + 2)
+}
+
+// The entry of a choice of a processor.
+fn choice_of(cpus: u8, cpu: u8, k: u8) -> Entry
+    requires own { cpu < cpus }
+    requires choice { k < cpus + 2 }
+    ensures value { entry_from result ≡ choice_of cpus cpu k }
+    ensures lawful { is_entry_of cpus (entry_from result) ≡ true }
+{
+    if k < cpus {
+        Entry::Letter { cpu, from: k }
+    } else if k == cpus {
+        Entry::Core(cpu)
+    } else {
+        Entry::Tick(cpu)
+    }
+}
+
+/// The entry of a choice, below their count.
+pub(crate) fn choice(cpus: u8, number: u16) -> Entry
+    requires cpus { cpus < 17 }
+    requires number { number < cpus * (cpus + 2) }
+    ensures value { entry_from result ≡ choice_of cpus (number / (cpus + 2)) (number % (cpus + 2)) }
+    ensures lawful { is_entry_of cpus (entry_from result) ≡ true }
+{
+    let width = u16::from(cpus) + 2;
+    choice_of(cpus, (number / width) as u8, (number % width) as u8)
+}
+
+// Whether the clock of a processor may go on to its least deadline.
+fn can_tick(core: &Core<'_>) -> bool
+    ensures { (m : MachineOfModel) (g : System) (cpu : ℕ) →
+        slice_get g.locals cpu ≡ Some core.now.local →
+        result ≡ is_some (after_entry m g (TickOf cpu)) }
+{
+    match core.least_deadline() {
+        Some(deadline) => core.clock() < deadline && deadline < CLOCKS,
+        None => false,
+    }
+}
+
+// Whether a choice of a processor can be made.
+fn is_possible_at(walk: &Walk<'_>, cpus: u8, cpu: u8, k: u8) -> bool
+    requires run { HasRun walk.now }
+    requires cpus { cpus ≡ walk.now.machine.cpus }
+    requires own { cpu < cpus }
+    requires choice { k < cpus + 2 }
+    ensures { (m : MachineOfModel) (r : Run) → IsRun m r walk.now →
+        result ≡ is_some (after_entry m r.system (choice_of cpus cpu k)) }
+{
+    law_of_core_runs();
+    if k < cpus {
+        !walk.letters(cpu, k).is_empty()
+    } else if k == cpus {
+        walk.core(cpu).busy()
+    } else {
+        can_tick(walk.core(cpu))
+    }
+}
+
+/// Whether a choice, below their count, can be made.
+pub(crate) fn is_possible(walk: &Walk<'_>, cpus: u8, number: u16) -> bool
+    requires run { HasRun walk.now }
+    requires cpus { cpus ≡ walk.now.machine.cpus }
+    requires few { cpus < 17 }
+    requires number { number < cpus * (cpus + 2) }
+    ensures { (m : MachineOfModel) (r : Run) → IsRun m r walk.now →
+        result ≡ is_some (after_entry m r.system (choice m number)) }
+{
+    let width = u16::from(cpus) + 2;
+    is_possible_at(walk, cpus, (number / width) as u8, (number % width) as u8)
+}

@@ -1,0 +1,90 @@
+//! The endings of a machine.
+ghost use Rattle.std.specs.Prelude.{ℕ, ◌≡◌, ◌<◌, ◌≤◌, ◌⊎◌, IfOk, false, length, map, true};
+ghost use Rattle.l4_explore.specs.Search.{seen_at};
+ghost use Rattle.l4_states.specs.Endings.{ends_of, entries_of, AreEndings};
+ghost use Rattle.l4_endings.specs.Tried.{entries_from};
+ghost use Rattle.l4_endings.specs.Walked.{AreChoices};
+
+use crate::choices::choice;
+use crate::tried::Choices;
+use l4_explore::found::Found;
+use l4_explore::search::explore;
+use l4_machine::Entry;
+use l4_script::machine::Machine;
+use l4_states::law_listed;
+use l4_types::errors::NoMemory;
+use std::alloc::Global;
+
+/// What a search for endings has come to.
+#[derive(Drop)]
+pub struct Endings {
+    /// The endings, each by the entries that lead there: a shortest schedule, and of these the
+    /// first. The shorter ones come first.
+    pub endings: Vec<Vec<Entry>>,
+    /// How many states were found, at rest or not, of which no two are alike.
+    pub states: usize,
+    /// All states that core runs of at most so many events lead to are among them. Where the search
+    /// is whole, how many events the longest of their schedules has.
+    pub depth: usize,
+    /// Whether longer core runs lead to no more.
+    pub is_whole: bool,
+}
+
+/// The endings of all core runs of a machine, of at most so many events, whose ticks go to the
+/// least deadline of their processor: each once, of those that differ in stamps only, or in the
+/// order of letters of different pairs of processors. At most so many states are looked at; where
+/// there is one more, those that fewer events lead to are all there.
+///
+/// `NoMemory`: memory was refused.
+pub fn endings(alloc: Global, machine: &Machine, depth: u32, most: u32) -> Result<Endings, NoMemory>
+    requires { 0 < most }
+    ensures endings { IfOk result (λ r.
+        AreEndings machine.now (map (λ e. entries_from e.items) r.endings.items)
+        r.states r.depth r.is_whole) }
+    ensures few { IfOk result (λ r. r.states ≤ most) }
+    ensures whole { IfOk result (λ r. r.is_whole ≡ true → r.depth < depth) }
+    ensures cut { IfOk result (λ r.
+        r.is_whole ≡ false → (r.depth ≡ depth) ⊎ ((r.depth < depth) × (r.states ≡ most))) }
+{
+    law_listed();
+    let _ = machine.cpus();
+    let explored = explore(alloc, &Choices { machine }, depth, most)?;
+    Ok(Endings {
+        endings: ends(alloc, machine, &explored.found)?,
+        states: explored.found.len(),
+        depth: explored.depth,
+        is_whole: explored.is_whole,
+    })
+}
+
+// The entries that lead to those that are ends.
+fn ends(alloc: Global, machine: &Machine, found: &Found) -> Result<Vec<Vec<Entry>>, NoMemory>
+    requires { (i : ℕ) → i < length found.now →
+        AreChoices machine.now (seen_at found.now i).schedule }
+    ensures { IfOk result (λ ends.
+        map (λ e. entries_from e.items) ends.items
+        ≡ map (entries_of machine.now) (ends_of found.now)) }
+{
+    let mut ends = Vec::new(alloc);
+    for place in 0..found.len() {
+        if found.is_end(place) {
+            let schedule = found.schedule(alloc, place)?;
+            ends.push(entries_of(alloc, machine, &schedule)?)?;
+        }
+    }
+    Ok(ends)
+}
+
+// The entries of choices.
+fn entries_of(alloc: Global, machine: &Machine, numbers: &[u16]) -> Result<Vec<Entry>, NoMemory>
+    requires { AreChoices machine.now numbers.now }
+    ensures { IfOk result (λ entries.
+        entries_from entries.items ≡ entries_of machine.now numbers.now) }
+{
+    let cpus = machine.cpus();
+    let mut entries = Vec::with_capacity(alloc, numbers.len())?;
+    for number in numbers {
+        entries.push(choice(cpus, *number))?;
+    }
+    Ok(entries)
+}

@@ -1,0 +1,21 @@
+//! What a set of threads may do at all: the endings of all core runs of a machine.
+//!
+//! An ending is a state at rest: nothing is to be done, armed or under way. A search in breadth
+//! tries whatever may happen next in each state, once for all states that are alike. So it finds
+//! each ending by a shortest schedule that leads there.
+//!
+//! ```rust
+//! let found = endings(alloc, &machine, 1_000, 100_000)?;
+//! for entries in &found.endings {
+//!     let outcome = replay_compact(alloc, &machine, entries)?; // its report, or its trace
+//! }
+//! ```
+#![tactic(auto)]
+
+mod choices;
+mod endings_of;
+mod states;
+mod tried;
+mod walks;
+
+pub use endings_of::{Endings, endings};

@@ -1,0 +1,5 @@
+pub mod Orders
+mod Listed
+mod Trying
+mod Covering
+mod Growing

@@ -1,0 +1,208 @@
+-- Of the states that a search has found those at rest are all endings.
+use Rattle.std.proofs.Common.{◌≡◌, ℕ, zero, suc, ◌+◌, ◌<◌, ◌≤◌, Bool, true, false, cond, inr, Option, Some, None, List, [], ◌∷◌, ◌++◌, length, map, refl, ap, sym, subst, ◌∙◌, arith}
+use Rattle.std.specs.Prelude.{filter, slice_index_or}
+use Rattle.std.specs.Option.{option_map}
+use Rattle.std.specs.List.{AllByRecursion}
+use Rattle.std.proofs.lemmas.List.{length-append, length-map}
+use Rattle.l4_model.specs.Machine.{Machine}
+use Rattle.l4_model.specs.Conditions.{◌>>=◌}
+use Rattle.l4_model.proofs.Chains.{some_is, bind_then}
+use Rattle.l4_core_model.specs.Runs.{System, Happening, Happened, happens, Run, opening_run, opening_system, then_event, at_rest}
+use Rattle.l4_core_model.specs.Schedules.{or_stays}
+use Rattle.l4_choices.specs.Alike.{IsAlike}
+use Rattle.l4_choices.specs.Entries.{Entry, entry_event, replays}
+use Rattle.l4_explore.specs.Orders.{IsBefore}
+use Rattle.l4_explore.specs.Search.{Seen, seen_at, unseen}
+use Rattle.l4_explore.proofs.Orders.{not_after_length}
+use Rattle.l4_states.specs.Choices.{after_choices, after_entry, choice, IsLeastRun}
+use Rattle.l4_states.specs.Endings.{AreAllEndings, AreApart, AreEndings, ending_at, ends_of, entries_of, IsAmong, IsEnding, led}
+use Rattle.l4_states.specs.Listed.{AreAllListed, IsListed, LeadsSoon}
+use Rattle.l4_states.proofs.Following.{at_rest_alike}
+
+-- A replay of choices leads where they do, by an event for each.
+pub record IsReplayed (m : Machine) (r : Run) (g : System) (s : List ℕ) : Type 0 where
+  pub system : (replays m r (entries_of m s)).system ≡ g
+  pub count : length (replays m r (entries_of m s)).events ≡ length r.events + length s
+
+pub replayed : (m : Machine) (s : List ℕ) (r : Run) (g : System) →
+    after_choices m r.system s ≡ Some g → IsReplayed m r g s
+replayed m [] r g h = record { system = some_is r.system g h; count = omega arith }
+replayed m (e ∷ s) r g h =
+    bind_then (after_entry m r.system (choice m e)) _ g h λ k is more.
+    bind_then (entry_event m r.system (choice m e)) _ k is λ happening from then.
+    one_more k happening from more (happens m r.system happening) refl then
+    (λ x same. replayed m s (then_event r x) g
+    (ap (λ (j : System). after_choices m j s) same ∙ more))
+  where
+    one_more : (k : System) (happening : Happening) →
+        entry_event m r.system (choice m e) ≡ Some happening → after_choices m k s ≡ Some g →
+        (o : Option Happened) → happens m r.system happening ≡ o →
+        option_map (λ x. x.system) o ≡ Some k →
+        ((x : Happened) → x.system ≡ k → IsReplayed m (then_event r x) g s) →
+        IsReplayed m r g (e ∷ s)
+    one_more k happening from more None at is rest = cc
+    one_more k happening from more (Some x) at is rest =
+        let goes = rest x (some_is x.system k is) in
+        let next : or_stays r (entry_event m r.system (choice m e) >>= happens m r.system)
+        ≡ then_event r x
+        = ap (λ (o : Option Happening). or_stays r (o >>= happens m r.system)) from
+        ∙ ap (or_stays r) at in
+        record {
+          system = ap (λ (t : Run). (replays m t (entries_of m s)).system) next ∙ goes.system;
+          count = ap (λ (t : Run). length (replays m t (entries_of m s)).events) next ∙ goes.count
+              ∙ omega (arith, length-append r.events (x.event ∷ []));
+        }
+
+-- Of a list by its places
+all_places : {A : Type 0} (P : A → Type 0) (d : A) (xs : List A) →
+    ((i : ℕ) → i < length xs → P (slice_index_or xs i d)) → AllByRecursion P xs
+all_places P d [] h = tt
+all_places P d (x ∷ xs) h =
+    (h 0 (omega arith), all_places P d xs (λ i l. h (suc i) (omega (arith, l))))
+
+module _ (m : Machine) where
+  -- What is so of each end is so of its entries.
+  all_ends : (P : List Entry → Type 0) (found : List Seen) →
+      AllByRecursion (λ s. s.state.is_end ≡ true → P (entries_of m s.schedule)) found →
+      AllByRecursion P (map (entries_of m) (ends_of found))
+  all_ends P [] h = tt
+  all_ends P (x ∷ xs) h = by x.state.is_end refl (all_ends P xs h.1)
+    where
+      by : (b : Bool) → x.state.is_end ≡ b →
+          AllByRecursion P (map (entries_of m) (ends_of xs)) →
+          AllByRecursion P (map (entries_of m) (map (λ (s : Seen). s.schedule)
+          (cond b (x ∷ filter (λ s. s.state.is_end) xs) (filter (λ s. s.state.is_end) xs))))
+      by true is rest = (h.0 is, rest)
+      by false is rest = rest
+
+  -- An end that was found is among them.
+  among : (found : List Seen) (g : System) (i : ℕ) → i < length found →
+      (seen_at found i).state.is_end ≡ true →
+      IsAlike (led m (entries_of m (seen_at found i).schedule)) g →
+      IsAmong m (map (entries_of m) (ends_of found)) g
+  among [] g i inside is alike = absurd (omega (arith, inside))
+  among (x ∷ xs) g zero inside is alike = by x.state.is_end is
+    where
+      by : (b : Bool) → b ≡ true →
+          IsAmong m (map (entries_of m) (map (λ (s : Seen). s.schedule)
+          (cond b (x ∷ filter (λ s. s.state.is_end) xs) (filter (λ s. s.state.is_end) xs)))) g
+      by true e = record { place = 0; inside = omega arith; alike = alike }
+      by false e = cc
+  among (x ∷ xs) g (suc i) inside is alike =
+      by x.state.is_end (among xs g i (omega (arith, inside)) is alike)
+    where
+      by : (b : Bool) → IsAmong m (map (entries_of m) (ends_of xs)) g →
+          IsAmong m (map (entries_of m) (map (λ (s : Seen). s.schedule)
+          (cond b (x ∷ filter (λ s. s.state.is_end) xs) (filter (λ s. s.state.is_end) xs)))) g
+      by true a = record {
+        place = suc a.place;
+        inside = omega (arith, a.inside);
+        alike = a.alike;
+      }
+      by false a = a
+
+  -- States that were found, by their schedules
+  AreUnlike : Seen → Seen → Type 0
+  AreUnlike x y =
+      (IsAlike (led m (entries_of m x.schedule)) (led m (entries_of m y.schedule)) → ⊥)
+      × (length x.schedule ≤ length y.schedule)
+
+  all_unlike : (found : List Seen) →
+      ((i j : ℕ) → i < j → j < length found → AreUnlike (seen_at found i) (seen_at found j)) →
+      AreApart m (map (entries_of m) (ends_of found))
+  all_unlike [] h = tt
+  all_unlike (x ∷ xs) h =
+      by x.state.is_end (all_unlike xs (λ i j l k. h (suc i) (suc j) (omega (arith, l))
+      (omega (arith, k))))
+    where
+      all : AllByRecursion (λ (f : List Entry).
+          (IsAlike (led m (entries_of m x.schedule)) (led m f) → ⊥)
+          × (length (entries_of m x.schedule) ≤ length f)) (map (entries_of m) (ends_of xs))
+      all = all_ends (λ (f : List Entry).
+          (IsAlike (led m (entries_of m x.schedule)) (led m f) → ⊥)
+          × (length (entries_of m x.schedule) ≤ length f)) xs
+          (all_places (λ s. s.state.is_end ≡ true →
+          (IsAlike (led m (entries_of m x.schedule)) (led m (entries_of m s.schedule)) → ⊥)
+          × (length (entries_of m x.schedule) ≤ length (entries_of m s.schedule))) unseen xs
+          (λ j l is. let u = h 0 (suc j) (omega arith) (omega (arith, l)) in (
+            u.0,
+            omega (
+              arith,
+              u.1,
+              length-map x.schedule (choice m),
+              length-map (seen_at xs j).schedule (choice m),
+            ),
+          )))
+
+      by : (b : Bool) → AreApart m (map (entries_of m) (ends_of xs)) →
+          AreApart m (map (entries_of m) (map (λ (s : Seen). s.schedule)
+          (cond b (x ∷ filter (λ s. s.state.is_end) xs) (filter (λ s. s.state.is_end) xs))))
+      by true rest = (all, rest)
+      by false rest = rest
+
+  -- Where a found schedule leads
+  led_is : (s : Seen) (l : LeadsSoon m s) → led m (entries_of m s.schedule) ≡ l.system
+  led_is s l = let r = replayed m s.schedule (opening_run m) l.system l.leads in r.system
+
+  is_ending : (s : Seen) → LeadsSoon m s → s.state.is_end ≡ true →
+      IsEnding m (entries_of m s.schedule)
+  is_ending s l is =
+      let r = replayed m s.schedule (opening_run m) l.system l.leads in
+      let long = length-map s.schedule (choice m) in
+      record {
+        run = subst (λ (n : ℕ). IsLeastRun m n (led m (entries_of m s.schedule))) (sym long)
+            (subst (IsLeastRun m (length s.schedule)) (sym r.system) l.run);
+        events = omega (arith, r.count, long);
+        rest = ap (at_rest m) r.system ∙ sym l.is_end ∙ is;
+        shortest = λ g events run alike.
+            omega (
+              arith,
+              long,
+              l.shortest g events run (subst (λ (k : System). IsAlike k g) r.system alike),
+            );
+      }
+
+  module _ (found : List Seen) (depth : ℕ) (is_whole : Bool)
+      (a : AreAllListed m found depth is_whole) where
+    listed_among : (g : System) (events : ℕ) → at_rest m g ≡ true → IsListed m found g events →
+        IsAmong m (map (entries_of m) (ends_of found)) g
+    listed_among g events rest l =
+        let s = a.sound l.place l.inside in
+        let same = some_is l.system s.system (sym l.leads ∙ s.leads) in
+        let alike = subst (λ (k : System). IsAlike k g) same l.alike in
+        among found g l.place l.inside
+        (s.is_end ∙ at_rest_alike m s.system g alike ∙ rest)
+        (subst (λ (k : System). IsAlike k g) (sym (led_is (seen_at found l.place) s)) alike)
+
+    unlike : (i j : ℕ) → i < j → j < length found →
+        AreUnlike (seen_at found i) (seen_at found j)
+    unlike i j less inside =
+        let below : i < length found = omega (arith, less, inside) in
+        let x = a.sound i below in
+        let y = a.sound j inside in (
+          λ alike.
+              let same = a.once i j x.system y.system below inside x.leads y.leads
+              (subst (λ (k : System). IsAlike k y.system) (led_is (seen_at found i) x)
+              (subst (IsAlike (led m (entries_of m (seen_at found i).schedule)))
+              (led_is (seen_at found j) y) alike)) in
+              omega (arith, less, same),
+          not_after_length (seen_at found i).schedule (seen_at found j).schedule
+              (inr (a.rising i j less inside)),
+        )
+
+    of_found : AreAllEndings m (map (entries_of m) (ends_of found)) depth is_whole
+    of_found = record {
+      sound = all_ends (IsEnding m) found
+          (all_places (λ s. s.state.is_end ≡ true → IsEnding m (entries_of m s.schedule)) unseen
+          found (λ i l. is_ending (seen_at found i) (a.sound i l)));
+      complete = λ g events r rest short. listed_among g events rest (a.complete g events r short);
+      whole = λ w g events r rest. listed_among g events rest (a.whole w g events r);
+      apart = all_unlike found unlike;
+    }
+
+pub all_endings : (m : Machine) (endings : List (List Entry)) (states depth : ℕ)
+    (is_whole : Bool) → AreEndings m endings states depth is_whole →
+    AreAllEndings m endings depth is_whole
+all_endings m endings states depth is_whole e =
+    subst (λ (es : List (List Entry)). AreAllEndings m es depth is_whole) (sym e.endings_are)
+    (of_found m e.found depth is_whole e.all)

@@ -1,0 +1,8 @@
+mod Bytes
+mod Parts
+pub mod Reached
+mod Systems
+pub mod Following
+pub mod Chosen
+pub mod Found
+pub mod Endings

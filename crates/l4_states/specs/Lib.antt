@@ -1,0 +1,5 @@
+pub mod Bytes
+pub mod Codes
+pub mod Choices
+pub mod Listed
+pub mod Endings

@@ -1,0 +1,52 @@
+//! The states of core runs: the code of a state, the choices that lead on from it, and what a
+//! search of all of them has found.
+//!
+//! A code is all of a state but stamps, and the order of letters of different pairs of processors:
+//! of the states that core runs lead to, those of one code are alike. Alike states have the same
+//! futures, so a search may keep one of them.
+//!
+//! All of it is definitions and proofs; the functions have an empty body.
+//!
+//! ```rust
+//! law_listed(); // from here on: what a search has found are all core runs
+//! ```
+#![tactic(auto)]
+
+ghost use Rattle.std.specs.Prelude.{ℕ, ◌≡◌, Bool, List};
+ghost use Rattle.l4_model.specs.Machine.{Machine};
+ghost use Rattle.l4_core_model.specs.Runs.{IsMachine};
+ghost use Rattle.l4_explore.specs.Tries.{AreSchedules};
+ghost use Rattle.l4_explore.specs.Search.{IsExplored, Seen};
+ghost use Rattle.l4_states.specs.Bytes.{bytes_of};
+ghost use Rattle.l4_states.specs.Choices.{IsCoded, state_after};
+ghost use Rattle.l4_choices.specs.Entries.{Entry};
+ghost use Rattle.l4_states.specs.Endings.{AreAllEndings, AreEndings};
+ghost use Rattle.l4_states.specs.Listed.{AreAllListed};
+
+/// Numbers are told by their bytes.
+pub fn law_bytes()
+    ensures { (ns ms : List ℕ) → bytes_of ns ≡ bytes_of ms → ns ≡ ms }
+{}
+
+/// Of the states that core runs lead to, those of one code are alike, and alike ones have one code.
+pub fn law_coded()
+    ensures { (m : Machine) → IsMachine m → IsCoded m }
+{}
+
+/// So lists of choices have what a search asks for.
+pub fn law_schedules()
+    ensures { (m : Machine) → IsMachine m → AreSchedules (state_after m) }
+{}
+
+/// And what it has found are all core runs whose ticks go to least deadlines, of as many events as
+/// it went deep. Where it is whole, it has found all of them.
+pub fn law_listed()
+    ensures { (m : Machine) (found : List Seen) (depth : ℕ) (is_whole : Bool) → IsMachine m →
+        IsExplored (state_after m) found depth is_whole → AreAllListed m found depth is_whole }
+{}
+
+/// Those at rest are all endings of such core runs, each by a shortest one.
+pub fn law_endings()
+    ensures { (m : Machine) (endings : List (List Entry)) (states depth : ℕ) (is_whole : Bool) →
+        AreEndings m endings states depth is_whole → AreAllEndings m endings depth is_whole }
+{}

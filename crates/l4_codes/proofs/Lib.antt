@@ -1,3 +1,0 @@
-mod Writing
-mod IdKinds
-mod Phases

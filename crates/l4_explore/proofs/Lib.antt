@@ -1,5 +1,0 @@
-pub mod Orders
-mod Listed
-mod Trying
-mod Covering
-mod Growing

@@ -1,5 +1,0 @@
-pub mod Orders
-pub mod Tries
-pub mod Search
-pub mod Grown
-pub mod Views

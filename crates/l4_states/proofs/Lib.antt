@@ -1,8 +1,0 @@
-mod Bytes
-mod Parts
-pub mod Reached
-mod Systems
-pub mod Following
-pub mod Chosen
-pub mod Found
-pub mod Endings

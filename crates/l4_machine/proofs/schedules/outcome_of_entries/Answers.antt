@@ -15,8 +15,8 @@ at_home-requires c =
     let m = c.args.machine.now in
     (m, (replay_entries m (map entry_from c.args.entries.now), c.in_ok-take_all.ensures.ok m (opening_run m) c.in_ok-run.ensures))
 
-pub into_logs-requires : goal.into_logs-requires
-into_logs-requires c =
+pub into_logs-logs-requires : goal.into_logs-logs-requires
+into_logs-logs-requires c =
     let m = c.args.machine.now in
     (m, (replay_entries m (map entry_from c.args.entries.now), c.in_ok-take_all.ensures.ok m (opening_run m) c.in_ok-run.ensures))
 

@@ -36,7 +36,8 @@ pub fn audit_text<'a>(
     text: &[u8],
 ) -> Result<PassedTrace, Fault<'a>>
     ensures ok { IfOk result (HasPassed machine.now text.now) }
-    ensures err { IfErr result (λ fault. (fault ≡ OutOfMemory) ⊎ (fault_of_trace machine.now text.now ≡ Some fault)) }
+    ensures err { IfErr result (λ fault. (fault ≡ OutOfMemory) ⊎
+        (fault_of_trace machine.now text.now ≡ Some fault)) }
 {
     let mut auditor = Auditor::new(alloc, machine)?;
     let mut reader = Reader::of(text);
@@ -76,7 +77,8 @@ pub(crate) fn audited<'a>(
     trace: &[u8],
 ) -> Result<Vec<u8>, Fault<'a>>
     ensures ok { IfOk result (λ line. IsPassed machine.now trace.now line.items) }
-    ensures err { IfErr result (λ fault. (fault ≡ OutOfMemory) ⊎ (fault_of_trace machine.now trace.now ≡ Some fault)) }
+    ensures err { IfErr result (λ fault. (fault ≡ OutOfMemory) ⊎
+        (fault_of_trace machine.now trace.now ≡ Some fault)) }
 {
     let passed = audit_text(alloc, machine, trace)?;
     Ok(passed_line(alloc, passed.steps, passed.ending)?)

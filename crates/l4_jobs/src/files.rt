@@ -1,7 +1,8 @@
 //! Doing a job over the files that it names.
 ghost use Rattle.std.specs.Prelude.{◌≡◌, ◌≢◌, ◌⊎◌};
 ghost use Rattle.l4_jobs.specs.Streams.{FileGives};
-ghost use Rattle.l4_jobs.specs.Jobs.{IsDone, IsFaultBehind, IsNotDone, IsOpenedFault, TraceGives, file_of, trace_file_of};
+ghost use Rattle.l4_jobs.specs.Jobs.{IsDone, IsFaultBehind, IsNotDone, IsOpenedFault, TraceGives};
+ghost use Rattle.l4_jobs.specs.Jobs.{file_of, trace_file_of};
 
 use crate::fault::{report, unread};
 use crate::job::Job;
@@ -20,10 +21,14 @@ fn on_trace<R: Threads + Sync, F: Folder, M: Source, W: Sink, E: Sink>(
     out: &mut W,
     faults: &mut E,
 ) -> u8
-    ensures shown { result ≢ 1 → IsDone job.now (M.gives machine.old) (TraceGives (F.opens folder.now) F.File.gives job.now)
+    ensures shown { result ≢ 1 →
+        IsDone job.now (M.gives machine.old) (TraceGives (F.opens folder.now) F.File.gives job.now)
         (W.takes out.old out.new) (faults.new ≡ faults.old) result }
-    ensures whole { result ≡ 1 → IsNotDone job.now (M.gives machine.old) (TraceGives (F.opens folder.now) F.File.gives job.now)
-        (IsFaultBehind (F.opens folder.now) F.File.gives (trace_file_of job.now) job.now (M.gives machine.old))
+    ensures whole { result ≡ 1 →
+        IsNotDone job.now (M.gives machine.old)
+        (TraceGives (F.opens folder.now) F.File.gives job.now)
+        (IsFaultBehind (F.opens folder.now) F.File.gives (trace_file_of job.now) job.now
+        (M.gives machine.old))
         (W.takes out.old out.new) (out.new ≡ out.old) (E.takes faults.old faults.new) }
     ensures statuses { (result ≡ 0) ⊎ (result ≡ 1) ⊎ (result ≡ 3) }
 {
@@ -46,9 +51,13 @@ pub fn perform_on_files<R: Threads + Sync, F: Folder, W: Sink, E: Sink>(
     out: &mut W,
     faults: &mut E,
 ) -> u8
-    ensures shown { result ≢ 1 → IsDone job.now (FileGives (F.opens folder.now) F.File.gives (file_of job.now)) (TraceGives (F.opens folder.now) F.File.gives job.now)
+    ensures shown { result ≢ 1 →
+        IsDone job.now (FileGives (F.opens folder.now) F.File.gives (file_of job.now))
+        (TraceGives (F.opens folder.now) F.File.gives job.now)
         (W.takes out.old out.new) (faults.new ≡ faults.old) result }
-    ensures whole { result ≡ 1 → IsNotDone job.now (FileGives (F.opens folder.now) F.File.gives (file_of job.now)) (TraceGives (F.opens folder.now) F.File.gives job.now)
+    ensures whole { result ≡ 1 →
+        IsNotDone job.now (FileGives (F.opens folder.now) F.File.gives (file_of job.now))
+        (TraceGives (F.opens folder.now) F.File.gives job.now)
         (IsOpenedFault (F.opens folder.now) F.File.gives job.now)
         (W.takes out.old out.new) (out.new ≡ out.old) (E.takes faults.old faults.new) }
     ensures statuses { (result ≡ 0) ⊎ (result ≡ 1) ⊎ (result ≡ 3) }

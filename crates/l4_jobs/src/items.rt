@@ -1,11 +1,14 @@
 //! The list of a schedule: its items, and the entries that they spell.
-ghost use Rattle.std.specs.Prelude.{◌≡◌, ◌≤◌, ◌⊎◌, ◌==◌, ◌++◌, ◌∷◌, [], ℕ, List, IfOk, IfErr, MatchOption, OnOk, Ok, Err, Some, length, count_by, map, true};
+ghost use Rattle.std.specs.Prelude.{◌≡◌, ◌≤◌, ◌⊎◌, ◌==◌, ◌++◌, ◌∷◌, [], ℕ, List, IfOk, IfErr};
+ghost use Rattle.std.specs.Prelude.{MatchOption, OnOk, Ok, Err, Some, length, count_by, map, true};
 ghost use Rattle.std.specs.Option.{option_map};
 ghost use Rattle.l4_model.specs.Machine.{most_processors};
 ghost use Rattle.l4_choices.specs.Entries.{Entry as ModelEntry};
 ghost use Rattle.l4_machine.specs.declared.outcome.RunFault.TheVariants.{NoMemory as OutOfMemory};
 ghost use Rattle.l4_machine.specs.Entries.{entry_from, is_entry_of, most_entries};
-ghost use Rattle.l4_jobs.specs.Items.{items_of, clock_of, processor_of, entry_of, item_of, letter_between, machine_entry, read_items, schedule_of, tick_between, tick_of, turn_of};
+ghost use Rattle.l4_jobs.specs.Items.{items_of, clock_of, processor_of, entry_of, item_of};
+ghost use Rattle.l4_jobs.specs.Items.{letter_between, machine_entry, read_items, schedule_of};
+ghost use Rattle.l4_jobs.specs.Items.{tick_between, tick_of, turn_of};
 
 use l4_machine::{Entry, MOST_ENTRIES, RunFault};
 use l4_script::machine::Machine;
@@ -22,8 +25,10 @@ use std::marker::Model;
 /// first that spells no entry of the machine. `NoMemory`: memory was refused, which may come in the
 /// place of `Schedule`.
 pub fn schedule_of(alloc: Global, machine: &Machine, list: &str) -> Result<Vec<Entry>, RunFault>
-    ensures ok { IfOk result (λ entries. schedule_of machine.now list.now ≡ Ok (map entry_from entries.items)) }
-    ensures err { IfErr result (λ fault. (fault ≡ OutOfMemory) ⊎ (schedule_of machine.now list.now ≡ Err fault)) }
+    ensures ok { IfOk result (λ entries.
+        schedule_of machine.now list.now ≡ Ok (map entry_from entries.items)) }
+    ensures err { IfErr result (λ fault. (fault ≡ OutOfMemory) ⊎
+        (schedule_of machine.now list.now ≡ Err fault)) }
 {
     if item_count(list) > MOST_ENTRIES {
         return Err(RunFault::Turns);
@@ -103,8 +108,10 @@ impl<'a> Items<'a> {
 // The entries of a list that is not too long.
 fn entries_of(alloc: Global, machine: &Machine, list: &str) -> Result<Vec<Entry>, RunFault>
     requires { length (items_of list.now) ≤ most_entries }
-    ensures ok { IfOk result (λ entries. read_items machine.now [] (items_of list.now) ≡ Ok (map entry_from entries.items)) }
-    ensures err { IfErr result (λ fault. (fault ≡ OutOfMemory) ⊎ (read_items machine.now [] (items_of list.now) ≡ Err fault)) }
+    ensures ok { IfOk result (λ entries.
+        read_items machine.now [] (items_of list.now) ≡ Ok (map entry_from entries.items)) }
+    ensures err { IfErr result (λ fault. (fault ≡ OutOfMemory) ⊎
+        (read_items machine.now [] (items_of list.now) ≡ Err fault)) }
 {
     let mut items = Items::of(list);
     let mut entries = Vec::new(alloc);

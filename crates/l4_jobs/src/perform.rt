@@ -6,7 +6,11 @@ ghost use Rattle.l4_machine.specs.Outcomes.{IsCompactReplay, compact_findings_of
 ghost use Rattle.l4_machine.specs.declared.outcome.RunFault.TheVariants.{NoMemory as RunOutOfMemory};
 ghost use Rattle.l4_script.specs.Texts.{machine_of_text};
 ghost use Rattle.l4_jobs.specs.Items.{schedule_of};
-ghost use Rattle.l4_jobs.specs.Jobs.{IsUnread, IsTold, file_of, trace_file_of, IsShown, IsShownOn, IsRunShown, IsPassed, IsTraceFault, IsFaultOn, IsFaultOf, IsJobFault, IsDone, IsNotDone, IsRunAsked, IsReplayAsked, run_by_list, fault_of, fault_of_result, fault_of_turns, lines_of_outcome, status_of_ending};
+ghost use Rattle.l4_jobs.specs.Jobs.{IsUnread, IsTold, file_of, trace_file_of, IsShown, IsShownOn};
+ghost use Rattle.l4_jobs.specs.Jobs.{IsRunShown, IsPassed, IsTraceFault, IsFaultOn, IsFaultOf};
+ghost use Rattle.l4_jobs.specs.Jobs.{IsJobFault, IsDone, IsNotDone, IsRunAsked, IsReplayAsked};
+ghost use Rattle.l4_jobs.specs.Jobs.{run_by_list, fault_of, fault_of_result, fault_of_turns};
+ghost use Rattle.l4_jobs.specs.Jobs.{lines_of_outcome, status_of_ending};
 ghost use Rattle.l4_jobs.specs.declared.fault.Fault.TheVariants.{NoMemory as OutOfMemory};
 
 use crate::audits::audited;
@@ -39,8 +43,11 @@ fn read_text<'a, M: Source>(
     name: &'a str,
     machine: &mut M,
 ) -> Result<Vec<u8>, Fault<'a>>
-    ensures ok { IfOk result (λ text. (all : List ℕ) × M.gives machine.old (Ok all) × (machine_of_text text.items ≡ machine_of_text all)) }
-    ensures err { IfErr result (λ fault. (kind : Kind) × M.gives machine.old (Err kind) × IsUnread name.now kind fault) }
+    ensures ok { IfOk result (λ text.
+        (all : List ℕ) × M.gives machine.old (Ok all) ×
+        (machine_of_text text.items ≡ machine_of_text all)) }
+    ensures err { IfErr result (λ fault.
+        (kind : Kind) × M.gives machine.old (Err kind) × IsUnread name.now kind fault) }
 {
     match machine.read_beginning(alloc, MOST_BYTES as u64 + 1) {
         Ok(text) => Ok(text),
@@ -54,8 +61,11 @@ fn replayed<'m>(
     machine: &'m Machine,
     list: &str,
 ) -> Result<CompactOutcome<'m>, RunFault>
-    ensures ok { IfOk result (λ o. (entries : List Entry) × (schedule_of machine.now list.now ≡ Ok entries) × IsCompactReplay machine.now entries o) }
-    ensures err { IfErr result (λ fault. (fault ≡ RunOutOfMemory) ⊎ (schedule_of machine.now list.now ≡ Err fault)) }
+    ensures ok { IfOk result (λ o.
+        (entries : List Entry) ×
+        (schedule_of machine.now list.now ≡ Ok entries) × IsCompactReplay machine.now entries o) }
+    ensures err { IfErr result (λ fault. (fault ≡ RunOutOfMemory) ⊎
+        (schedule_of machine.now list.now ≡ Err fault)) }
 {
     let schedule = schedule_of(alloc, machine, list)?;
     replay_compact(alloc, machine, schedule.as_slice())
@@ -63,7 +73,8 @@ fn replayed<'m>(
 
 // What is written of an outcome: its report, or its trace.
 fn lines_of(alloc: Global, report: bool, outcome: CompactOutcome<'_>) -> Result<Vec<u8>, NoMemory>
-    ensures { IfOk result (λ lines. lines.items ≡ lines_of_outcome report (compact_findings_of outcome.entry)) }
+    ensures { IfOk result (λ lines.
+        lines.items ≡ lines_of_outcome report (compact_findings_of outcome.entry)) }
 {
     if !report {
         return trace_of(alloc, &outcome.history);
@@ -93,7 +104,8 @@ fn output_of_run(
     report: bool,
     outcome: CompactOutcome<'_>,
 ) -> Result<Output, NoMemory>
-    ensures lines { IfOk result (λ output. output.lines.items ≡ lines_of_outcome report (compact_findings_of outcome.entry)) }
+    ensures lines { IfOk result (λ output.
+        output.lines.items ≡ lines_of_outcome report (compact_findings_of outcome.entry)) }
     ensures status { IfOk result (λ output. output.status ≡ status_of_ending outcome.entry.ending) }
 {
     let status = status(outcome.ending);
@@ -111,8 +123,11 @@ fn run_output<'a, R: Threads + Sync>(
     turns: u64,
     report: bool,
 ) -> Result<Output, Fault<'a>>
-    ensures ok { IfOk result (λ output. IsRunShown report machine.now (IsRunAsked machine.now turns) output.lines.items output.status) }
-    ensures err { IfErr result (λ fault. (fault ≡ OutOfMemory) ⊎ (fault_of_turns turns ≡ Some fault)) }
+    ensures ok { IfOk result (λ output.
+        IsRunShown report machine.now
+        (IsRunAsked machine.now turns) output.lines.items output.status) }
+    ensures err { IfErr result (λ fault. (fault ≡ OutOfMemory) ⊎
+        (fault_of_turns turns ≡ Some fault)) }
 {
     let outcome = run_compact(rt, alloc, machine, turns, &Open)?;
     Ok(output_of_run(alloc, report, outcome)?)
@@ -125,8 +140,11 @@ fn replay_output<'a>(
     list: &str,
     report: bool,
 ) -> Result<Output, Fault<'a>>
-    ensures ok { IfOk result (λ output. IsRunShown report machine.now (IsReplayAsked machine.now list.now) output.lines.items output.status) }
-    ensures err { IfErr result (λ fault. (fault ≡ OutOfMemory) ⊎ (fault_of_result (run_by_list machine.now list.now) ≡ Some fault)) }
+    ensures ok { IfOk result (λ output.
+        IsRunShown report machine.now
+        (IsReplayAsked machine.now list.now) output.lines.items output.status) }
+    ensures err { IfErr result (λ fault. (fault ≡ OutOfMemory) ⊎
+        (fault_of_result (run_by_list machine.now list.now) ≡ Some fault)) }
 {
     let outcome = replayed(alloc, machine, list)?;
     Ok(output_of_run(alloc, report, outcome)?)
@@ -141,7 +159,8 @@ fn audit_output<'a, T: Source>(
 ) -> Result<Output, Fault<'a>>
     ensures ok { IfOk result (λ output. (told : List ℕ) × T.gives trace.old (Ok told) ×
         IsPassed machine.now told output.lines.items × (output.status ≡ 0)) }
-    ensures err { IfErr result (λ fault. (fault ≡ OutOfMemory) ⊎ IsTraceFault machine.now name.now (T.gives trace.old) fault) }
+    ensures err { IfErr result (λ fault. (fault ≡ OutOfMemory) ⊎
+        IsTraceFault machine.now name.now (T.gives trace.old) fault) }
 {
     let told = match trace.read_whole(alloc) {
         Ok(told) => told,
@@ -161,7 +180,8 @@ fn output_on<'a, R: Threads + Sync, T: Source>(
 ) -> Result<Output, Fault<'a>>
     ensures ok { IfOk result (λ output. (told : List ℕ) × IsTold job.now (T.gives trace.old) told ×
         IsShownOn job.now machine.now told output.lines.items output.status) }
-    ensures err { IfErr result (λ fault. (fault ≡ OutOfMemory) ⊎ IsFaultOn job.now machine.now (T.gives trace.old) fault) }
+    ensures err { IfErr result (λ fault. (fault ≡ OutOfMemory) ⊎
+        IsFaultOn job.now machine.now (T.gives trace.old) fault) }
     ensures unread { trace_file_of job.now ≡ None → trace.new ≡ trace.old }
 {
     match *job {
@@ -185,7 +205,8 @@ fn output_of<'a, R: Threads + Sync, T: Source>(
 ) -> Result<Output, Fault<'a>>
     ensures ok { IfOk result (λ output. (told : List ℕ) × IsTold job.now (T.gives trace.old) told ×
         IsShown job.now text.now told output.lines.items output.status) }
-    ensures err { IfErr result (λ fault. (fault ≡ OutOfMemory) ⊎ IsFaultOf job.now (machine_of_text text.now) (T.gives trace.old) fault) }
+    ensures err { IfErr result (λ fault. (fault ≡ OutOfMemory) ⊎
+        IsFaultOf job.now (machine_of_text text.now) (T.gives trace.old) fault) }
     ensures unread { trace_file_of job.now ≡ None → trace.new ≡ trace.old }
 {
     let machine = Machine::parse(alloc, text)?;
@@ -200,8 +221,10 @@ fn job_output<'a, R: Threads + Sync, M: Source, T: Source>(
     machine: &mut M,
     trace: &mut T,
 ) -> Result<Output, Fault<'a>>
-    ensures shown { IfOk result (λ output. (text : List ℕ) × (told : List ℕ) × M.gives machine.old (Ok text) ×
-        IsTold job.now (T.gives trace.old) told × IsShown job.now text told output.lines.items output.status) }
+    ensures shown { IfOk result (λ output.
+        (text : List ℕ) × (told : List ℕ) × M.gives machine.old (Ok text) ×
+        IsTold job.now
+        (T.gives trace.old) told × IsShown job.now text told output.lines.items output.status) }
     ensures err { IfErr result (IsJobFault job.now (M.gives machine.old) (T.gives trace.old)) }
     ensures unread { trace_file_of job.now ≡ None → trace.new ≡ trace.old }
 {
@@ -226,10 +249,15 @@ pub fn perform<R: Threads + Sync, M: Source, T: Source, W: Sink, E: Sink>(
     out: &mut W,
     faults: &mut E,
 ) -> u8
-    ensures shown { result ≢ 1 → IsDone job.now (M.gives machine.old) (T.gives trace.old) (W.takes out.old out.new) (faults.new ≡ faults.old) result }
-    ensures whole { result ≡ 1 → IsNotDone job.now (M.gives machine.old) (T.gives trace.old) (IsJobFault job.now (M.gives machine.old) (T.gives trace.old))
+    ensures shown { result ≢ 1 →
+        IsDone job.now (M.gives machine.old) (T.gives trace.old) (W.takes out.old out.new)
+        (faults.new ≡ faults.old) result }
+    ensures whole { result ≡ 1 →
+        IsNotDone job.now (M.gives machine.old) (T.gives trace.old)
+        (IsJobFault job.now (M.gives machine.old) (T.gives trace.old))
         (W.takes out.old out.new) (out.new ≡ out.old) (E.takes faults.old faults.new) }
-    ensures faulty { ((text told : List ℕ) → M.gives machine.old (Ok text) → IsTold job.now (T.gives trace.old) told →
+    ensures faulty { ((text told : List ℕ) → M.gives machine.old (Ok text) →
+        IsTold job.now (T.gives trace.old) told →
         fault_of job.now text told ≢ None) → (result ≡ 1) × (out.new ≡ out.old) }
     ensures statuses { (result ≡ 0) ⊎ (result ≡ 1) ⊎ (result ≡ 3) }
     ensures unread { trace_file_of job.now ≡ None → trace.new ≡ trace.old }

@@ -15,7 +15,8 @@ pub fn refuse<W: Sink, E: Sink>(
     out: &mut W,
     faults: &mut E,
 ) -> u8
-    ensures { Refuses fault.now (W.takes out.old out.new) (out.new ≡ out.old) (E.takes faults.old faults.new) (faults.new ≡ faults.old) result }
+    ensures { Refuses fault.now (W.takes out.old out.new) (out.new ≡ out.old)
+        (E.takes faults.old faults.new) (faults.new ≡ faults.old) result }
 {
     match fault {
         WordsFault::Help(text) => match out.put(text.as_bytes()) {

@@ -2,7 +2,8 @@
 ghost use Rattle.std.specs.Prelude.{◌≡◌, ◌<◌, ◌++◌, codes, decimal, map, flat_map, OnOk, OnErr};
 ghost use Rattle.std.specs.String.{string_bytes};
 ghost use Rattle.l4_types.specs.ReportView.{state_of_view, report_of_view};
-ghost use Rattle.l4_jobs.specs.ReportLines.{state_word, id_word, shown_registers, thread_line, waiting_line, ending_word, report_text};
+ghost use Rattle.l4_jobs.specs.ReportLines.{state_word, id_word, shown_registers, thread_line};
+ghost use Rattle.l4_jobs.specs.ReportLines.{waiting_line, ending_word, report_text};
 
 use l4_types::errors::NoMemory;
 use l4_types::ids::{Kind, ThreadId};
@@ -21,7 +22,9 @@ pub fn write_report(
     ending: Ending,
     out: &mut Vec<u8>,
 ) -> Result<(), NoMemory>
-    ensures ok { OnOk result (out.new.items ≡ out.old.items ++ report_text (map report_of_view threads.now) waiting.now ending) }
+    ensures ok { OnOk result
+        (out.new.items ≡ out.old.items ++
+        report_text (map report_of_view threads.now) waiting.now ending) }
     ensures err { OnErr result (out.new.items ≡ out.old.items) }
 {
     let mut text = String::new(*out.allocator());
@@ -33,7 +36,8 @@ pub fn write_report(
 }
 
 fn push_views(text: &mut String, threads: &[ThreadView]) -> Result<(), AllocError>
-    ensures { OnOk result (string_bytes text.new ≡ string_bytes text.old ++ flat_map thread_line (map report_of_view threads.now)) }
+    ensures { OnOk result (string_bytes text.new ≡
+        string_bytes text.old ++ flat_map thread_line (map report_of_view threads.now)) }
 {
     for view in threads {
         push_view(text, view)?;
@@ -43,7 +47,8 @@ fn push_views(text: &mut String, threads: &[ThreadView]) -> Result<(), AllocErro
 
 #[tactic(auto, using(crate::proofs::Joined::thread_line_joined))]
 fn push_view(text: &mut String, view: &ThreadView) -> Result<(), AllocError>
-    ensures { OnOk result (string_bytes text.new ≡ string_bytes text.old ++ thread_line (report_of_view view.now)) }
+    ensures { OnOk result (string_bytes text.new ≡
+        string_bytes text.old ++ thread_line (report_of_view view.now)) }
 {
     text.push_str("thread")?;
     push_thread(text, view.id)?;
@@ -56,7 +61,9 @@ fn push_view(text: &mut String, view: &ThreadView) -> Result<(), AllocError>
 }
 
 fn push_state(text: &mut String, state: State, error: u64) -> Result<(), AllocError>
-    ensures { OnOk result (string_bytes text.new ≡ string_bytes text.old ++ codes " " ++ state_word (state_of_view state) ++ codes " " ++ decimal error) }
+    ensures { OnOk result (string_bytes text.new ≡
+        string_bytes text.old ++ codes " " ++ state_word (state_of_view state) ++ codes " " ++
+        decimal error) }
 {
     write!(text, " {} {error}", spelled_state(state))
 }
@@ -73,7 +80,8 @@ fn shown(words: &[u64; MESSAGE_REGISTERS]) -> &[u64]
 }
 
 fn push_sends(text: &mut String, waiting: &[(Name, ThreadId)]) -> Result<(), AllocError>
-    ensures { OnOk result (string_bytes text.new ≡ string_bytes text.old ++ flat_map waiting_line waiting.now) }
+    ensures { OnOk result (string_bytes text.new ≡
+        string_bytes text.old ++ flat_map waiting_line waiting.now) }
 {
     for (name, destination) in waiting {
         push_send(text, *name, *destination)?;
@@ -83,7 +91,8 @@ fn push_sends(text: &mut String, waiting: &[(Name, ThreadId)]) -> Result<(), All
 
 #[tactic(auto, using(crate::proofs::Joined::waiting_line_joined))]
 fn push_send(text: &mut String, name: Name, destination: ThreadId) -> Result<(), AllocError>
-    ensures { OnOk result (string_bytes text.new ≡ string_bytes text.old ++ waiting_line (name, destination)) }
+    ensures { OnOk result (string_bytes text.new ≡
+        string_bytes text.old ++ waiting_line (name, destination)) }
 {
     text.push_str("waiting")?;
     push_name(text, name)?;
@@ -93,7 +102,8 @@ fn push_send(text: &mut String, name: Name, destination: ThreadId) -> Result<(),
 }
 
 fn push_id(text: &mut String, id: ThreadId) -> Result<(), AllocError>
-    ensures { OnOk result (string_bytes text.new ≡ string_bytes text.old ++ codes " " ++ id_word id) }
+    ensures { OnOk result (string_bytes text.new ≡
+        string_bytes text.old ++ codes " " ++ id_word id) }
 {
     match id.kind() {
         Kind::Nil => text.push_str(" nil"),

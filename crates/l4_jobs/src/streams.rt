@@ -1,6 +1,7 @@
 //! What a job reads and what it writes to: sources, sinks and where files are opened. Unlike std's
 //! readers and writers, their contracts also say when a call failed.
-ghost use Rattle.std.specs.Prelude.{◌≡◌, ◌⊎◌, ℕ, Bool, List, take, true, false, Result, Ok, Err, IfOk, OnErr, MatchResult};
+ghost use Rattle.std.specs.Prelude.{◌≡◌, ◌⊎◌, ℕ, Bool, List, take, true, false, Result, Ok, Err};
+ghost use Rattle.std.specs.Prelude.{IfOk, OnErr, MatchResult};
 ghost use Rattle.std.specs.declared.io.ErrorKind.{ErrorKind as Kind};
 ghost use Rattle.l4_jobs.specs.Streams.{MayGive, MayTake, HasAppended};
 
@@ -16,11 +17,14 @@ pub trait Source {
 
     /// Reads all that is left.
     fn read_whole(&mut self, alloc: Global) -> Result<Vec<u8>, ErrorKind>
-        ensures { MatchResult result (λ bytes. gives self.old (Ok bytes.items)) (λ kind. gives self.old (Err kind)) };
+        ensures { MatchResult result (λ bytes. gives self.old (Ok bytes.items))
+            (λ kind. gives self.old (Err kind)) };
 
     /// Reads at most `most` bytes of what is left.
     fn read_beginning(&mut self, alloc: Global, most: u64) -> Result<Vec<u8>, ErrorKind>
-        ensures { MatchResult result (λ bytes. (all : List ℕ) × gives self.old (Ok all) × ((bytes.items ≡ all) ⊎ (bytes.items ≡ take most all)))
+        ensures { MatchResult result (λ bytes.
+            (all : List ℕ) × gives self.old (Ok all) ×
+            ((bytes.items ≡ all) ⊎ (bytes.items ≡ take most all)))
             (λ kind. gives self.old (Err kind)) };
 }
 
@@ -55,14 +59,17 @@ pub trait Sink {
 
     /// Writes the bytes and flushes.
     fn put(&mut self, bytes: &[u8]) -> Result<(), NotWritten>
-        ensures { MatchResult result (λ _. takes self.old self.new bytes.now true) (λ _. takes self.old self.new bytes.now false) };
+        ensures { MatchResult result (λ _. takes self.old self.new bytes.now true)
+            (λ _. takes self.old self.new bytes.now false) };
 }
 
 // Writes a beginning of the bytes, and returns what is left of them.
 #[tactic(auto, using(crate::proofs::Appending::kept))]
 fn write_some<'a, W: Write>(out: &mut W, bytes: &'a [u8]) -> Result<&'a [u8], NotWritten>
-    ensures some { IfOk result (λ left. HasAppended (W.contents out.old) (W.contents out.new) bytes.now left.now) }
-    ensures none { OnErr result (HasAppended (W.contents out.old) (W.contents out.new) bytes.now bytes.now) }
+    ensures some { IfOk result (λ left.
+        HasAppended (W.contents out.old) (W.contents out.new) bytes.now left.now) }
+    ensures none { OnErr result
+        (HasAppended (W.contents out.old) (W.contents out.new) bytes.now bytes.now) }
 {
     match out.write(bytes) {
         Ok(0) => Err(NotWritten),

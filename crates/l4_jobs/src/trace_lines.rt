@@ -18,14 +18,16 @@ struct Writer {
 }
 
 impl Listener for Writer {
-    ghost hears = { λ old steps new. new.trace.lines.items ≡ old.trace.lines.items ++ trace_of steps };
+    ghost hears = { λ old steps new.
+        new.trace.lines.items ≡ old.trace.lines.items ++ trace_of steps };
 
     ghost heard_none = { λ old. sym (append-nil old.trace.lines.items) };
 
     ghost heard_both = { λ old between new first second one two.
         two ∙ ap (λ lines. lines ++ trace_of second) one
         ∙ append_assoc old.trace.lines.items (trace_of first) (trace_of second)
-        ∙ ap (λ lines. old.trace.lines.items ++ lines) (sym (flat_map-append line_of first second)) };
+        ∙ ap (λ lines. old.trace.lines.items ++ lines)
+        (sym (flat_map-append line_of first second)) };
 
     fn hear(&mut self, steps: Steps<'_>) -> Result<(), NoMemory> {
         self.trace.write(steps)

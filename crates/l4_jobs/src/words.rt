@@ -1,10 +1,15 @@
 //! What the words of the command line ask for.
-ghost use Rattle.std.specs.Prelude.{◌≡◌, ◌∷◌, [], false, IfOk, IfErr, IfSome, Some, map, option_and_then};
-ghost use Rattle.clap.specs.Words.{app_of, rule_of, rows_of, found_of, subcommand_of, subcommand_rows_of, kind_of};
+ghost use Rattle.std.specs.Prelude.{◌≡◌, ◌∷◌, [], false, IfOk, IfErr, IfSome, Some, map};
+ghost use Rattle.std.specs.Prelude.{option_and_then};
+ghost use Rattle.clap.specs.Words.{app_of, rule_of, rows_of, found_of, subcommand_of};
+ghost use Rattle.clap.specs.Words.{subcommand_rows_of, kind_of};
 ghost use Rattle.clap.specs.declared.builder.command.Command.TheViews.{out-Command};
 ghost use Rattle.clap.specs.declared.error.kind.ErrorKind.TheVariants.{OutOfMemory as MemoryKind};
-ghost use Rattle.l4_jobs.specs.Asked.{asked_by, asked_in, asked_of, report_in, run_in, replay_in, audit_in, IsRefusal};
-ghost use Rattle.l4_jobs.specs.Commands.{file_rule, trace_rule, turns_rule, schedule_rule, report_rule, run_app, replay_app, audit_app, l4run_app, faults_of};
+ghost use Rattle.l4_jobs.specs.Asked.{asked_by, asked_in, asked_of, report_in, run_in, replay_in};
+ghost use Rattle.l4_jobs.specs.Asked.{audit_in, IsRefusal};
+ghost use Rattle.l4_jobs.specs.Commands.{file_rule, trace_rule, turns_rule, schedule_rule};
+ghost use Rattle.l4_jobs.specs.Commands.{report_rule, run_app, replay_app, audit_app, l4run_app};
+ghost use Rattle.l4_jobs.specs.Commands.{faults_of};
 ghost use Rattle.l4_jobs.specs.declared.words.WordsFault.TheVariants.{NoMemory as OutOfMemory};
 
 use crate::job::Job;
@@ -192,7 +197,8 @@ fn run_job<'a>(matches: &ArgMatches<'a>) -> Option<Job<'a>>
 
 // The job of the matches of `replay`.
 fn replay_job<'a>(matches: &ArgMatches<'a>) -> Option<Job<'a>>
-    ensures { IfSome result (λ job. replay_in (rows_of (found_of matches.now)) ≡ Some (asked_by job)) }
+    ensures { IfSome result (λ job.
+        replay_in (rows_of (found_of matches.now)) ≡ Some (asked_by job)) }
 {
     Some(Job::Replay {
         file: matches.get_str("file")?,
@@ -203,7 +209,8 @@ fn replay_job<'a>(matches: &ArgMatches<'a>) -> Option<Job<'a>>
 
 // The job of the matches of `audit`.
 fn audit_job<'a>(matches: &ArgMatches<'a>) -> Option<Job<'a>>
-    ensures { IfSome result (λ job. audit_in (rows_of (found_of matches.now)) ≡ Some (asked_by job)) }
+    ensures { IfSome result (λ job.
+        audit_in (rows_of (found_of matches.now)) ≡ Some (asked_by job)) }
 {
     Some(Job::Audit {
         file: matches.get_str("file")?,
@@ -212,7 +219,8 @@ fn audit_job<'a>(matches: &ArgMatches<'a>) -> Option<Job<'a>>
 }
 
 fn job_of_matches<'a>(matches: &ArgMatches<'a>) -> Option<Job<'a>>
-    ensures { IfSome result (λ job. option_and_then asked_in (subcommand_rows_of matches.now) ≡ Some (asked_by job)) }
+    ensures { IfSome result (λ job.
+        option_and_then asked_in (subcommand_rows_of matches.now) ≡ Some (asked_by job)) }
 {
     let (name, matches) = matches.subcommand()?;
     match name {
@@ -239,7 +247,8 @@ fn fault_of(alloc: Global, error: &Error) -> WordsFault
 
 // The matches of the words.
 fn matches_of<'a>(alloc: Global, words: &'a [&'a str]) -> Result<ArgMatches<'a>, WordsFault>
-    ensures ok { IfOk result (λ matches. subcommand_rows_of matches ≡ subcommand_of l4run_app (map (λ word. word.now) words.now)) }
+    ensures ok { IfOk result (λ matches.
+        subcommand_rows_of matches ≡ subcommand_of l4run_app (map (λ word. word.now) words.now)) }
     ensures right { IfOk result (λ matches. faults_of (map (λ word. word.now) words.now) ≡ []) }
     ensures err { IfErr result (IsRefusal (faults_of (map (λ word. word.now) words.now))) }
 {
@@ -254,7 +263,8 @@ fn matches_of<'a>(alloc: Global, words: &'a [&'a str]) -> Result<ArgMatches<'a>,
 ///
 /// `Help`: they ask for help. `Usage`: they are wrong. Else `NoMemory`.
 pub fn job_of<'a>(alloc: Global, words: &'a [&'a str]) -> Result<Job<'a>, WordsFault>
-    ensures ok { IfOk result (λ job. asked_of (map (λ word. word.now) words.now) ≡ Some (asked_by job)) }
+    ensures ok { IfOk result (λ job.
+        asked_of (map (λ word. word.now) words.now) ≡ Some (asked_by job)) }
     ensures right { IfOk result (λ job. faults_of (map (λ word. word.now) words.now) ≡ []) }
     ensures err { IfErr result (IsRefusal (faults_of (map (λ word. word.now) words.now))) }
 {

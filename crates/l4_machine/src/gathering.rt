@@ -1,14 +1,16 @@
 //! The outcome of processors that worked in threads of their caller's.
 ghost use Rattle.std.specs.List.{range_with_len};
 ghost use Rattle.std.specs.Option.{option_map};
-ghost use Rattle.std.specs.Prelude.{ℕ, ◌≡◌, ◌↔◌, ◌⊎◌, false, true, map, slice_get, IfErr, IfOk, IsErrOf, IsTrue, Some};
+ghost use Rattle.std.specs.Prelude.{ℕ, ◌≡◌, ◌↔◌, ◌⊎◌, false, true, map, slice_get, IfErr, IfOk};
+ghost use Rattle.std.specs.Prelude.{IsErrOf, IsTrue, Some};
 ghost use Rattle.l4_mail.specs.Ports.{AreWhole};
 ghost use Rattle.l4_mail.specs.Rests.{are_all};
 ghost use Rattle.l4_merge.specs.Merges.{is_at_rest};
 ghost use Rattle.l4_proc.specs.Rests.{AreAsBefore, HaveHandledAll};
 ghost use Rattle.l4_proc.specs.declared.processor.Processor.{Processor as ProcessorOfMachine};
 ghost use Rattle.l4_types.specs.declared.reports.Ending.TheVariants.{Quiet};
-ghost use Rattle.l4_machine.specs.Gathers.{core_of, pasts_of, with_number, AreOfOne, AreResting, HaveNumbers};
+ghost use Rattle.l4_machine.specs.Gathers.{core_of, pasts_of, with_number, AreOfOne, AreResting};
+ghost use Rattle.l4_machine.specs.Gathers.{HaveNumbers};
 ghost use Rattle.l4_machine.specs.Gathered.{IsGathered};
 ghost use Rattle.l4_machine.specs.Homes.{IsAtHome};
 ghost use Rattle.l4_machine.specs.Outcomes.{compact_findings_of, findings_of};
@@ -59,7 +61,8 @@ pub fn gather<'m>(
     ensures ok { IfOk result (λ o. IsGathered machine.now processors.entry.items (findings_of o)) }
     ensures err { IfErr result (λ e. (e.0 ≡ RunFault.NoMemory) ⊎ (e.0 ≡ RunFault.Strangers)) }
     ensures all { IfOk result (λ _. are_all (map (λ p. p.port) processors.entry.items) ≡ true) }
-    ensures strangers { IfErr result (λ e. (e.0 ≡ RunFault.Strangers) ↔ (are_all (map (λ p. p.port) processors.entry.items) ≡ false)) }
+    ensures strangers { IfErr result (λ e. (e.0 ≡ RunFault.Strangers) ↔
+        (are_all (map (λ p. p.port) processors.entry.items) ≡ false)) }
     ensures back { IfErr result (λ e. AreAsBefore processors.entry.items e.1.items) }
 {
     let mut processors = processors;
@@ -76,9 +79,11 @@ fn gathered(
 ) -> Result<Outcome, RunFault>
     requires { AreOfOne machine.now processors.old.items }
     ensures ok { IfOk result (λ o. IsGathered machine.now processors.old.items (findings_of o)) }
-    ensures err { IfErr result (λ fault. (fault ≡ RunFault.NoMemory) ⊎ (fault ≡ RunFault.Strangers)) }
+    ensures err { IfErr result (λ fault. (fault ≡ RunFault.NoMemory) ⊎
+        (fault ≡ RunFault.Strangers)) }
     ensures all { IfOk result (λ _. are_all (map (λ p. p.port) processors.old.items) ≡ true) }
-    ensures strangers { IsErrOf result RunFault.Strangers ↔ (are_all (map (λ p. p.port) processors.old.items) ≡ false) }
+    ensures strangers { IsErrOf result RunFault.Strangers ↔
+        (are_all (map (λ p. p.port) processors.old.items) ≡ false) }
     ensures same { AreAsBefore processors.old.items processors.new.items }
 {
     let all_handled = rest(alloc, processors)?;
@@ -125,7 +130,8 @@ pub(crate) fn at_home(
 ) -> Result<AtHome, NoMemory>
     requires one { AreOfOne machine.now processors.now }
     requires numbers { HaveNumbers machine.now.cpus processors.now }
-    ensures { IfOk result (IsAtHome machine.now (map (λ past. past.local) (pasts_of machine.now processors.now))) }
+    ensures { IfOk result (IsAtHome machine.now
+        (map (λ past. past.local) (pasts_of machine.now processors.now))) }
 {
     let cores = cores_of(alloc, processors, machine.cpus())?;
     AtHome::new(alloc, machine, cores.as_slice())
@@ -138,7 +144,9 @@ fn cores_of<'a, 'm>(
     cpus: u8,
 ) -> Result<Vec<&'a Core<'m>>, NoMemory>
     requires { HaveNumbers cpus processors.now }
-    ensures { IfOk result (λ cores. map (λ c. Some c.now) cores.items ≡ map (λ cpu. option_map core_of (with_number cpu processors.now)) (range_with_len 0 cpus)) }
+    ensures { IfOk result (λ cores.
+        map (λ c. Some c.now) cores.items ≡
+        map (λ cpu. option_map core_of (with_number cpu processors.now)) (range_with_len 0 cpus)) }
 {
     let mut cores = Vec::new(alloc);
     for cpu in 0..cpus {
@@ -162,7 +170,8 @@ pub(crate) fn ending(processors: &[Processor<'_>], all_handled: bool) -> Ending
 
 // Whether none of these processors has anything to do, or a deadline.
 fn are_at_rest(processors: &[Processor<'_>]) -> bool
-    ensures { IsTrue result ↔ ((i : ℕ) (p : ProcessorOfMachine) → slice_get processors.now i ≡ Some p →
+    ensures { IsTrue result ↔
+        ((i : ℕ) (p : ProcessorOfMachine) → slice_get processors.now i ≡ Some p →
         is_at_rest p.worker.core.machine p.worker.core.cpu p.worker.core.local ≡ true) }
 {
     for processor in processors {
@@ -175,7 +184,9 @@ fn are_at_rest(processors: &[Processor<'_>]) -> bool
 
 // Whether a processor has nothing to do, and no deadline.
 fn is_at_rest(processor: &Processor<'_>) -> bool
-    ensures { result ≡ is_at_rest processor.now.worker.core.machine processor.now.worker.core.cpu processor.now.worker.core.local }
+    ensures { result ≡
+        is_at_rest processor.now.worker.core.machine processor.now.worker.core.cpu
+        processor.now.worker.core.local }
 {
     let core = processor.core();
     !core.busy() && core.least_deadline().is_none()

@@ -47,7 +47,8 @@ impl AtHome {
 
     /// Whether none of the threads is deleted.
     pub(crate) fn are_undeleted(&self) -> bool
-        ensures { IsTrue result → AllByRecursion IsUndeleted (map report_of_view self.now.threads.items) }
+        ensures { IsTrue result →
+            AllByRecursion IsUndeleted (map report_of_view self.now.threads.items) }
     {
         let _ = &self.sends;
         are_undeleted(self.threads.as_slice())
@@ -58,7 +59,8 @@ impl AtHome {
 fn home<'a, 'm>(machine: &Machine, cores: &[&'a Core<'m>], place: usize) -> &'a Core<'m>
     requires cores { AreAllOf machine.now (map (λ c. c.now) cores.now) }
     requires place { place < length machine.now.threads }
-    ensures core { slice_get (map (λ c. c.now) cores.now) (declared machine.now place).cpu ≡ Some result.now }
+    ensures core { slice_get (map (λ c. c.now) cores.now) (declared machine.now place).cpu ≡
+        Some result.now }
     ensures machine { result.now.machine ≡ machine.now }
 {
     let cpu = machine.threads()[place].cpu();
@@ -72,7 +74,9 @@ fn threads(
     cores: &[&Core<'_>],
 ) -> Result<Vec<ThreadView>, NoMemory>
     requires { AreAllOf machine.now (map (λ c. c.now) cores.now) }
-    ensures { IfOk result (λ views. map report_of_view views.items ≡ home_reports machine.now (locals_of (map (λ c. c.now) cores.now))) }
+    ensures { IfOk result (λ views.
+        map report_of_view views.items ≡
+        home_reports machine.now (locals_of (map (λ c. c.now) cores.now))) }
 {
     let mut views = Vec::new(alloc);
     for place in 0..machine.threads().len() {
@@ -88,7 +92,8 @@ fn last_sends(
     cores: &[&Core<'_>],
 ) -> Result<Vec<LastSend>, NoMemory>
     requires { AreAllOf machine.now (map (λ c. c.now) cores.now) }
-    ensures { IfOk result (λ sends. sends.items ≡ sent_at_home machine.now (locals_of (map (λ c. c.now) cores.now))) }
+    ensures { IfOk result (λ sends.
+        sends.items ≡ sent_at_home machine.now (locals_of (map (λ c. c.now) cores.now))) }
 {
     let mut sends = Vec::new(alloc);
     for place in 0..machine.threads().len() {

@@ -15,10 +15,12 @@ pub(crate) struct Inbox {
 }
 
 impl Inbox {
-    ghost use Rattle.std.specs.Prelude.{◌≡◌, ◌<◌, ◌++◌, ◌∷◌, ◌↔◌, [], IfOk, IsTrue, OnOk, length, map, replicate, slice_index_or};
+    ghost use Rattle.std.specs.Prelude.{◌≡◌, ◌<◌, ◌++◌, ◌∷◌, ◌↔◌, [], IfOk, IsTrue, OnOk, length};
+    ghost use Rattle.std.specs.Prelude.{map, replicate, slice_index_or};
     ghost use Rattle.l4_model.specs.World.{changed};
     ghost use Rattle.l4_types.specs.LetterView.{letter_of};
-    ghost use Rattle.l4_machine.specs.Inboxes.{letters_in, AreEmpty, PostsFirst, TakesFirst, TakesFrom};
+    ghost use Rattle.l4_machine.specs.Inboxes.{letters_in, AreEmpty, PostsFirst, TakesFirst};
+    ghost use Rattle.l4_machine.specs.Inboxes.{TakesFrom};
 
     /// An empty inbox for this many processors.
     pub(crate) fn new(alloc: Global, cpus: u8) -> Result<Inbox, NoMemory>
@@ -49,7 +51,8 @@ impl Inbox {
     /// Appends a letter from a processor. Where memory is refused, the letter is lost.
     pub(crate) fn put(&mut self, from: u8, letter: Letter) -> Result<(), AllocError>
         requires { from < length (letters_in self.old) }
-        ensures { OnOk result (letters_in self.new ≡ changed (λ letters. letters ++ letter_of letter ∷ []) (letters_in self.old) from) }
+        ensures { OnOk result (letters_in self.new ≡
+            changed (λ letters. letters ++ letter_of letter ∷ []) (letters_in self.old) from) }
     {
         let letters = &mut self.queues[usize::from(from)];
         letters.reserve(1)?;
@@ -87,7 +90,8 @@ impl Inbox {
 
 // An empty queue of letters from each of `cpus` processors.
 fn empty_queues(alloc: Global, cpus: u8) -> Result<Vec<VecDeque<Letter>>, NoMemory>
-    ensures { IfOk result (λ queues. map (λ letters. map letter_of letters.items) queues.items ≡ replicate cpus []) }
+    ensures { IfOk result (λ queues.
+        map (λ letters. map letter_of letters.items) queues.items ≡ replicate cpus []) }
 {
     let mut queues = Vec::with_capacity(alloc, usize::from(cpus))?;
     for from in 0..cpus {

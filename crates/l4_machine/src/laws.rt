@@ -27,7 +27,8 @@ use l4_split::law_of_core_runs;
 /// `sorted`: any list of the events that is sorted by stamp and processor is the merged one.
 pub fn law_core_run()
     ensures lawful { (m : Machine) (r : Run) → IsMachine m → IsCoreRun m r → IsLawfulRun m r }
-    ensures merged { (m : Machine) (r : Run) → IsMachine m → IsCoreRun m r → HasLawfulMergedRun m r }
+    ensures merged { (m : Machine) (r : Run) → IsMachine m → IsCoreRun m r →
+        HasLawfulMergedRun m r }
     ensures sorted { (m : Machine) (r : Run) → IsCoreRun m r → SortAsMerged r.events }
 {
     law_of_core_runs();

@@ -33,7 +33,8 @@ impl Listener for History {
     ghost heard_none = { λ old. sym (append-nil old.steps) };
 
     ghost heard_both = { λ old between new first second one two.
-        two ∙ ap (λ (steps : List ModelStep). steps ++ second) one ∙ append_assoc old.steps first second };
+        two ∙ ap (λ (steps : List ModelStep). steps ++ second) one ∙
+        append_assoc old.steps first second };
 
     fn hear(&mut self, steps: Steps<'_>) -> Result<(), NoMemory> {
         self.extend(&steps)
@@ -47,7 +48,8 @@ impl Listener for Vec<Step> {
     ghost heard_none = { λ old. sym (append-nil (map step_of old.items)) };
 
     ghost heard_both = { λ old between new first second one two.
-        two ∙ ap (λ (steps : List ModelStep). steps ++ second) one ∙ append_assoc (map step_of old.items) first second };
+        two ∙ ap (λ (steps : List ModelStep). steps ++ second) one ∙
+        append_assoc (map step_of old.items) first second };
 
     fn hear(&mut self, steps: Steps<'_>) -> Result<(), NoMemory> {
         for step in steps {

@@ -51,7 +51,8 @@ impl<'m> Logs<'m> {
 
     /// These steps in compact form.
     pub(crate) fn to_history(&self, alloc: Global) -> Result<History, NoMemory>
-        ensures { IfOk result (λ history. history.steps ≡ merged_steps self.now.machine.now self.now.processors.items) }
+        ensures { IfOk result (λ history.
+            history.steps ≡ merged_steps self.now.machine.now self.now.processors.items) }
     {
         let mut history = History::new(alloc);
         self.tell(alloc, &mut history)?;
@@ -66,7 +67,10 @@ impl<'m> Logs<'m> {
     ) -> Result<Vec<(Name, ThreadId)>, NoMemory>
         requires search { IsSearch search.now }
         requires once { AreBegunOnce (merged_steps self.now.machine.now self.now.processors.items) }
-        ensures { IfOk result (λ sends. sends.items ≡ filter_map (sought search.now) (merged_steps self.now.machine.now self.now.processors.items)) }
+        ensures { IfOk result (λ sends.
+            sends.items ≡
+            filter_map (sought search.now)
+            (merged_steps self.now.machine.now self.now.processors.items)) }
     {
         waiting_sends(alloc, self.machine, self.processors.as_slice(), search)
     }

@@ -4,7 +4,8 @@ ghost use Rattle.std.specs.List.{AllByRecursion, range_with_len};
 ghost use Rattle.l4_core_model.specs.Runs.{told};
 ghost use Rattle.l4_merge.specs.Pasts.{all_events};
 ghost use Rattle.l4_proc.specs.Logs.{events};
-ghost use Rattle.l4_machine.specs.Gathers.{events_of, merged_steps, pasts_of, with_number, AreOfOne, HaveNumbers, IsMerge};
+ghost use Rattle.l4_machine.specs.Gathers.{events_of, merged_steps, pasts_of, with_number};
+ghost use Rattle.l4_machine.specs.Gathers.{AreOfOne, HaveNumbers, IsMerge};
 ghost use Rattle.l4_machine.specs.Outcomes.{steps_of};
 ghost use Rattle.l4_machine.specs.EventsLeft.{left, IsUnmerged};
 ghost use Rattle.l4_machine.specs.Rising.{HaveRisingLogs};
@@ -29,7 +30,8 @@ pub(crate) fn tell_merged<T: Listener>(
 ) -> Result<(), NoMemory>
     requires rising { HaveRisingLogs machine.now processors.now }
     requires numbers { HaveNumbers machine.now.cpus processors.now }
-    ensures { OnOk result (T.hears listener.old (merged_steps machine.now processors.now) listener.new) }
+    ensures { OnOk result (T.hears listener.old
+        (merged_steps machine.now processors.now) listener.new) }
 {
     let mut logs = unmerged_logs(alloc, processors, machine.cpus())?;
     tell_all(processors, logs.as_mut_slice(), listener)
@@ -44,7 +46,8 @@ pub(crate) fn merged_history(
     requires rising { HaveRisingLogs machine.now processors.now }
     requires numbers { HaveNumbers machine.now.cpus processors.now }
     ensures history { IfOk result (λ r. r.0.steps ≡ merged_steps machine.now processors.now) }
-    ensures events { IfOk result (λ r. r.1 ≡ length (all_events (pasts_of machine.now processors.now))) }
+    ensures events { IfOk result (λ r.
+        r.1 ≡ length (all_events (pasts_of machine.now processors.now))) }
 {
     let events = count_all(alloc, machine, processors)?;
     let mut history = History::new(alloc);
@@ -59,7 +62,8 @@ fn count_all(
     processors: &[Processor<'_>],
 ) -> Result<usize, NoMemory>
     requires { HaveNumbers machine.now.cpus processors.now }
-    ensures { IfOk result (λ events. events ≡ length (all_events (pasts_of machine.now processors.now))) }
+    ensures { IfOk result (λ events.
+        events ≡ length (all_events (pasts_of machine.now processors.now))) }
 {
     let logs = unmerged_logs(alloc, processors, machine.cpus())?;
     count_left(logs.as_slice())
@@ -76,7 +80,8 @@ pub(crate) fn run_history<'m>(
     requires numbers { HaveNumbers machine.now.cpus processors.items }
     requires count { length processors.items ≡ machine.now.cpus }
     ensures history { IfOk result (λ r. IsMerge machine.now processors.entry.items (steps_of r.0)) }
-    ensures events { IfOk result (λ r. r.1 ≡ length (all_events (pasts_of machine.now processors.entry.items))) }
+    ensures events { IfOk result (λ r.
+        r.1 ≡ length (all_events (pasts_of machine.now processors.entry.items))) }
 {
     if machine.cpus() > 1 {
         let events = count_all(alloc, machine, processors.as_slice())?;
@@ -110,7 +115,9 @@ pub(crate) fn unmerged_logs(
 ) -> Result<Vec<Unmerged>, NoMemory>
     requires { HaveNumbers cpus processors.now }
     ensures whole { IfOk result (λ logs. AllByRecursion (IsUnmerged processors.now) logs.items) }
-    ensures events { IfOk result (λ logs. map (left processors.now) logs.items ≡ map (λ cpu. events_of (with_number cpu processors.now)) (range_with_len 0 cpus)) }
+    ensures events { IfOk result (λ logs.
+        map (left processors.now) logs.items ≡
+        map (λ cpu. events_of (with_number cpu processors.now)) (range_with_len 0 cpus)) }
 {
     let mut logs = Vec::new(alloc);
     for cpu in 0..cpus {

@@ -5,7 +5,8 @@ ghost use Rattle.l4_core_model.specs.Local.{Local};
 ghost use Rattle.l4_core_model.specs.Runs.{Run, at_rest, told};
 ghost use Rattle.l4_types.specs.declared.reports.Ending.TheVariants.{Quiet};
 ghost use Rattle.l4_machine.specs.Homes.{EndsIn, IsAtHome};
-ghost use Rattle.l4_machine.specs.Outcomes.{IsOutcomeOf, IsSound, compact_findings_of, findings_of, steps_of};
+ghost use Rattle.l4_machine.specs.Outcomes.{IsOutcomeOf, IsSound, compact_findings_of, findings_of};
+ghost use Rattle.l4_machine.specs.Outcomes.{steps_of};
 ghost use Rattle.l4_machine.specs.declared.outcome.RunFault.TheVariants.{NoMemory as RunNoMemory};
 
 use crate::homes::AtHome;
@@ -110,8 +111,10 @@ pub(crate) fn outcome_of<'m>(
     turns: u64,
 ) -> Result<CompactOutcome<'m>, NoMemory>
     requires { IsHistory machine.now (steps_of history) }
-    ensures { IfOk result (λ o. (r : Run) (locals : List Local) → IsSound machine.now r → IsAtHome machine.now locals at_home → EndsIn r locals all_handled →
-        steps_of history.entry ≡ told r.events → turns ≡ length r.events → (ending ≡ Quiet) ↔ (at_rest machine.now r.system ≡ true) →
+    ensures { IfOk result (λ o. (r : Run) (locals : List Local) → IsSound machine.now r →
+        IsAtHome machine.now locals at_home → EndsIn r locals all_handled →
+        steps_of history.entry ≡ told r.events → turns ≡ length r.events →
+        (ending ≡ Quiet) ↔ (at_rest machine.now r.system ≡ true) →
         IsOutcomeOf machine.now r (compact_findings_of o)) }
 {
     law_begun_then_ended();
@@ -137,8 +140,10 @@ fn audited_outcome<'m>(
     turns: u64,
 ) -> Result<CompactOutcome<'m>, NoMemory>
     requires { IsHistory machine.now history.steps }
-    ensures { IfOk result (λ o. (r : Run) → IsSound machine.now r → history.steps ≡ told r.events → turns ≡ length r.events →
-        (ending ≡ Quiet) ↔ (at_rest machine.now r.system ≡ true) → IsOutcomeOf machine.now r (compact_findings_of o)) }
+    ensures { IfOk result (λ o. (r : Run) → IsSound machine.now r → history.steps ≡ told r.events →
+        turns ≡ length r.events →
+        (ending ≡ Quiet) ↔ (at_rest machine.now r.system ≡ true) →
+        IsOutcomeOf machine.now r (compact_findings_of o)) }
 {
     match check_history(alloc, machine, &history) {
         Ok(audit) => Ok(CompactOutcome {

@@ -58,7 +58,8 @@ impl RunHistory<'_> {
     ) -> Result<Vec<(Name, ThreadId)>, NoMemory>
         requires search { IsSearch search.now }
         requires once { AreBegunOnce (steps_of self.now) }
-        ensures { IfOk result (λ sends. sends.items ≡ filter_map (sought search.now) (steps_of self.now)) }
+        ensures { IfOk result (λ sends.
+            sends.items ≡ filter_map (sought search.now) (steps_of self.now)) }
     {
         match self {
             RunHistory::Steps(history) => search.of_history(alloc, history),

@@ -37,7 +37,8 @@ pub fn run<R: Threads + Sync, G: Gate + Sync>(
     gate: &G,
 ) -> Result<Outcome, RunFault>
     ensures ok { IfOk result (IsOutcome machine.now turns) }
-    ensures err { IfErr result (λ fault. (fault ≡ RunFault.NoMemory) ⊎ (turns_fault turns ≡ Some fault)) }
+    ensures err { IfErr result (λ fault. (fault ≡ RunFault.NoMemory) ⊎
+        (turns_fault turns ≡ Some fault)) }
     ensures range { IsErrOf result RunFault.Turns ↔ ((turns ≡ 0) ⊎ (most_turns < turns)) }
 {
     let outcome = run_compact(rt, alloc, machine, turns, gate)?;
@@ -54,7 +55,8 @@ pub fn run_compact<'m, R: Threads + Sync, G: Gate + Sync>(
     gate: &G,
 ) -> Result<CompactOutcome<'m>, RunFault>
     ensures ok { IfOk result (IsCompactOutcome machine.now turns) }
-    ensures err { IfErr result (λ fault. (fault ≡ RunFault.NoMemory) ⊎ (turns_fault turns ≡ Some fault)) }
+    ensures err { IfErr result (λ fault. (fault ≡ RunFault.NoMemory) ⊎
+        (turns_fault turns ≡ Some fault)) }
     ensures range { IsErrOf result RunFault.Turns ↔ ((turns ≡ 0) ⊎ (most_turns < turns)) }
 {
     if turns == 0 || turns > MOST_TURNS {

@@ -1,14 +1,17 @@
 //! The processors of a replay, which take turns one by one, with the letters under way between
 //! them.
-ghost use Rattle.std.specs.Prelude.{ℕ, ◌≡◌, ◌<◌, ◌↔◌, ◌^◌, [], IfOk, IsTrue, OnOk, Some, length, map, replicate, slice_get};
+ghost use Rattle.std.specs.Prelude.{ℕ, ◌≡◌, ◌<◌, ◌↔◌, ◌^◌, [], IfOk, IsTrue, OnOk, Some, length};
+ghost use Rattle.std.specs.Prelude.{map, replicate, slice_get};
 ghost use Rattle.l4_model.specs.Machine.{Machine as MachineOfModel};
-ghost use Rattle.l4_core_model.specs.Runs.{Event, IsMachine, Run, opening_run, opening_system, told};
+ghost use Rattle.l4_core_model.specs.Runs.{Event, IsMachine, Run, opening_run, opening_system};
+ghost use Rattle.l4_core_model.specs.Runs.{told};
 ghost use Rattle.l4_core_model.specs.Schedules.{attempts};
 ghost use Rattle.l4_types.specs.declared.reports.Ending.TheVariants.{Quiet};
 ghost use Rattle.l4_machine.specs.Stations.{events_at, happening, station_of, KnowsPoster};
 ghost use Rattle.l4_machine.specs.Homes.{IsAtHome};
 ghost use Rattle.l4_machine.specs.Ordered.{told_steps};
-ghost use Rattle.l4_machine.specs.UnderWay.{deadline_at, letters_of, AreResting, CanPost, HasDelivered, HaveNoMail, IsSystem};
+ghost use Rattle.l4_machine.specs.UnderWay.{deadline_at, letters_of, AreResting, CanPost};
+ghost use Rattle.l4_machine.specs.UnderWay.{HasDelivered, HaveNoMail, IsSystem};
 
 use crate::homes::AtHome;
 use crate::laws::law_core_run;
@@ -30,11 +33,13 @@ pub(crate) struct Scheduler<'m> {
 }
 
 impl<'m> Scheduler<'m> {
-    ghost use Rattle.l4_machine.specs.UnderWay.{letters_of, under_way, CanPost, GoesOn, HasEndedEvent, HasRun, IsRun};
+    ghost use Rattle.l4_machine.specs.UnderWay.{letters_of, under_way, CanPost, GoesOn};
+    ghost use Rattle.l4_machine.specs.UnderWay.{HasEndedEvent, HasRun, IsRun};
 
     /// The processors of a machine where nothing has happened.
     pub(crate) fn new(alloc: Global, machine: &'m Machine) -> Result<Scheduler<'m>, NoMemory>
-        ensures { IfOk result (λ scheduler. IsRun machine.now (opening_run machine.now) (under_way scheduler)) }
+        ensures { IfOk result (λ scheduler.
+            IsRun machine.now (opening_run machine.now) (under_way scheduler)) }
     {
         Ok(Scheduler {
             machine,
@@ -69,7 +74,8 @@ impl<'m> Scheduler<'m> {
     // Notes an event of this processor as the last one, and delivers the letters that it posted.
     fn end_event(&mut self, cpu: u8) -> Result<(), NoMemory>
         requires within { cpu < length self.old.stations.items }
-        requires posted { CanPost cpu (letters_of self.old.stations.items cpu) (map station_of self.old.stations.items) }
+        requires posted { CanPost cpu (letters_of self.old.stations.items cpu)
+            (map station_of self.old.stations.items) }
         ensures { OnOk result (HasEndedEvent cpu self.old self.new) }
     {
         self.order.push(cpu)?;
@@ -122,7 +128,8 @@ impl<'m> Scheduler<'m> {
     /// The threads and their last sends, as their own processors have them.
     pub(crate) fn at_home(&self, alloc: Global) -> Result<AtHome, NoMemory>
         requires { HasRun (under_way self.now) }
-        ensures { (m : MachineOfModel) (r : Run) → IsRun m r (under_way self.now) → IfOk result (IsAtHome m r.system.locals) }
+        ensures { (m : MachineOfModel) (r : Run) → IsRun m r (under_way self.now) →
+            IfOk result (IsAtHome m r.system.locals) }
     {
         let _ = self.machine.cpus();
         let cores = cores_of(alloc, self.stations.as_slice())?;
@@ -141,8 +148,10 @@ impl<'m> Scheduler<'m> {
 
 // The processors of a machine where nothing has happened.
 fn opening_stations<'m>(alloc: Global, machine: &'m Machine) -> Result<Vec<Station<'m>>, NoMemory>
-    ensures system { IfOk result (λ stations. IsSystem machine.now (opening_system machine.now) (map station_of stations.items)) }
-    ensures events { IfOk result (λ stations. map events_at stations.items ≡ replicate machine.now.cpus []) }
+    ensures system { IfOk result (λ stations.
+        IsSystem machine.now (opening_system machine.now) (map station_of stations.items)) }
+    ensures events { IfOk result (λ stations.
+        map events_at stations.items ≡ replicate machine.now.cpus []) }
     ensures lawful { IfOk result (λ stations. IsMachine machine.now) }
 {
     let mut stations = Vec::with_capacity(alloc, usize::from(machine.cpus()))?;
@@ -193,7 +202,8 @@ fn cores_of<'a, 'm>(
     alloc: Global,
     stations: &'a [Station<'m>],
 ) -> Result<Vec<&'a Core<'m>>, NoMemory>
-    ensures { IfOk result (λ cores. map (λ c. c.now) cores.items ≡ map (λ s. s.worker.core) stations.now) }
+    ensures { IfOk result (λ cores.
+        map (λ c. c.now) cores.items ≡ map (λ s. s.worker.core) stations.now) }
 {
     let mut cores = Vec::new(alloc);
     for station in stations {

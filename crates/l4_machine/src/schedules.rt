@@ -1,10 +1,13 @@
 //! A replay of a schedule: one event at most for each of its entries.
-ghost use Rattle.std.specs.Prelude.{◌≡◌, ◌<◌, ◌≤◌, ◌↔◌, ◌⊎◌, ◌^◌, IfOk, IfErr, IfSome, IsErrOf, OnOk, None, Some, length, map, nat_lt, true};
+ghost use Rattle.std.specs.Prelude.{◌≡◌, ◌<◌, ◌≤◌, ◌↔◌, ◌⊎◌, ◌^◌, IfOk, IfErr, IfSome, IsErrOf};
+ghost use Rattle.std.specs.Prelude.{OnOk, None, Some, length, map, nat_lt, true};
 ghost use Rattle.std.specs.Option.{option_map};
 ghost use Rattle.l4_model.specs.Machine.{Machine as MachineOfModel};
 ghost use Rattle.l4_core_model.specs.Runs.{Run};
 ghost use Rattle.l4_choices.specs.Entries.{entry_event, replays};
-ghost use Rattle.l4_machine.specs.Entries.{after_entry, entries_fault, entry_from, first_stranger, is_entry, most_entries, most_events, processor_of, schedule_fault};
+ghost use Rattle.l4_machine.specs.Entries.{after_entry, entries_fault, entry_from, first_stranger};
+ghost use Rattle.l4_machine.specs.Entries.{is_entry, most_entries, most_events, processor_of};
+ghost use Rattle.l4_machine.specs.Entries.{schedule_fault};
 ghost use Rattle.l4_machine.specs.Outcomes.{IsCompactReplay, IsReplayed};
 ghost use Rattle.l4_machine.specs.Stations.{happening, KnowsPoster};
 ghost use Rattle.l4_machine.specs.UnderWay.{under_way, GoesOn, HasRun, IsRun};
@@ -48,7 +51,8 @@ pub(crate) fn take(run: &mut Scheduler<'_>, entry: Entry) -> Result<(), NoMemory
     requires run { HasRun (under_way run.old) }
     requires few { length (under_way run.old).order < 2 ^ 61 }
     requires processor { is_entry run.old.machine.now (entry_from entry) ≡ true }
-    ensures { OnOk result (GoesOn (after_entry (entry_from entry)) (under_way run.old) (under_way run.new)) }
+    ensures { OnOk result (GoesOn (after_entry (entry_from entry)) (under_way run.old)
+        (under_way run.new)) }
 {
     match choice_of(run, entry) {
         Some(choice) => run.attempt(entry.processor(), choice),
@@ -62,9 +66,13 @@ fn take_all(run: &mut Scheduler<'_>, machine: &Machine, entries: &[Entry]) -> Re
     requires machine { run.old.machine.now ≡ machine.now }
     requires fresh { length (under_way run.old).order ≡ 0 }
     requires few { length entries.now ≤ most_events }
-    ensures ok { OnOk result (GoesOn (λ m r. replays m r (map entry_from entries.now)) (under_way run.old) (under_way run.new)) }
-    ensures lawful { OnOk result (first_stranger machine.now 1 (map entry_from entries.now) ≡ None) }
-    ensures err { IfErr result (λ fault. (fault ≡ RunFault.NoMemory) ⊎ (entries_fault machine.now (map entry_from entries.now) ≡ Some fault)) }
+    ensures ok { OnOk result
+        (GoesOn (λ m r. replays m r (map entry_from entries.now)) (under_way run.old)
+        (under_way run.new)) }
+    ensures lawful { OnOk result
+        (first_stranger machine.now 1 (map entry_from entries.now) ≡ None) }
+    ensures err { IfErr result (λ fault. (fault ≡ RunFault.NoMemory) ⊎
+        (entries_fault machine.now (map entry_from entries.now) ≡ Some fault)) }
 {
     for (place, entry) in entries.iter().enumerate() {
         if !entry.is_of(machine) {
@@ -82,8 +90,10 @@ fn outcome_of_entries<'m>(
 ) -> Result<CompactOutcome<'m>, RunFault>
     requires { length entries.now ≤ most_events }
     ensures ok { IfOk result (IsCompactReplay machine.now (map entry_from entries.now)) }
-    ensures lawful { IfOk result (λ o. first_stranger machine.now 1 (map entry_from entries.now) ≡ None) }
-    ensures err { IfErr result (λ fault. (fault ≡ RunFault.NoMemory) ⊎ (entries_fault machine.now (map entry_from entries.now) ≡ Some fault)) }
+    ensures lawful { IfOk result (λ o.
+        first_stranger machine.now 1 (map entry_from entries.now) ≡ None) }
+    ensures err { IfErr result (λ fault. (fault ≡ RunFault.NoMemory) ⊎
+        (entries_fault machine.now (map entry_from entries.now) ≡ Some fault)) }
 {
     law_core_run();
     let mut run = Scheduler::new(alloc, machine)?;
@@ -123,7 +133,8 @@ fn are_too_many(entries: usize, most: usize) -> bool
 pub fn replay(alloc: Global, machine: &Machine, schedule: &[u8]) -> Result<Outcome, RunFault>
     ensures ok { IfOk result (IsReplayed machine.now schedule.now) }
     ensures lawful { IfOk result (λ o. schedule_fault machine.now schedule.now ≡ None) }
-    ensures err { IfErr result (λ fault. (fault ≡ RunFault.NoMemory) ⊎ (schedule_fault machine.now schedule.now ≡ Some fault)) }
+    ensures err { IfErr result (λ fault. (fault ≡ RunFault.NoMemory) ⊎
+        (schedule_fault machine.now schedule.now ≡ Some fault)) }
     ensures range { IsErrOf result RunFault.Turns ↔ (most_entries < length schedule.now) }
 {
     if are_too_many(schedule.len(), MOST_ENTRIES) {
@@ -149,8 +160,10 @@ pub fn replay_compact<'m>(
     entries: &[Entry],
 ) -> Result<CompactOutcome<'m>, RunFault>
     ensures ok { IfOk result (IsCompactReplay machine.now (map entry_from entries.now)) }
-    ensures lawful { IfOk result (λ o. entries_fault machine.now (map entry_from entries.now) ≡ None) }
-    ensures err { IfErr result (λ fault. (fault ≡ RunFault.NoMemory) ⊎ (entries_fault machine.now (map entry_from entries.now) ≡ Some fault)) }
+    ensures lawful { IfOk result (λ o.
+        entries_fault machine.now (map entry_from entries.now) ≡ None) }
+    ensures err { IfErr result (λ fault. (fault ≡ RunFault.NoMemory) ⊎
+        (entries_fault machine.now (map entry_from entries.now) ≡ Some fault)) }
     ensures range { IsErrOf result RunFault.Turns ↔ (most_events < length entries.now) }
 {
     if are_too_many(entries.len(), MOST_EVENTS) {

@@ -1,13 +1,16 @@
 //! The undecided sends of several logs, in the order of the merged history, which is not made for
 //! it.
-ghost use Rattle.std.specs.Prelude.{◌≡◌, ◌≤◌, ◌+◌, IfOk, IfSome, IsTrue, OnOk, drop, filter_map, is_some, length, map, slice_get, true};
+ghost use Rattle.std.specs.Prelude.{◌≡◌, ◌≤◌, ◌+◌, IfOk, IfSome, IsTrue, OnOk, drop, filter_map};
+ghost use Rattle.std.specs.Prelude.{is_some, length, map, slice_get, true};
 ghost use Rattle.std.specs.List.{AllByRecursion};
 ghost use Rattle.l4_core_model.specs.Runs.{merged, told};
 ghost use Rattle.l4_proc.specs.Logs.{events, IsClosed};
 ghost use Rattle.l4_machine.specs.EventsLeft.{all_left, left, IsUnmerged};
 ghost use Rattle.l4_machine.specs.Rising.{HaveRisingLogs, RiseFrom};
 ghost use Rattle.l4_machine.specs.Gathers.{events_of, merged_steps, HaveNumbers};
-ghost use Rattle.l4_machine.specs.Waiting.{all_at_end, at_end, count_sought, count_undecided, sought, AreBegunOnce, ArePassed, HasFoundFirst, HasPassed, IsSearch};
+ghost use Rattle.l4_machine.specs.Waiting.{all_at_end, at_end, count_sought, count_undecided};
+ghost use Rattle.l4_machine.specs.Waiting.{sought, AreBegunOnce, ArePassed, HasFoundFirst};
+ghost use Rattle.l4_machine.specs.Waiting.{HasPassed, IsSearch};
 
 use crate::merging::unmerged_logs;
 use crate::unmerged::{Unmerged, first_place, stamp_of};
@@ -34,7 +37,8 @@ fn missing_after(
 ) -> usize
     requires search { IsSearch search.now }
     requires whole { IsUnmerged processors.now log.now }
-    ensures { missing ≤ result + count_sought (sought search.now) (at_end most (left processors.now log.now)) }
+    ensures { missing ≤ result + count_sought (sought search.now)
+        (at_end most (left processors.now log.now)) }
 {
     let events = processors[log.place].log();
     let mut missing = missing;
@@ -54,7 +58,9 @@ fn begin_all(
 ) -> bool
     requires search { IsSearch search.now }
     requires whole { AllByRecursion (IsUnmerged processors.now) logs.now }
-    ensures { IsTrue result → count_undecided search.now.at_home.now.sends.items ≤ count_sought (sought search.now) (all_at_end processors.now most logs.now) }
+    ensures { IsTrue result →
+        count_undecided search.now.at_home.now.sends.items ≤
+        count_sought (sought search.now) (all_at_end processors.now most logs.now) }
 {
     let mut missing = search.count();
     for log in logs {
@@ -68,7 +74,9 @@ fn begin_all(
 fn enough(search: &Search<'_>, processors: &[Processor<'_>], logs: &[Unmerged]) -> Option<usize>
     requires search { IsSearch search.now }
     requires whole { AllByRecursion (IsUnmerged processors.now) logs.now }
-    ensures { IfSome result (λ most. count_undecided search.now.at_home.now.sends.items ≤ count_sought (sought search.now) (all_at_end processors.now most logs.now)) }
+    ensures { IfSome result (λ most.
+        count_undecided search.now.at_home.now.sends.items ≤
+        count_sought (sought search.now) (all_at_end processors.now most logs.now)) }
 {
     for most in &LOOKS {
         if begin_all(search, processors, logs, *most) {
@@ -102,7 +110,9 @@ fn last_of_all(
 ) -> Result<Vec<Unmerged>, NoMemory>
     requires { AllByRecursion (IsUnmerged processors.now) logs.now }
     ensures whole { IfOk result (λ last. AllByRecursion (IsUnmerged processors.now) last.items) }
-    ensures left { IfOk result (λ last. map (left processors.now) last.items ≡ map (λ log. at_end most (left processors.now log)) logs.now) }
+    ensures left { IfOk result (λ last.
+        map (left processors.now) last.items ≡
+        map (λ log. at_end most (left processors.now log)) logs.now) }
 {
     let mut last = Vec::new(alloc);
     for log in logs {
@@ -124,7 +134,8 @@ fn without_early(
     requires rising { RiseFrom 0 (map (left processors.now) logs.items) }
     requires once { AreBegunOnce (told (merged (all_left processors.now logs.items))) }
     ensures whole { IfOk result (λ late. AllByRecursion (IsUnmerged processors.now) late.items) }
-    ensures passed { IfOk result (λ late. ArePassed (sought search.now) processors.now logs.items late.items) }
+    ensures passed { IfOk result (λ late.
+        ArePassed (sought search.now) processors.now logs.items late.items) }
 {
     match enough(search, processors, logs.as_slice()) {
         Some(most) => last_of_all(alloc, processors, logs.as_slice(), most),
@@ -139,7 +150,8 @@ fn next_sought(search: &Search<'_>, log: &Log, from: usize) -> usize
     requires closed { IsClosed log.now }
     requires within { from ≤ length (events log.now) }
     ensures within { result ≤ length (events log.now) }
-    ensures passed { HasPassed (sought search.now) (drop from (events log.now)) (drop result (events log.now)) }
+    ensures passed { HasPassed (sought search.now) (drop from (events log.now))
+        (drop result (events log.now)) }
 {
     let history = log.history();
     for i in from..log.len() {
@@ -162,7 +174,8 @@ fn find_first(
     requires search { IsSearch search.now }
     requires whole { IsUnmerged processors.now log.old }
     requires some { is_some log.old.stamp ≡ true }
-    ensures { OnOk result (HasFoundFirst (sought search.now) processors.now log.old log.new sends.old.items sends.new.items) }
+    ensures { OnOk result (HasFoundFirst
+        (sought search.now) processors.now log.old log.new sends.old.items sends.new.items) }
 {
     let events = processors[log.place].log();
     let first = log.count - log.left;
@@ -185,7 +198,9 @@ fn find_all(
     requires search { IsSearch search.now }
     requires whole { AllByRecursion (IsUnmerged processors.now) logs.old }
     requires rising { RiseFrom 0 (map (left processors.now) logs.old) }
-    ensures { IfOk result (λ sends. sends.items ≡ filter_map (sought search.now) (told (merged (all_left processors.now logs.old)))) }
+    ensures { IfOk result (λ sends.
+        sends.items ≡
+        filter_map (sought search.now) (told (merged (all_left processors.now logs.old)))) }
 {
     let mut sends = Vec::new(alloc);
     while let Some(place) = first_place(logs) {
@@ -206,7 +221,8 @@ pub(crate) fn waiting_sends(
     requires numbers { HaveNumbers machine.now.cpus processors.now }
     requires search { IsSearch search.now }
     requires once { AreBegunOnce (merged_steps machine.now processors.now) }
-    ensures { IfOk result (λ sends. sends.items ≡ filter_map (sought search.now) (merged_steps machine.now processors.now)) }
+    ensures { IfOk result (λ sends.
+        sends.items ≡ filter_map (sought search.now) (merged_steps machine.now processors.now)) }
 {
     let logs = unmerged_logs(alloc, processors, machine.cpus())?;
     let mut logs = without_early(alloc, search, processors, logs)?;

@@ -38,14 +38,19 @@ pub(crate) struct Station<'m> {
 }
 
 impl<'m> Station<'m> {
-    ghost use Rattle.std.specs.Prelude.{◌≡◌, ◌<◌, ◌++◌, [], IfNone, IfOk, IsTrue, OnOk, ◌↔◌, length, map, replicate, true};
+    ghost use Rattle.std.specs.Prelude.{◌≡◌, ◌<◌, ◌++◌, [], IfNone, IfOk, IsTrue, OnOk, ◌↔◌};
+    ghost use Rattle.std.specs.Prelude.{length, map, replicate, true};
     ghost use Rattle.std.specs.Option.{option_map, option_to_list};
     ghost use Rattle.l4_core_model.specs.Local.{opening_local};
     ghost use Rattle.l4_core_model.specs.Turns.{can_stamp};
     ghost use Rattle.l4_types.specs.LetterView.{letter_of};
     ghost use Rattle.l4_core.specs.Tellings.{posted_of};
     ghost use Rattle.l4_proc.specs.Logs.{IsClosed};
-    ghost use Rattle.l4_machine.specs.Stations.{deadline_of, events_at, letters_from, letters_out, station_of, with_letter, CanGoOn, GoesOnTo, HandlesFrom, HasChosen, HasNoMail, IsResting, IsSameStation, KnowsPoster, TakesCoreTurn, TakesTurn};
+    ghost use Rattle.l4_machine.specs.Stations.{deadline_of, events_at, letters_from, letters_out};
+    ghost use Rattle.l4_machine.specs.Stations.{station_of, with_letter, CanGoOn, GoesOnTo};
+    ghost use Rattle.l4_machine.specs.Stations.{HandlesFrom, HasChosen, HasNoMail, IsResting};
+    ghost use Rattle.l4_machine.specs.Stations.{IsSameStation, KnowsPoster, TakesCoreTurn};
+    ghost use Rattle.l4_machine.specs.Stations.{TakesTurn};
 
     /// A processor where nothing has happened. `cpu` is its number, below the machine's count.
     pub(crate) fn new(alloc: Global, machine: &'m Machine, cpu: u8) -> Result<Station<'m>, NoMemory>
@@ -130,7 +135,8 @@ impl<'m> Station<'m> {
     /// The next letter that its last event posted, with the processor that it goes to. Each is
     /// given once.
     pub(crate) fn take_letter(&mut self) -> Option<(u8, Letter)>
-        ensures letters { letters_out self.old ≡ option_to_list (option_map posted_of result) ++ letters_out self.new }
+        ensures letters { letters_out self.old ≡
+            option_to_list (option_map posted_of result) ++ letters_out self.new }
         ensures none { IfNone result (letters_out self.new ≡ []) }
         ensures same { IsSameStation self.old self.new }
     {
@@ -141,7 +147,8 @@ impl<'m> Station<'m> {
     /// Appends a letter from a processor. Where memory is refused, it is lost.
     pub(crate) fn put(&mut self, from: u8, letter: Letter) -> Result<(), NoMemory>
         requires { from < length (station_of self.old).inbox }
-        ensures station { OnOk result (station_of self.new ≡ with_letter from (letter_of letter) (station_of self.old)) }
+        ensures station { OnOk result
+            (station_of self.new ≡ with_letter from (letter_of letter) (station_of self.old)) }
         ensures worker { self.new.worker ≡ self.old.worker }
     {
         self.inbox.put(from, letter)?;

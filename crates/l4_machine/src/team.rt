@@ -1,5 +1,7 @@
 //! The processors of a machine at work together, in rounds.
-ghost use Rattle.std.specs.Prelude.{ℕ, ◌≡◌, ◌≢◌, ◌<◌, ◌≤◌, ◌+◌, ◌-◌, ◌*◌, ◌^◌, ◌↔◌, ◌⊎◌, false, true, map, length, slice_get, IfOk, IfSome, IsTrue, OnOk, Some, None};
+ghost use Rattle.std.specs.Prelude.{ℕ, ◌≡◌, ◌≢◌, ◌<◌, ◌≤◌, ◌+◌, ◌-◌, ◌*◌, ◌^◌, ◌↔◌, ◌⊎◌, false};
+ghost use Rattle.std.specs.Prelude.{true, map, length, slice_get, IfOk, IfSome, IsTrue, OnOk, Some};
+ghost use Rattle.std.specs.Prelude.{None};
 ghost use Rattle.l4_model.specs.Words.{clock_limit, period_limit};
 ghost use Rattle.l4_core_model.specs.Schedules.{earliest};
 ghost use Rattle.l4_core_model.specs.Turns.{can_stamp, is_busy};
@@ -10,7 +12,8 @@ ghost use Rattle.l4_proc.specs.declared.processor.Processor.{Processor as Proces
 ghost use Rattle.l4_machine.specs.Gathered.{IsGathered};
 ghost use Rattle.l4_machine.specs.Gathers.{AreResting};
 ghost use Rattle.l4_machine.specs.Outcomes.{compact_findings_of};
-ghost use Rattle.l4_machine.specs.Teams.{count_events, deadline_of, first_deadline, AreIdle, HasComeTo, HaveComeTo, IsTeam};
+ghost use Rattle.l4_machine.specs.Teams.{count_events, deadline_of, first_deadline, AreIdle};
+ghost use Rattle.l4_machine.specs.Teams.{HasComeTo, HaveComeTo, IsTeam};
 ghost use Rattle.l4_machine.specs.Entries.{most_turns};
 
 use crate::gathering::{at_home, ending};
@@ -75,8 +78,11 @@ impl<'m> Team<'m> {
         ensures team { OnOk result (IsTeam self.new) }
         ensures machine { self.new.machine ≡ self.old.machine }
         ensures turns { self.new.turns ≡ self.old.turns }
-        ensures least { OnOk result ((self.old.turns ≤ count_events self.new.processors.items) ⊎ AreResting self.new.processors.items) }
-        ensures fewer { OnOk result (count_events self.new.processors.items < self.old.turns + self.old.machine.now.cpus) }
+        ensures least { OnOk result
+            ((self.old.turns ≤ count_events self.new.processors.items) ⊎
+            AreResting self.new.processors.items) }
+        ensures fewer { OnOk result
+            (count_events self.new.processors.items < self.old.turns + self.old.machine.now.cpus) }
     {
         let _ = self.machine.cpus();
         for done in 0..self.turns {
@@ -91,7 +97,8 @@ impl<'m> Team<'m> {
     /// The outcome of the run.
     pub(crate) fn into_outcome(self, alloc: Global) -> Result<CompactOutcome<'m>, NoMemory>
         requires { IsTeam self }
-        ensures { IfOk result (λ o. IsGathered self.entry.machine.now self.entry.processors.items (compact_findings_of o)) }
+        ensures { IfOk result (λ o.
+            IsGathered self.entry.machine.now self.entry.processors.items (compact_findings_of o)) }
     {
         law_core_run();
         let _ = self.machine.cpus();
@@ -123,9 +130,11 @@ impl<'m> Team<'m> {
         ensures team { OnOk result (IsTeam self.new) }
         ensures machine { self.new.machine ≡ self.old.machine }
         ensures turns { self.new.turns ≡ self.old.turns }
-        ensures more { IfOk result (λ on. IsTrue on → count_events self.old.processors.items < count_events self.new.processors.items) }
+        ensures more { IfOk result (λ on. IsTrue on →
+            count_events self.old.processors.items < count_events self.new.processors.items) }
         ensures rest { IfOk result (λ on. on ≡ false → AreResting self.new.processors.items) }
-        ensures fewer { OnOk result (count_events self.new.processors.items < self.old.turns + self.old.machine.now.cpus) }
+        ensures fewer { OnOk result
+            (count_events self.new.processors.items < self.old.turns + self.old.machine.now.cpus) }
     {
         if !self.is_idle() {
             self.work(rt, alloc, gate)?;
@@ -152,7 +161,8 @@ impl<'m> Team<'m> {
     // Whether no processor has anything to do, and no letter is under way.
     fn is_idle(&self) -> bool
         requires { IsTeam self.now }
-        ensures { IsTrue result ↔ (AreIdle self.now.processors.items × HaveHandledAll self.now.processors.items) }
+        ensures { IsTrue result ↔
+            (AreIdle self.now.processors.items × HaveHandledAll self.now.processors.items) }
     {
         self.all_handled && are_idle(self.processors.as_slice())
     }
@@ -162,7 +172,8 @@ impl<'m> Team<'m> {
         requires team { IsTeam self.now }
         requires few { count_events self.now.processors.items ≤ most_turns }
         ensures value { result ≡ first_deadline self.now.processors.items }
-        ensures near { IfSome result (λ deadline. deadline < (count_events self.now.processors.items + 1) * period_limit) }
+        ensures near { IfSome result (λ deadline.
+            deadline < (count_events self.now.processors.items + 1) * period_limit) }
     {
         let _ = &self.machine;
         first_deadline(self.processors.as_slice())
@@ -178,12 +189,15 @@ impl<'m> Team<'m> {
         requires team { IsTeam self.old }
         requires few { self.old.turns ≤ most_turns }
         requires left { count_events self.old.processors.items < self.old.turns }
-        requires busy { AreIdle self.old.processors.items × HaveHandledAll self.old.processors.items → ⊥ }
+        requires busy { AreIdle self.old.processors.items ×
+            HaveHandledAll self.old.processors.items → ⊥ }
         ensures team { OnOk result (IsTeam self.new) }
         ensures machine { self.new.machine ≡ self.old.machine }
         ensures turns { self.new.turns ≡ self.old.turns }
-        ensures more { OnOk result (count_events self.old.processors.items < count_events self.new.processors.items) }
-        ensures fewer { OnOk result (count_events self.new.processors.items < self.old.turns + self.old.machine.now.cpus) }
+        ensures more { OnOk result
+            (count_events self.old.processors.items < count_events self.new.processors.items) }
+        ensures fewer { OnOk result
+            (count_events self.new.processors.items < self.old.turns + self.old.machine.now.cpus) }
     {
         law_core_run();
         let share = share(self.turns - self.events(), self.machine.cpus());
@@ -198,14 +212,18 @@ impl<'m> Team<'m> {
     fn tick(&mut self, deadline: u64) -> Result<(), NoMemory>
         requires team { IsTeam self.old }
         requires few { count_events self.old.processors.items ≤ most_turns }
-        requires idle { AreIdle self.old.processors.items × HaveHandledAll self.old.processors.items }
+        requires idle { AreIdle self.old.processors.items ×
+            HaveHandledAll self.old.processors.items }
         requires first { first_deadline self.old.processors.items ≡ Some deadline }
         requires near { deadline < (count_events self.old.processors.items + 1) * period_limit }
         ensures team { OnOk result (IsTeam self.new) }
         ensures machine { self.new.machine ≡ self.old.machine }
         ensures turns { self.new.turns ≡ self.old.turns }
-        ensures more { OnOk result (count_events self.old.processors.items < count_events self.new.processors.items) }
-        ensures fewer { OnOk result (count_events self.new.processors.items ≤ count_events self.old.processors.items + self.old.machine.now.cpus) }
+        ensures more { OnOk result
+            (count_events self.old.processors.items < count_events self.new.processors.items) }
+        ensures fewer { OnOk result
+            (count_events self.new.processors.items ≤
+            count_events self.old.processors.items + self.old.machine.now.cpus) }
     {
         let _ = self.machine.cpus();
         tick_all(self.processors.as_mut_slice(), deadline)
@@ -249,7 +267,9 @@ fn are_idle(processors: &[Processor<'_>]) -> bool
 // The least deadline of these processors, in ticks.
 fn first_deadline(processors: &[Processor<'_>]) -> Option<u64>
     ensures value { result ≡ first_deadline processors.now }
-    ensures near { (last : ℕ) → ((i : ℕ) (p : ProcessorOfMachine) → slice_get processors.now i ≡ Some p → p.worker.core.local.clock ≤ last) →
+    ensures near { (last : ℕ) →
+        ((i : ℕ) (p : ProcessorOfMachine) → slice_get processors.now i ≡ Some p →
+        p.worker.core.local.clock ≤ last) →
         IfSome result (λ deadline. deadline < last + period_limit) }
 {
     let mut first = None;
@@ -289,8 +309,10 @@ fn come_to_rest(alloc: Global, processors: &mut Vec<Processor<'_>>) -> Result<bo
 // Whether memory was refused to one of these processors. There is no other fault, since all letters
 // are lawful and all stamps are low.
 fn check_stops(processors: &[Processor<'_>]) -> Result<(), NoMemory>
-    requires { (i : ℕ) (p : ProcessorOfMachine) → slice_get processors.now i ≡ Some p → (p.worker.stop ≢ Stop.Mail) × (p.worker.stop ≢ Stop.Stamp) }
-    ensures { OnOk result ((i : ℕ) (p : ProcessorOfMachine) → slice_get processors.now i ≡ Some p → (p.worker.stop ≡ Stop.Used) ⊎ (p.worker.stop ≡ Stop.Idle)) }
+    requires { (i : ℕ) (p : ProcessorOfMachine) → slice_get processors.now i ≡ Some p →
+        (p.worker.stop ≢ Stop.Mail) × (p.worker.stop ≢ Stop.Stamp) }
+    ensures { OnOk result ((i : ℕ) (p : ProcessorOfMachine) → slice_get processors.now i ≡ Some p →
+        (p.worker.stop ≡ Stop.Used) ⊎ (p.worker.stop ≡ Stop.Idle)) }
 {
     for processor in processors {
         check_stop(processor.stop())?;
@@ -312,7 +334,8 @@ fn check_stop(stop: Stop) -> Result<(), NoMemory>
 // Advances all clocks below this value to it, in ticks.
 fn tick_all(processors: &mut [Processor<'_>], to: u64) -> Result<(), NoMemory>
     requires low { to < clock_limit }
-    requires stamps { (i : ℕ) (p : ProcessorOfMachine) → slice_get processors.old i ≡ Some p → can_stamp p.worker.core.local 0 ≡ true }
+    requires stamps { (i : ℕ) (p : ProcessorOfMachine) → slice_get processors.old i ≡ Some p →
+        can_stamp p.worker.core.local 0 ≡ true }
     ensures { OnOk result (HaveComeTo to processors.old processors.new) }
 {
     for place in 0..processors.len() {

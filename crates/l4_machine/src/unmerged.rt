@@ -1,11 +1,13 @@
 //! Logs that are merged event by event, in order of stamp, and of equal ones by processor.
-ghost use Rattle.std.specs.Prelude.{◌≡◌, ◌<◌, ◌≤◌, List, IfOk, OnOk, is_some, length, map, slice_get, true};
+ghost use Rattle.std.specs.Prelude.{◌≡◌, ◌<◌, ◌≤◌, List, IfOk, OnOk, is_some, length, map};
+ghost use Rattle.std.specs.Prelude.{slice_get, true};
 ghost use Rattle.std.specs.List.{AllByRecursion};
 ghost use Rattle.std.specs.Option.{option_map};
 ghost use Rattle.l4_core_model.specs.Runs.{merged, told};
 ghost use Rattle.l4_proc.specs.Logs.{events};
 ghost use Rattle.l4_proc.specs.declared.processor.Processor.{Processor as ProcessorOfMachine};
-ghost use Rattle.l4_machine.specs.EventsLeft.{all_left, least_place, left, HasTakenFirst, IsUnmerged};
+ghost use Rattle.l4_machine.specs.EventsLeft.{all_left, least_place, left, HasTakenFirst};
+ghost use Rattle.l4_machine.specs.EventsLeft.{IsUnmerged};
 ghost use Rattle.l4_machine.specs.Rising.{RiseFrom};
 ghost use Rattle.l4_machine.specs.Gathers.{events_of};
 
@@ -57,7 +59,8 @@ pub(crate) fn stamp_of(log: &Log, i: usize) -> Option<u64>
 
 /// How many events are left of all these logs.
 pub(crate) fn count_left(logs: &[Unmerged]) -> Result<usize, NoMemory>
-    ensures { (ps : List ProcessorOfMachine) → AllByRecursion (IsUnmerged ps) logs.now → IfOk result (λ count. count ≡ length (all_left ps logs.now)) }
+    ensures { (ps : List ProcessorOfMachine) → AllByRecursion (IsUnmerged ps) logs.now →
+        IfOk result (λ count. count ≡ length (all_left ps logs.now)) }
 {
     let mut count: usize = 0;
     for log in logs {
@@ -70,7 +73,8 @@ pub(crate) fn count_left(logs: &[Unmerged]) -> Result<usize, NoMemory>
 /// The place of the log whose next event comes first: no log has a lower stamp, and no earlier log
 /// the same one.
 pub(crate) fn first_place(logs: &[Unmerged]) -> Option<usize>
-    ensures { result ≡ option_map (λ first. first.0) (least_place (map (λ log. log.stamp) logs.now)) }
+    ensures { result ≡ option_map (λ first. first.0)
+        (least_place (map (λ log. log.stamp) logs.now)) }
 {
     let mut first: Option<(usize, u64)> = None;
     let mut place = logs.len();

@@ -1,5 +1,6 @@
 //! The sends of a run that are undecided.
-ghost use Rattle.std.specs.Prelude.{◌≡◌, ◌<◌, ◌≤◌, ◌+◌, ◌++◌, [], IfOk, IfSome, OnOk, drop, false, filter_map, length, reverse, slice_get, take};
+ghost use Rattle.std.specs.Prelude.{◌≡◌, ◌<◌, ◌≤◌, ◌+◌, ◌++◌, [], IfOk, IfSome, OnOk, drop, false};
+ghost use Rattle.std.specs.Prelude.{filter_map, length, reverse, slice_get, take};
 ghost use Rattle.std.specs.List.{AllByRecursion};
 ghost use Rattle.l4_machine.specs.Homes.{sent_to, IsNotBelow};
 ghost use Rattle.l4_machine.specs.Waiting.{count_undecided, sought, AreBegunOnce, IsSearch};
@@ -47,7 +48,8 @@ impl<'a> Search<'a> {
     ) -> Result<Vec<(Name, ThreadId)>, NoMemory>
         requires search { IsSearch self.now }
         requires once { AreBegunOnce history.now.steps }
-        ensures { IfOk result (λ sends. sends.items ≡ filter_map (sought self.now) history.now.steps) }
+        ensures { IfOk result (λ sends.
+            sends.items ≡ filter_map (sought self.now) history.now.steps) }
     {
         let mut sends = Vec::new(alloc);
         let start = self.start(history);
@@ -93,7 +95,8 @@ impl<'a> Search<'a> {
     ) -> usize
         requires search { IsSearch self.now }
         requires within { end ≤ length history.now.steps }
-        ensures { missing ≤ result + length (filter_map (sought self.now) (drop start (take end history.now.steps))) }
+        ensures { missing ≤ result + length
+            (filter_map (sought self.now) (drop start (take end history.now.steps))) }
     {
         let mut missing = missing;
         for place in start..end {
@@ -114,7 +117,9 @@ impl<'a> Search<'a> {
     ) -> Result<(), NoMemory>
         requires search { IsSearch self.now }
         requires within { end ≤ length history.now.steps }
-        ensures { OnOk result (sends.new.items ≡ sends.old.items ++ filter_map (sought self.now) (drop start (take end history.now.steps))) }
+        ensures { OnOk result (sends.new.items ≡
+            sends.old.items ++
+            filter_map (sought self.now) (drop start (take end history.now.steps))) }
     {
         for place in start..end {
             if let Some(send) = self.send_at(history, place) {
@@ -151,7 +156,8 @@ impl<'a> Search<'a> {
     pub(crate) fn finds_between(&self, history: &History, start: usize, end: usize) -> bool
         requires search { IsSearch self.now }
         requires within { end ≤ length history.now.steps }
-        ensures { result ≡ false → filter_map (sought self.now) (drop start (take end history.now.steps)) ≡ [] }
+        ensures { result ≡ false →
+            filter_map (sought self.now) (drop start (take end history.now.steps)) ≡ [] }
     {
         for place in start..end {
             if self.send_at(history, place).is_some() {
@@ -165,7 +171,8 @@ impl<'a> Search<'a> {
     fn send_at(&self, history: &History, place: usize) -> Option<(Name, ThreadId)>
         requires search { IsSearch self.now }
         requires within { place < length history.now.steps }
-        ensures { IfSome (slice_get history.now.steps place) (λ step. result ≡ sought self.now step) }
+        ensures { IfSome (slice_get history.now.steps place)
+            (λ step. result ≡ sought self.now step) }
     {
         let name = history.begun(place)?;
         if name.k() < self.least {

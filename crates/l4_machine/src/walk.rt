@@ -88,7 +88,8 @@ impl<'m> Walk<'m> {
     /// Whether nothing is to be done, armed or under way.
     pub fn is_at_rest(&self) -> bool
         requires { HasRun self.now }
-        ensures { (m : MachineOfModel) (r : Run) → IsRun m r self.now → result ≡ at_rest m r.system }
+        ensures { (m : MachineOfModel) (r : Run) → IsRun m r self.now →
+            result ≡ at_rest m r.system }
     {
         self.scheduler.is_at_rest()
     }

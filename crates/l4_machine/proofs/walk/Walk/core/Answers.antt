@@ -11,4 +11,4 @@ returns c =
     subst (λ (u : UnderWay). (m : Machine) (r : Run) → IsRun m r u → IsProcessorOf m r.system c.args.cpu c.core.result.now)
     c.self.view_is
     (λ m r is. processor_here m r (under_way c.self.inside.scheduler) c.args.cpu (station_of c.station.result.now)
-        c.core.result.now is c.station.ensures c.core.ensures)
+    c.core.result.now is c.station.ensures c.core.ensures)

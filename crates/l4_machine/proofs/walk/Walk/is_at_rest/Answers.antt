@@ -10,4 +10,4 @@ returns c =
     subst (λ (u : UnderWay). (m : Machine) (r : Run) → IsRun m r u → c.is_at_rest.result ≡ at_rest m r.system)
     c.self.view_is
     (λ m r is. rest_here m r (under_way c.self.inside.scheduler) c.is_at_rest.result is
-        c.is_at_rest.ensures.1 c.is_at_rest.ensures.0)
+    c.is_at_rest.ensures.1 c.is_at_rest.ensures.0)

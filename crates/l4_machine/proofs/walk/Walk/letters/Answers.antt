@@ -15,7 +15,7 @@ letters-requires c =
 pub returns : goal.returns
 returns c =
     subst (λ (u : UnderWay). (m : Machine) (r : Run) → IsRun m r u →
-        map letter_of c.letters.result.now.items ≡ letters r.system.mail c.args.from c.args.cpu)
+    map letter_of c.letters.result.now.items ≡ letters r.system.mail c.args.from c.args.cpu)
     c.self.view_is
     (λ m r is. mail_here m r (under_way c.self.inside.scheduler) c.args.cpu c.args.from (station_of c.station.result.now)
-        (map letter_of c.letters.result.now.items) is c.station.ensures c.letters.ensures)
+    (map letter_of c.letters.result.now.items) is c.station.ensures c.letters.ensures)

@@ -124,8 +124,8 @@ fn run_output<'a, R: Threads + Sync>(
     report: bool,
 ) -> Result<Output, Fault<'a>>
     ensures ok { IfOk result (λ output.
-        IsRunShown report machine.now
-        (IsRunAsked machine.now turns) output.lines.items output.status) }
+        IsRunShown report machine.now (IsRunAsked machine.now turns) output.lines.items
+        output.status) }
     ensures err { IfErr result (λ fault. (fault ≡ OutOfMemory) ⊎
         (fault_of_turns turns ≡ Some fault)) }
 {
@@ -141,8 +141,8 @@ fn replay_output<'a>(
     report: bool,
 ) -> Result<Output, Fault<'a>>
     ensures ok { IfOk result (λ output.
-        IsRunShown report machine.now
-        (IsReplayAsked machine.now list.now) output.lines.items output.status) }
+        IsRunShown report machine.now (IsReplayAsked machine.now list.now) output.lines.items
+        output.status) }
     ensures err { IfErr result (λ fault. (fault ≡ OutOfMemory) ⊎
         (fault_of_result (run_by_list machine.now list.now) ≡ Some fault)) }
 {
@@ -223,8 +223,8 @@ fn job_output<'a, R: Threads + Sync, M: Source, T: Source>(
 ) -> Result<Output, Fault<'a>>
     ensures shown { IfOk result (λ output.
         (text : List ℕ) × (told : List ℕ) × M.gives machine.old (Ok text) ×
-        IsTold job.now
-        (T.gives trace.old) told × IsShown job.now text told output.lines.items output.status) }
+        IsTold job.now (T.gives trace.old) told ×
+        IsShown job.now text told output.lines.items output.status) }
     ensures err { IfErr result (IsJobFault job.now (M.gives machine.old) (T.gives trace.old)) }
     ensures unread { trace_file_of job.now ≡ None → trace.new ≡ trace.old }
 {

@@ -2,17 +2,19 @@
 // call is made, and made again where memory was refused: the second gives what the first would have
 // given. The work of processors and their outcome, which may be refused too, are tested by their
 // rows.
-ghost use Rattle.std.specs.Prelude.{map};
+ghost use Rattle.std.specs.Prelude.{IfOk, map};
+ghost use Rattle.l4_machine.specs.UnderWay.{HasRun};
 ghost use Rattle.l4_mail.specs.Ports.{AreOneFabric};
 
 use crate::gathers::has;
 use crate::processors::{have_rested, processors_of, runs_idle};
 use crate::runs::{is_right, machine_of};
 use l4_audit::audit::{Audit, AuditFault, check};
+use l4_audit::auditor::Auditor;
 use l4_jobs::job::Job;
 use l4_jobs::perform::perform;
 use l4_jobs::words::{WordsFault, job_of};
-use l4_machine::{Outcome, RunFault, replay, run};
+use l4_machine::{Entry, Outcome, RunFault, Walk, replay, run};
 use l4_mail::rests::RestFault;
 use l4_proc::assembly::assemble;
 use l4_proc::gate::Open;
@@ -22,7 +24,9 @@ use l4_proc::stops::{ProcFault, Stop};
 use l4_samples::{ACROSS, ACROSS_TRACE, PING, PING_REPORT, PING_TRACE, call_begins, call_ends};
 use l4_script::machine::Machine;
 use l4_types::errors::NoMemory;
+use l4_types::step_ref::StepRef;
 use l4_types::steps::Step;
+use std::alloc::Global;
 use std::process::Abort;
 use std::thread::Threads;
 
@@ -176,6 +180,33 @@ fn replayed<R: AllocGlobal + Print>(rt: &R, machine: &Machine) -> Result<Outcome
     }
 }
 
+// A core run of a machine after the entries of the schedule.
+fn walked<'m>(alloc: Global, machine: &'m Machine) -> Result<Walk<'m>, NoMemory>
+    ensures { IfOk result HasRun }
+{
+    let mut walk = Walk::new(alloc, machine)?;
+    for number in SCHEDULE {
+        let entry = Entry::of_number(number);
+        if entry.is_of(machine) && walk.events() < SCHEDULE.len() {
+            walk.take(entry)?;
+        }
+    }
+    Ok(walk)
+}
+
+#[test]
+fn a_core_run_is_walked(rt: HostRuntime) {
+    let machine = machine_of(rt.alloc(), ACROSS).expect(&rt, "a machine");
+    call_begins(&rt, "Walk");
+    let refused = walked(rt.alloc(), &machine);
+    call_ends(&rt);
+    let walk = match refused {
+        Ok(walk) => walk,
+        Err(NoMemory) => walked(rt.alloc(), &machine).ok().expect(&rt, "a core run"),
+    };
+    assert!(rt; walk.events() == 8 && walk.is_at_rest());
+}
+
 // What the audit of its history finds, by a second call where memory was refused.
 fn audited<R: AllocGlobal + Print>(
     rt: &R,
@@ -206,6 +237,46 @@ fn a_schedule_is_replayed_and_audited(rt: HostRuntime) {
     let audit = audited(&rt, &machine, outcome.history.as_slice());
     let audit = audit.ok().expect(&rt, "an audit");
     assert!(rt; is_confirmed(&outcome, &audit));
+}
+
+// The steps that are possible, listed again where memory was refused.
+fn listed<R: AllocGlobal + Print>(rt: &R, auditor: &Auditor<'_>) -> Result<Vec<Step>, NoMemory> {
+    call_begins(rt, "possible");
+    let steps = auditor.possible(rt.alloc());
+    call_ends(rt);
+    match steps {
+        Ok(steps) => Ok(steps),
+        Err(NoMemory) => auditor.possible(rt.alloc()),
+    }
+}
+
+// How many steps are possible, where this is one of them.
+fn possible_beside<R: AllocGlobal + Print>(
+    rt: &R,
+    auditor: &Auditor<'_>,
+    step: &Step,
+) -> Option<usize> {
+    let steps = listed(rt, auditor).ok()?;
+    if !steps.iter().any(|listed| listed == step) {
+        return None;
+    }
+    Some(steps.len())
+}
+
+// Both threads can go on at first and at last, and only the sender between.
+#[test]
+fn possible_steps_are_listed(rt: HostRuntime) {
+    let machine = machine_of(rt.alloc(), ACROSS).expect(&rt, "a machine");
+    let outcome = replay(rt.alloc(), &machine, &SCHEDULE).ok();
+    let outcome = outcome.expect(&rt, "an outcome");
+    let auditor = Auditor::new(rt.alloc(), &machine).ok();
+    let mut auditor = auditor.expect(&rt, "an auditor");
+    for (step, count) in outcome.history.iter().zip([2, 1, 1, 1, 1, 1, 2, 1]) {
+        assert!(rt; possible_beside(&rt, &auditor, step) == Some(count));
+        assert!(rt; auditor.step(&StepRef::from(step)).is_ok());
+    }
+    let left = listed(&rt, &auditor).ok().expect(&rt, "steps");
+    assert!(rt; left.is_empty());
 }
 
 // What words of a command line ask for, read again where memory was refused.

@@ -1,0 +1,7 @@
+use Rattle.l4_core_model.specs.Runs.{Run}
+use Rattle.l4_machine.specs.UnderWay.{IsRun}
+use Rattle.l4_host_tests.proofs.refused.walked.Given as goal
+
+-- It is a core run of the machine.
+abbrev pub invariant-loop : goal.invariant-loop
+invariant-loop g l = (r : Run) × IsRun l.machine r l.walk

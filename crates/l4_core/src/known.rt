@@ -1,8 +1,10 @@
 //! The state of one processor: its threads, their lists and its clock, and what is cached of
 //! foreign threads.
-ghost use Rattle.std.specs.Prelude.{◌≡◌, ◌<◌, ◌≤◌, ◌+◌, None, Some, length, false, is_some, map, replicate, IfOk, IfSome, slice_get, slice_index_or};
+ghost use Rattle.std.specs.Prelude.{◌≡◌, ◌<◌, ◌≤◌, ◌+◌, None, Some, length, false, is_some, map};
+ghost use Rattle.std.specs.Prelude.{replicate, IfOk, IfSome, slice_get, slice_index_or};
 ghost use Rattle.std.specs.Option.{option_map};
-ghost use Rattle.l4_model.specs.Machine.{place_of, is_place, same_space, most_processors, most_threads, most_instructions};
+ghost use Rattle.l4_model.specs.Machine.{place_of, is_place, same_space, most_processors};
+ghost use Rattle.l4_model.specs.Machine.{most_threads, most_instructions};
 ghost use Rattle.l4_model.specs.World.{Send, is_deleted, opening_thread, receive_now};
 ghost use Rattle.l4_model.specs.Conditions.{instruction};
 ghost use Rattle.l4_model.specs.History.{report_of};
@@ -14,7 +16,8 @@ ghost use Rattle.l4_script.specs.Scripts.{instr_of};
 ghost use Rattle.l4_thread.specs.Requests.{is_end};
 ghost use Rattle.l4_core.specs.Asking.{admitted_act};
 ghost use Rattle.l4_core_model.specs.Plain.{due_block, is_queued};
-ghost use Rattle.l4_core_model.specs.Local.{declared, held, is_own, last_name, opening_local, thread};
+ghost use Rattle.l4_core_model.specs.Local.{declared, held, is_own, last_name, opening_local};
+ghost use Rattle.l4_core_model.specs.Local.{thread};
 ghost use Rattle.l4_core_model.specs.Acts.{entry, first_acceptable, split_place};
 ghost use Rattle.l4_core_model.specs.Turns.{can_stamp};
 ghost use Rattle.l4_core.specs.Covered.{is_zero_send};
@@ -67,16 +70,26 @@ impl<'m> Model for Known<'m> {
 
     ghost Value = { Processor };
 
-    ghost view = { λ c. record { machine = c.machine.now; cpu = c.cpu; local = local_of c.threads.items c.lists c.told.items (kept_of c.machine.now c.owed.items) c.clock c.stamp } };
+    ghost view = { λ c.
+        record {
+          machine = c.machine.now;
+          cpu = c.cpu;
+          local = local_of c.threads.items c.lists c.told.items
+              (kept_of c.machine.now c.owed.items) c.clock c.stamp;
+        } };
 
-    ghost invariant = { λ c. IsKept c.machine.now c.cpu c.threads.items c.lists c.told.items (kept_of c.machine.now c.owed.items) c.clock c.stamp };
+    ghost invariant = { λ c.
+        IsKept c.machine.now c.cpu c.threads.items c.lists c.told.items
+        (kept_of c.machine.now c.owed.items) c.clock c.stamp };
 }
 
 impl<'m> Known<'m> {
     /// What a processor knows at the beginning.
     pub(crate) fn new(alloc: Global, machine: &'m Machine, cpu: u8) -> Result<Known<'m>, NoMemory>
         requires { cpu < machine.now.cpus }
-        ensures { IfOk result (λ known. known ≡ record { machine = machine.now; cpu = cpu; local = opening_local machine.now cpu }) }
+        ensures { IfOk result (λ known.
+            known ≡
+            record { machine = machine.now; cpu = cpu; local = opening_local machine.now cpu }) }
     {
         let _few = machine.threads();
         let threads = opening_threads(alloc, machine)?;
@@ -240,7 +253,8 @@ impl<'m> Known<'m> {
     /// The report of a thread, as far as it is known here.
     pub(crate) fn view(&self, place: usize) -> ThreadView
         requires { place < length self.now.machine.threads }
-        ensures { report_of_view result ≡ report_of (declared self.now.machine place).id (thread self.now.local place) }
+        ensures { report_of_view result ≡
+            report_of (declared self.now.machine place).id (thread self.now.local place) }
     {
         self.tcb(place).view()
     }
@@ -298,7 +312,8 @@ impl<'m> Known<'m> {
     /// The message that a thread sends.
     pub(crate) fn message(&self, sender: usize) -> MessageRef<'_>
         requires { IsSender self.now sender }
-        ensures message { option_map (λ send. send.message) (thread self.now.local sender).send ≡ Some result }
+        ensures message { option_map (λ send. send.message) (thread self.now.local sender).send ≡
+            Some result }
         ensures actual { result.actual ≡ (declared self.now.machine sender).id }
     {
         let _ = &self.machine;
@@ -335,7 +350,8 @@ impl<'m> Known<'m> {
     pub(crate) fn entry(&self, receiver: usize, sender: usize) -> Waiting
         requires receiver { receiver < length self.now.machine.threads }
         requires sender { IsSender self.now sender }
-        ensures { (send : Send) → (thread self.now.local sender).send ≡ Some send → result ≡ entry self.now.machine receiver sender send }
+        ensures { (send : Send) → (thread self.now.local sender).send ≡ Some send →
+            result ≡ entry self.now.machine receiver sender send }
     {
         let shown = self.message(sender).shown();
         Waiting {
@@ -351,7 +367,8 @@ impl<'m> Known<'m> {
     fn is_of_space(&self, shown: GlobalId, sender: usize, receiver: usize) -> bool
         requires sender { sender < length self.now.machine.threads }
         requires receiver { receiver < length self.now.machine.threads }
-        ensures { result ≡ same_space self.now.machine shown (declared self.now.machine receiver).id }
+        ensures { result ≡ same_space self.now.machine shown
+            (declared self.now.machine receiver).id }
     {
         if shown == self.id(sender) {
             self.share_space(sender, receiver)
@@ -364,7 +381,8 @@ impl<'m> Known<'m> {
     fn share_space(&self, one: usize, other: usize) -> bool
         requires one { one < length self.now.machine.threads }
         requires other { other < length self.now.machine.threads }
-        ensures { result ≡ same_space self.now.machine (declared self.now.machine one).id (declared self.now.machine other).id }
+        ensures { result ≡ same_space self.now.machine (declared self.now.machine one).id
+            (declared self.now.machine other).id }
     {
         let _ = &self.machine;
         self.space_of(one) == self.space_of(other)
@@ -385,7 +403,8 @@ impl<'m> Known<'m> {
     /// the caller's space.
     pub(crate) fn admitted(&self, place: usize, target: ThreadId, what: What) -> Option<GlobalId>
         requires { place < length self.now.machine.threads }
-        ensures { ask_act self.now.machine (declared self.now.machine place).id target (what_of what) ≡ admitted_act (what_of what) result }
+        ensures { ask_act self.now.machine (declared self.now.machine place).id target
+            (what_of what) ≡ admitted_act (what_of what) result }
     {
         let target = target.as_global()?;
         let is_admitted = self.machine.admits(self.id(place), target, what);
@@ -396,7 +415,8 @@ impl<'m> Known<'m> {
     pub(crate) fn instruction(&self, place: usize) -> Instr
         requires { place < length self.now.machine.threads }
         ensures value { instr_of result ≡ instruction (held self.now.machine self.now.local place) }
-        ensures within { is_end (instr_of result) ≡ false → (thread self.now.local place).context.place < most_instructions }
+        ensures within { is_end (instr_of result) ≡ false →
+            (thread self.now.local place).context.place < most_instructions }
     {
         self.declared(place)
             .instruction(self.tcb(place).thread().place())
@@ -406,7 +426,8 @@ impl<'m> Known<'m> {
     // Whether this receive specifier of a thread accepts a message that shows this sender.
     fn accepts(&self, from: ThreadId, shown: GlobalId, receiver: usize) -> bool
         requires { receiver < length self.now.machine.threads }
-        ensures { result ≡ accepts self.now.machine from shown (declared self.now.machine receiver).id }
+        ensures { result ≡ accepts self.now.machine from shown
+            (declared self.now.machine receiver).id }
     {
         from.takes(shown, self.machine.same_space(shown, self.id(receiver)))
     }
@@ -414,8 +435,10 @@ impl<'m> Known<'m> {
 
 // The blocks of threads that have run nothing.
 fn opening_threads(alloc: Global, machine: &Machine) -> Result<Vec<Tcb>, NoMemory>
-    ensures threads { IfOk result (λ blocks. threads_of blocks.items ≡ replicate (length machine.now.threads) opening_thread) }
-    ensures ids { IfOk result (λ blocks. ids_of blocks.items ≡ map (λ d. d.id) machine.now.threads) }
+    ensures threads { IfOk result (λ blocks.
+        threads_of blocks.items ≡ replicate (length machine.now.threads) opening_thread) }
+    ensures ids { IfOk result (λ blocks.
+        ids_of blocks.items ≡ map (λ d. d.id) machine.now.threads) }
 {
     let declared = machine.threads();
     let count = declared.len();
@@ -464,7 +487,8 @@ fn untold(alloc: Global, machine: &Machine) -> Result<Vec<u8>, NoMemory>
 
 // Nothing is owed. Only a machine of profile 2 has a place for each thread.
 fn nothing_owed(alloc: Global, machine: &Machine) -> Result<Vec<Option<Owed>>, NoMemory>
-    ensures { IfOk result (λ owed. kept_of machine.now owed.items ≡ map (λ d. None) machine.now.threads) }
+    ensures { IfOk result (λ owed.
+        kept_of machine.now owed.items ≡ map (λ d. None) machine.now.threads) }
 {
     if !machine.retargets() {
         return Ok(Vec::new(alloc));

@@ -1,5 +1,6 @@
 //! One processor: its turns and its clock.
-ghost use Rattle.std.specs.Prelude.{◌≡◌, ◌+◌, ◌<◌, ◌≤◌, IfOk, IfSome, is_some, length, slice_get, slice_index_or, true, ℕ, ◌||◌, ◌==◌};
+ghost use Rattle.std.specs.Prelude.{◌≡◌, ◌+◌, ◌<◌, ◌≤◌, IfOk, IfSome, is_some, length, slice_get};
+ghost use Rattle.std.specs.Prelude.{slice_index_or, true, ℕ, ◌||◌, ◌==◌};
 ghost use Rattle.std.specs.Option.{option_map};
 ghost use Rattle.l4_model.specs.Words.{clock_limit, period_limit};
 ghost use Rattle.l4_model.specs.Machine.{most_threads};
@@ -91,7 +92,9 @@ impl<'m> Core<'m> {
     /// machine's count.
     pub fn new(alloc: Global, machine: &'m Machine, cpu: u8) -> Result<Core<'m>, NoMemory>
         requires { cpu < machine.now.cpus }
-        ensures { IfOk result (λ core. core ≡ record { machine = machine.now; cpu = cpu; local = opening_local machine.now cpu }) }
+        ensures { IfOk result (λ core.
+            core ≡
+            record { machine = machine.now; cpu = cpu; local = opening_local machine.now cpu }) }
     {
         Ok(Core {
             known: Known::new(alloc, machine, cpu)?,
@@ -183,7 +186,8 @@ impl<'m> Core<'m> {
     /// processor, its whole report.
     pub fn view(&self, place: usize) -> ThreadView
         requires { place < length self.now.machine.threads }
-        ensures { report_of_view result ≡ report_of (declared self.now.machine place).id (thread self.now.local place) }
+        ensures { report_of_view result ≡
+            report_of (declared self.now.machine place).id (thread self.now.local place) }
     {
         self.known.view(place)
     }
@@ -251,7 +255,9 @@ impl<'m> Core<'m> {
     // 0 where there is none.
     fn open(&mut self, letter_stamp: u64) -> u64
         requires { can_stamp self.old.local letter_stamp ≡ true }
-        ensures state { self.new ≡ with_local self.old (record self.old.local { stamp = next_stamp letter_stamp self.old.local }) }
+        ensures state { self.new ≡
+            with_local self.old
+            (record self.old.local { stamp = next_stamp letter_stamp self.old.local }) }
         ensures stamp { result ≡ next_stamp letter_stamp self.old.local }
     {
         let stamp = self.known.stamp().max(letter_stamp) + 1;
@@ -261,7 +267,8 @@ impl<'m> Core<'m> {
 
     // What the next turn does.
     fn choice(&mut self) -> Option<Choice>
-        ensures choice { option_map (choice_of self.old.local.owed) result ≡ choice self.old.machine self.old.cpu self.old.local }
+        ensures choice { option_map (choice_of self.old.local.owed) result ≡
+            choice self.old.machine self.old.cpu self.old.local }
         ensures possible { IfSome result (λ choice. IsPossible choice self.new) }
         ensures same { self.new ≡ self.old }
     {
@@ -319,7 +326,8 @@ fn note(known: &Known, duties: &mut Places, place: usize)
 #[inline(always)]
 fn note_duty(known: &Known, duties: &mut Places, zeros: &Places, place: usize)
     requires own { IsOwnOf known.now place }
-    requires others { CoversOthers place duties.old known.now.machine known.now.cpu known.now.local }
+    requires others { CoversOthers place duties.old known.now.machine known.now.cpu
+        known.now.local }
     requires zeros { CoversZeros zeros.now known.now.local }
     ensures { Covers duties.new known.now.machine known.now.cpu known.now.local }
 {
@@ -338,7 +346,8 @@ fn note_duty_beside(
     other: usize,
 )
     requires own { IsOwnOf known.now place }
-    requires others { CoversBut place other duties.old known.now.machine known.now.cpu known.now.local }
+    requires others { CoversBut place other duties.old known.now.machine known.now.cpu
+        known.now.local }
     requires zeros { CoversZeros zeros.now known.now.local }
     ensures { CoversOthers other duties.new known.now.machine known.now.cpu known.now.local }
 {
@@ -359,7 +368,8 @@ fn note_queued(
 )
     requires receiver { IsOwnOf known.now receiver }
     requires sender { sender < length known.now.machine.threads }
-    requires others { CoversBut receiver sender duties.old known.now.machine known.now.cpu known.now.local }
+    requires others { CoversBut receiver sender duties.old known.now.machine known.now.cpu
+        known.now.local }
     requires zeros { CoversZeros zeros.now known.now.local }
     ensures { Covers duties.new known.now.machine known.now.cpu known.now.local }
 {
@@ -372,9 +382,11 @@ fn note_queued(
 // Notes that a thread may have a duty now, where it is of this processor.
 fn note_own(known: &Known, duties: &mut Places, place: usize)
     requires { place < length known.now.machine.threads }
-    ensures covers { Covers duties.old known.now.machine known.now.cpu known.now.local → Covers duties.new known.now.machine known.now.cpu known.now.local }
+    ensures covers { Covers duties.old known.now.machine known.now.cpu known.now.local →
+        Covers duties.new known.now.machine known.now.cpu known.now.local }
     ensures still { (other : ℕ) → has duties.old other ≡ true → has duties.new other ≡ true }
-    ensures there { is_own known.now.machine known.now.cpu place ≡ true → has duties.new place ≡ true }
+    ensures there { is_own known.now.machine known.now.cpu place ≡ true →
+        has duties.new place ≡ true }
 {
     if known.is_own(place) {
         note(known, duties, place);
@@ -386,7 +398,8 @@ fn note_zero(known: &Known, zeros: &mut Places, receiver: usize, sender: usize)
     requires receiver { IsOwnOf known.now receiver }
     requires sender { sender < length known.now.machine.threads }
     ensures zeros { CoversZeros zeros.old known.now.local → CoversZeros zeros.new known.now.local }
-    ensures there { is_zero_send (thread known.now.local sender).send ≡ true → has zeros.new receiver ≡ true }
+    ensures there { is_zero_send (thread known.now.local sender).send ≡ true →
+        has zeros.new receiver ≡ true }
 {
     if known.is_zero(sender) {
         note(known, zeros, receiver);

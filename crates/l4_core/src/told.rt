@@ -53,7 +53,14 @@ impl<S: Sink> Model for Told<S> {
 impl<S: Sink> Told<S> {
     /// Starts an event without steps. Those that `sink` has already are of earlier events.
     pub fn new(sink: S) -> Told<S>
-        ensures { result ≡ record { before = S.told sink; steps = []; letters = []; room = S.room sink; slots = 2 } }
+        ensures { result ≡
+            record {
+              before = S.told sink;
+              steps = [];
+              letters = [];
+              room = S.room sink;
+              slots = 2;
+            } }
     {
         Told {
             start: sink.len(),
@@ -115,7 +122,8 @@ impl<S: Sink> Told<S> {
     /// Takes out the first of the letters, with the processor that it goes to. None where there is
     /// none.
     pub fn take_letter(&mut self) -> Option<(u8, Letter)>
-        ensures letters { self.old.letters ≡ option_to_list (option_map posted_of result) ++ self.new.letters }
+        ensures letters { self.old.letters ≡
+            option_to_list (option_map posted_of result) ++ self.new.letters }
         ensures none { IfNone result (self.new.letters ≡ []) }
         ensures before { self.new.before ≡ self.old.before }
         ensures steps { self.new.steps ≡ self.old.steps }

@@ -14,15 +14,20 @@
 //! ```
 #![tactic(auto)]
 
-ghost use Rattle.std.specs.Prelude.{ℕ, ◌≡◌, ◌≤◌, ◌+◌, ◌↔◌, ◌⊎◌, ◌++◌, true, Some, length, slice_get, List};
+ghost use Rattle.std.specs.Prelude.{ℕ, ◌≡◌, ◌≤◌, ◌+◌, ◌↔◌, ◌⊎◌, ◌++◌, true, Some, length};
+ghost use Rattle.std.specs.Prelude.{slice_get, List};
 ghost use Rattle.std.specs.List.Sorted.{IsPermutation};
 ghost use Rattle.l4_model.specs.Machine.{Machine};
 ghost use Rattle.l4_model.specs.World.{changed};
 ghost use Rattle.l4_core_model.specs.Runs.{Event, Run, Ticks, opening_run, at_rest, merged};
 ghost use Rattle.l4_core_model.specs.Schedules.{attempts, run};
 ghost use Rattle.l4_core_model.specs.Laws.{IsCoreRun};
-ghost use Rattle.l4_merge.specs.Pasts.{Past, AddAtMost, AreWholePasts, HasTicked, HasTurned, HaveWorked, HaveTurned, opening_pasts, all_events, added_events};
-ghost use Rattle.l4_merge.specs.Merges.{EndsAt, IsMergedRun, HasMergedRun, HasTurnedRun, HaveWholeRun, HasPasts, SortAsMerged, AreAtRest, HasReorderedRun};
+ghost use Rattle.l4_merge.specs.Pasts.{Past, AddAtMost, AreWholePasts, HasTicked, HasTurned};
+ghost use Rattle.l4_merge.specs.Pasts.{HaveWorked, HaveTurned, opening_pasts, all_events};
+ghost use Rattle.l4_merge.specs.Pasts.{added_events};
+ghost use Rattle.l4_merge.specs.Merges.{EndsAt, IsMergedRun, HasMergedRun, HasTurnedRun};
+ghost use Rattle.l4_merge.specs.Merges.{HaveWholeRun, HasPasts, SortAsMerged, AreAtRest};
+ghost use Rattle.l4_merge.specs.Merges.{HasReorderedRun};
 ghost use Rattle.l4_merge.specs.Rounds.{IsInRounds, events_of};
 
 /// Let each processor keep a log, and handle the letters of each pair in the order of posting. Then
@@ -32,8 +37,10 @@ ghost use Rattle.l4_merge.specs.Rounds.{IsInRounds, events_of};
 /// changes. Where one clock advanced, the run goes on by that tick. A bound on what each processor
 /// adds is a bound on its events in the run.
 pub fn law_merge()
-    ensures whole { (m : Machine) (pasts : List Past) → AreWholePasts m pasts → HaveWholeRun m pasts }
-    ensures sorted { (m : Machine) (pasts : List Past) → AreWholePasts m pasts → SortAsMerged (all_events pasts) }
+    ensures whole { (m : Machine) (pasts : List Past) → AreWholePasts m pasts →
+        HaveWholeRun m pasts }
+    ensures sorted { (m : Machine) (pasts : List Past) → AreWholePasts m pasts →
+        SortAsMerged (all_events pasts) }
     ensures count { (es : List Event) → length (merged es) ≡ length es }
 
     // No more is asked of them than is true of each core run.
@@ -44,9 +51,12 @@ pub fn law_merge()
         EndsAt before olds → HaveWorked m olds news → HasMergedRun m before olds news }
     ensures turns { (m : Machine) (before : Run) (olds news : List Past) →
         EndsAt before olds → HaveTurned m olds news → HasTurnedRun m before olds news }
-    ensures ticks { (m : Machine) (before : Run) (cpu clock : ℕ) (olds : List Past) (old new : Past) → EndsAt before olds →
-        slice_get olds cpu ≡ Some old → HasTicked m cpu clock old new → EndsAt (attempts m before (Ticks cpu clock)) (changed (λ p. new) olds cpu) }
-    ensures clocks { (m : Machine) (cpu : ℕ) (old new : Past) → HasTurned m cpu old new → new.local.clock ≡ old.local.clock }
+    ensures ticks { (m : Machine) (before : Run) (cpu clock : ℕ) (olds : List Past)
+        (old new : Past) → EndsAt before olds →
+        slice_get olds cpu ≡ Some old → HasTicked m cpu clock old new →
+        EndsAt (attempts m before (Ticks cpu clock)) (changed (λ p. new) olds cpu) }
+    ensures clocks { (m : Machine) (cpu : ℕ) (old new : Past) → HasTurned m cpu old new →
+        new.local.clock ≡ old.local.clock }
     ensures permuted { (m : Machine) (olds news : List Past) → HaveWorked m olds news →
         IsPermutation (all_events olds ++ merged (added_events olds news)) (all_events news) }
     ensures in_rounds { (m : Machine) (turns : ℕ) (r : Run) → IsInRounds m turns r → IsCoreRun m r }
@@ -55,7 +65,8 @@ pub fn law_merge()
         (cpu : ℕ) → events_of cpu after.events ≤ events_of cpu before.events + most }
     ensures core_run { (m : Machine) (before after : Run) (olds news : List Past) →
         IsCoreRun m before → IsMergedRun m before olds news after → IsCoreRun m after }
-    ensures rest { (m : Machine) (pasts : List Past) (r : Run) → EndsAt r pasts → (at_rest m r.system ≡ true) ↔ AreAtRest m pasts }
+    ensures rest { (m : Machine) (pasts : List Past) (r : Run) → EndsAt r pasts →
+        (at_rest m r.system ≡ true) ↔ AreAtRest m pasts }
 {}
 
 /// The events of any core run in order of stamp, however they are sorted, are those of a core run
@@ -70,6 +81,7 @@ pub fn law_reorder()
 /// the only one that is possible. In it each round is one turn of the processor, or, where it has
 /// none, a tick to its least deadline. It ends at rest, or with the `most`-th event.
 pub fn law_alone()
-    ensures { (m : Machine) (turns most : ℕ) (r : Run) → m.cpus ≡ 1 → IsInRounds m turns r → length r.events ≤ most →
+    ensures { (m : Machine) (turns most : ℕ) (r : Run) → m.cpus ≡ 1 → IsInRounds m turns r →
+        length r.events ≤ most →
         (most ≤ length r.events) ⊎ (at_rest m r.system ≡ true) → r ≡ run m most }
 {}

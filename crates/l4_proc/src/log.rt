@@ -1,5 +1,7 @@
 //! The log of one processor.
-ghost use Rattle.std.specs.Prelude.{◌≡◌, ◌<◌, ◌≤◌, ◌+◌, ◌-◌, ◌++◌, ◌^◌, [], ◌↔◌, false, IfNone, IfSome, OnOk, OnErr, IsTrue, Some, drop, length, slice_get, take, vec_len};
+ghost use Rattle.std.specs.Prelude.{◌≡◌, ◌<◌, ◌≤◌, ◌+◌, ◌-◌, ◌++◌, ◌^◌, [], ◌↔◌, false, IfNone};
+ghost use Rattle.std.specs.Prelude.{IfSome, OnOk, OnErr, IsTrue, Some, drop, length, slice_get};
+ghost use Rattle.std.specs.Prelude.{take, vec_len};
 ghost use Rattle.std.specs.Vec.{vec_capacity};
 ghost use Rattle.l4_proc.specs.Ends.{start_of};
 
@@ -44,7 +46,8 @@ pub struct EventRef<'a> {
 }
 
 impl Log {
-    ghost use Rattle.l4_proc.specs.Logs.{all_steps, event_of, events, HasBegun, HasEnded, HasLetters, IsClosed, IsSameLog};
+    ghost use Rattle.l4_proc.specs.Logs.{all_steps, event_of, events, HasBegun, HasEnded};
+    ghost use Rattle.l4_proc.specs.Logs.{HasLetters, IsClosed, IsSameLog};
     ghost use Rattle.std.specs.Option.{option_map, option_to_list};
     ghost use Rattle.l4_core_model.specs.Runs.{told};
     ghost use Rattle.l4_core.specs.Tellings.{posted_of};
@@ -119,7 +122,8 @@ impl Log {
     pub fn places(&self, i: usize) -> (usize, usize)
         requires within { i < length (events self.now) }
         requires closed { IsClosed self.now }
-        ensures steps { IfSome (slice_get (events self.now) i) (λ e. e.steps ≡ drop result.0 (take result.1 (told (events self.now)))) }
+        ensures steps { IfSome (slice_get (events self.now) i)
+            (λ e. e.steps ≡ drop result.0 (take result.1 (told (events self.now)))) }
         ensures within { result.1 ≤ length (told (events self.now)) }
     {
         let ends = self.ends.as_slice();
@@ -180,7 +184,8 @@ impl Log {
 
     // The next letter of the current event, with the processor that it goes to.
     pub(crate) fn take_letter(&mut self) -> Option<(u8, Letter)>
-        ensures letters { self.old.told.letters ≡ option_to_list (option_map posted_of result) ++ self.new.told.letters }
+        ensures letters { self.old.told.letters ≡
+            option_to_list (option_map posted_of result) ++ self.new.told.letters }
         ensures none { IfNone result (self.new.told.letters ≡ []) }
         ensures same { HasLetters self.old self.new }
     {

@@ -19,21 +19,26 @@ pub struct Processor<'m> {
 }
 
 impl<'m> Processor<'m> {
-    ghost use Rattle.std.specs.Prelude.{ℕ, ◌≡◌, [], ◌↔◌, ◌<◌, ◌≤◌, ◌+◌, ◌^◌, false, IfErr, IsErrOf, IsSome, None, OnErr, OnOk, is_some, length};
+    ghost use Rattle.std.specs.Prelude.{ℕ, ◌≡◌, [], ◌↔◌, ◌<◌, ◌≤◌, ◌+◌, ◌^◌, false, IfErr, IsErrOf};
+    ghost use Rattle.std.specs.Prelude.{IsSome, None, OnErr, OnOk, is_some, length};
     ghost use Rattle.std.specs.List.{AllByRecursion};
     ghost use Rattle.l4_mail.specs.Ports.{room_to, HasWayTo};
     ghost use Rattle.l4_core_model.specs.Turns.{advance, can_stamp};
     ghost use Rattle.l4_merge.specs.Pasts.{empty_past, HasWorked, HasTurned};
     ghost use Rattle.l4_proc.specs.Logs.{events, IsClosed};
-    ghost use Rattle.l4_proc.specs.Working.{past, turns_of, HasGoneOn, HasPostedOwn, HasStayed, HasTaken, HasTakenUpTo, HasTicked, HasTurnedMailFirst, IsIdle, IsReady, IsStopped, IsUnready, KeepsHand};
+    ghost use Rattle.l4_proc.specs.Working.{past, turns_of, HasGoneOn, HasPostedOwn, HasStayed};
+    ghost use Rattle.l4_proc.specs.Working.{HasTaken, HasTakenUpTo, HasTicked, HasTurnedMailFirst};
+    ghost use Rattle.l4_proc.specs.Working.{IsIdle, IsReady, IsStopped, IsUnready, KeepsHand};
     ghost use Rattle.l4_proc.specs.Whole.{IsFreshPort, IsPortOf};
 
     /// A processor that has done nothing, with its port, by which no letter has gone.
     pub fn new(alloc: Global, core: Core<'m>, port: Port) -> Processor<'m>
         requires port_of { IsPortOf port core }
         requires fresh { IsFreshPort port }
-        ensures parts { (result.port ≡ port) × (result.worker.core ≡ core.entry) × (result.worker.hand ≡ None) }
-        ensures opened { HasWorked core.entry.machine core.entry.cpu (empty_past core.entry.local) (past result) }
+        ensures parts { (result.port ≡ port) × (result.worker.core ≡ core.entry) ×
+            (result.worker.hand ≡ None) }
+        ensures opened { HasWorked core.entry.machine core.entry.cpu (empty_past core.entry.local)
+            (past result) }
         ensures turns { turns_of result ≡ 0 }
         ensures log { events result.worker.log ≡ [] }
         ensures stop { result.worker.stop ≡ Stop.Used }
@@ -132,13 +137,15 @@ impl<'m> Processor<'m> {
     /// taken; a letter that was taken stays in hand, and is handled first by the next call.
     pub fn work<G: Gate>(&mut self, turns: u64, gate: &G) -> Stop
         ensures on { HasGoneOn self.old self.new }
-        ensures turned { HasTurned self.old.worker.core.machine self.old.worker.core.cpu (past self.old) (past self.new) }
+        ensures turned { HasTurned self.old.worker.core.machine self.old.worker.core.cpu
+            (past self.old) (past self.new) }
         ensures least { turns_of self.old ≤ turns_of self.new }
         ensures most { turns_of self.new ≤ turns_of self.old + turns }
         ensures used { (result ≡ Stop.Used) ↔ (turns_of self.new ≡ turns_of self.old + turns) }
         ensures ticks { self.new.worker.log.ticks ≡ self.old.worker.log.ticks }
         ensures stopped { IsStopped self.new result }
-        ensures nothing { result ≡ Stop.Idle → turns_of self.new ≡ turns_of self.old → IsIdle self.old }
+        ensures nothing { result ≡ Stop.Idle → turns_of self.new ≡ turns_of self.old →
+            IsIdle self.old }
         ensures first { HasTurnedMailFirst self.old self.new }
         ensures hand { turns_of self.new ≡ turns_of self.old → KeepsHand self.old self.new }
         ensures stop { self.new.worker.stop ≡ result }
@@ -178,8 +185,10 @@ impl<'m> Processor<'m> {
     // Posts the letters of the event that has ended, and moves them on. Where there are none,
     // `get_ready` has flushed already.
     fn send_all(&mut self)
-        requires ways { AllByRecursion (λ p. HasWayTo self.old.port p.0) self.old.worker.log.told.letters }
-        requires room { (to : ℕ) → HasWayTo self.old.port to → length self.old.worker.log.told.letters ≤ room_to self.old.port to }
+        requires ways { AllByRecursion (λ p.
+            HasWayTo self.old.port p.0) self.old.worker.log.told.letters }
+        requires room { (to : ℕ) → HasWayTo self.old.port to →
+            length self.old.worker.log.told.letters ≤ room_to self.old.port to }
         ensures { HasPostedOwn self.old self.new }
     {
         if self.worker.log.has_letters() {
@@ -190,8 +199,10 @@ impl<'m> Processor<'m> {
 
     // Posts the letters of the event that has ended.
     fn post_all(&mut self)
-        requires ways { AllByRecursion (λ p. HasWayTo self.old.port p.0) self.old.worker.log.told.letters }
-        requires room { (to : ℕ) → HasWayTo self.old.port to → length self.old.worker.log.told.letters ≤ room_to self.old.port to }
+        requires ways { AllByRecursion (λ p.
+            HasWayTo self.old.port p.0) self.old.worker.log.told.letters }
+        requires room { (to : ℕ) → HasWayTo self.old.port to →
+            length self.old.worker.log.told.letters ≤ room_to self.old.port to }
         ensures { HasPostedOwn self.old self.new }
     {
         'letters: while let Some((to, letter)) = self.worker.log.take_letter() {
@@ -220,9 +231,13 @@ impl<'m> Processor<'m> {
     pub fn tick(&mut self, to: u64) -> Result<(), ProcFault>
         ensures ok { OnOk result (HasTicked to self.old self.new) }
         ensures err { OnErr result (HasStayed self.old self.new) }
-        ensures clock { IsErrOf result ProcFault.Clock ↔ (advance self.old.worker.core.machine self.old.worker.core.cpu to self.old.worker.core.local ≡ None) }
+        ensures clock { IsErrOf result ProcFault.Clock ↔
+            (advance self.old.worker.core.machine self.old.worker.core.cpu
+            to self.old.worker.core.local ≡ None) }
         ensures stamp { IsErrOf result ProcFault.Stamp ↔
-            (IsSome (advance self.old.worker.core.machine self.old.worker.core.cpu to self.old.worker.core.local) × (can_stamp self.old.worker.core.local 0 ≡ false)) }
+            (IsSome
+            (advance self.old.worker.core.machine self.old.worker.core.cpu
+            to self.old.worker.core.local) × (can_stamp self.old.worker.core.local 0 ≡ false)) }
     {
         self.worker.tick(to)
     }

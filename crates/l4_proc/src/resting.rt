@@ -1,5 +1,6 @@
 //! Processors that come to rest.
-ghost use Rattle.std.specs.Prelude.{◌≡◌, ◌↔◌, ◌≤◌, ◌&&◌, false, true, is_some, map, nat_eq, not, IfOk, IsErrOf, IsTrue, OnOk, vec_len};
+ghost use Rattle.std.specs.Prelude.{◌≡◌, ◌↔◌, ◌≤◌, ◌&&◌, false, true, is_some, map, nat_eq, not};
+ghost use Rattle.std.specs.Prelude.{IfOk, IsErrOf, IsTrue, OnOk, vec_len};
 ghost use Rattle.std.specs.Vec.{vec_capacity};
 ghost use Rattle.std.specs.List.{list_all, list_any, AllZip};
 ghost use Rattle.l4_core_model.specs.Runs.{is_empty};
@@ -73,7 +74,9 @@ fn any_in_hand(processors: &[Processor<'_>]) -> bool
 
 // Whether no letter is under way, and none in hand.
 fn all_is_handled(ways: &[(u8, u8, Vec<Letter>)], processors: &[Processor<'_>]) -> bool
-    ensures { result ≡ (list_all (λ way. is_empty way.2.items) ways.now && not (list_any (λ p. is_some p.worker.hand) processors.now)) }
+    ensures { result ≡
+        (list_all (λ way. is_empty way.2.items) ways.now && not
+        (list_any (λ p. is_some p.worker.hand) processors.now)) }
 {
     is_empty(ways) && !any_in_hand(processors)
 }
@@ -81,7 +84,8 @@ fn all_is_handled(ways: &[(u8, u8, Vec<Letter>)], processors: &[Processor<'_>]) 
 // Takes processors apart, in their order.
 fn part<'m>(processors: Vec<Processor<'m>>, ports: &mut Vec<Port>, workers: &mut Vec<Worker<'m>>)
     requires empty { (vec_len ports.old ≡ 0) × (vec_len workers.old ≡ 0) }
-    requires room { (vec_len processors ≤ vec_capacity ports.old) × (vec_len processors ≤ vec_capacity workers.old) }
+    requires room { (vec_len processors ≤ vec_capacity ports.old) ×
+        (vec_len processors ≤ vec_capacity workers.old) }
     ensures ports { ports.new.items ≡ map (λ p. p.port) processors.entry.items }
     ensures workers { workers.new.items ≡ map (λ p. p.worker) processors.entry.items }
     ensures whole { AllZip IsWhole ports.new.items workers.new.items }
@@ -116,8 +120,10 @@ fn join<'m>(ports: Vec<Port>, workers: Vec<Worker<'m>>, processors: &mut Vec<Pro
 /// letters may have moved, none is lost, and the call can be made again.
 pub fn rest(alloc: Global, processors: &mut Vec<Processor<'_>>) -> Result<bool, RestFault>
     requires { AreOneFabric (map (λ p. p.port) processors.old.items) }
-    ensures numbers { IsErrOf result RestFault.Numbers ↔ (are_all (map (λ p. p.port) processors.old.items) ≡ false) }
-    ensures unchanged { are_all (map (λ p. p.port) processors.old.items) ≡ false → processors.new ≡ processors.old }
+    ensures numbers { IsErrOf result RestFault.Numbers ↔
+        (are_all (map (λ p. p.port) processors.old.items) ≡ false) }
+    ensures unchanged { are_all (map (λ p. p.port) processors.old.items) ≡ false →
+        processors.new ≡ processors.old }
     ensures same { AreAsBefore processors.old.items processors.new.items }
     ensures one { AreOneFabric (map (λ p. p.port) processors.new.items) }
     ensures capacity { vec_capacity processors.new ≡ vec_capacity processors.old }
@@ -138,7 +144,8 @@ pub fn rest(alloc: Global, processors: &mut Vec<Processor<'_>>) -> Result<bool, 
 fn rest_several(alloc: Global, processors: &mut Vec<Processor<'_>>) -> Result<bool, RestFault>
     requires one { AreOneFabric (map (λ p. p.port) processors.old.items) }
     requires all { are_all (map (λ p. p.port) processors.old.items) ≡ true }
-    ensures numbers { IsErrOf result RestFault.Numbers ↔ (are_all (map (λ p. p.port) processors.old.items) ≡ false) }
+    ensures numbers { IsErrOf result RestFault.Numbers ↔
+        (are_all (map (λ p. p.port) processors.old.items) ≡ false) }
     ensures same { AreAsBefore processors.old.items processors.new.items }
     ensures one { AreOneFabric (map (λ p. p.port) processors.new.items) }
     ensures capacity { vec_capacity processors.new ≡ vec_capacity processors.old }

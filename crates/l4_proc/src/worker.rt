@@ -1,5 +1,6 @@
 //! A processor without its port.
-ghost use Rattle.std.specs.Prelude.{◌≡◌, ◌⊎◌, ◌↔◌, false, IfErr, IfOk, IsErrOf, IsSome, None, OnErr};
+ghost use Rattle.std.specs.Prelude.{◌≡◌, ◌⊎◌, ◌↔◌, false, IfErr, IfOk, IsErrOf, IsSome, None};
+ghost use Rattle.std.specs.Prelude.{OnErr};
 ghost use Rattle.l4_core_model.specs.Mail.{handle};
 ghost use Rattle.l4_core_model.specs.Turns.{can_stamp, turn};
 ghost use Rattle.l4_types.specs.LetterView.{letter_of};
@@ -30,11 +31,16 @@ pub struct Worker<'m> {
 // Handles a letter.
 fn handle(core: &mut Core<'_>, letter: &Letter, told: &mut Told<History>) -> Result<u64, Stop>
     requires open { IsOpen told.old }
-    ensures ok { IfOk result (λ stamp. IsEvent (handle core.old.machine core.old.cpu core.old.local (letter_of letter.now)) core.old core.new told.old told.new stamp) }
+    ensures ok { IfOk result (λ stamp.
+        IsEvent
+        (handle core.old.machine core.old.cpu core.old.local
+        (letter_of letter.now)) core.old core.new told.old told.new stamp) }
     ensures err { OnErr result ((core.new ≡ core.old) × (told.new ≡ told.old)) }
-    ensures mail { IsErrOf result Stop.Mail ↔ (handle core.old.machine core.old.cpu core.old.local (letter_of letter.now) ≡ None) }
+    ensures mail { IsErrOf result Stop.Mail ↔
+        (handle core.old.machine core.old.cpu core.old.local (letter_of letter.now) ≡ None) }
     ensures stamp { IsErrOf result Stop.Stamp ↔
-        (IsSome (handle core.old.machine core.old.cpu core.old.local (letter_of letter.now)) × (can_stamp core.old.local letter.now.stamp ≡ false)) }
+        (IsSome (handle core.old.machine core.old.cpu core.old.local (letter_of letter.now)) ×
+        (can_stamp core.old.local letter.now.stamp ≡ false)) }
     ensures faults { IfErr result (λ stop. (stop ≡ Stop.Mail) ⊎ (stop ≡ Stop.Stamp)) }
 {
     match core.handle_into(letter, told) {
@@ -47,10 +53,16 @@ fn handle(core: &mut Core<'_>, letter: &Letter, told: &mut Told<History>) -> Res
 // Takes the core's own turn.
 fn turn(core: &mut Core<'_>, told: &mut Told<History>) -> Result<u64, Stop>
     requires open { IsOpen told.old }
-    ensures ok { IfOk result (λ stamp. IsEvent (turn core.old.machine core.old.cpu core.old.local) core.old core.new told.old told.new stamp) }
+    ensures ok { IfOk result (λ stamp.
+        IsEvent
+        (turn core.old.machine core.old.cpu core.old.local)
+        core.old core.new told.old told.new stamp) }
     ensures err { OnErr result ((core.new ≡ core.old) × (told.new ≡ told.old)) }
-    ensures idle { IsErrOf result Stop.Idle ↔ (turn core.old.machine core.old.cpu core.old.local ≡ None) }
-    ensures stamp { IsErrOf result Stop.Stamp ↔ (IsSome (turn core.old.machine core.old.cpu core.old.local) × (can_stamp core.old.local 0 ≡ false)) }
+    ensures idle { IsErrOf result Stop.Idle ↔
+        (turn core.old.machine core.old.cpu core.old.local ≡ None) }
+    ensures stamp { IsErrOf result Stop.Stamp ↔
+        (IsSome (turn core.old.machine core.old.cpu core.old.local) ×
+        (can_stamp core.old.local 0 ≡ false)) }
     ensures faults { IfErr result (λ stop. (stop ≡ Stop.Idle) ⊎ (stop ≡ Stop.Stamp)) }
 {
     if !core.can_stamp(0) {
@@ -63,7 +75,8 @@ fn turn(core: &mut Core<'_>, told: &mut Told<History>) -> Result<u64, Stop>
 }
 
 impl<'m> Worker<'m> {
-    ghost use Rattle.std.specs.Prelude.{◌≡◌, ◌↔◌, ◌++◌, ◌<◌, [], false, true, IfErr, IfNone, IfOk, IsErrOf, IsSome, None, OnErr, OnOk, is_some, vec_len};
+    ghost use Rattle.std.specs.Prelude.{◌≡◌, ◌↔◌, ◌++◌, ◌<◌, [], false, true, IfErr, IfNone, IfOk};
+    ghost use Rattle.std.specs.Prelude.{IsErrOf, IsSome, None, OnErr, OnOk, is_some, vec_len};
     ghost use Rattle.std.specs.Option.{option_map, option_to_list};
     ghost use Rattle.std.specs.Vec.{vec_capacity};
     ghost use Rattle.l4_core_model.specs.Runs.{IsMachine};
@@ -178,7 +191,8 @@ impl<'m> Worker<'m> {
         ensures core { self.new.core ≡ self.old.core }
         ensures hand { self.new.hand ≡ self.old.hand }
         ensures stop { self.new.stop ≡ self.old.stop }
-        ensures letters { self.old.log.told.letters ≡ option_to_list (option_map posted_of result) ++ self.new.log.told.letters }
+        ensures letters { self.old.log.told.letters ≡
+            option_to_list (option_map posted_of result) ++ self.new.log.told.letters }
         ensures none { IfNone result (self.new.log.told.letters ≡ []) }
         ensures log { HasLetters self.old.log self.new.log }
     {
@@ -193,9 +207,11 @@ impl<'m> Worker<'m> {
         ensures ok { OnOk result (HasTickedTo to self.old self.new) }
         ensures err { OnErr result (IsSameWorker self.old self.new) }
         ensures stop { self.new.stop ≡ self.old.stop }
-        ensures clock { IsErrOf result ProcFault.Clock ↔ (advance self.old.core.machine self.old.core.cpu to self.old.core.local ≡ None) }
+        ensures clock { IsErrOf result ProcFault.Clock ↔
+            (advance self.old.core.machine self.old.core.cpu to self.old.core.local ≡ None) }
         ensures stamp { IsErrOf result ProcFault.Stamp ↔
-            (IsSome (advance self.old.core.machine self.old.core.cpu to self.old.core.local) × (can_stamp self.old.core.local 0 ≡ false)) }
+            (IsSome (advance self.old.core.machine self.old.core.cpu to self.old.core.local) ×
+            (can_stamp self.old.core.local 0 ≡ false)) }
     {
         if to <= self.core.clock() || to >= CLOCKS {
             return Err(ProcFault::Clock);
@@ -212,13 +228,16 @@ impl<'m> Worker<'m> {
     // Advances the clock to this value, where it may.
     fn advance(&mut self, to: u64) -> u64
         requires open { IsOpen self.old.log.told }
-        requires can { IsSome (advance self.old.core.machine self.old.core.cpu to self.old.core.local) }
+        requires can { IsSome
+            (advance self.old.core.machine self.old.core.cpu to self.old.core.local) }
         requires stamp { can_stamp self.old.core.local 0 ≡ true }
-        ensures event { IsEvent (advance self.old.core.machine self.old.core.cpu to self.old.core.local)
+        ensures event { IsEvent
+            (advance self.old.core.machine self.old.core.cpu to self.old.core.local)
             self.old.core self.new.core self.old.log.told self.new.log.told result }
         ensures hand { self.new.hand ≡ self.old.hand }
         ensures stop { self.new.stop ≡ self.old.stop }
-        ensures log { (self.new.log.cpu ≡ self.old.log.cpu) × (self.new.log.ends ≡ self.old.log.ends) × (self.new.log.ticks ≡ self.old.log.ticks) }
+        ensures log { (self.new.log.cpu ≡ self.old.log.cpu) ×
+            (self.new.log.ends ≡ self.old.log.ends) × (self.new.log.ticks ≡ self.old.log.ticks) }
     {
         self.core.advance_into(to, &mut self.log.told).unwrap()
     }

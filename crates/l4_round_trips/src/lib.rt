@@ -14,7 +14,8 @@
 //! ```
 #![tactic(auto)]
 
-ghost use Rattle.std.specs.Prelude.{◌≡◌, ◌<◌, ◌↔◌, ◌⊎◌, List, IfOk, IfErr, IsErrOf, Some, Ok, map, length};
+ghost use Rattle.std.specs.Prelude.{◌≡◌, ◌<◌, ◌↔◌, ◌⊎◌, List, IfOk, IfErr, IsErrOf, Some, Ok, map};
+ghost use Rattle.std.specs.Prelude.{length};
 ghost use Rattle.l4_model.specs.History.{IsHistory};
 ghost use Rattle.l4_model.specs.Steps.{Step as ModelStep};
 ghost use Rattle.l4_types.specs.StepView.{step_of};
@@ -62,7 +63,8 @@ pub fn audited_run<R: Threads + Sync, G: Gate + Sync>(
 ) -> Result<AuditedOutcome, RunFault>
     ensures outcome { IfOk result (λ audited. IsOutcome machine.now turns audited.outcome) }
     ensures audited { IfOk result (IsAudited machine.now) }
-    ensures err { IfErr result (λ fault. (fault ≡ RunFault.NoMemory) ⊎ (turns_fault turns ≡ Some fault)) }
+    ensures err { IfErr result (λ fault. (fault ≡ RunFault.NoMemory) ⊎
+        (turns_fault turns ≡ Some fault)) }
     ensures range { IsErrOf result RunFault.Turns ↔ ((turns ≡ 0) ⊎ (most_turns < turns)) }
 {
     let outcome = run(rt, alloc, machine, turns, gate)?;
@@ -80,7 +82,8 @@ pub fn audited_replay(
 ) -> Result<AuditedOutcome, RunFault>
     ensures outcome { IfOk result (λ audited. IsReplayed machine.now schedule.now audited.outcome) }
     ensures audited { IfOk result (IsAudited machine.now) }
-    ensures err { IfErr result (λ fault. (fault ≡ RunFault.NoMemory) ⊎ (schedule_fault machine.now schedule.now ≡ Some fault)) }
+    ensures err { IfErr result (λ fault. (fault ≡ RunFault.NoMemory) ⊎
+        (schedule_fault machine.now schedule.now ≡ Some fault)) }
     ensures range { IsErrOf result RunFault.Turns ↔ (most_entries < length schedule.now) }
 {
     let outcome = replay(alloc, machine, schedule)?;

@@ -1,6 +1,7 @@
 //! What stands in the lists, one after another.
 
-ghost use Rattle.std.specs.Prelude.{◌≡◌, ℕ, ◌+◌, ◌<◌, All, Some, drop, length, map, slice_get, true};
+ghost use Rattle.std.specs.Prelude.{◌≡◌, ℕ, ◌+◌, ◌<◌, All, Some, drop, length, map, slice_get};
+ghost use Rattle.std.specs.Prelude.{true};
 ghost use Rattle.std.specs.Iterator.{YieldsFirst, item_count};
 ghost use Rattle.tcb_arena.specs.Due.{armed_of};
 ghost use Rattle.tcb_arena.specs.Rings.{head_count, is_linked, list_at, AreSound};

@@ -27,8 +27,11 @@
 #![tactic(auto)]
 
 ghost use Rattle.std.specs.Prelude.{◌≡◌, ◌<◌, false, length, map, slice_get, All, IfOk, IfSome};
-ghost use Rattle.l4_core_model.specs.Plain.{list_of, is_queued, queued, unqueued, first_taken, made_ready, dropped, popped, armed, disarmed, due_block};
-ghost use Rattle.tcb_arena.specs.Blocks.{is_ready, is_armed, least_deadline, without_due, empty_lists};
+ghost use Rattle.l4_core_model.specs.Plain.{list_of, is_queued, queued, unqueued, first_taken};
+ghost use Rattle.l4_core_model.specs.Plain.{made_ready, dropped, popped, armed, disarmed};
+ghost use Rattle.l4_core_model.specs.Plain.{due_block};
+ghost use Rattle.tcb_arena.specs.Blocks.{is_ready, is_armed, least_deadline, without_due};
+ghost use Rattle.tcb_arena.specs.Blocks.{empty_lists};
 ghost use Rattle.tcb_arena.specs.RingSets.{ring_count};
 ghost use Rattle.tcb_arena.specs.Due.{armed_of, IsFirstOfRing};
 

@@ -1,9 +1,11 @@
 //! Disjoint circular lists over a fixed number of names, doubly linked by index, each with a head
 //! of its own.
 
-ghost use Rattle.std.specs.Prelude.{◌≡◌, ℕ, ◌+◌, ◌-◌, ◌<◌, ◌≤◌, ◌^◌, true, false, IfOk, length, slice_get, slice_index, Some, IfSome};
+ghost use Rattle.std.specs.Prelude.{◌≡◌, ℕ, ◌+◌, ◌-◌, ◌<◌, ◌≤◌, ◌^◌, true, false, IfOk, length};
+ghost use Rattle.std.specs.Prelude.{slice_get, slice_index, Some, IfSome};
 ghost use Rattle.l4_model.specs.World.{is_in};
-ghost use Rattle.tcb_arena.specs.Rings.{Lists, list_at, head_count, is_linked, put_last, taken_out, no_names, without_first, AreSound};
+ghost use Rattle.tcb_arena.specs.Rings.{Lists, list_at, head_count, is_linked, put_last, taken_out};
+ghost use Rattle.tcb_arena.specs.Rings.{no_names, without_first, AreSound};
 
 use l4_types::errors::NoMemory;
 use std::alloc::Global;

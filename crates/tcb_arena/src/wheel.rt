@@ -1,12 +1,16 @@
 //! Armed blocks in 64 linked rings, each with its deadline.
 
-ghost use Rattle.std.specs.Prelude.{◌≡◌, ℕ, ◌<◌, ◌≤◌, ◌%◌, [], true, false, IfOk, IfSome, Some, length, slice_get, slice_index, map};
+ghost use Rattle.std.specs.Prelude.{◌≡◌, ℕ, ◌<◌, ◌≤◌, ◌%◌, [], true, false, IfOk, IfSome, Some};
+ghost use Rattle.std.specs.Prelude.{length, slice_get, slice_index, map};
 ghost use Rattle.std.specs.Option.{option_map};
 ghost use Rattle.l4_core_model.specs.Plain.{put_entry, without_block, due_block};
 ghost use Rattle.tcb_arena.specs.Blocks.{has_entry};
 ghost use Rattle.tcb_arena.specs.Rings.{list_at, head_count};
 ghost use Rattle.tcb_arena.specs.RingSets.{ring_count};
-ghost use Rattle.tcb_arena.specs.Due.{armed_of, armed_in, none_armed, with_entry, without_entry, without_found, without_first_due, first_of_ring, other_than, at_most, earlier_of, put_all, entry, IsBest, IsLeast, ArePlaced, AreRings, AreFilled, AreFloors, IsFloor, AreOnce};
+ghost use Rattle.tcb_arena.specs.Due.{armed_of, armed_in, none_armed, with_entry, without_entry};
+ghost use Rattle.tcb_arena.specs.Due.{without_found, without_first_due, first_of_ring, other_than};
+ghost use Rattle.tcb_arena.specs.Due.{at_most, earlier_of, put_all, entry, IsBest, IsLeast};
+ghost use Rattle.tcb_arena.specs.Due.{ArePlaced, AreRings, AreFilled, AreFloors, IsFloor, AreOnce};
 
 use crate::links::Rings;
 use crate::ring_set::RingSet;
@@ -47,7 +51,8 @@ impl Model for Wheel {
 
     ghost view = { λ w. shown_due w.deadlines.items w.rings };
 
-    ghost invariant = { λ w. IsWheel w.deadlines.items w.rings w.filled.bits w.floors w.floor w.first };
+    ghost invariant = { λ w.
+        IsWheel w.deadlines.items w.rings w.filled.bits w.floors w.floor w.first };
 }
 
 impl Wheel {
@@ -249,8 +254,10 @@ fn best_with_ring(
     requires floors { AreFloors floors.old deadlines.now.items rings.now.lists }
     requires best { IsBest deadlines.now.items rings.now.lists best }
     ensures best { IsBest deadlines.now.items rings.now.lists result }
-    ensures ring { (k block : ℕ) → slice_get (list_at rings.now ring) k ≡ Some block → at_most result (slice_index deadlines.now.items block) ≡ true }
-    ensures others { (deadline : ℕ) → at_most best deadline ≡ true → at_most result deadline ≡ true }
+    ensures ring { (k block : ℕ) → slice_get (list_at rings.now ring) k ≡ Some block →
+        at_most result (slice_index deadlines.now.items block) ≡ true }
+    ensures others { (deadline : ℕ) → at_most best deadline ≡ true →
+        at_most result deadline ≡ true }
     ensures floors { AreFloors floors.new deadlines.now.items rings.now.lists }
 {
     let floor = floors[ring];
@@ -274,8 +281,10 @@ fn earliest_of_ring(
 ) -> Option<(u64, usize)>
     requires ring { ring < head_count rings.now }
     requires deadlines { length deadlines.now.items ≡ rings.now.names }
-    requires floor { (k block : ℕ) → slice_get (list_at rings.now ring) k ≡ Some block → floor ≤ slice_index deadlines.now.items block }
-    ensures { result ≡ slice_get (put_all [] (map (entry deadlines.now.items) (list_at rings.now ring))) 0 }
+    requires floor { (k block : ℕ) → slice_get (list_at rings.now ring) k ≡ Some block →
+        floor ≤ slice_index deadlines.now.items block }
+    ensures { result ≡ slice_get
+        (put_all [] (map (entry deadlines.now.items) (list_at rings.now ring))) 0 }
 {
     let mut best = None;
     let mut at = rings.first(ring);

@@ -1,5 +1,6 @@
 //! The duties of a processor: what it has to do before it goes on with an instruction.
-ghost use Rattle.std.specs.Prelude.{◌≡◌, ◌<◌, ◌||◌, is_some, true, false, None, Some, find, length, slice_index_or};
+ghost use Rattle.std.specs.Prelude.{◌≡◌, ◌<◌, ◌||◌, is_some, true, false, None, Some, find, length};
+ghost use Rattle.std.specs.Prelude.{slice_index_or};
 ghost use Rattle.std.specs.Option.{option_map};
 ghost use Rattle.l4_model.specs.World.{is_deleted, receive_now};
 ghost use Rattle.l4_model.specs.Conditions.{may_still_accept, call_accepts, is_elsewhere};
@@ -7,7 +8,9 @@ ghost use Rattle.l4_core_model.specs.Plain.{is_queued, list_of};
 ghost use Rattle.l4_core_model.specs.Local.{declared, held, thread};
 ghost use Rattle.l4_core_model.specs.Acts.{zero_refusable};
 ghost use Rattle.l4_core.specs.Choosing.{duty_of, IsFound};
-ghost use Rattle.l4_core.specs.Covered.{deleted_duty, duty_at, first_refusable, first_zero, living_duty, names_nobody, receive_duty, untold_of, Covers, CoversZeros};
+ghost use Rattle.l4_core.specs.Covered.{deleted_duty, duty_at, first_refusable, first_zero};
+ghost use Rattle.l4_core.specs.Covered.{living_duty, names_nobody, receive_duty, untold_of, Covers};
+ghost use Rattle.l4_core.specs.Covered.{CoversZeros};
 ghost use Rattle.l4_core.specs.Turning.{IsOwnOf};
 
 use crate::known::Known;
@@ -72,7 +75,8 @@ impl Known<'_> {
     // accept a message that shows this sender.
     fn call_accepts(&self, place: usize, shown: GlobalId) -> bool
         requires { place < length self.now.machine.threads }
-        ensures { result ≡ call_accepts self.now.machine (held self.now.machine self.now.local place) (thread self.now.local place).send shown }
+        ensures { result ≡ call_accepts self.now.machine
+            (held self.now.machine self.now.local place) (thread self.now.local place).send shown }
     {
         let Some(call) = self.send_of(place) else {
             return false;
@@ -87,7 +91,8 @@ impl Known<'_> {
     /// decided.
     pub(crate) fn may_still_accept(&self, place: usize, shown: GlobalId) -> bool
         requires { place < length self.now.machine.threads }
-        ensures { result ≡ may_still_accept self.now.machine (held self.now.machine self.now.local place) shown (thread self.now.local place).phase }
+        ensures { result ≡ may_still_accept self.now.machine
+            (held self.now.machine self.now.local place) shown (thread self.now.local place).phase }
     {
         if let Some(receive) = self.receiving(place) {
             return self.accepts(receive.from(), shown, place);
@@ -100,7 +105,8 @@ impl Known<'_> {
     pub(crate) fn zero_refusable(&self, receiver: usize, sender: usize) -> bool
         requires receiver { receiver < length self.now.machine.threads }
         requires sender { sender < length self.now.machine.threads }
-        ensures { result ≡ zero_refusable self.now.machine (held self.now.machine self.now.local receiver) (thread self.now.local sender).send }
+        ensures { result ≡ zero_refusable self.now.machine
+            (held self.now.machine self.now.local receiver) (thread self.now.local sender).send }
     {
         let Some(send) = self.send_of(sender) else {
             return false;
@@ -113,7 +119,8 @@ impl Known<'_> {
     // The first send of timeout zero that waits at a thread and may be refused.
     fn first_refusable(&self, place: usize) -> Option<usize>
         requires { place < length self.now.machine.threads }
-        ensures { result ≡ option_map (λ w. w.block) (first_refusable self.now.machine self.now.local place) }
+        ensures { result ≡ option_map (λ w. w.block)
+            (first_refusable self.now.machine self.now.local place) }
     {
         let _ = &self.machine;
         self.lists
@@ -124,7 +131,8 @@ impl Known<'_> {
     // The first send of timeout zero that waits at a thread.
     fn first_zero(&self, place: usize) -> Option<usize>
         requires { place < length self.now.machine.threads }
-        ensures { result ≡ option_map (λ w. w.block) (first_zero self.now.local (list_of self.now.local.lists place)) }
+        ensures { result ≡ option_map (λ w. w.block)
+            (first_zero self.now.local (list_of self.now.local.lists place)) }
     {
         let _ = &self.machine;
         self.lists
@@ -148,7 +156,8 @@ impl Known<'_> {
     fn deleted_duty(&self, place: usize) -> Option<Duty>
         requires { place < length self.now.machine.threads }
         ensures { option_map (duty_of self.now.local.owed place) result ≡
-            deleted_duty (is_queued self.now.local.lists place) (list_of self.now.local.lists place) (untold_of self.now.machine self.now.cpu self.now.local place) }
+            deleted_duty (is_queued self.now.local.lists place) (list_of self.now.local.lists place)
+            (untold_of self.now.machine self.now.cpu self.now.local place) }
     {
         if self.is_queued(place) {
             return Some(Duty::DropOwn);
@@ -163,7 +172,9 @@ impl Known<'_> {
     // The duty of a thread in a receive phase.
     fn receive_duty(&self, place: usize) -> Option<Duty>
         requires { place < length self.now.machine.threads }
-        ensures { option_map (duty_of self.now.local.owed place) result ≡ receive_duty (names_nobody self.now.machine self.now.local) (thread self.now.local place).cancel_receive
+        ensures { option_map (duty_of self.now.local.owed place) result ≡
+            receive_duty (names_nobody self.now.machine self.now.local)
+            (thread self.now.local place).cancel_receive
             (list_of self.now.local.lists place) (receive_now (thread self.now.local place).phase) }
     {
         let receive = self.receiving(place)?;
@@ -182,9 +193,12 @@ impl Known<'_> {
     // The duty of a living thread.
     fn living_duty(&self, place: usize, may_have_zero: bool) -> Option<Duty>
         requires within { place < length self.now.machine.threads }
-        requires zeros { may_have_zero ≡ false → first_refusable self.now.machine self.now.local place ≡ None }
-        ensures { option_map (duty_of self.now.local.owed place) result ≡ living_duty (names_nobody self.now.machine self.now.local) (thread self.now.local place)
-            (is_queued self.now.local.lists place) (list_of self.now.local.lists place) (first_refusable self.now.machine self.now.local place) }
+        requires zeros { may_have_zero ≡ false →
+            first_refusable self.now.machine self.now.local place ≡ None }
+        ensures { option_map (duty_of self.now.local.owed place) result ≡
+            living_duty (names_nobody self.now.machine self.now.local) (thread self.now.local place)
+            (is_queued self.now.local.lists place) (list_of self.now.local.lists place)
+            (first_refusable self.now.machine self.now.local place) }
     {
         if self.tcb(place).is_send_cancelled() && self.is_queued(place) {
             return Some(Duty::CancelOwn);
@@ -203,8 +217,10 @@ impl Known<'_> {
     /// may wait at it.
     pub(crate) fn duty_at(&self, place: usize, may_have_zero: bool) -> Option<Duty>
         requires own { IsOwnOf self.now place }
-        requires zeros { may_have_zero ≡ false → first_zero self.now.local (list_of self.now.local.lists place) ≡ None }
-        ensures { option_map (duty_of self.now.local.owed place) result ≡ duty_at self.now.machine self.now.cpu self.now.local place }
+        requires zeros { may_have_zero ≡ false →
+            first_zero self.now.local (list_of self.now.local.lists place) ≡ None }
+        ensures { option_map (duty_of self.now.local.owed place) result ≡
+            duty_at self.now.machine self.now.cpu self.now.local place }
     {
         if self.keeps_owed(place) {
             Some(Duty::Retarget)
@@ -220,8 +236,11 @@ impl Known<'_> {
     #[inline(always)]
     pub(crate) fn may_have_duty(&self, place: usize, may_have_zero: bool) -> bool
         requires own { IsOwnOf self.now place }
-        requires zeros { may_have_zero ≡ false → first_zero self.now.local (list_of self.now.local.lists place) ≡ None }
-        ensures { result ≡ (may_have_zero || is_some (duty_at self.now.machine self.now.cpu self.now.local place)) }
+        requires zeros { may_have_zero ≡ false →
+            first_zero self.now.local (list_of self.now.local.lists place) ≡ None }
+        ensures { result ≡
+            (may_have_zero || is_some
+            (duty_at self.now.machine self.now.cpu self.now.local place)) }
     {
         let _ = &self.machine;
         if may_have_zero {

@@ -1,5 +1,6 @@
 //! What an event does to one thread and to the lists.
-ghost use Rattle.std.specs.Prelude.{◌≡◌, ◌≢◌, ◌<◌, ◌≤◌, ◌+◌, ◌^◌, Some, None, IsSome, true, false, length, slice_get, get_or, set, is_none, is_some, ℕ};
+ghost use Rattle.std.specs.Prelude.{◌≡◌, ◌≢◌, ◌<◌, ◌≤◌, ◌+◌, ◌^◌, Some, None, IsSome, true, false};
+ghost use Rattle.std.specs.Prelude.{length, slice_get, get_or, set, is_none, is_some, ℕ};
 ghost use Rattle.l4_model.specs.Words.{word_of_tag, clock_limit};
 ghost use Rattle.l4_model.specs.Machine.{Delete as DeleteThread};
 ghost use Rattle.l4_model.specs.Conditions.{act_of, instruction};
@@ -10,8 +11,10 @@ ghost use Rattle.l4_script.specs.Scripts.{instr_of};
 ghost use Rattle.l4_thread.specs.Changes.{change_of, may_advance};
 ghost use Rattle.l4_thread.specs.Requests.{is_end};
 ghost use Rattle.l4_thread.specs.Ipcs.{began_of, starts};
-ghost use Rattle.l4_core_model.specs.Plain.{is_queued, queued, unqueued, popped, popped_due, dropped, due_block};
-ghost use Rattle.l4_core_model.specs.Local.{thread, declared, held, is_own, changes, comes_to, relists, stands_in, stand_in, is_gone_now};
+ghost use Rattle.l4_core_model.specs.Plain.{is_queued, queued, unqueued, popped, popped_due};
+ghost use Rattle.l4_core_model.specs.Plain.{dropped, due_block};
+ghost use Rattle.l4_core_model.specs.Local.{thread, declared, held, is_own, changes, comes_to};
+ghost use Rattle.l4_core_model.specs.Local.{relists, stands_in, stand_in, is_gone_now};
 ghost use Rattle.l4_core_model.specs.Acts.{asks};
 ghost use Rattle.l4_core_model.specs.Turns.{clock_is, has_told};
 ghost use Rattle.tcb_arena.specs.Blocks.{is_ready as is_ready_in};
@@ -20,7 +23,8 @@ ghost use Rattle.l4_thread.specs.Messages.{outgoing};
 ghost use Rattle.l4_thread.specs.Parts.{Block};
 ghost use Rattle.l4_core.specs.Parts.{passed};
 ghost use Rattle.l4_core.specs.Processor.{with_local};
-ghost use Rattle.l4_core.specs.Turning.{begun_by, IsAtHand, IsFree, IsNotSplit, IsOwnOf, IsReceiver, IsSender};
+ghost use Rattle.l4_core.specs.Turning.{begun_by, IsAtHand, IsFree, IsNotSplit, IsOwnOf};
+ghost use Rattle.l4_core.specs.Turning.{IsReceiver, IsSender};
 
 use crate::known::Known;
 use l4_script::instructions::Instr;
@@ -56,7 +60,8 @@ impl Known<'_> {
     pub(crate) fn come_to(&mut self, place: usize, change: &Change)
         requires free { IsFree self.old place }
         requires fits { IsFitting change.now (thread self.old.local place) }
-        ensures { self.new ≡ with_local self.old (comes_to place (change_of change.now self.old.local.clock) self.old.local) }
+        ensures { self.new ≡ with_local self.old
+            (comes_to place (change_of change.now self.old.local.clock) self.old.local) }
     {
         self.threads[place].change(change, self.clock);
         self.settle(place);
@@ -69,7 +74,8 @@ impl Known<'_> {
         requires sender { sender < length self.old.machine.threads }
         requires apart { receiver ≢ sender }
         ensures { self.new ≡ with_local self.old (comes_to receiver
-            (receives (outgoing (declared self.old.machine sender).id (thread self.old.local sender)) (word_of_tag tag)) self.old.local) }
+            (receives (outgoing (declared self.old.machine sender).id
+            (thread self.old.local sender)) (word_of_tag tag)) self.old.local) }
     {
         pass_message(self.threads.as_mut_slice(), receiver, sender, tag);
         self.settle(receiver);
@@ -78,11 +84,17 @@ impl Known<'_> {
     /// Begins the first phase of a thread's Ipc, where it has one.
     pub(crate) fn begin(&mut self, place: usize, instr: &Instr) -> Began
         requires hand { IsAtHand self.old place }
-        requires room { is_end (instr_of instr.now) ≡ false → (thread self.old.local place).context.place + 1 < 2 ^ 64 }
+        requires room { is_end (instr_of instr.now) ≡ false →
+            (thread self.old.local place).context.place + 1 < 2 ^ 64 }
         requires count { (thread self.old.local place).context.begun < self.old.local.stamp }
-        requires instr { instr_of instr.now ≡ instruction (held self.old.machine self.old.local place) }
-        ensures began { result ≡ began_of (act_of self.old.machine (held self.old.machine self.old.local place)) }
-        ensures state { self.new ≡ with_local self.old (begun_by (act_of self.old.machine (held self.old.machine self.old.local place)) place self.old.local) }
+        requires instr { instr_of instr.now ≡
+            instruction (held self.old.machine self.old.local place) }
+        ensures began { result ≡
+            began_of (act_of self.old.machine (held self.old.machine self.old.local place)) }
+        ensures state { self.new ≡
+            with_local self.old
+            (begun_by (act_of self.old.machine
+            (held self.old.machine self.old.local place)) place self.old.local) }
     {
         let _ = &self.machine;
         match self.start(place, instr) {
@@ -97,12 +109,17 @@ impl Known<'_> {
     // Begins the first phase of an Ipc in the thread, and in no list.
     fn start(&mut self, place: usize, instr: &Instr) -> Began
         requires hand { IsAtHand self.old place }
-        requires room { is_end (instr_of instr.now) ≡ false → (thread self.old.local place).context.place + 1 < 2 ^ 64 }
+        requires room { is_end (instr_of instr.now) ≡ false →
+            (thread self.old.local place).context.place + 1 < 2 ^ 64 }
         requires count { (thread self.old.local place).context.begun < self.old.local.stamp }
-        requires instr { instr_of instr.now ≡ instruction (held self.old.machine self.old.local place) }
-        ensures began { result ≡ began_of (act_of self.old.machine (held self.old.machine self.old.local place)) }
+        requires instr { instr_of instr.now ≡
+            instruction (held self.old.machine self.old.local place) }
+        ensures began { result ≡
+            began_of (act_of self.old.machine (held self.old.machine self.old.local place)) }
         ensures state { self.new ≡ with_local self.old
-            (changes place (starts (act_of self.old.machine (held self.old.machine self.old.local place)) self.old.local.clock) self.old.local) }
+            (changes place
+            (starts (act_of self.old.machine
+            (held self.old.machine self.old.local place)) self.old.local.clock) self.old.local) }
     {
         let shows = self.shows_originator(place);
         self.threads[place].ipc(instr, shows, self.clock)
@@ -155,7 +172,8 @@ impl Known<'_> {
         requires sender { IsSender self.old waiting.block }
         requires here { IsNotSplit self.old waiting.block }
         requires free { is_queued self.old.local.lists waiting.block ≡ false }
-        ensures { self.new ≡ with_local self.old (relists (queued receiver waiting) self.old.local) }
+        ensures { self.new ≡ with_local self.old
+            (relists (queued receiver waiting) self.old.local) }
     {
         self.lists.queue_send(receiver, waiting);
     }
@@ -171,7 +189,8 @@ impl Known<'_> {
     /// Removes the first ready thread from the list.
     pub(crate) fn pop_ready(&mut self)
         ensures rest { self.new ≡ with_local self.old (relists popped self.old.local) }
-        ensures gone { (place : ℕ) → slice_get self.old.local.lists.ready 0 ≡ Some place → is_ready_in self.new.local.lists place ≡ false }
+        ensures gone { (place : ℕ) → slice_get self.old.local.lists.ready 0 ≡ Some place →
+            is_ready_in self.new.local.lists place ≡ false }
     {
         self.lists.pop_ready();
     }
@@ -226,7 +245,9 @@ impl Known<'_> {
         requires foreign { is_own self.old.machine self.old.cpu place ≡ false }
         requires free { is_none (thread self.old.local place).send ≡ true }
         requires actual { message.actual ≡ (declared self.old.machine place).id }
-        ensures { self.new ≡ with_local self.old (changes place (stands_in name.k (stand_in receiver message.entry zero_timeout)) self.old.local) }
+        ensures { self.new ≡ with_local self.old
+            (changes place (stands_in name.k
+            (stand_in receiver message.entry zero_timeout)) self.old.local) }
     {
         self.threads[place].stand_in(name.k(), receiver, message, zero_timeout);
     }
@@ -254,7 +275,9 @@ fn pass_message(blocks: &mut [Tcb], receiver: usize, sender: usize, tag: MsgTag)
     requires receiver { receiver < length blocks.old }
     requires sender { sender < length blocks.old }
     requires apart { receiver ≢ sender }
-    ensures { (d : Block) → blocks.new ≡ set blocks.old receiver (passed (word_of_tag tag) (get_or blocks.old sender d) (get_or blocks.old receiver d)) }
+    ensures { (d : Block) → blocks.new ≡
+        set blocks.old receiver
+        (passed (word_of_tag tag) (get_or blocks.old sender d) (get_or blocks.old receiver d)) }
 {
     if receiver < sender {
         let (front, back) = blocks.split_at_mut(sender);

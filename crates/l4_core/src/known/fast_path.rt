@@ -87,7 +87,8 @@ impl Known<'_> {
     /// send that it would begin now without propagation.
     pub(crate) fn outgoing(&self, sender: usize) -> MessageRef<'_>
         requires { sender < length self.now.machine.threads }
-        ensures { result ≡ outgoing (declared self.now.machine sender).id (thread self.now.local sender) }
+        ensures { result ≡ outgoing (declared self.now.machine sender).id
+            (thread self.now.local sender) }
     {
         self.tcb(sender).outgoing()
     }
@@ -98,7 +99,8 @@ impl Known<'_> {
         requires room { (thread self.old.local place).context.place + 1 < 2 ^ 64 }
         requires count { (thread self.old.local place).context.begun < self.old.local.stamp }
         ensures { self.new ≡ with_local self.old (comes_to place
-            (passes (receive_phase ipc.now.from (period_of ipc.now.receive_period)) self.old.local.clock) self.old.local) }
+            (passes (receive_phase ipc.now.from
+            (period_of ipc.now.receive_period)) self.old.local.clock) self.old.local) }
     {
         self.threads[place].pass(ipc, self.clock);
         self.settle(place);

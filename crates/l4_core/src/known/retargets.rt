@@ -5,7 +5,8 @@ ghost use Rattle.l4_model.specs.World.{Send};
 ghost use Rattle.l4_model.specs.Rules.{owed_by};
 ghost use Rattle.l4_model.specs.Effects.{turns};
 ghost use Rattle.l4_types.specs.OwedView.{owed_of};
-ghost use Rattle.l4_core_model.specs.Local.{changes, declared, keeps_beside, last_name, owed_beside, thread};
+ghost use Rattle.l4_core_model.specs.Local.{changes, declared, keeps_beside, last_name};
+ghost use Rattle.l4_core_model.specs.Local.{owed_beside, thread};
 ghost use Rattle.l4_core.specs.Processor.{with_local};
 ghost use Rattle.l4_core.specs.Turning.{IsSender};
 
@@ -19,7 +20,9 @@ impl Known<'_> {
         requires receiver { receiver < length self.now.machine.threads }
         requires sender { IsSender self.now sender }
         ensures value { (send : Send) → (thread self.now.local sender).send ≡ Some send →
-            option_map owed_of result ≡ owed_by self.now.machine (last_name self.now.machine self.now.local sender) send.message (declared self.now.machine receiver).id }
+            option_map owed_of result ≡
+            owed_by self.now.machine (last_name self.now.machine self.now.local sender) send.message
+            (declared self.now.machine receiver).id }
         ensures profile { is_some result ≡ true → self.now.machine.retargeting ≡ true }
     {
         if !self.machine.retargets() || !self.message(sender).propagated() {
@@ -58,7 +61,8 @@ impl Known<'_> {
     pub(crate) fn keep_owed(&mut self, place: usize, owed: Owed)
         requires within { place < length self.old.machine.threads }
         requires profile { self.old.machine.retargeting ≡ true }
-        ensures { self.new ≡ with_local self.old (keeps_beside place (Some (owed_of owed)) self.old.local) }
+        ensures { self.new ≡ with_local self.old
+            (keeps_beside place (Some (owed_of owed)) self.old.local) }
     {
         let _ = &self.machine;
         self.owed[place] = Some(owed);
@@ -81,7 +85,8 @@ impl Known<'_> {
     /// Turns an originator to the new partner, where it waits for the old one.
     pub(crate) fn turn_to(&mut self, place: usize, owed: &Owed)
         requires { place < length self.old.machine.threads }
-        ensures { self.new ≡ with_local self.old (changes place (turns (owed_of owed.now)) self.old.local) }
+        ensures { self.new ≡ with_local self.old
+            (changes place (turns (owed_of owed.now)) self.old.local) }
     {
         self.threads[place].turn_to(owed.old_partner, owed.new_partner);
     }

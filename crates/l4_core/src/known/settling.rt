@@ -41,7 +41,9 @@ impl Known<'_> {
     // Disarms the old deadline of a thread, and arms that of its phase.
     fn rearm(&mut self, place: usize)
         requires { IsOwnOf self.old place }
-        ensures { self.new ≡ with_local self.old (relists (rearms (thread self.old.local place) self.old.local.clock place) self.old.local) }
+        ensures { self.new ≡ with_local self.old
+            (relists
+            (rearms (thread self.old.local place) self.old.local.clock place) self.old.local) }
     {
         self.lists.disarm(place);
         if let Some(deadline) = deadline(self.threads[place].waiting_period(), self.clock) {
@@ -53,7 +55,8 @@ impl Known<'_> {
     fn make_ready(&mut self, place: usize)
         requires own { IsOwnOf self.old place }
         requires unready { is_ready_in self.old.local.lists place ≡ false }
-        ensures { self.new ≡ with_local self.old (relists (readies (thread self.old.local place) place) self.old.local) }
+        ensures { self.new ≡ with_local self.old
+            (relists (readies (thread self.old.local place) place) self.old.local) }
     {
         if self.threads[place].is_ready() {
             self.lists.push_ready(place);

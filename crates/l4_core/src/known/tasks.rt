@@ -1,7 +1,13 @@
 //! What a letter from another processor asks for, found before anything changes.
 ghost use Rattle.std.specs.Prelude.{◌≡◌, ◌<◌, ◌||◌, IfSome, length, true};
 ghost use Rattle.l4_model.specs.World.{is_deleted};
-ghost use Rattle.l4_types.specs.declared.letters.Content.TheVariants.{Send as SendContent, Done as DoneContent, Withdraw as WithdrawContent, Order as OrderContent, OrderDone as OrderDoneContent, Gone as GoneContent, Retarget as RetargetContent};
+ghost use Rattle.l4_types.specs.declared.letters.Content.TheVariants.{Send as SendContent};
+ghost use Rattle.l4_types.specs.declared.letters.Content.TheVariants.{Done as DoneContent};
+ghost use Rattle.l4_types.specs.declared.letters.Content.TheVariants.{Withdraw as WithdrawContent};
+ghost use Rattle.l4_types.specs.declared.letters.Content.TheVariants.{Order as OrderContent};
+ghost use Rattle.l4_types.specs.declared.letters.Content.TheVariants.{OrderDone as OrderDoneContent};
+ghost use Rattle.l4_types.specs.declared.letters.Content.TheVariants.{Gone as GoneContent};
+ghost use Rattle.l4_types.specs.declared.letters.Content.TheVariants.{Retarget as RetargetContent};
 ghost use Rattle.l4_core_model.specs.Local.{declared, thread};
 ghost use Rattle.l4_core_model.specs.Mail.{foreign_place, is_ordering, own_place, waits_here};
 ghost use Rattle.l4_core.specs.Tasks.{refusal_for, task_of, IsForeign, IsTask};
@@ -102,7 +108,9 @@ impl Known<'_> {
     // Whether a thread waits for its order to be done, or was deleted.
     fn awaits_order(&self, place: usize) -> bool
         requires { place < length self.now.machine.threads }
-        ensures { result ≡ (is_deleted (thread self.now.local place).phase || is_ordering (thread self.now.local place).phase) }
+        ensures { result ≡
+            (is_deleted (thread self.now.local place).phase || is_ordering
+            (thread self.now.local place).phase) }
     {
         let tcb = self.tcb(place);
         tcb.is_deleted() || tcb.is_ordering()
@@ -116,7 +124,9 @@ impl Known<'_> {
         message: &'a Message,
         zero_timeout: bool,
     ) -> Option<Task<'a>>
-        ensures value { result ≡ task_of self.now.machine self.now.cpu self.now.local (SendContent name.now to message.now zero_timeout) }
+        ensures value { result ≡
+            task_of self.now.machine self.now.cpu self.now.local
+            (SendContent name.now to message.now zero_timeout) }
         ensures possible { IfSome result (λ task. IsTask task self.now) }
     {
         let receiver = self.own_place(to)?;
@@ -137,7 +147,8 @@ impl Known<'_> {
 
     // What the decision of a send asks for.
     fn end(&self, name: &Name, decision: Decision) -> Option<Task<'static>>
-        ensures value { result ≡ task_of self.now.machine self.now.cpu self.now.local (DoneContent name.now decision) }
+        ensures value { result ≡
+            task_of self.now.machine self.now.cpu self.now.local (DoneContent name.now decision) }
         ensures possible { IfSome result (λ task. IsTask task self.now) }
     {
         let place = self.own_place(name.thread())?;
@@ -150,7 +161,9 @@ impl Known<'_> {
 
     // What the withdrawal of a send asks for.
     fn withdrawal(&self, name: &Name, to: GlobalId, cause: Cause) -> Option<Task<'static>>
-        ensures value { result ≡ task_of self.now.machine self.now.cpu self.now.local (WithdrawContent name.now to cause) }
+        ensures value { result ≡
+            task_of self.now.machine self.now.cpu self.now.local
+            (WithdrawContent name.now to cause) }
         ensures possible { IfSome result (λ task. IsTask task self.now) }
     {
         let _receiver = self.own_place(to)?;
@@ -164,7 +177,8 @@ impl Known<'_> {
 
     // What an order asks for.
     fn obedience(&self, caller: GlobalId, target: GlobalId, what: What) -> Option<Task<'static>>
-        ensures value { result ≡ task_of self.now.machine self.now.cpu self.now.local (OrderContent caller target what) }
+        ensures value { result ≡
+            task_of self.now.machine self.now.cpu self.now.local (OrderContent caller target what) }
         ensures possible { IfSome result (λ task. IsTask task self.now) }
     {
         let target = self.own_place(target)?;
@@ -179,7 +193,8 @@ impl Known<'_> {
 
     // What the end of an order asks for.
     fn end_of_order(&self, caller: GlobalId) -> Option<Task<'static>>
-        ensures value { result ≡ task_of self.now.machine self.now.cpu self.now.local (OrderDoneContent caller) }
+        ensures value { result ≡
+            task_of self.now.machine self.now.cpu self.now.local (OrderDoneContent caller) }
         ensures possible { IfSome result (λ task. IsTask task self.now) }
     {
         let place = self.own_place(caller)?;
@@ -192,7 +207,8 @@ impl Known<'_> {
 
     // What a deletion asks for.
     fn deletion(&self, id: GlobalId) -> Option<Task<'static>>
-        ensures value { result ≡ task_of self.now.machine self.now.cpu self.now.local (GoneContent id) }
+        ensures value { result ≡
+            task_of self.now.machine self.now.cpu self.now.local (GoneContent id) }
         ensures possible { IfSome result (λ task. IsTask task self.now) }
     {
         let place = self.foreign_place(id)?;
@@ -202,7 +218,8 @@ impl Known<'_> {
     // What a `Retarget` letter asks for: its originator is of this processor, its new partner is
     // not.
     fn retargeting(&self, owed: &Owed) -> Option<Task<'static>>
-        ensures value { result ≡ task_of self.now.machine self.now.cpu self.now.local (RetargetContent owed.now) }
+        ensures value { result ≡
+            task_of self.now.machine self.now.cpu self.now.local (RetargetContent owed.now) }
         ensures possible { IfSome result (λ task. IsTask task self.now) }
     {
         if !self.machine.retargets() {

@@ -1,5 +1,6 @@
 //! The clock of a processor advances.
-ghost use Rattle.std.specs.Prelude.{◌≡◌, ◌↔◌, ◌⊎◌, IfErr, IfOk, IsErrOf, IsSome, None, OnErr, false};
+ghost use Rattle.std.specs.Prelude.{◌≡◌, ◌↔◌, ◌⊎◌, IfErr, IfOk, IsErrOf, IsSome, None, OnErr};
+ghost use Rattle.std.specs.Prelude.{false};
 ghost use Rattle.l4_core_model.specs.Turns.{advance, can_stamp};
 ghost use Rattle.l4_core.specs.Tellings.{IsOpen};
 ghost use Rattle.l4_core.specs.Turning.{IsEvent};
@@ -17,11 +18,17 @@ impl Core<'_> {
     /// has no step yet.
     pub fn advance_into<S: Sink>(&mut self, to: u64, told: &mut Told<S>) -> Result<u64, Fault>
         requires untold { IsOpen told.old }
-        ensures ok { IfOk result (λ stamp. IsEvent (advance self.old.machine self.old.cpu to self.old.local) self.old self.new told.old told.new stamp) }
+        ensures ok { IfOk result (λ stamp.
+            IsEvent
+            (advance self.old.machine self.old.cpu to self.old.local)
+            self.old self.new told.old told.new stamp) }
         ensures err { OnErr result ((self.new ≡ self.old) × (told.new ≡ told.old)) }
         ensures faults { IfErr result (λ fault. (fault ≡ Fault.Clock) ⊎ (fault ≡ Fault.Stamp)) }
-        ensures clock { IsErrOf result Fault.Clock ↔ (advance self.old.machine self.old.cpu to self.old.local ≡ None) }
-        ensures stamp { IsErrOf result Fault.Stamp ↔ (IsSome (advance self.old.machine self.old.cpu to self.old.local) × (can_stamp self.old.local 0 ≡ false)) }
+        ensures clock { IsErrOf result Fault.Clock ↔
+            (advance self.old.machine self.old.cpu to self.old.local ≡ None) }
+        ensures stamp { IsErrOf result Fault.Stamp ↔
+            (IsSome (advance self.old.machine self.old.cpu to self.old.local) ×
+            (can_stamp self.old.local 0 ≡ false)) }
     {
         if to <= self.known.clock() || to >= CLOCKS {
             return Err(Fault::Clock);

@@ -1,6 +1,7 @@
 //! What an event does to one thread and to the lists, with the places noted that may have a duty
 //! now.
-ghost use Rattle.std.specs.Prelude.{◌≡◌, ◌≢◌, ◌<◌, ◌+◌, ◌^◌, None, Some, IsSome, false, true, length, slice_get, is_none, ℕ};
+ghost use Rattle.std.specs.Prelude.{◌≡◌, ◌≢◌, ◌<◌, ◌+◌, ◌^◌, None, Some, IsSome, false, true};
+ghost use Rattle.std.specs.Prelude.{length, slice_get, is_none, ℕ};
 ghost use Rattle.std.specs.Option.{option_map};
 ghost use Rattle.l4_model.specs.Words.{word_of_tag};
 ghost use Rattle.l4_model.specs.Conditions.{act_of, instruction};
@@ -14,9 +15,12 @@ ghost use Rattle.l4_thread.specs.Changes.{change_of};
 ghost use Rattle.l4_thread.specs.Requests.{is_end};
 ghost use Rattle.l4_thread.specs.Ipcs.{began_of, passes};
 ghost use Rattle.l4_thread.specs.Messages.{outgoing};
-ghost use Rattle.l4_core_model.specs.Plain.{is_queued, queued, unqueued, popped, popped_due, due_block};
+ghost use Rattle.l4_core_model.specs.Plain.{is_queued, queued, unqueued, popped, popped_due};
+ghost use Rattle.l4_core_model.specs.Plain.{due_block};
 ghost use Rattle.l4_core.specs.Settling.{settles};
-ghost use Rattle.l4_core_model.specs.Local.{declared, thread, held, changes, comes_to, keeps_beside, owed_beside, relists, is_gone_now, is_own, stand_in, stands_in};
+ghost use Rattle.l4_core_model.specs.Local.{declared, thread, held, changes, comes_to};
+ghost use Rattle.l4_core_model.specs.Local.{keeps_beside, owed_beside, relists, is_gone_now};
+ghost use Rattle.l4_core_model.specs.Local.{is_own, stand_in, stands_in};
 ghost use Rattle.l4_core_model.specs.Acts.{asks};
 ghost use Rattle.l4_core_model.specs.Turns.{has_told};
 ghost use Rattle.tcb_arena.specs.Blocks.{is_ready as is_ready_in};
@@ -24,7 +28,8 @@ ghost use Rattle.l4_core.specs.Changing.{forgets_order, IsFitting};
 ghost use Rattle.l4_core.specs.Covered.{is_zero_send};
 ghost use Rattle.l4_core.specs.Processor.{with_local};
 ghost use Rattle.l4_core.specs.Tasks.{IsForeign};
-ghost use Rattle.l4_core.specs.Turning.{begun_by, IsAtHand, IsFree, IsNotSplit, IsOwnOf, IsReceiver, IsSender};
+ghost use Rattle.l4_core.specs.Turning.{begun_by, IsAtHand, IsFree, IsNotSplit, IsOwnOf};
+ghost use Rattle.l4_core.specs.Turning.{IsReceiver, IsSender};
 
 use crate::processor::{Core, note, note_all, note_duty, note_own, note_queued, note_zero};
 use l4_script::instructions::{Instr, Ipc};
@@ -43,7 +48,8 @@ impl Core<'_> {
     pub(super) fn come_to(&mut self, place: usize, change: &Change)
         requires free { IsFree self.old place }
         requires fits { IsFitting change.now (thread self.old.local place) }
-        ensures { self.new ≡ with_local self.old (comes_to place (change_of change.now self.old.local.clock) self.old.local) }
+        ensures { self.new ≡ with_local self.old
+            (comes_to place (change_of change.now self.old.local.clock) self.old.local) }
     {
         let _few = self.known.len();
         self.known.come_to(place, change);
@@ -56,7 +62,8 @@ impl Core<'_> {
         requires sender { sender < length self.old.machine.threads }
         requires apart { place ≢ sender }
         ensures { self.new ≡ with_local self.old (comes_to place
-            (receives (outgoing (declared self.old.machine sender).id (thread self.old.local sender)) (word_of_tag tag)) self.old.local) }
+            (receives (outgoing (declared self.old.machine sender).id
+            (thread self.old.local sender)) (word_of_tag tag)) self.old.local) }
     {
         let _few = self.known.len();
         self.known.receive_from(place, sender, tag);
@@ -66,11 +73,17 @@ impl Core<'_> {
     /// Begins the first phase of a thread's Ipc, where it has one.
     pub(super) fn begin(&mut self, place: usize, instr: &Instr) -> Began
         requires hand { IsAtHand self.old place }
-        requires room { is_end (instr_of instr.now) ≡ false → (thread self.old.local place).context.place + 1 < 2 ^ 64 }
+        requires room { is_end (instr_of instr.now) ≡ false →
+            (thread self.old.local place).context.place + 1 < 2 ^ 64 }
         requires count { (thread self.old.local place).context.begun < self.old.local.stamp }
-        requires instr { instr_of instr.now ≡ instruction (held self.old.machine self.old.local place) }
-        ensures began { result ≡ began_of (act_of self.old.machine (held self.old.machine self.old.local place)) }
-        ensures state { self.new ≡ with_local self.old (begun_by (act_of self.old.machine (held self.old.machine self.old.local place)) place self.old.local) }
+        requires instr { instr_of instr.now ≡
+            instruction (held self.old.machine self.old.local place) }
+        ensures began { result ≡
+            began_of (act_of self.old.machine (held self.old.machine self.old.local place)) }
+        ensures state { self.new ≡
+            with_local self.old
+            (begun_by (act_of self.old.machine
+            (held self.old.machine self.old.local place)) place self.old.local) }
     {
         let _few = self.known.len();
         let began = self.known.begin(place, instr);
@@ -84,7 +97,8 @@ impl Core<'_> {
         requires room { (thread self.old.local place).context.place + 1 < 2 ^ 64 }
         requires count { (thread self.old.local place).context.begun < self.old.local.stamp }
         ensures { self.new ≡ with_local self.old (comes_to place
-            (passes (receive_phase ipc.now.from (period_of ipc.now.receive_period)) self.old.local.clock) self.old.local) }
+            (passes (receive_phase ipc.now.from
+            (period_of ipc.now.receive_period)) self.old.local.clock) self.old.local) }
     {
         let _few = self.known.len();
         self.known.pass(place, ipc);
@@ -97,7 +111,8 @@ impl Core<'_> {
         requires sender { IsSender self.old waiting.block }
         requires here { IsNotSplit self.old waiting.block }
         requires free { is_queued self.old.local.lists waiting.block ≡ false }
-        ensures { self.new ≡ with_local self.old (relists (queued receiver waiting) self.old.local) }
+        ensures { self.new ≡ with_local self.old
+            (relists (queued receiver waiting) self.old.local) }
     {
         note_zero(&self.known, &mut self.zeros, receiver, waiting.block);
         self.known.queue(receiver, waiting);
@@ -141,7 +156,9 @@ impl Core<'_> {
         requires sender { IsForeign self.old place }
         requires free { is_none (thread self.old.local place).send ≡ true }
         requires actual { message.actual ≡ (declared self.old.machine place).id }
-        ensures { self.new ≡ with_local self.old (changes place (stands_in name.k (stand_in receiver message.entry zero_timeout)) self.old.local) }
+        ensures { self.new ≡ with_local self.old
+            (changes place (stands_in name.k
+            (stand_in receiver message.entry zero_timeout)) self.old.local) }
     {
         let _few = self.known.len();
         self.known
@@ -180,7 +197,8 @@ impl Core<'_> {
     /// Removes the first ready thread from the list.
     pub(super) fn pop_ready(&mut self)
         ensures rest { self.new ≡ with_local self.old (relists popped self.old.local) }
-        ensures gone { (place : ℕ) → slice_get self.old.local.lists.ready 0 ≡ Some place → is_ready_in self.new.local.lists place ≡ false }
+        ensures gone { (place : ℕ) → slice_get self.old.local.lists.ready 0 ≡ Some place →
+            is_ready_in self.new.local.lists place ≡ false }
     {
         self.known.pop_ready();
     }
@@ -210,7 +228,8 @@ impl Core<'_> {
     pub(super) fn keep_owed(&mut self, place: usize, owed: Owed)
         requires own { IsOwnOf self.old place }
         requires profile { self.old.machine.retargeting ≡ true }
-        ensures { self.new ≡ with_local self.old (keeps_beside place (Some (owed_of owed)) self.old.local) }
+        ensures { self.new ≡ with_local self.old
+            (keeps_beside place (Some (owed_of owed)) self.old.local) }
     {
         note(&self.known, &mut self.duties, place);
         self.known.keep_owed(place, owed);
@@ -230,7 +249,8 @@ impl Core<'_> {
     /// then.
     pub(super) fn turn_to(&mut self, place: usize, owed: &Owed)
         requires { place < length self.old.machine.threads }
-        ensures { self.new ≡ with_local self.old (changes place (turns (owed_of owed.now)) self.old.local) }
+        ensures { self.new ≡ with_local self.old
+            (changes place (turns (owed_of owed.now)) self.old.local) }
     {
         let _few = self.known.len();
         note_own(&self.known, &mut self.duties, place);

@@ -4,7 +4,8 @@ ghost use Rattle.l4_types.specs.Codes.{code_of};
 ghost use Rattle.l4_types.specs.StepView.{seen};
 ghost use Rattle.l4_core_model.specs.Plain.{due_block};
 ghost use Rattle.l4_core_model.specs.Local.{is_own, thread};
-ghost use Rattle.l4_core_model.specs.Turns.{does_choice, does_duty, times_out, TellsGone, ByDue as IsDue, ByReady as IsReady};
+ghost use Rattle.l4_core_model.specs.Turns.{does_choice, does_duty, times_out, TellsGone};
+ghost use Rattle.l4_core_model.specs.Turns.{ByDue as IsDue, ByReady as IsReady};
 ghost use Rattle.l4_core.specs.Choosing.{choice_of, duty_of, IsPossible};
 ghost use Rattle.l4_core.specs.Covered.{IsFirstDuty};
 ghost use Rattle.l4_core.specs.Turning.{fails_with, Does, IsOwnOf, IsReceiver};
@@ -22,10 +23,12 @@ impl Core<'_> {
     /// Does what a turn has chosen.
     pub(super) fn carry_out<S: Sink>(&mut self, choice: &Choice, told: &mut Told<S>)
         requires possible { IsPossible choice.now self.old }
-        requires count { (place : ℕ) → is_own self.old.machine self.old.cpu place ≡ true → (thread self.old.local place).context.begun < self.old.local.stamp }
+        requires count { (place : ℕ) → is_own self.old.machine self.old.cpu place ≡ true →
+            (thread self.old.local place).context.begun < self.old.local.stamp }
         requires room { 3 ≤ told.old.room }
         requires slots { 2 ≤ told.old.slots }
-        ensures { Does (does_choice self.old.machine self.old.cpu (choice_of self.old.local.owed choice.now)) self.old self.new told.old told.new }
+        ensures { Does (does_choice self.old.machine self.old.cpu
+            (choice_of self.old.local.owed choice.now)) self.old self.new told.old told.new }
     {
         match choice {
             Choice::ByDuty(place, duty) => self.do_duty(*place, *duty, told),
@@ -37,10 +40,12 @@ impl Core<'_> {
     // Runs the next instruction of the first ready thread.
     fn do_ready<S: Sink>(&mut self, place: usize, told: &mut Told<S>)
         requires first { slice_get self.old.local.lists.ready 0 ≡ Some place }
-        requires count { is_own self.old.machine self.old.cpu place ≡ true → (thread self.old.local place).context.begun < self.old.local.stamp }
+        requires count { is_own self.old.machine self.old.cpu place ≡ true →
+            (thread self.old.local place).context.begun < self.old.local.stamp }
         requires room { 3 ≤ told.old.room }
         requires slots { 2 ≤ told.old.slots }
-        ensures { Does (does_choice self.old.machine self.old.cpu (IsReady place)) self.old self.new told.old told.new }
+        ensures { Does (does_choice self.old.machine self.old.cpu
+            (IsReady place)) self.old self.new told.old told.new }
     {
         let _few = self.known.len();
         self.pop_ready();
@@ -52,7 +57,8 @@ impl Core<'_> {
         requires due { due_block self.old.local.clock self.old.local.lists.armed ≡ Some place }
         requires room { 3 ≤ told.old.room }
         requires slots { 2 ≤ told.old.slots }
-        ensures { Does (does_choice self.old.machine self.old.cpu (IsDue place)) self.old self.new told.old told.new }
+        ensures { Does (does_choice self.old.machine self.old.cpu
+            (IsDue place)) self.old self.new told.old told.new }
     {
         let _few = self.known.len();
         self.pop_due();
@@ -64,7 +70,8 @@ impl Core<'_> {
         requires own { IsOwnOf self.old place }
         requires room { 3 ≤ told.old.room }
         requires slots { 2 ≤ told.old.slots }
-        ensures { Does (times_out self.old.machine self.old.cpu place) self.old self.new told.old told.new }
+        ensures { Does
+            (times_out self.old.machine self.old.cpu place) self.old self.new told.old told.new }
     {
         let _few = self.known.len();
         if self.known.receiving(place).is_some() {
@@ -87,7 +94,8 @@ impl Core<'_> {
     )
         requires receiver { IsReceiver self.old place }
         requires room { 0 < told.old.room }
-        ensures { Does (fails_with (seen step.entry) (code_of error) place) self.old self.new told.old told.new }
+        ensures { Does (fails_with (seen step.entry)
+            (code_of error) place) self.old self.new told.old told.new }
     {
         let _few = self.known.len();
         told.tell(step);
@@ -96,10 +104,12 @@ impl Core<'_> {
 
     // Does the duty of a thread.
     fn do_duty<S: Sink>(&mut self, place: usize, duty: Duty, told: &mut Told<S>)
-        requires first { IsFirstDuty place (duty_of self.old.local.owed place duty) self.old.machine self.old.cpu self.old.local }
+        requires first { IsFirstDuty place
+            (duty_of self.old.local.owed place duty) self.old.machine self.old.cpu self.old.local }
         requires room { 3 ≤ told.old.room }
         requires slots { 2 ≤ told.old.slots }
-        ensures { Does (does_duty self.old.machine self.old.cpu place (duty_of self.old.local.owed place duty)) self.old self.new told.old told.new }
+        ensures { Does (does_duty self.old.machine self.old.cpu place
+            (duty_of self.old.local.owed place duty)) self.old self.new told.old told.new }
     {
         let _few = self.known.len();
         match duty {
@@ -126,7 +136,8 @@ impl Core<'_> {
         requires own { IsOwnOf self.old place }
         requires cpu { cpu < self.old.machine.cpus }
         requires slots { 0 < told.old.slots }
-        ensures { Does (does_duty self.old.machine self.old.cpu place (TellsGone cpu)) self.old self.new told.old told.new }
+        ensures { Does (does_duty self.old.machine self.old.cpu place
+            (TellsGone cpu)) self.old self.new told.old told.new }
     {
         self.note_told(place, cpu);
         let letter = self.letter(Content::Gone(self.known.id(place)));

@@ -27,13 +27,16 @@ impl Core<'_> {
     )
         requires receiver { IsOwnOf self.old receiver }
         requires hand { IsAtHand self.old sender }
-        requires instr { ipc_of ipc.now ≡ instruction (held self.old.machine self.old.local sender) }
+        requires instr { ipc_of ipc.now ≡
+            instruction (held self.old.machine self.old.local sender) }
         requires within { (thread self.old.local sender).context.place < most_instructions }
         requires count { (thread self.old.local sender).context.begun < self.old.local.stamp }
         requires fast { fast_receiver self.old.machine self.old.cpu self.old.local sender
-            (destination (thread self.old.local sender).context (to_of ipc.now.to)) ≡ Some receiver }
+            (destination (thread self.old.local sender).context (to_of ipc.now.to)) ≡
+            Some receiver }
         requires room { 3 ≤ told.old.room }
-        ensures { Does (acts self.old.machine self.old.cpu sender (act_of self.old.machine (held self.old.machine self.old.local sender)))
+        ensures { Does (acts self.old.machine self.old.cpu sender
+            (act_of self.old.machine (held self.old.machine self.old.local sender)))
             self.old self.new told.old told.new }
     {
         let _few = self.known.len();

@@ -1,5 +1,6 @@
 //! What a processor does with a letter from another one.
-ghost use Rattle.std.specs.Prelude.{◌≡◌, ◌<◌, ◌≤◌, ◌↔◌, ◌⊎◌, IfErr, IfOk, IsErrOf, IsSome, None, OnErr, false};
+ghost use Rattle.std.specs.Prelude.{◌≡◌, ◌<◌, ◌≤◌, ◌↔◌, ◌⊎◌, IfErr, IfOk, IsErrOf, IsSome, None};
+ghost use Rattle.std.specs.Prelude.{OnErr, false};
 ghost use Rattle.l4_model.specs.Effects.{obeyed};
 ghost use Rattle.l4_core_model.specs.Local.{comes_to, after_decision};
 ghost use Rattle.l4_core_model.specs.Mail.{handle};
@@ -34,12 +35,17 @@ impl Core<'_> {
         told: &mut Told<S>,
     ) -> Result<u64, Fault>
         requires untold { IsOpen told.old }
-        ensures ok { IfOk result (λ stamp. IsEvent (handle self.old.machine self.old.cpu self.old.local (letter_of letter.now)) self.old self.new told.old told.new stamp) }
+        ensures ok { IfOk result (λ stamp.
+            IsEvent
+            (handle self.old.machine self.old.cpu self.old.local
+            (letter_of letter.now)) self.old self.new told.old told.new stamp) }
         ensures err { OnErr result ((self.new ≡ self.old) × (told.new ≡ told.old)) }
         ensures faults { IfErr result (λ fault. (fault ≡ Fault.Mail) ⊎ (fault ≡ Fault.Stamp)) }
-        ensures mail { IsErrOf result Fault.Mail ↔ (handle self.old.machine self.old.cpu self.old.local (letter_of letter.now) ≡ None) }
+        ensures mail { IsErrOf result Fault.Mail ↔
+            (handle self.old.machine self.old.cpu self.old.local (letter_of letter.now) ≡ None) }
         ensures stamp { IsErrOf result Fault.Stamp ↔
-            (IsSome (handle self.old.machine self.old.cpu self.old.local (letter_of letter.now)) × (can_stamp self.old.local letter.now.stamp ≡ false)) }
+            (IsSome (handle self.old.machine self.old.cpu self.old.local (letter_of letter.now)) ×
+            (can_stamp self.old.local letter.now.stamp ≡ false)) }
     {
         let Some(task) = self.known.task(&letter.content) else {
             return Err(Fault::Mail);
@@ -57,7 +63,9 @@ impl Core<'_> {
         requires possible { IsTask task self.old }
         requires room { 3 ≤ told.old.room }
         requires slots { 2 ≤ told.old.slots }
-        ensures { Does (does_task self.old.machine self.old.cpu task.entry) self.old self.new told.old told.new }
+        ensures { Does
+            (does_task self.old.machine self.old.cpu task.entry)
+            self.old self.new told.old told.new }
     {
         match task {
             Task::Arrive {
@@ -97,7 +105,9 @@ impl Core<'_> {
         requires possible { IsArrival self.old receiver sender message }
         requires room { 2 ≤ told.old.room }
         requires slots { 2 ≤ told.old.slots }
-        ensures { Does (does_task self.old.machine self.old.cpu (Arrive receiver sender name to message.entry zero_timeout)) self.old self.new told.old told.new }
+        ensures { Does (does_task self.old.machine self.old.cpu
+            (Arrive receiver sender name to message.entry zero_timeout))
+            self.old self.new told.old told.new }
     {
         let _few = self.known.len();
         self.stand_in(sender, name, to, message, zero_timeout);
@@ -107,7 +117,9 @@ impl Core<'_> {
     // Ends the send of a thread of this processor, which was decided at its receiver's processor.
     fn end_split(&mut self, place: usize, decision: Decision)
         requires { IsSplit self.old place }
-        ensures { self.new ≡ with_local self.old (comes_to place (after_decision (decision_of decision) self.old.local.clock) self.old.local) }
+        ensures { self.new ≡ with_local self.old
+            (comes_to place (after_decision
+            (decision_of decision) self.old.local.clock) self.old.local) }
     {
         let _few = self.known.len();
         self.come_to(place, &Change::EndSend(decision));
@@ -125,7 +137,8 @@ impl Core<'_> {
         requires possible { IsObedience self.old target from }
         requires room { 3 ≤ told.old.room }
         requires slots { 2 ≤ told.old.slots }
-        ensures { Does (does_task self.old.machine self.old.cpu (Obey target from caller what)) self.old self.new told.old told.new }
+        ensures { Does (does_task self.old.machine self.old.cpu
+            (Obey target from caller what)) self.old self.new told.old told.new }
     {
         let _few = self.known.len();
         self.obey_order(caller, what, target, told);

@@ -51,7 +51,8 @@ impl Core<'_> {
         requires own { IsOwnOf self.old place }
         requires room { 0 < told.old.room }
         requires slots { 2 ≤ told.old.slots }
-        ensures does { Does (obeys self.old.machine self.old.cpu caller (what_of what) place) self.old self.new told.old told.new }
+        ensures does { Does (obeys self.old.machine self.old.cpu caller
+            (what_of what) place) self.old self.new told.old told.new }
         ensures slots { 1 ≤ told.new.slots }
     {
         let was_deleted = self.known.is_deleted(place);
@@ -70,7 +71,9 @@ impl Core<'_> {
         requires count { (thread self.old.local place).context.begun < self.old.local.stamp }
         requires room { 3 ≤ told.old.room }
         requires slots { 2 ≤ told.old.slots }
-        ensures { Does (acts self.old.machine self.old.cpu place (act_of self.old.machine (held self.old.machine self.old.local place))) self.old self.new told.old told.new }
+        ensures { Does (acts self.old.machine self.old.cpu place
+            (act_of self.old.machine
+            (held self.old.machine self.old.local place))) self.old self.new told.old told.new }
     {
         let instr = self.known.instruction(place);
         match &instr {
@@ -89,8 +92,10 @@ impl Core<'_> {
     // Runs an instruction that concerns nobody else.
     fn run<S: Sink>(&mut self, place: usize, instr: &Instr, told: &mut Told<S>)
         requires hand { IsAtHand self.old place }
-        requires instr { instr_of instr.now ≡ instruction (held self.old.machine self.old.local place) }
-        requires within { is_end (instr_of instr.now) ≡ false → (thread self.old.local place).context.place < most_instructions }
+        requires instr { instr_of instr.now ≡
+            instruction (held self.old.machine self.old.local place) }
+        requires within { is_end (instr_of instr.now) ≡ false →
+            (thread self.old.local place).context.place < most_instructions }
         requires room { 0 < told.old.room }
         ensures { Does (runs_alone_at self.old.machine place) self.old self.new told.old told.new }
     {
@@ -108,16 +113,20 @@ impl Core<'_> {
         told: &mut Told<S>,
     )
         requires hand { IsAtHand self.old place }
-        requires instr { instr_of instr.now ≡ instruction (held self.old.machine self.old.local place) }
+        requires instr { instr_of instr.now ≡
+            instruction (held self.old.machine self.old.local place) }
         requires ipc { is_ipc (instr_of instr.now) ≡ true }
         requires partner { partner ≡ partner_of self.old.machine
             (thread self.old.local place).context (instr_of instr.now) }
         requires found { IfSome partner (λ receiver. receiver < length self.old.machine.threads) }
-        requires within { is_end (instr_of instr.now) ≡ false → (thread self.old.local place).context.place < most_instructions }
+        requires within { is_end (instr_of instr.now) ≡ false →
+            (thread self.old.local place).context.place < most_instructions }
         requires count { (thread self.old.local place).context.begun < self.old.local.stamp }
         requires room { 3 ≤ told.old.room }
         requires slots { 2 ≤ told.old.slots }
-        ensures { Does (acts self.old.machine self.old.cpu place (act_of self.old.machine (held self.old.machine self.old.local place))) self.old self.new told.old told.new }
+        ensures { Does (acts self.old.machine self.old.cpu place
+            (act_of self.old.machine
+            (held self.old.machine self.old.local place))) self.old self.new told.old told.new }
     {
         let _few = self.known.len();
         match self.begin(place, instr) {
@@ -140,12 +149,16 @@ impl Core<'_> {
         told: &mut Told<S>,
     )
         requires hand { IsAtHand self.old place }
-        requires instr { instr_of instr.now ≡ instruction (held self.old.machine self.old.local place) }
+        requires instr { instr_of instr.now ≡
+            instruction (held self.old.machine self.old.local place) }
         requires ask { instr_of instr.now ≡ Ask target (what_of what) }
-        requires within { is_end (instr_of instr.now) ≡ false → (thread self.old.local place).context.place < most_instructions }
+        requires within { is_end (instr_of instr.now) ≡ false →
+            (thread self.old.local place).context.place < most_instructions }
         requires room { 3 ≤ told.old.room }
         requires slots { 2 ≤ told.old.slots }
-        ensures { Does (acts self.old.machine self.old.cpu place (act_of self.old.machine (held self.old.machine self.old.local place))) self.old self.new told.old told.new }
+        ensures { Does (acts self.old.machine self.old.cpu place
+            (act_of self.old.machine
+            (held self.old.machine self.old.local place))) self.old self.new told.old told.new }
     {
         match self.known.admitted(place, target, what) {
             Some(target) => self.give(place, target, what, told),
@@ -159,7 +172,8 @@ impl Core<'_> {
         requires within { (thread self.old.local place).context.place < most_instructions }
         requires room { 2 ≤ told.old.room }
         requires slots { 2 ≤ told.old.slots }
-        ensures { Does (gives_order self.old.machine self.old.cpu place (record { target = target; what = what_of what })) self.old self.new told.old told.new }
+        ensures { Does (gives_order self.old.machine self.old.cpu place
+            (record { target = target; what = what_of what })) self.old self.new told.old told.new }
     {
         let _few = self.known.len();
         let caller = self.known.id(place);

@@ -22,7 +22,8 @@ impl Core<'_> {
         requires receiver { IsOwnOf self.old receiver }
         requires profile { self.old.machine.retargeting ≡ true }
         requires slots { 0 < told.old.slots }
-        ensures { Does (owes_for self.old.machine self.old.cpu receiver (Some (owed_of owed))) self.old self.new told.old told.new }
+        ensures { Does (owes_for self.old.machine self.old.cpu receiver
+            (Some (owed_of owed))) self.old self.new told.old told.new }
     {
         match self.known.place_of(owed.originator) {
             Some(originator) if self.known.is_own(originator) => self.keep_owed(receiver, owed),
@@ -39,7 +40,9 @@ impl Core<'_> {
         requires own { IsOwnOf self.old place }
         requires room { 0 < told.old.room }
         ensures { (owed : ModelOwed) → owed_beside self.old.local place ≡ Some owed →
-            Does (does_duty self.old.machine self.old.cpu place (Retargets owed)) self.old self.new told.old told.new }
+            Does
+            (does_duty self.old.machine self.old.cpu place
+            (Retargets owed)) self.old self.new told.old told.new }
     {
         let Some(owed) = self.take_owed(place) else {
             return;
@@ -53,7 +56,8 @@ impl Core<'_> {
     pub(super) fn retarget<S: Sink>(&mut self, originator: usize, owed: &Owed, told: &mut Told<S>)
         requires originator { originator < length self.old.machine.threads }
         requires room { 0 < told.old.room }
-        ensures { Does (retargets (owed_of owed.now) originator) self.old self.new told.old told.new }
+        ensures { Does (retargets
+            (owed_of owed.now) originator) self.old self.new told.old told.new }
     {
         told.tell(StepRef::Retarget(owed.send));
         self.turn_to(originator, owed);

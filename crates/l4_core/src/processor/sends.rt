@@ -4,11 +4,14 @@ ghost use Rattle.std.specs.Prelude.{◌≡◌, ◌<◌, ◌≤◌, ◌+◌, Some
 ghost use Rattle.l4_model.specs.World.{Send};
 ghost use Rattle.l4_core_model.specs.Letters.{refusal_step};
 ghost use Rattle.l4_core_model.specs.Local.{thread, is_own};
-ghost use Rattle.l4_core_model.specs.Acts.{arrives, delivers, decides_send, send_goes_to, posts_send, queues_send, refuses, split_place, withdraws};
+ghost use Rattle.l4_core_model.specs.Acts.{arrives, delivers, decides_send, send_goes_to};
+ghost use Rattle.l4_core_model.specs.Acts.{posts_send, queues_send, refuses, split_place};
+ghost use Rattle.l4_core_model.specs.Acts.{withdraws};
 ghost use Rattle.l4_core_model.specs.Local.{destination_place};
 ghost use Rattle.l4_types.specs.LetterView.{refusal_of_send, decision_of, cause_of_withdrawal};
 ghost use Rattle.l4_types.specs.StepView.{seen};
-ghost use Rattle.l4_core.specs.Turning.{hands_over, Does, IsNewSender, IsNotSplit, IsOwnOf, IsReceiver, IsSender};
+ghost use Rattle.l4_core.specs.Turning.{hands_over, Does, IsNewSender, IsNotSplit, IsOwnOf};
+ghost use Rattle.l4_core.specs.Turning.{IsReceiver, IsSender};
 
 use crate::processor::Core;
 use crate::told::Told;
@@ -46,7 +49,8 @@ impl Core<'_> {
         requires sender { IsSender self.old place }
         requires room { 0 < told.old.room }
         requires slots { 0 < told.old.slots }
-        ensures { Does (refuses self.old.machine self.old.cpu (refusal_of_send refusal) place) self.old self.new told.old told.new }
+        ensures { Does (refuses self.old.machine self.old.cpu
+            (refusal_of_send refusal) place) self.old self.new told.old told.new }
     {
         told.tell(refusal_step(refusal, self.known.last_name(place)));
         self.end_send(place, Decision::Refused(refusal), told);
@@ -58,7 +62,9 @@ impl Core<'_> {
         requires sender { IsSender self.old sender }
         requires room { 0 < told.old.room }
         requires slots { 2 ≤ told.old.slots }
-        ensures { Does (delivers self.old.machine self.old.cpu receiver sender) self.old self.new told.old told.new }
+        ensures { Does
+            (delivers self.old.machine self.old.cpu receiver sender)
+            self.old self.new told.old told.new }
     {
         let owed = self.known.owed_by(receiver, sender);
         self.hand_over(receiver, sender, told);
@@ -74,7 +80,9 @@ impl Core<'_> {
         requires sender { IsSender self.old sender }
         requires room { 0 < told.old.room }
         requires slots { 0 < told.old.slots }
-        ensures does { Does (hands_over self.old.machine self.old.cpu receiver sender) self.old self.new told.old told.new }
+        ensures does { Does
+            (hands_over self.old.machine self.old.cpu receiver sender)
+            self.old self.new told.old told.new }
         ensures slots { told.old.slots ≤ told.new.slots + 1 }
     {
         let delivery = DeliveryRef {
@@ -94,7 +102,8 @@ impl Core<'_> {
     fn end_send<S: Sink>(&mut self, place: usize, decision: Decision, told: &mut Told<S>)
         requires sender { IsSender self.old place }
         requires slots { 0 < told.old.slots }
-        ensures does { Does (decides_send self.old.machine self.old.cpu (decision_of decision) place) self.old self.new told.old told.new }
+        ensures does { Does (decides_send self.old.machine self.old.cpu
+            (decision_of decision) place) self.old self.new told.old told.new }
         ensures slots { told.old.slots ≤ told.new.slots + 1 }
     {
         if self.known.is_own(place) {
@@ -123,7 +132,9 @@ impl Core<'_> {
         requires room { 2 ≤ told.old.room }
         requires slots { 2 ≤ told.old.slots }
         ensures { (send : Send) → (thread self.old.local sender).send ≡ Some send →
-            Does (send_goes_to self.old.machine self.old.cpu sender send (destination_place self.old.machine send.to)) self.old self.new told.old told.new }
+            Does
+            (send_goes_to self.old.machine self.old.cpu sender send
+            (destination_place self.old.machine send.to)) self.old self.new told.old told.new }
     {
         match partner {
             Some(receiver) if self.known.is_own(receiver) => self.arrive(receiver, sender, told),
@@ -138,7 +149,8 @@ impl Core<'_> {
         requires sender { IsSender self.old sender }
         requires slots { 0 < told.old.slots }
         ensures { (send : Send) → (thread self.old.local sender).send ≡ Some send →
-            Does (posts_send self.old.machine receiver sender send) self.old self.new told.old told.new }
+            Does
+            (posts_send self.old.machine receiver sender send) self.old self.new told.old told.new }
     {
         let content = Content::Send {
             name: self.known.last_name(sender),
@@ -158,7 +170,9 @@ impl Core<'_> {
         requires here { IsNotSplit self.old sender }
         requires room { 2 ≤ told.old.room }
         requires slots { 2 ≤ told.old.slots }
-        ensures { Does (arrives self.old.machine self.old.cpu receiver sender) self.old self.new told.old told.new }
+        ensures { Does
+            (arrives self.old.machine self.old.cpu receiver sender)
+            self.old self.new told.old told.new }
     {
         if self.known.is_deleted(receiver) {
             self.refuse(sender, Refusal::Nobody, told);
@@ -177,7 +191,9 @@ impl Core<'_> {
         requires room { 2 ≤ told.old.room }
         requires slots { 2 ≤ told.old.slots }
         ensures { (send : Send) → (thread self.old.local sender).send ≡ Some send →
-            Does (queues_send self.old.machine self.old.cpu receiver sender (Some send)) self.old self.new told.old told.new }
+            Does
+            (queues_send self.old.machine self.old.cpu receiver sender
+            (Some send)) self.old self.new told.old told.new }
     {
         told.tell(StepRef::Queue(self.known.last_name(sender)));
         let waiting = self.known.entry(receiver, sender);
@@ -191,7 +207,9 @@ impl Core<'_> {
     pub(super) fn withdraw<S: Sink>(&mut self, place: usize, cause: Cause, told: &mut Told<S>)
         requires own { IsOwnOf self.old place }
         requires slots { 0 < told.old.slots }
-        ensures does { Does (withdraws self.old.machine (cause_of_withdrawal cause) place (split_place self.old.machine self.old.cpu self.old.local place)) self.old self.new told.old told.new }
+        ensures does { Does (withdraws self.old.machine (cause_of_withdrawal cause) place
+            (split_place self.old.machine self.old.cpu self.old.local place))
+            self.old self.new told.old told.new }
         ensures slots { told.old.slots ≤ told.new.slots + 1 }
     {
         if let Some(receiver) = self.known.split_place(place) {

@@ -1,6 +1,7 @@
 //! Turns, ticks and letters that return their steps and letters as values. A processor at work
 //! writes them into its log, and calls none of these.
-ghost use Rattle.std.specs.Prelude.{◌≡◌, ◌↔◌, ◌⊎◌, IfErr, IfOk, IsErrOf, IsSome, None, OnErr, [], false, true};
+ghost use Rattle.std.specs.Prelude.{◌≡◌, ◌↔◌, ◌⊎◌, IfErr, IfOk, IsErrOf, IsSome, None, OnErr, []};
+ghost use Rattle.std.specs.Prelude.{false, true};
 ghost use Rattle.l4_core_model.specs.Mail.{handle};
 ghost use Rattle.l4_core_model.specs.Turns.{advance, can_stamp};
 ghost use Rattle.l4_types.specs.LetterView.{letter_of};
@@ -39,12 +40,17 @@ impl Core<'_> {
     /// `Mail`: the letter is not lawful here. `Stamp`: else, where the next stamp would reach 2^62.
     /// Nothing is changed then.
     pub fn handle(&mut self, letter: &Letter) -> Result<(Event, Letters), Fault>
-        ensures ok { IfOk result (λ r. IsToldEvent (handle self.old.machine self.old.cpu self.old.local (letter_of letter.now)) self.old self.new r.0 r.1.items) }
+        ensures ok { IfOk result (λ r.
+            IsToldEvent
+            (handle self.old.machine self.old.cpu self.old.local
+            (letter_of letter.now)) self.old self.new r.0 r.1.items) }
         ensures err { OnErr result (self.new ≡ self.old) }
         ensures faults { IfErr result (λ fault. (fault ≡ Fault.Mail) ⊎ (fault ≡ Fault.Stamp)) }
-        ensures mail { IsErrOf result Fault.Mail ↔ (handle self.old.machine self.old.cpu self.old.local (letter_of letter.now) ≡ None) }
+        ensures mail { IsErrOf result Fault.Mail ↔
+            (handle self.old.machine self.old.cpu self.old.local (letter_of letter.now) ≡ None) }
         ensures stamp { IsErrOf result Fault.Stamp ↔
-            (IsSome (handle self.old.machine self.old.cpu self.old.local (letter_of letter.now)) × (can_stamp self.old.local letter.now.stamp ≡ false)) }
+            (IsSome (handle self.old.machine self.old.cpu self.old.local (letter_of letter.now)) ×
+            (can_stamp self.old.local letter.now.stamp ≡ false)) }
     {
         let mut told = Told::new(EventSteps::new());
         let stamp = self.handle_into(letter, &mut told)?;
@@ -56,11 +62,16 @@ impl Core<'_> {
     /// `Clock`: the value is not above the clock, or not below 2^62. `Stamp`: else, where the next
     /// stamp would reach 2^62. Nothing is changed then.
     pub fn advance(&mut self, to: u64) -> Result<Event, Fault>
-        ensures ok { IfOk result (λ event. IsToldEvent (advance self.old.machine self.old.cpu to self.old.local) self.old self.new event []) }
+        ensures ok { IfOk result (λ event.
+            IsToldEvent
+            (advance self.old.machine self.old.cpu to self.old.local) self.old self.new event []) }
         ensures err { OnErr result (self.new ≡ self.old) }
         ensures faults { IfErr result (λ fault. (fault ≡ Fault.Clock) ⊎ (fault ≡ Fault.Stamp)) }
-        ensures clock { IsErrOf result Fault.Clock ↔ (advance self.old.machine self.old.cpu to self.old.local ≡ None) }
-        ensures stamp { IsErrOf result Fault.Stamp ↔ (IsSome (advance self.old.machine self.old.cpu to self.old.local) × (can_stamp self.old.local 0 ≡ false)) }
+        ensures clock { IsErrOf result Fault.Clock ↔
+            (advance self.old.machine self.old.cpu to self.old.local ≡ None) }
+        ensures stamp { IsErrOf result Fault.Stamp ↔
+            (IsSome (advance self.old.machine self.old.cpu to self.old.local) ×
+            (can_stamp self.old.local 0 ≡ false)) }
     {
         let mut told = Told::new(EventSteps::new());
         let stamp = self.advance_into(to, &mut told)?;

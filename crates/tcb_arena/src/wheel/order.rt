@@ -1,12 +1,14 @@
 //! The armed blocks in order, as far as the rings tell it: a block that is armed for the same
 //! deadline comes later in the same ring, and of those with a later deadline the least comes first.
 
-ghost use Rattle.std.specs.Prelude.{◌≡◌, ℕ, ◌+◌, ◌<◌, ◌%◌, ◌&&◌, nat_le, not, true, drop, find, length, slice_get, slice_index, Some};
+ghost use Rattle.std.specs.Prelude.{◌≡◌, ℕ, ◌+◌, ◌<◌, ◌%◌, ◌&&◌, nat_le, not, true, drop, find};
+ghost use Rattle.std.specs.Prelude.{length, slice_get, slice_index, Some};
 ghost use Rattle.std.specs.Option.{option_map};
 ghost use Rattle.tcb_arena.specs.Blocks.{has_entry};
 ghost use Rattle.tcb_arena.specs.Rings.{is_linked, list_at, AreSound};
 ghost use Rattle.tcb_arena.specs.RingSets.{ring_count};
-ghost use Rattle.tcb_arena.specs.Due.{armed_in, armed_of, has_deadline, lesser_of, ArePlaced, AreOnce};
+ghost use Rattle.tcb_arena.specs.Due.{armed_in, armed_of, has_deadline, lesser_of, ArePlaced};
+ghost use Rattle.tcb_arena.specs.Due.{AreOnce};
 
 use crate::iter::Blocks;
 use crate::links::Rings;

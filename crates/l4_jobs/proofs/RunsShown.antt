@@ -27,12 +27,12 @@ status_of_rest false = refl
 
 report_is : (m : Machine) (r : Run) (o : Findings) → IsOutcomeOf m r o → IsReport m r (report_text o.threads o.waiting o.ending)
 report_is m r o is =
-    let w = is.possible.0 in
-    let reaches = is.possible.1 in
+    let w = is.is_true.possible.0 in
+    let reaches = is.is_true.possible.1 in
     record {
       world = w;
       reaches = ap (reached m) (sym is.history) ∙ reaches;
-      lines_are = rw (is.threads w reaches, is.waiting w reaches, is.history, ending_is _ o.ending is.quiet) refl;
+      lines_are = rw (is.is_true.threads w reaches, is.is_true.waiting w reaches, is.history, ending_is _ o.ending is.quiet) refl;
     }
 
 shows : (report : Bool) (m : Machine) (r : Run) (o : Findings) → IsOutcomeOf m r o → Shows report m r (lines_of_outcome report o)

@@ -28,14 +28,10 @@ count_is m ps r come = sym (length_permutation (all_events (pasts ps)) r.events 
 same_outcome : (m : Machine) (r other : Run) (o : Findings) → other.events ≡ r.events → (at_rest m other.system ≡ true) ↔ (at_rest m r.system ≡ true) →
     IsOutcomeOf m r o → IsOutcomeOf m other o
 same_outcome m r other o events rest is = record {
+  is_true = is.is_true;
   history = is.history ∙ ap told (sym events);
-  possible = is.possible;
-  lawful = is.lawful;
-  waiting = is.waiting;
-  threads = is.threads;
   turns = is.turns ∙ ap length (sym events);
   quiet = ((λ q. rest.1 (is.quiet.0 q)), (λ e. is.quiet.1 (rest.0 e)));
-  still = is.still;
 }
 
 whole_here : (m : Machine) (ps : List Processor) (r : Run) → HaveCome m ps r → AreWhole (map port_of ps) → AreWholePasts m (pasts ps)

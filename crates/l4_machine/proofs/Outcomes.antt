@@ -17,7 +17,9 @@ use Rattle.l4_types.specs.ReportView.{report_of_view}
 use Rattle.l4_audit.specs.declared.audit.Audit.{Audit}
 use Rattle.l4_audit.specs.Audits.{Passes}
 use Rattle.l4_machine.specs.declared.outcome.CompactOutcome.{CompactOutcome}
-use Rattle.l4_machine.specs.Outcomes.{IsOutcomeOf, IsSound, compact_findings_of, steps_of}
+use Rattle.l4_proc.specs.declared.processor.Processor.{Processor}
+use Rattle.l4_machine.specs.Gathered.{IsGathered}
+use Rattle.l4_machine.specs.Outcomes.{Findings, IsFoundFor, IsOutcomeOf, IsSound, IsTrueOf, compact_findings_of, steps_of}
 
 -- A history has no first fault.
 pub no_fault : (m : Machine) (h : List Step) (place : ℕ) → IsHistory m h → IsFirstFault m h place → ⊥
@@ -31,14 +33,16 @@ pub is_outcome : (m : Machine) (h : List Step) (o : CompactOutcome) (audit : Aud
     Passes m h audit → o.waiting.items ≡ audit.waiting.items → o.threads.items ≡ audit.threads.items → o.turns ≡ length r.events →
     (o.ending ≡ Quiet) ↔ (at_rest m r.system ≡ true) → IsOutcomeOf m r (compact_findings_of o)
 is_outcome m h o audit r sound told_is steps passes waiting threads turns quiet = record {
+  is_true = record {
+    possible = subst (IsHistory m) (sym same) sound.possible;
+    lawful = subst (IsLawful m) (sym same) sound.lawful;
+    waiting = λ w is. waiting ∙ p.waiting_are ∙ ap (λ v. undecided_sends m v (steps_of o.history)) (world w is);
+    threads = λ w is. ap (map report_of_view) threads ∙ p.threads ∙ ap (view m) (world w is);
+    still = λ e w is. sound.still (quiet.0 e) w (ap (λ xs. reached m xs) (sym same) ∙ is);
+  };
   history = same;
-  possible = subst (IsHistory m) (sym same) sound.possible;
-  lawful = subst (IsLawful m) (sym same) sound.lawful;
-  waiting = λ w is. waiting ∙ p.waiting_are ∙ ap (λ v. undecided_sends m v (steps_of o.history)) (world w is);
-  threads = λ w is. ap (map report_of_view) threads ∙ p.threads ∙ ap (view m) (world w is);
   turns = turns;
   quiet = quiet;
-  still = λ e w is. sound.still (quiet.0 e) w (ap (λ xs. reached m xs) (sym same) ∙ is);
 }
   where
     same : steps_of o.history ≡ told r.events
@@ -56,14 +60,16 @@ pub is_outcome_at_home : (m : Machine) (locals : List Local) (h : List Step) (o 
     o.waiting.items ≡ filter_map (home_waiting m locals) h → h ≡ told r.events → steps_of o.history ≡ h → o.turns ≡ length r.events →
     (o.ending ≡ Quiet) ↔ (at_rest m r.system ≡ true) → IsOutcomeOf m r (compact_findings_of o)
 is_outcome_at_home m locals h o r sound here handled undeleted threads waiting told_is steps turns quiet = record {
+  is_true = record {
+    possible = subst (IsHistory m) (sym same) sound.possible;
+    lawful = subst (IsLawful m) (sym same) sound.lawful;
+    waiting = λ w is. waiting ∙ ap (filter_map (home_waiting m locals)) (sym steps) ∙ sym ((told_by w is).waiting (steps_of o.history));
+    threads = λ w is. threads ∙ sym (told_by w is).view;
+    still = λ e w is. sound.still (quiet.0 e) w (ap (λ xs. reached m xs) (sym same) ∙ is);
+  };
   history = same;
-  possible = subst (IsHistory m) (sym same) sound.possible;
-  lawful = subst (IsLawful m) (sym same) sound.lawful;
-  waiting = λ w is. waiting ∙ ap (filter_map (home_waiting m locals)) (sym steps) ∙ sym ((told_by w is).waiting (steps_of o.history));
-  threads = λ w is. threads ∙ sym (told_by w is).view;
   turns = turns;
   quiet = quiet;
-  still = λ e w is. sound.still (quiet.0 e) w (ap (λ xs. reached m xs) (sym same) ∙ is);
 }
   where
     same : steps_of o.history ≡ told r.events
@@ -78,3 +84,14 @@ is_outcome_at_home m locals h o r sound here handled undeleted threads waiting t
 -- What the laws say of a core run.
 pub sound : (m : Machine) (r : Run) → IsLawfulRun m r → IsSound m r
 sound m r l = record { at_home = l.at_home; possible = l.history; lawful = l.lawful; still = l.still }
+
+-- What an outcome says of a run, it says of the machine.
+
+pub run_is_true : (m : Machine) (most : ℕ) (o : Findings) → IsFoundFor m most o → IsTrueOf m o
+run_is_true m most o found = found.outcome.is_true
+
+pub replay_is_true : (m : Machine) (r : Run) (o : Findings) → IsOutcomeOf m r o → IsTrueOf m o
+replay_is_true m r o is = is.is_true
+
+pub gathered_is_true : (m : Machine) (ps : List Processor) (o : Findings) → IsGathered m ps o → IsTrueOf m o
+gathered_is_true m ps o gathered = gathered.outcome.is_true

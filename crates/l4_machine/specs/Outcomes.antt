@@ -55,25 +55,31 @@ compact_findings_of o = record {
   turns = o.turns;
 }
 
--- These are the findings of this core run of the machine.
-pub record IsOutcomeOf (m : Machine) (r : Run) (o : Findings) : Type 0 where
-  -- the history is what the events of the run tell, in order
-  pub history : o.history ≡ told r.events
+-- These findings are true of the machine. Nothing here names a run of processors.
+pub record IsTrueOf (m : Machine) (o : Findings) : Type 0 where
   -- each of its steps is possible at the world that the earlier ones reach from the opening world
   pub possible : IsHistory m o.history
-  -- each send is delivered at most once and unaltered, one sender's messages reach one receiver in sending order, a receive takes its
-  -- first acceptable waiting sender, a deleted thread receives nothing, and every other begun send is refused, dropped or waiting
+  -- each send is delivered at most once and unaltered, one sender's messages reach one receiver in
+  -- sending order, a receive takes its first acceptable waiting sender, a deleted thread receives
+  -- nothing, and every other begun send is refused, dropped or waiting
   pub lawful : IsLawful m o.history
   -- the undecided sends are those of the world that the history reaches, in order of beginning
   pub waiting : (w : World) → reached m o.history ≡ Some w → o.waiting ≡ undecided_sends m w o.history
   -- the threads are those of that world, in order of declaration
   pub threads : (w : World) → reached m o.history ≡ Some w → o.threads ≡ view m w
+  -- where it is quiet, nothing but clocks can go on in that world
+  pub still : o.ending ≡ Quiet → (w : World) → reached m o.history ≡ Some w → IsStill m w
+
+-- These are the findings of this core run of the machine.
+pub record IsOutcomeOf (m : Machine) (r : Run) (o : Findings) : Type 0 where
+  -- they are true of the machine
+  pub is_true : IsTrueOf m o
+  -- the history is what the events of the run tell, in order
+  pub history : o.history ≡ told r.events
   -- the turns are the events of the run
   pub turns : o.turns ≡ length r.events
   -- it is quiet exactly where the run ends at rest, and else spent
   pub quiet : (o.ending ≡ Quiet) ↔ (at_rest m r.system ≡ true)
-  -- and then nothing but clocks can go on in that world
-  pub still : o.ending ≡ Quiet → (w : World) → reached m o.history ≡ Some w → IsStill m w
 
 -- A core run with its events in order of stamp, and of equal ones by processor.
 abbrev pub in_order : Run → Run

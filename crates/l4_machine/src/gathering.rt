@@ -13,7 +13,7 @@ ghost use Rattle.l4_machine.specs.Gathers.{core_of, pasts_of, with_number, AreOf
 ghost use Rattle.l4_machine.specs.Gathers.{HaveNumbers};
 ghost use Rattle.l4_machine.specs.Gathered.{IsGathered};
 ghost use Rattle.l4_machine.specs.Homes.{IsAtHome};
-ghost use Rattle.l4_machine.specs.Outcomes.{compact_findings_of, findings_of};
+ghost use Rattle.l4_machine.specs.Outcomes.{IsTrueOf, compact_findings_of, findings_of};
 
 use crate::homes::AtHome;
 use crate::laws::law_core_run;
@@ -52,6 +52,7 @@ impl From<RestFault> for RunFault {
 /// `Strangers`: exactly where they are not all processors of the machine, each once. `NoMemory`:
 /// memory was refused. With a fault the processors come back in their order, each as it was, save
 /// that letters under way may have moved to the ports that they go to. The call can be made again.
+#[tactic(auto, using(crate::proofs::Outcomes::gathered_is_true))]
 pub fn gather<'m>(
     alloc: Global,
     machine: &Machine,
@@ -59,6 +60,7 @@ pub fn gather<'m>(
 ) -> Result<Outcome, (RunFault, Vec<Processor<'m>>)>
     requires { AreOfOne machine.now processors.items }
     ensures ok { IfOk result (λ o. IsGathered machine.now processors.entry.items (findings_of o)) }
+    ensures headline { IfOk result (λ o. IsTrueOf machine.now (findings_of o)) }
     ensures err { IfErr result (λ e. (e.0 ≡ RunFault.NoMemory) ⊎ (e.0 ≡ RunFault.Strangers)) }
     ensures all { IfOk result (λ _. are_all (map (λ p. p.port) processors.entry.items) ≡ true) }
     ensures strangers { IfErr result (λ e. (e.0 ≡ RunFault.Strangers) ↔

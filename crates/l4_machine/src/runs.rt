@@ -1,7 +1,8 @@
 //! Runs of a machine by host threads.
 ghost use Rattle.std.specs.Prelude.{◌≡◌, ◌<◌, ◌≤◌, ◌↔◌, ◌⊎◌, IfErr, IfOk, IsErrOf, Some};
 ghost use Rattle.l4_machine.specs.Entries.{most_turns, turns_fault};
-ghost use Rattle.l4_machine.specs.Outcomes.{IsCompactOutcome, IsOutcome};
+ghost use Rattle.l4_machine.specs.Outcomes.{IsCompactOutcome, IsOutcome, IsTrueOf};
+ghost use Rattle.l4_machine.specs.Outcomes.{compact_findings_of, findings_of};
 
 use crate::outcome::{CompactOutcome, Outcome, RunFault};
 use crate::team::Team;
@@ -37,6 +38,7 @@ pub fn run<R: Threads + Sync, G: Gate + Sync>(
     gate: &G,
 ) -> Result<Outcome, RunFault>
     ensures ok { IfOk result (IsOutcome machine.now turns) }
+    ensures headline { IfOk result (λ o. IsTrueOf machine.now (findings_of o)) }
     ensures err { IfErr result (λ fault. (fault ≡ RunFault.NoMemory) ⊎
         (turns_fault turns ≡ Some fault)) }
     ensures range { IsErrOf result RunFault.Turns ↔ ((turns ≡ 0) ⊎ (most_turns < turns)) }
@@ -47,6 +49,7 @@ pub fn run<R: Threads + Sync, G: Gate + Sync>(
 
 /// Runs a machine as `run` does, with the same outcome and the same faults, and keeps the history
 /// in compact form.
+#[tactic(auto, using(crate::proofs::Outcomes::run_is_true))]
 pub fn run_compact<'m, R: Threads + Sync, G: Gate + Sync>(
     rt: &R,
     alloc: Global,
@@ -55,6 +58,7 @@ pub fn run_compact<'m, R: Threads + Sync, G: Gate + Sync>(
     gate: &G,
 ) -> Result<CompactOutcome<'m>, RunFault>
     ensures ok { IfOk result (IsCompactOutcome machine.now turns) }
+    ensures headline { IfOk result (λ o. IsTrueOf machine.now (compact_findings_of o)) }
     ensures err { IfErr result (λ fault. (fault ≡ RunFault.NoMemory) ⊎
         (turns_fault turns ≡ Some fault)) }
     ensures range { IsErrOf result RunFault.Turns ↔ ((turns ≡ 0) ⊎ (most_turns < turns)) }

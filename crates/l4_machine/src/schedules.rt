@@ -8,7 +8,8 @@ ghost use Rattle.l4_choices.specs.Entries.{entry_event, replays};
 ghost use Rattle.l4_machine.specs.Entries.{after_entry, entries_fault, entry_from, first_stranger};
 ghost use Rattle.l4_machine.specs.Entries.{is_entry, most_entries, most_events, processor_of};
 ghost use Rattle.l4_machine.specs.Entries.{schedule_fault};
-ghost use Rattle.l4_machine.specs.Outcomes.{IsCompactReplay, IsReplayed};
+ghost use Rattle.l4_machine.specs.Outcomes.{IsCompactReplay, IsReplayed, IsTrueOf};
+ghost use Rattle.l4_machine.specs.Outcomes.{compact_findings_of, findings_of};
 ghost use Rattle.l4_machine.specs.Stations.{happening, KnowsPoster};
 ghost use Rattle.l4_machine.specs.UnderWay.{under_way, GoesOn, HasRun, IsRun};
 
@@ -132,6 +133,7 @@ fn are_too_many(entries: usize, most: usize) -> bool
 /// of `Schedule`.
 pub fn replay(alloc: Global, machine: &Machine, schedule: &[u8]) -> Result<Outcome, RunFault>
     ensures ok { IfOk result (IsReplayed machine.now schedule.now) }
+    ensures headline { IfOk result (λ o. IsTrueOf machine.now (findings_of o)) }
     ensures lawful { IfOk result (λ o. schedule_fault machine.now schedule.now ≡ None) }
     ensures err { IfErr result (λ fault. (fault ≡ RunFault.NoMemory) ⊎
         (schedule_fault machine.now schedule.now ≡ Some fault)) }
@@ -154,12 +156,14 @@ pub fn replay(alloc: Global, machine: &Machine, schedule: &[u8]) -> Result<Outco
 /// `Turns`: there are more entries. `Schedule`: this entry, counted from 1, is the first that is
 /// none of the machine (`Entry::is_of`). `NoMemory`: memory was refused, which may come in the
 /// place of `Schedule`.
+#[tactic(auto, using(crate::proofs::Outcomes::replay_is_true))]
 pub fn replay_compact<'m>(
     alloc: Global,
     machine: &'m Machine,
     entries: &[Entry],
 ) -> Result<CompactOutcome<'m>, RunFault>
     ensures ok { IfOk result (IsCompactReplay machine.now (map entry_from entries.now)) }
+    ensures headline { IfOk result (λ o. IsTrueOf machine.now (compact_findings_of o)) }
     ensures lawful { IfOk result (λ o.
         entries_fault machine.now (map entry_from entries.now) ≡ None) }
     ensures err { IfErr result (λ fault. (fault ≡ RunFault.NoMemory) ⊎

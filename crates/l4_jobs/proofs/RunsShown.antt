@@ -42,6 +42,7 @@ shows false m r o is = ap trace_of is.history
 shown : (report : Bool) (m : Machine) (IsAsked : Run → Type 0) (r : Run) (o : Findings) (lines : List ℕ) (status : ℕ) → IsAsked r → IsOutcomeOf m r o →
     lines ≡ lines_of_outcome report o → status ≡ status_of_ending o.ending → IsRunShown report m IsAsked lines status
 shown report m IsAsked r o lines status asked is written ended = record {
+  is_true = record { findings = o; is_true = is.is_true; lines_are = written; status_is = ended };
   run = r;
   is = asked;
   shows = subst (Shows report m r) (sym written) (shows report m r o is);

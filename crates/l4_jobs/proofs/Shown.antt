@@ -15,7 +15,7 @@ use Rattle.l4_machine.specs.declared.outcome.CompactOutcome.{CompactOutcome}
 use Rattle.l4_machine.specs.declared.outcome.RunFault.{RunFault}
 use Rattle.l4_machine.specs.declared.outcome.RunFault.TheVariants.{NoMemory}
 use Rattle.l4_jobs.specs.Items.{schedule_of}
-use Rattle.l4_jobs.specs.Jobs.{IsTold, IsFaultOf, IsJobFault, IsPassed, IsShown, IsShownOn, status_at_rest, fault_of, fault_of_job, fault_of_trace, fault_of_steps, fault_on as fault_of_judged, fault_of_result, fault_of_run}
+use Rattle.l4_jobs.specs.Jobs.{IsDone, IsTold, IsTrueOn, IsTrulyDone, IsFaultOf, IsJobFault, IsPassed, IsShown, IsShownOn, status_at_rest, fault_of, fault_of_job, fault_of_trace, fault_of_steps, fault_on as fault_of_judged, fault_of_result, fault_of_run}
 use Rattle.l4_jobs.specs.declared.fault.Fault.{Fault}
 use Rattle.l4_jobs.specs.declared.fault.Fault.TheVariants as fault
 use Rattle.l4_jobs.specs.declared.job.Job.{Job}
@@ -104,3 +104,15 @@ pub replay_fault : (m : Machine) (list : List ℕ) (entries : List Entry) (r : R
 replay_fault m list entries (Ok o) is h = tt
 replay_fault m list entries (Err fault) is (inl e) = inl e
 replay_fault m list entries (Err fault) is (inr e) = absurd (let right = lawful_schedule m list entries is in cc)
+
+-- What is shown is true of the machine.
+true_on : (job : Job) (m : Machine) (trace lines : List ℕ) (status : ℕ) → IsShownOn job m trace lines status →
+    IsTrueOn job m trace lines status
+true_on (Run file turns report) m trace lines status s = s.is_true
+true_on (Replay file schedule report) m trace lines status s = s.is_true
+true_on (Audit file name) m trace lines status s = s
+
+pub truly_done : (job : Job) (machine trace : Gives) (out : List ℕ → Bool → Type 0) (keeps : Type 0) (status : ℕ) →
+    IsDone job machine trace out keeps status → IsTrulyDone job machine trace out status
+truly_done job machine trace out keeps status (text, told, lines, given, t, s, wrote, kept) =
+    (text, told, lines, s.machine, given, s.declares, t, true_on job s.machine told lines status s.shown, wrote)

@@ -17,7 +17,7 @@ use Rattle.l4_script.specs.declared.text.fault.TextFaultKind.TheVariants.{NoMemo
 use Rattle.l4_types.specs.declared.reports.Ending.{Ending}
 use Rattle.l4_types.specs.declared.reports.Ending.TheVariants.{Quiet, Spent}
 use Rattle.l4_audit.specs.Audits.{is_quiet}
-use Rattle.l4_machine.specs.Outcomes.{Findings, IsRunFor, in_order}
+use Rattle.l4_machine.specs.Outcomes.{Findings, IsRunFor, IsTrueOf, in_order}
 use Rattle.l4_machine.specs.Entries.{turns_fault}
 use Rattle.l4_machine.specs.declared.outcome.RunFault.{RunFault}
 use Rattle.l4_machine.specs.declared.outcome.RunFault.TheVariants as run_fault
@@ -182,8 +182,26 @@ abbrev pub Shows : (report : Bool) → Machine → CoreRun → (lines : List ℕ
 Shows true m r lines = IsReport m r lines
 Shows false m r lines = lines ≡ trace_of (told r.events)
 
+-- What is written of an outcome, and the exit status.
+abbrev pub lines_of_outcome : (report : Bool) → Findings → List ℕ
+lines_of_outcome true o = report_text o.threads o.waiting o.ending
+lines_of_outcome false o = trace_of o.history
+
+abbrev pub status_of_ending : Ending → ℕ
+status_of_ending Quiet = 0
+status_of_ending Spent = 3
+
+-- These lines and this status are of findings that are true of the machine. Nothing here names a
+-- run of processors.
+pub record IsTrueShown (report : Bool) (m : Machine) (lines : List ℕ) (status : ℕ) : Type 0 where
+  pub findings : Findings
+  pub is_true : IsTrueOf m findings
+  pub lines_are : lines ≡ lines_of_outcome report findings
+  pub status_is : status ≡ status_of_ending findings.ending
+
 -- These are what is shown of a core run on a machine that is asked for, and the exit status.
 pub record IsRunShown (report : Bool) (machine : Machine) (IsAsked : CoreRun → Type 0) (lines : List ℕ) (status : ℕ) : Type 0 where
+  pub is_true : IsTrueShown report machine lines status
   pub run : CoreRun
   pub is : IsAsked run
   pub shows : Shows report machine run lines
@@ -205,6 +223,12 @@ IsShownOn (Run file turns report) m trace lines status = IsRunShown report m (Is
 IsShownOn (Replay file schedule report) m trace lines status = IsRunShown report m (IsReplayAsked m schedule.now) lines status
 IsShownOn (Audit file name) m trace lines status = IsPassed m trace lines × (status ≡ 0)
 
+-- They are true of the machine.
+abbrev pub IsTrueOn : Job → Machine → (trace lines : List ℕ) → (status : ℕ) → Type 0
+IsTrueOn (Run file turns report) m trace lines status = IsTrueShown report m lines status
+IsTrueOn (Replay file schedule report) m trace lines status = IsTrueShown report m lines status
+IsTrueOn (Audit file name) m trace lines status = IsPassed m trace lines × (status ≡ 0)
+
 -- The text declares a machine, and these are what the job shows there.
 pub record IsShown (job : Job) (text trace lines : List ℕ) (status : ℕ) : Type 0 where
   pub machine : Machine
@@ -219,6 +243,14 @@ IsDone job machine trace out keeps_faults status =
     (text : List ℕ) × (told : List ℕ) × (lines : List ℕ) × machine (Ok text) × IsTold job trace told × IsShown job text told lines status
     × out lines true × keeps_faults
 
+-- The reader of its machine text gave a text that declares a machine, and the lines that a job
+-- wrote once are true of that machine.
+abbrev pub IsTrulyDone : Job → (machine trace : Result (List ℕ) ErrorKind → Type 0) →
+    (out : List ℕ → Bool → Type 0) → (status : ℕ) → Type 0
+IsTrulyDone job machine trace out status =
+    (text : List ℕ) × (told : List ℕ) × (lines : List ℕ) × (m : Machine) × machine (Ok text)
+    × (machine_of_text text ≡ Ok m) × IsTold job trace told × IsTrueOn job m told lines status × out lines true
+
 -- What a job did that has status 1: either nothing was written and its fault was reported, or its lines were written once, which failed, and that was
 -- reported.
 abbrev pub IsNotDone : Job → (machine trace : Result (List ℕ) ErrorKind → Type 0) → (is_fault : Fault → Type 0) → (out : List ℕ → Bool → Type 0) →
@@ -227,12 +259,3 @@ IsNotDone job machine trace is_fault out keeps_out faults =
     ((f : Fault) × is_fault f × keeps_out × IsReported faults f)
     ⊎ ((text : List ℕ) × (told : List ℕ) × (lines : List ℕ) × (status : ℕ) × machine (Ok text) × IsTold job trace told
     × IsShown job text told lines status × out lines false × IsReported faults fault.Write)
-
--- What is written of an outcome.
-abbrev pub lines_of_outcome : (report : Bool) → Findings → List ℕ
-lines_of_outcome true o = report_text o.threads o.waiting o.ending
-lines_of_outcome false o = trace_of o.history
-
-abbrev pub status_of_ending : Ending → ℕ
-status_of_ending Quiet = 0
-status_of_ending Spent = 3

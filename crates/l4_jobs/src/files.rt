@@ -2,7 +2,7 @@
 ghost use Rattle.std.specs.Prelude.{◌≡◌, ◌≢◌, ◌⊎◌};
 ghost use Rattle.l4_jobs.specs.Streams.{FileGives};
 ghost use Rattle.l4_jobs.specs.Jobs.{IsDone, IsFaultBehind, IsNotDone, IsOpenedFault, TraceGives};
-ghost use Rattle.l4_jobs.specs.Jobs.{file_of, trace_file_of};
+ghost use Rattle.l4_jobs.specs.Jobs.{IsTrulyDone, file_of, trace_file_of};
 
 use crate::fault::{report, unread};
 use crate::job::Job;
@@ -43,6 +43,7 @@ fn on_trace<R: Threads + Sync, F: Folder, M: Source, W: Sink, E: Sink>(
 
 /// Opens the files of a job, FILE before TRACE, and both before it reads anything. Then it does the
 /// job. The exit status is that of `perform`, and 1 where a file can't be opened.
+#[tactic(auto, using(crate::proofs::Shown::truly_done))]
 pub fn perform_on_files<R: Threads + Sync, F: Folder, W: Sink, E: Sink>(
     rt: &R,
     alloc: Global,
@@ -55,6 +56,9 @@ pub fn perform_on_files<R: Threads + Sync, F: Folder, W: Sink, E: Sink>(
         IsDone job.now (FileGives (F.opens folder.now) F.File.gives (file_of job.now))
         (TraceGives (F.opens folder.now) F.File.gives job.now)
         (W.takes out.old out.new) (faults.new ≡ faults.old) result }
+    ensures headline { result ≢ 1 →
+        IsTrulyDone job.now (FileGives (F.opens folder.now) F.File.gives (file_of job.now))
+        (TraceGives (F.opens folder.now) F.File.gives job.now) (W.takes out.old out.new) result }
     ensures whole { result ≡ 1 →
         IsNotDone job.now (FileGives (F.opens folder.now) F.File.gives (file_of job.now))
         (TraceGives (F.opens folder.now) F.File.gives job.now)

@@ -9,6 +9,7 @@ ghost use Rattle.l4_jobs.specs.Items.{schedule_of};
 ghost use Rattle.l4_jobs.specs.Jobs.{IsUnread, IsTold, file_of, trace_file_of, IsShown, IsShownOn};
 ghost use Rattle.l4_jobs.specs.Jobs.{IsRunShown, IsPassed, IsTraceFault, IsFaultOn, IsFaultOf};
 ghost use Rattle.l4_jobs.specs.Jobs.{IsJobFault, IsDone, IsNotDone, IsRunAsked, IsReplayAsked};
+ghost use Rattle.l4_jobs.specs.Jobs.{IsTrulyDone};
 ghost use Rattle.l4_jobs.specs.Jobs.{run_by_list, fault_of, fault_of_result, fault_of_turns};
 ghost use Rattle.l4_jobs.specs.Jobs.{lines_of_outcome, status_of_ending};
 ghost use Rattle.l4_jobs.specs.declared.fault.Fault.TheVariants.{NoMemory as OutOfMemory};
@@ -240,6 +241,7 @@ fn job_output<'a, R: Threads + Sync, M: Source, T: Source>(
 /// In a run several processors may work at the same time, each in a host thread. So two runs of
 /// several processors may differ, and each is lawful. A replay does what the items of its schedule
 /// ask for, in their order. Each history that a run may have is that of some items.
+#[tactic(auto, using(crate::proofs::Shown::truly_done))]
 pub fn perform<R: Threads + Sync, M: Source, T: Source, W: Sink, E: Sink>(
     rt: &R,
     alloc: Global,
@@ -252,6 +254,9 @@ pub fn perform<R: Threads + Sync, M: Source, T: Source, W: Sink, E: Sink>(
     ensures shown { result ≢ 1 →
         IsDone job.now (M.gives machine.old) (T.gives trace.old) (W.takes out.old out.new)
         (faults.new ≡ faults.old) result }
+    ensures headline { result ≢ 1 →
+        IsTrulyDone job.now (M.gives machine.old) (T.gives trace.old) (W.takes out.old out.new)
+        result }
     ensures whole { result ≡ 1 →
         IsNotDone job.now (M.gives machine.old) (T.gives trace.old)
         (IsJobFault job.now (M.gives machine.old) (T.gives trace.old))

@@ -248,8 +248,8 @@ IsDone job machine trace out keeps_faults status =
 abbrev pub IsTrulyDone : Job → (machine trace : Result (List ℕ) ErrorKind → Type 0) →
     (out : List ℕ → Bool → Type 0) → (status : ℕ) → Type 0
 IsTrulyDone job machine trace out status =
-    (text : List ℕ) × (told : List ℕ) × (lines : List ℕ) × (m : Machine) × machine (Ok text)
-    × (machine_of_text text ≡ Ok m) × IsTold job trace told × IsTrueOn job m told lines status × out lines true
+    (text : List ℕ) × (read : List ℕ) × (lines : List ℕ) × (m : Machine) × machine (Ok text)
+    × (machine_of_text text ≡ Ok m) × IsTold job trace read × IsTrueOn job m read lines status × out lines true
 
 -- What a job did that has status 1: either nothing was written and its fault was reported, or its lines were written once, which failed, and that was
 -- reported.

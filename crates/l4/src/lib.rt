@@ -4,7 +4,7 @@
 //! A machine text declares threads with their scripts, and `Machine::parse` reads it. `run` lets
 //! its processors work on host threads, `replay` in the order of a schedule. Both return an
 //! `Outcome`: the history, the undecided sends, the report of each thread, and whether anything was
-//! left to do. `trace` and `read_events` write a history and read it, `check` judges whether steps
+//! left to do. `replay_compact` takes entries that name each choice. `trace` and `read_events` write a history and read it, `check` judges whether steps
 //! are a history at all.
 //!
 //! Contracts see the definitions of the model (docs/MODEL.md). An outcome's history is one of the
@@ -28,7 +28,10 @@ pub use l4_script::text::{MOST_BYTES, TextFault, TextFaultKind};
 pub use l4_types::times::Period;
 
 // Runs and replays.
-pub use l4_machine::{Entry, MOST_ENTRIES, MOST_TURNS, Outcome, RunFault, replay, run};
+pub use l4_machine::{
+    CompactOutcome, Entry, Listener, MOST_ENTRIES, MOST_EVENTS, MOST_TURNS, Outcome, RunFault,
+    RunHistory, replay, replay_compact, run,
+};
 pub use l4_proc::gate::{Gate, Open};
 pub use l4_types::reports::{Ending, State, ThreadView};
 

@@ -4,8 +4,8 @@
 //! A machine text declares threads with their scripts, and `Machine::parse` reads it. `run` lets
 //! its processors work on host threads, `replay` in the order of a schedule. Both return an
 //! `Outcome`: the history, the undecided sends, the report of each thread, and whether anything was
-//! left to do. `replay_compact` takes entries that name each choice. `trace` and `read_events` write a history and read it, `check` judges whether steps
-//! are a history at all.
+//! left to do. `replay_compact` takes entries that name each choice. `trace` and `read_events`
+//! write a history and read it, `check` judges whether steps are a history at all.
 //!
 //! Contracts see the definitions of the model (docs/MODEL.md). An outcome's history is one of the
 //! machine, with the laws that hold of all, and `check` is Ok for histories alone. Which history a

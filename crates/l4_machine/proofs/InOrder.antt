@@ -1,12 +1,11 @@
 -- Events in the order told are those of the logs, and each stands in the log of its processor.
-use Rattle.std.proofs.Common.{◌≡◌, ℕ, zero, suc, ◌+◌, ◌-◌, ◌<◌, ◌≤◌, Bool, true, false, Option, Some, None, List, [], ◌∷◌, map, length, get_or, set, drop, refl, ap, ap₂, sym, ◌∙◌, subst, arith}
+use Rattle.std.proofs.Common.{◌≡◌, ℕ, zero, suc, ◌+◌, ◌-◌, ◌<◌, ◌≤◌, Bool, true, false, Option, Some, List, [], ◌∷◌, map, length, get_or, set, drop, refl, ap, ap₂, sym, ◌∙◌, subst, arith}
 use Rattle.std.specs.Prelude.{filter, slice_get, slice_index_or, ◌==◌, if◌then◌else◌}
 use Rattle.std.specs.Option.{option_map}
-use Rattle.std.specs.List.{AllByRecursion}
 use Rattle.std.proofs.lemmas.Bool.{eq-eqb, eqb-true, eqb-false}
 use Rattle.std.proofs.lemmas.List.{length-map}
 use Rattle.l4_model.specs.World.{changed}
-use Rattle.l4_model.proofs.Chains.{get-changed_other, get-changed_same, length-changed, some_is}
+use Rattle.l4_model.proofs.Chains.{get-changed_other, get-changed_same, length-changed}
 use Rattle.l4_core_model.specs.Runs.{Event}
 use Rattle.l4_proc.specs.Logs.{events}
 use Rattle.l4_proc.specs.declared.log.Log.{Log}

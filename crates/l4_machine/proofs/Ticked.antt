@@ -22,7 +22,7 @@ use Rattle.l4_core_model.specs.Turns.{ByDue, ByReady, advance, clock_is, first_d
 use Rattle.l4_merge.specs.Pasts.{Past, letters_posted, letters_handled, all_events}
 use Rattle.l4_merge.specs.Pasts as deeds
 use Rattle.l4_merge.specs.Merges.{EndsAt}
-use Rattle.l4_merge.specs.Rounds.{IsInRounds, is_idle}
+use Rattle.l4_merge.specs.Rounds.{IsInRounds}
 use Rattle.l4_merge.proofs.Ticking.{ends_ticked, permuted_ticked}
 use Rattle.l4_merge.proofs.InRounds.{ticked_in_rounds, ticks_core_run, idles}
 use Rattle.l4_mail.specs.Ports.{kept_from, AreOneFabric, AreWhole}

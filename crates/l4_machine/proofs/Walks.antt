@@ -1,9 +1,9 @@
 -- A core run under way, as its reader has it.
-use Rattle.std.proofs.Common.{◌≡◌, ℕ, ◌<◌, ◌↔◌, Bool, true, false, Some, List, length, refl, ap, sym, ◌∙◌, subst, arith}
+use Rattle.std.proofs.Common.{◌≡◌, ℕ, ◌<◌, Bool, true, false, Some, List, length, refl, ap, sym, ◌∙◌, subst, arith}
 use Rattle.std.specs.Prelude.{slice_get}
 use Rattle.l4_model.specs.Machine.{Machine}
 use Rattle.l4_core_model.specs.Letters.{Letter}
-use Rattle.l4_core_model.specs.Runs.{System, Run, letters, at_rest}
+use Rattle.l4_core_model.specs.Runs.{Run, letters, at_rest}
 use Rattle.l4_core.specs.Processor.{Processor}
 use Rattle.l4_machine.specs.Stations.{Station, letters_from}
 use Rattle.l4_machine.specs.UnderWay.{UnderWay, AreResting, HasRun, IsProcessorOf, IsRun}

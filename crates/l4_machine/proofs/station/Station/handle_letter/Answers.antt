@@ -1,42 +1,52 @@
-use Rattle.std.proofs.Common.{Some}
+use Rattle.std.proofs.Common.{ℕ, Option, Some}
+use Rattle.l4_types.specs.declared.letters.Letter.{Letter}
 use Rattle.l4_machine.proofs.Stations.{at_hand, begun_kept, begun_station, can_turn, keeps, letter_tried, tried_kept}
 use Rattle.l4_machine.proofs.station.Station.handle_letter.Goals as goal
 
 pub take_turn-requires-clause-can : goal.take_turn-requires-clause-can
 take_turn-requires-clause-can c =
     let old = c.args.self.now in
-    let hand = Some (c.args.from, c.in-Some.letter) in
-    let h = at_hand old.worker c.begin.new.self c.take_in_hand.new.self hand c.in_ok-begin.ensures.core
-    c.in_ok-begin.ensures.ok c.take_in_hand.ensures.core c.take_in_hand.ensures.hand c.take_in_hand.ensures.log in
-    can_turn old c.take_in_hand.new.self hand c.requires.can h c.in-Some.ensures.first
+    let hand : Option (ℕ × Letter) = Some (c.args.from, c.in-Some.letter) in
+    let w = c.take_in_hand.new.self in
+    let begun = c.in_ok-begin.ensures in
+    let taken = c.take_in_hand.ensures in
+    let h = at_hand old.worker c.begin.new.self w hand begun.core begun.ok
+    taken.core taken.hand taken.log in
+    can_turn old w hand c.requires.can h c.in-Some.ensures.first
 
-pub invariant_of-self-2 : goal.invariant_of-self-2
-invariant_of-self-2 c =
+pub invariant_of-self-in-Some : goal.invariant_of-self-in-Some
+invariant_of-self-in-Some c =
     let old = c.args.self.now in
-    let hand = Some (c.args.from, c.in-Some.letter) in
-    let h = at_hand old.worker c.begin.new.self c.take_in_hand.new.self hand c.in_ok-begin.ensures.core
-    c.in_ok-begin.ensures.ok c.take_in_hand.ensures.core c.take_in_hand.ensures.hand c.take_in_hand.ensures.log in
-    let k = tried_kept c.take_turn.result old.worker c.take_in_hand.new.self c.take_turn.new.worker hand (keeps old) h
-    c.take_turn.ensures in
+    let hand : Option (ℕ × Letter) = Some (c.args.from, c.in-Some.letter) in
+    let w = c.take_in_hand.new.self in
+    let begun = c.in_ok-begin.ensures in
+    let taken = c.take_in_hand.ensures in
+    let h = at_hand old.worker c.begin.new.self w hand begun.core begun.ok
+    taken.core taken.hand taken.log in
+    let new = c.take_turn.new.worker in
+    let k = tried_kept c.take_turn.result old.worker w new hand (keeps old) h c.take_turn.ensures in
     record { empty = k.empty; closed = k.closed; own = k.own }
 
 pub returns-in-Some : goal.returns-in-Some
 returns-in-Some c =
     let old = c.args.self.now in
-    let hand = Some (c.args.from, c.in-Some.letter) in
-    let h = at_hand old.worker c.begin.new.self c.take_in_hand.new.self hand c.in_ok-begin.ensures.core
-    c.in_ok-begin.ensures.ok c.take_in_hand.ensures.core c.take_in_hand.ensures.hand c.take_in_hand.ensures.log in
-    letter_tried c.take_turn.result old _ c.take_in_hand.new.self (c.args.from, c.in-Some.letter) (keeps old) h
-    c.in-Some.ensures c.take_turn.ensures
+    let p : ℕ × Letter = (c.args.from, c.in-Some.letter) in
+    let w = c.take_in_hand.new.self in
+    let begun = c.in_ok-begin.ensures in
+    let taken = c.take_in_hand.ensures in
+    let h = at_hand old.worker c.begin.new.self w (Some p) begun.core begun.ok
+    taken.core taken.hand taken.log in
+    letter_tried c.take_turn.result old _ w p (keeps old) h c.in-Some.ensures c.take_turn.ensures
 
-pub invariant_of-self-3 : goal.invariant_of-self-3
-invariant_of-self-3 c =
+pub invariant_of-self-in-None : goal.invariant_of-self-in-None
+invariant_of-self-in-None c =
     let old = c.args.self.now in
-    let k = begun_kept old.worker c.begin.new.self (keeps old) c.in_ok-begin.ensures.core c.in_ok-begin.ensures.hand
-    c.in_ok-begin.ensures.ok in
+    let begun = c.in_ok-begin.ensures in
+    let k = begun_kept old.worker c.begin.new.self (keeps old) begun.core begun.hand begun.ok in
     record { empty = k.empty; closed = k.closed; own = k.own }
 
 pub returns-in-None : goal.returns-in-None
 returns-in-None c =
-    let old = c.args.self.now in
-    (c.in-None.ensures.0, begun_station old _ c.in-None.ensures.1 c.in_ok-begin.ensures.core c.in_ok-begin.ensures.ok)
+    let begun = c.in_ok-begin.ensures in
+    let none = c.in-None.ensures in
+    (none.0, begun_station c.args.self.now _ none.1 begun.core begun.ok)

@@ -1,4 +1,4 @@
-use Rattle.std.proofs.Common.{◌≡◌, ◌≤◌, ◌∙◌, ◌++◌, ◌-◌, List, Option, ap, sym, append-nil, arith}
+use Rattle.std.proofs.Common.{◌≤◌, ◌∙◌, ◌++◌, List, Option, ap, sym, append-nil, arith}
 use Rattle.std.specs.Option.{option_to_list}
 use Rattle.l4_model.specs.Words.{Id}
 use Rattle.l4_model.specs.World.{Name}

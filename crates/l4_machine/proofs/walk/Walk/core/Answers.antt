@@ -1,4 +1,4 @@
-use Rattle.std.proofs.Common.{sym, subst}
+use Rattle.std.proofs.Common.{subst}
 use Rattle.l4_core_model.specs.Runs.{Run}
 use Rattle.l4_model.specs.Machine.{Machine}
 use Rattle.l4_machine.specs.Stations.{station_of}

@@ -1,4 +1,4 @@
-use Rattle.std.proofs.Common.{◌≡◌, map, sym, subst}
+use Rattle.std.proofs.Common.{◌≡◌, ◌<◌, map, sym, subst}
 use Rattle.l4_core_model.specs.Runs.{Run, letters}
 use Rattle.l4_model.specs.Machine.{Machine}
 use Rattle.l4_types.specs.LetterView.{letter_of}
@@ -10,7 +10,8 @@ use Rattle.l4_machine.proofs.walk.Walk.letters.Goals as goal
 pub letters-requires : goal.letters-requires
 letters-requires c =
     inbox_here (under_way c.self.inside.scheduler) c.args.cpu c.args.from (station_of c.station.result.now)
-    (subst HasRun (sym c.self.view_is) c.requires.run) c.station.ensures c.requires.from
+    (subst HasRun (sym c.self.view_is) c.requires.run) c.station.ensures
+    (subst (λ (u : UnderWay). c.args.from < u.machine.cpus) (sym c.self.view_is) c.requires.from)
 
 pub returns : goal.returns
 returns c =

@@ -5,11 +5,12 @@ use Rattle.std.specs.declared.io.ErrorKind.{ErrorKind}
 use Rattle.l4_model.specs.Machine.{Machine}
 use Rattle.l4_script.specs.Texts.{machine_of_text}
 use Rattle.l4_script.specs.declared.text.fault.TextFault.{TextFault}
-use Rattle.l4_jobs.specs.Jobs.{IsTold, IsTraceFault, IsFaultOf, IsJobFault, IsFaultBehind, IsOpenedFault, IsDone, IsNotDone, IsUnread, TraceGives, file_of, trace_file_of}
+use Rattle.l4_jobs.specs.Jobs.{IsTold, IsTraceFault, IsFaultOf, IsJobFault, IsFaultBehind, IsOpenedFault, IsDone, IsNotDone, IsTrulyDone, IsUnread, TraceGives, file_of, trace_file_of}
 use Rattle.l4_jobs.specs.Streams.{FileGives}
 use Rattle.l4_jobs.specs.declared.fault.Fault.{Fault}
 use Rattle.l4_jobs.specs.declared.job.Job.{Job}
 use Rattle.l4_jobs.specs.declared.job.Job.TheVariants.{Run, Replay, Audit}
+use Rattle.l4_jobs.proofs.Shown.{true_on}
 
 -- What reading a source may come to, and what a writer takes.
 abbrev Gives : Type 1
@@ -109,3 +110,10 @@ pub not_done_on_file : {File : Type 0} (opens : List ℕ → Result File ErrorKi
 not_done_on_file opens gives job trace file out keeps faults o (inl (f, is, kept, reported)) = inl (f, inr (file, o, is), kept, reported)
 not_done_on_file opens gives job trace file out keeps faults o (inr (text, told, lines, status, given, t, s, wrote, reported)) =
     inr (text, told, lines, status, (file, o, given), t, s, wrote, reported)
+
+-- What was done on the file of the machine text is true of the machine there.
+pub truly_on_file : {File : Type 0} (opens : List ℕ → Result File ErrorKind → Type 0) (gives : File → Gives) (job : Job) (trace : Gives)
+    (file : File) (out : Takes) (keeps : Type 0) (status : ℕ) → opens (file_of job) (Ok file) → IsDone job (gives file) trace out keeps status →
+    IsTrulyDone job (FileGives opens gives (file_of job)) trace out status
+truly_on_file opens gives job trace file out keeps status o (text, told, lines, given, t, s, wrote, kept) =
+    (text, told, lines, s.machine, (file, o, given), s.declares, t, true_on job s.machine told lines status s.shown, wrote)

@@ -106,7 +106,7 @@ replay_fault m list entries (Err fault) is (inl e) = inl e
 replay_fault m list entries (Err fault) is (inr e) = absurd (let right = lawful_schedule m list entries is in cc)
 
 -- What is shown is true of the machine.
-true_on : (job : Job) (m : Machine) (trace lines : List ℕ) (status : ℕ) → IsShownOn job m trace lines status →
+pub true_on : (job : Job) (m : Machine) (trace lines : List ℕ) (status : ℕ) → IsShownOn job m trace lines status →
     IsTrueOn job m trace lines status
 true_on (Run file turns report) m trace lines status s = s.is_true
 true_on (Replay file schedule report) m trace lines status s = s.is_true

@@ -43,7 +43,6 @@ fn on_trace<R: Threads + Sync, F: Folder, M: Source, W: Sink, E: Sink>(
 
 /// Opens the files of a job, FILE before TRACE, and both before it reads anything. Then it does the
 /// job. The exit status is that of `perform`, and 1 where a file can't be opened.
-#[tactic(auto, using(crate::proofs::Shown::truly_done))]
 pub fn perform_on_files<R: Threads + Sync, F: Folder, W: Sink, E: Sink>(
     rt: &R,
     alloc: Global,

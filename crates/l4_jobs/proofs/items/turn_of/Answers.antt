@@ -1,4 +1,4 @@
-use Rattle.std.proofs.Common.{◌+◌, sym, ap, ◌∙◌}
+use Rattle.std.proofs.Common.{◌+◌, sym, ◌∙◌}
 use Rattle.std.proofs.lemmas.List.{take_rest}
 use Rattle.l4_jobs.specs.Items.{letter_between}
 use Rattle.l4_jobs.proofs.ItemSpelling.{at_place, whole_turn}

@@ -2,8 +2,9 @@
 // call is made, and made again where memory was refused: the second gives what the first would have
 // given. The work of processors and their outcome, which may be refused too, are tested by their
 // rows.
-ghost use Rattle.std.specs.Prelude.{IfOk, map};
-ghost use Rattle.l4_machine.specs.UnderWay.{HasRun};
+ghost use Rattle.std.specs.Prelude.{IfOk, OnOk, map};
+ghost use Rattle.l4_core_model.specs.Runs.{Run};
+ghost use Rattle.l4_machine.specs.UnderWay.{HasRun, IsRun};
 ghost use Rattle.l4_mail.specs.Ports.{AreOneFabric};
 
 use crate::gathers::has;
@@ -180,31 +181,57 @@ fn replayed<R: AllocGlobal + Print>(rt: &R, machine: &Machine) -> Result<Outcome
     }
 }
 
+// A core run of a machine goes on by the entry that a number stands for.
+fn goes_on(walk: &mut Walk<'_>, machine: &Machine, number: u8) -> Result<(), NoMemory>
+    requires { (r : Run) × IsRun machine.now r walk.old }
+    ensures { OnOk result ((r : Run) × IsRun machine.now r walk.new) }
+{
+    let entry = Entry::of_number(number);
+    if !entry.is_of(machine) || walk.events() >= SCHEDULE.len() {
+        return Ok(());
+    }
+    walk.take(entry)
+}
+
 // A core run of a machine after the entries of the schedule.
 fn walked<'m>(alloc: Global, machine: &'m Machine) -> Result<Walk<'m>, NoMemory>
     ensures { IfOk result HasRun }
 {
     let mut walk = Walk::new(alloc, machine)?;
     for number in SCHEDULE {
-        let entry = Entry::of_number(number);
-        if entry.is_of(machine) && walk.events() < SCHEDULE.len() {
-            walk.take(entry)?;
-        }
+        goes_on(&mut walk, machine, number)?;
     }
     Ok(walk)
 }
 
+// Such a run, made anew where memory was refused.
+fn walked_again<'m, R: AllocGlobal + Print>(
+    rt: &R,
+    machine: &'m Machine,
+) -> Result<Walk<'m>, NoMemory>
+    ensures { IfOk result HasRun }
+{
+    call_begins(rt, "Walk");
+    let walk = walked(rt.alloc(), machine);
+    call_ends(rt);
+    match walk {
+        Ok(walk) => Ok(walk),
+        Err(NoMemory) => walked(rt.alloc(), machine),
+    }
+}
+
+// Whether it has come to rest in as many events as the replay.
+fn has_come_to_rest<R: AllocGlobal + Print>(rt: &R, machine: &Machine) -> bool {
+    match walked_again(rt, machine) {
+        Ok(walk) => walk.events() == 8 && walk.is_at_rest(),
+        Err(NoMemory) => false,
+    }
+}
+
 #[test]
-fn a_core_run_is_walked(rt: HostRuntime) {
+fn a_core_run_goes_on(rt: HostRuntime) {
     let machine = machine_of(rt.alloc(), ACROSS).expect(&rt, "a machine");
-    call_begins(&rt, "Walk");
-    let refused = walked(rt.alloc(), &machine);
-    call_ends(&rt);
-    let walk = match refused {
-        Ok(walk) => walk,
-        Err(NoMemory) => walked(rt.alloc(), &machine).ok().expect(&rt, "a core run"),
-    };
-    assert!(rt; walk.events() == 8 && walk.is_at_rest());
+    assert!(rt; has_come_to_rest(&rt, &machine));
 }
 
 // What the audit of its history finds, by a second call where memory was refused.

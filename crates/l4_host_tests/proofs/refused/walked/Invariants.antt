@@ -3,5 +3,5 @@ use Rattle.l4_machine.specs.UnderWay.{IsRun}
 use Rattle.l4_host_tests.proofs.refused.walked.Given as goal
 
 -- It is a core run of the machine.
-abbrev pub invariant-loop : goal.invariant-loop
-invariant-loop g l = (r : Run) × IsRun l.machine r l.walk
+abbrev pub invariant-loop-number : goal.invariant-loop-number
+invariant-loop-number l = (r : Run) × IsRun l.machine r l.walk

@@ -12,6 +12,8 @@ pub mod Opened
 pub mod Opening
 pub mod Outcomes
 pub mod Posting
+pub mod Recorded
+pub mod Lawful
 pub mod Replays
 pub mod Rising
 pub mod Stamps

@@ -44,7 +44,7 @@ mod workers;
 
 pub use entries::Entry;
 pub use gathering::gather;
-pub use laws::law_core_run;
+pub use laws::{law_core_run, law_one_outcome};
 pub use listener::Listener;
 pub use logs::Logs;
 pub use ordered::OrderedLogs;

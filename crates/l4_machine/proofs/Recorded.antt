@@ -83,7 +83,8 @@ taken_entry ps us place d new entry all rise is has =
     let news : map (left ps) (set us place new) ≡ set (map (left ps) us) place next.rest =
     map-set (left ps) us place new ∙ ap (set (map (left ps) us) place) rest in
     let left_over : all_left ps (set us place new) ≡ joined (set (map (left ps) us) place next.rest) = all_joined ps (set us place new) ∙ ap joined news in
-    let own : next.event.cpu ≡ place = own_place 0 (map (left ps) us) place next.event next.rest rise next.here in
+    let from_0 = own_place 0 (map (left ps) us) place next.event next.rest rise next.here in
+    let own : next.event.cpu ≡ place = omega (arith, from_0) in
     let order : map (λ (e : Event). e.cpu) (merged (all_left ps us)) ≡ place ∷ map (λ (e : Event). e.cpu) (merged (all_left ps (set us place new))) =
     ap (λ es. map (λ (e : Event). e.cpu) (merged es)) (all_joined ps us) ∙ ap (map (λ (e : Event). e.cpu)) next.merges
     ∙ ap₂ (λ c es. c ∷ map (λ (e : Event). e.cpu) (merged es)) own (sym left_over) in

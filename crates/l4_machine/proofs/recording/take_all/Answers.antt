@@ -28,14 +28,14 @@ offset_bounds-logs-place c =
     let lt = (at_place ps c.loop-place.logs c.in-Some.place blank (next.event ∷ next.rest) c.loop-place.invariant.whole next.here).0 in
     search rules
 
-pub take_first-requires-clause-whole : goal.take_first-requires-clause-whole
-take_first-requires-clause-whole c =
+pub take_first-entry-requires-clause-whole : goal.take_first-entry-requires-clause-whole
+take_first-entry-requires-clause-whole c =
     let ps = c.args.processors.now in
     let next = (chosen ps c.loop-place.logs c.in-Some.place c.loop-place.invariant.whole c.loop-place.invariant.rising (sym c.first_place.ensures ∙ c.in-Some.is)).next in
     (at_place ps c.loop-place.logs c.in-Some.place _ (next.event ∷ next.rest) c.loop-place.invariant.whole next.here).1
 
-pub take_first-requires-clause-some : goal.take_first-requires-clause-some
-take_first-requires-clause-some c =
+pub take_first-entry-requires-clause-some : goal.take_first-entry-requires-clause-some
+take_first-entry-requires-clause-some c =
     let ps = c.args.processors.now in
     let next = (chosen ps c.loop-place.logs c.in-Some.place c.loop-place.invariant.whole c.loop-place.invariant.rising (sym c.first_place.ensures ∙ c.in-Some.is)).next in
     let there = at_place ps c.loop-place.logs c.in-Some.place _ (next.event ∷ next.rest) c.loop-place.invariant.whole next.here in
@@ -44,25 +44,22 @@ take_first-requires-clause-some c =
 pub loop-place-smaller : goal.loop-place-smaller
 loop-place-smaller c =
     let ps = c.args.processors.now in
-    let t = taken_entry ps c.loop-place.logs c.in-Some.place _ c.take_first.new.log _ c.loop-place.invariant.whole c.loop-place.invariant.rising
-    (sym c.first_place.ensures ∙ c.in-Some.is) c.take_first.ensures in
+    let t = taken_entry ps c.loop-place.logs c.in-Some.place _ c.take_first-entry.new.log _ c.loop-place.invariant.whole c.loop-place.invariant.rising
+    (sym c.first_place.ensures ∙ c.in-Some.is) c.take_first-entry.ensures in
     t.less
-
-pub loop-place-init : goal.loop-place-init
-loop-place-init c = record { whole = c.requires.whole; rising = c.requires.rising; taken = rw c.new.ensures refl }
 
 pub loop-place-preserved : goal.loop-place-preserved
 loop-place-preserved c =
     let ps = c.args.processors.now in
-    let t = taken_entry ps c.loop-place.logs c.in-Some.place _ c.take_first.new.log _ c.loop-place.invariant.whole c.loop-place.invariant.rising
-    (sym c.first_place.ensures ∙ c.in-Some.is) c.take_first.ensures in
+    let t = taken_entry ps c.loop-place.logs c.in-Some.place _ c.take_first-entry.new.log _ c.loop-place.invariant.whole c.loop-place.invariant.rising
+    (sym c.first_place.ensures ∙ c.in-Some.is) c.take_first-entry.ensures in
     let before = map entry_from c.loop-place.entries.items in
-    let entry : Entry = entry_from c.take_first.result in
+    let entry : Entry = entry_from c.take_first-entry.result in
     record {
       whole = t.whole;
       rising = t.rising;
       taken = c.loop-place.invariant.taken ∙ ap (λ (es : List Entry). before ++ es) t.entries ∙ sym (append_assoc before (entry ∷ []) _)
-          ∙ ap (λ (es : List Entry). es ++ _) (sym (map-append entry_from c.loop-place.entries.items (c.take_first.result ∷ [])));
+          ∙ ap (λ (es : List Entry). es ++ _) (sym (map-append entry_from c.loop-place.entries.items (c.take_first-entry.result ∷ [])) ∙ ap (map entry_from) (sym c.in_ok-push.ensures.items));
     }
 
 pub returns : goal.returns

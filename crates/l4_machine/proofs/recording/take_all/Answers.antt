@@ -1,4 +1,4 @@
-use Rattle.std.proofs.Common.{◌≡◌, ◌++◌, ◌∷◌, [], List, ◌∙◌, None, ap, append_assoc, map, refl, sym, rules}
+use Rattle.std.proofs.Common.{◌≡◌, ◌++◌, ◌∷◌, [], List, ◌∙◌, None, ap, append_assoc, map, set, sym, rules}
 use Rattle.std.specs.Prelude.{is_some}
 use Rattle.std.proofs.lemmas.List.{append-nil, map-append}
 use Rattle.l4_choices.specs.Entries.{Entry, entry_of}
@@ -55,11 +55,12 @@ loop-place-preserved c =
     (sym c.first_place.ensures ∙ c.in-Some.is) c.take_first-entry.ensures in
     let before = map entry_from c.loop-place.entries.items in
     let entry : Entry = entry_from c.take_first-entry.result in
+    let rest : List Entry = entries_left ps (set c.loop-place.logs c.in-Some.place c.take_first-entry.new.log) in
     record {
       whole = t.whole;
       rising = t.rising;
-      taken = c.loop-place.invariant.taken ∙ ap (λ (es : List Entry). before ++ es) t.entries ∙ sym (append_assoc before (entry ∷ []) _)
-          ∙ ap (λ (es : List Entry). es ++ _) (sym (map-append entry_from c.loop-place.entries.items (c.take_first-entry.result ∷ [])) ∙ ap (map entry_from) (sym c.in_ok-push.ensures.items));
+      taken = c.loop-place.invariant.taken ∙ ap (λ (es : List Entry). before ++ es) t.entries ∙ sym (append_assoc before (entry ∷ []) rest)
+          ∙ ap (λ (es : List Entry). es ++ rest) (sym (map-append entry_from c.loop-place.entries.items (c.take_first-entry.result ∷ [])) ∙ ap (map entry_from) (sym c.in_ok-push.ensures.items));
     }
 
 pub returns : goal.returns

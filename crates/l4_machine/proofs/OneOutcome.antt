@@ -16,10 +16,10 @@ same_ending Spent Spent to from = refl
 pub one_outcome : (m : Machine) (r : Run) (a b : Findings) → IsOutcomeOf m r a → IsOutcomeOf m r b → a ≡ b
 one_outcome m r a b x y =
     let history = x.history ∙ sym y.history in
-    let w : World = x.possible.0 in
-    let there = ap (reached m) (sym history) ∙ x.possible.1 in
-    let waiting = x.waiting w x.possible.1 ∙ ap (undecided_sends m w) history ∙ sym (y.waiting w there) in
-    let threads = x.threads w x.possible.1 ∙ sym (y.threads w there) in
+    let w : World = x.is_true.possible.0 in
+    let there = ap (reached m) (sym history) ∙ x.is_true.possible.1 in
+    let waiting = x.is_true.waiting w x.is_true.possible.1 ∙ ap (undecided_sends m w) history ∙ sym (y.is_true.waiting w there) in
+    let threads = x.is_true.threads w x.is_true.possible.1 ∙ sym (y.is_true.threads w there) in
     let ending = same_ending a.ending b.ending (λ e. y.quiet.1 (x.quiet.0 e)) (λ e. x.quiet.1 (y.quiet.0 e)) in
     ap (λ h. record a { history = h }) history
     ∙ ap (λ ws. record a { history = b.history; waiting = ws }) waiting

@@ -2,12 +2,11 @@
 use crate::runs::machine_of;
 use l4_audit::audit::Audit;
 use l4_proc::gate::Open;
-use l4_round_trips::{audited_replay, audited_run, replayed_run};
-use l4_samples::{ACROSS, CALLS, PING, PING_TRACE};
+use l4_round_trips::{audited_replay, audited_run};
+use l4_samples::{PING, PING_TRACE};
 use l4_script::machine::Machine;
 use l4_types::reports::{Ending, State};
 use std::alloc::Global;
-use std::thread::Threads;
 
 // Whether an audit finds both threads ended, and the word at the second one.
 fn is_ended(audit: &Audit) -> bool {
@@ -42,20 +41,4 @@ fn what_is_written_is_read_and_passes(rt: HostRuntime) {
     let begun = "local 1.1\nwait 2.1\n";
     assert!(rt; is_replayed(rt.alloc(), &machine, &[0; 8], PING_TRACE, Ending::Quiet));
     assert!(rt; is_replayed(rt.alloc(), &machine, &[0; 2], begun, Ending::Spent));
-}
-
-// Whether a run of this many turns is recorded, and its record replayed. Answers how many turns it
-// took.
-fn turns_replayed<R: AllocGlobal + Threads + Sync>(rt: &R, text: &str, turns: u64) -> Option<u64> {
-    let machine = machine_of(rt.alloc(), text)?;
-    let (ran, again) = replayed_run(rt, rt.alloc(), &machine, turns, &Open).ok()?;
-    (ran.turns == again.turns && ran.threads.as_slice() == again.threads.as_slice())
-        .then_some(ran.turns)
-}
-
-#[test]
-fn what_a_run_recorded_is_replayed(rt: HostRuntime) {
-    assert!(rt; turns_replayed(&rt, PING, 100).is_some_and(|turns| turns > 3));
-    assert!(rt; turns_replayed(&rt, ACROSS, 100).is_some_and(|turns| turns > 3));
-    assert!(rt; turns_replayed(&rt, CALLS, 100).is_some_and(|turns| turns > 3));
 }

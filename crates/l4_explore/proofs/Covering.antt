@@ -1,12 +1,12 @@
 -- What was found is all that schedules lead to, up to where a search has come.
-use Rattle.std.proofs.Common.{◌≡◌, ℕ, ◌+◌, ◌-◌, ◌<◌, ◌≤◌, Bool, true, false, ◌⊎◌, inl, inr, List, [], ◌∷◌, ◌++◌, length, Option, None, Some, refl, sym, ap, subst, ◌∙◌, arith}
+use Rattle.std.proofs.Common.{◌≡◌, ℕ, ◌+◌, ◌-◌, ◌<◌, ◌≤◌, true, false, ◌⊎◌, inl, inr, List, [], ◌∷◌, ◌++◌, length, Option, None, Some, refl, sym, ap, subst, ◌∙◌, arith}
 use Rattle.std.proofs.Math.ListN.{length-append}
 use Rattle.std.proofs.Math.Nat.{eq-or-lt_of_le}
 use Rattle.std.proofs.lemmas.Bool.{cases_lt}
-use Rattle.l4_explore.specs.Orders.{IsBefore, IsNotAfter}
+use Rattle.l4_explore.specs.Orders.{IsNotAfter}
 use Rattle.l4_explore.specs.Tries.{State, AreSchedules}
 use Rattle.l4_explore.specs.Search.{Seen, seen_at, has_code, depth_of, IsFound, AreFound, AreWithin, IsTried, IsTrying, IsSearched, IsStopped, IsExplored, IsLeftOut, IsCutByDepth, IsCutByStates}
-use Rattle.l4_explore.proofs.Orders.{before_length, before_append, before_last, before_never, before_trans, before_not_after, not_after_append, not_after_last, not_after_length, not_after_trans, not_after_before}
+use Rattle.l4_explore.proofs.Orders.{before_length, before_append, before_never, before_not_after, not_after_append, not_after_last, not_after_length, not_after_trans}
 use Rattle.l4_explore.proofs.Listed.{by_end, found_later, no_place}
 use Rattle.l4_explore.proofs.Trying.{begun}
 

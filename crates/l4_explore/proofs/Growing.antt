@@ -1,5 +1,5 @@
 -- The tree of what was found, and the list that it shows.
-use Rattle.std.proofs.Common.{◌≡◌, ℕ, zero, suc, ◌+◌, ◌<◌, ◌≤◌, Bool, true, false, cond, ◌||◌, ◌⊎◌, inl, inr, List, [], ◌∷◌, ◌++◌, map, length, get_or, slice_get, Option, None, Some, is_some, option_map, refl, sym, ap, subst, ◌∙◌, arith, append_assoc, Vec, Global}
+use Rattle.std.proofs.Common.{◌≡◌, ℕ, zero, suc, ◌+◌, ◌<◌, Bool, true, false, cond, ◌||◌, ◌⊎◌, inl, inr, List, [], ◌∷◌, ◌++◌, map, length, get_or, slice_get, Option, None, Some, is_some, option_map, refl, sym, ap, subst, ◌∙◌, arith, append_assoc, Vec, Global}
 use Rattle.std.specs.List.{list_any}
 use Rattle.std.specs.Map.{lookup}
 use Rattle.std.specs.Str.{bytes_eq}
@@ -7,9 +7,8 @@ use Rattle.std.proofs.Math.ListN.{length-append, get_or-map, get_or-append}
 use Rattle.std.proofs.Math.Seq.{get_or-append_seam}
 use Rattle.std.proofs.lemmas.Option.{get_or_from_slice_get, slice_get-map, slice_get_within}
 use Rattle.std.proofs.lemmas.List.{map-append, length-map}
-use Rattle.std.proofs.lemmas.List.Folds.{list_any-append}
-use Rattle.l4_explore.specs.Tries.{State, Next}
-use Rattle.l4_explore.specs.Search.{Seen, seen_at, unseen, has_code, seen_next}
+use Rattle.l4_explore.specs.Tries.{State}
+use Rattle.l4_explore.specs.Search.{Seen, seen_at, unseen, has_code}
 use Rattle.l4_explore.specs.Grown.{Node, node_at, no_node, grown, all_grown, seen_of, AreNodes}
 use Rattle.l4_explore.specs.Views.{node_from, nodes_from, IsArrived}
 use Rattle.l4_explore.specs.declared.found.Arrival.{Arrival}

@@ -2,11 +2,11 @@
 use Rattle.std.proofs.Common.{◌≡◌, ℕ, zero, suc, ◌+◌, ◌<◌, ◌≤◌, Bool, true, false, cond, ◌⊎◌, inl, inr, List, [], ◌∷◌, ◌++◌, length, Option, None, Some, refl, sym, ap, subst, ◌∙◌, arith, nat_lt}
 use Rattle.std.proofs.Math.ListN.{length-append}
 use Rattle.std.proofs.lemmas.Bool.{cases_lt, ltb-true, ltb-false}
-use Rattle.l4_explore.specs.Orders.{IsBefore, IsNotAfter}
+use Rattle.l4_explore.specs.Orders.{IsBefore}
 use Rattle.l4_explore.specs.Tries.{State, AreSchedules, Next, IsNext, AreNexts}
-use Rattle.l4_explore.specs.Search.{Seen, seen_at, has_code, seen_next, met, IsFound, AreFound, AreWithin, IsTried, IsTrying, IsSearched, IsStopped}
+use Rattle.l4_explore.specs.Search.{Seen, seen_at, has_code, seen_next, met, IsFound, AreWithin, IsTried, IsTrying, IsSearched, IsStopped}
 use Rattle.l4_explore.proofs.Orders.{before_length, before_trans, before_append, before_last}
-use Rattle.l4_explore.proofs.Listed.{seen_at-old, seen_at-new, found_in_more, StandsAt, place_of_code, no_place}
+use Rattle.l4_explore.proofs.Listed.{seen_at-old, seen_at-new, found_in_more, place_of_code, no_place}
 
 only : (P : ℕ → Type 0) → P 0 → (j : ℕ) → j < 1 → P j
 only P p zero h = p

@@ -1,7 +1,7 @@
 -- Numbers are told by their bytes.
-use Rattle.std.proofs.Common.{◌≡◌, ℕ, zero, suc, ◌+◌, ◌*◌, ◌/◌, ◌%◌, ◌<◌, ◌≤◌, Bool, true, false, cond, ◌==◌, nat_lt, List, [], ◌∷◌, ◌++◌, replicate, refl, sym, ap, ◌∙◌, subst, arith, append_assoc}
-use Rattle.std.proofs.lemmas.Bool.{ltb-true, ltb-false, eqb-true}
-use Rattle.l4_states.specs.Bytes.{put_by, put_number, Token, Zeros, Above, longest_run, ended, tokens_from, put_token, put_tokens, bytes_of}
+use Rattle.std.proofs.Common.{◌≡◌, ℕ, zero, suc, ◌+◌, ◌/◌, ◌%◌, Bool, true, false, cond, ◌==◌, nat_lt, List, [], ◌∷◌, ◌++◌, replicate, refl, sym, ap, ◌∙◌, arith}
+use Rattle.std.proofs.lemmas.Bool.{ltb-true, eqb-true}
+use Rattle.l4_states.specs.Bytes.{put_by, put_number, Token, Zeros, Above, longest_run, ended, tokens_from, put_tokens, bytes_of}
 
 -- What is told by the numbers that begin a list, and what follows.
 abbrev pub IsApart : {A B : Type 0} → (A → B) → (A → List ℕ → List ℕ) → Type 0
@@ -95,11 +95,11 @@ expanded [] = []
 expanded (Zeros n ∷ ts) = replicate n 0 ++ expanded ts
 expanded (Above n ∷ ts) = suc n ∷ expanded ts
 
-expanded-ended : (zeros : ℕ) (ts : List Token) →
-    expanded (ended zeros ts) ≡ replicate zeros 0 ++ expanded ts
+expanded-ended : (count : ℕ) (ts : List Token) →
+    expanded (ended count ts) ≡ replicate count 0 ++ expanded ts
 unfolding expanded
 expanded-ended zero ts = refl
-expanded-ended (suc zeros) ts = refl
+expanded-ended (suc count) ts = refl
 
 one_more_zero : (zeros : ℕ) (ns : List ℕ) →
     replicate (suc zeros) 0 ++ ns ≡ replicate zeros 0 ++ 0 ∷ ns

@@ -1,5 +1,5 @@
 -- Of the states that a search has found those at rest are all endings.
-use Rattle.std.proofs.Common.{◌≡◌, ℕ, zero, suc, ◌+◌, ◌<◌, ◌≤◌, Bool, true, false, cond, inr, Option, Some, None, List, [], ◌∷◌, ◌++◌, length, map, refl, ap, sym, subst, ◌∙◌, arith}
+use Rattle.std.proofs.Common.{◌≡◌, ℕ, zero, suc, ◌+◌, ◌<◌, ◌≤◌, Bool, true, false, cond, inr, Option, Some, None, List, [], ◌∷◌, length, map, refl, ap, sym, subst, ◌∙◌, arith}
 use Rattle.std.specs.Prelude.{filter, slice_index_or}
 use Rattle.std.specs.Option.{option_map}
 use Rattle.std.specs.List.{AllByRecursion}
@@ -7,15 +7,14 @@ use Rattle.std.proofs.lemmas.List.{length-append, length-map}
 use Rattle.l4_model.specs.Machine.{Machine}
 use Rattle.l4_model.specs.Conditions.{◌>>=◌}
 use Rattle.l4_model.proofs.Chains.{some_is, bind_then}
-use Rattle.l4_core_model.specs.Runs.{System, Happening, Happened, happens, Run, opening_run, opening_system, then_event, at_rest}
+use Rattle.l4_core_model.specs.Runs.{System, Happening, Happened, happens, Run, opening_run, then_event, at_rest}
 use Rattle.l4_core_model.specs.Schedules.{or_stays}
 use Rattle.l4_choices.specs.Alike.{IsAlike}
 use Rattle.l4_choices.specs.Entries.{Entry, entry_event, replays}
-use Rattle.l4_explore.specs.Orders.{IsBefore}
 use Rattle.l4_explore.specs.Search.{Seen, seen_at, unseen}
 use Rattle.l4_explore.proofs.Orders.{not_after_length}
 use Rattle.l4_states.specs.Choices.{after_choices, after_entry, choice, IsLeastRun}
-use Rattle.l4_states.specs.Endings.{AreAllEndings, AreApart, AreEndings, ending_at, ends_of, entries_of, IsAmong, IsEnding, led}
+use Rattle.l4_states.specs.Endings.{AreAllEndings, AreApart, AreEndings, ends_of, entries_of, IsAmong, IsEnding, led}
 use Rattle.l4_states.specs.Listed.{AreAllListed, IsListed, LeadsSoon}
 use Rattle.l4_states.proofs.Following.{at_rest_alike}
 
@@ -102,7 +101,7 @@ module _ (m : Machine) where
       by false a = a
 
   -- States that were found, by their schedules
-  AreUnlike : Seen → Seen → Type 0
+  abbrev AreUnlike : Seen → Seen → Type 0
   AreUnlike x y =
       (IsAlike (led m (entries_of m x.schedule)) (led m (entries_of m y.schedule)) → ⊥)
       × (length x.schedule ≤ length y.schedule)

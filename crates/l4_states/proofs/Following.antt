@@ -1,5 +1,5 @@
 -- Lists of choices have what a search asks for.
-use Rattle.std.proofs.Common.{◌≡◌, ℕ, suc, ◌+◌, Bool, true, false, ◌&&◌, not, Option, Some, None, List, [], ◌∷◌, ◌++◌, length, map, refl, ap, sym, subst, ◌∙◌, arith, add-one}
+use Rattle.std.proofs.Common.{◌≡◌, ℕ, suc, Bool, true, false, ◌&&◌, not, Option, Some, None, List, [], ◌∷◌, ◌++◌, length, refl, ap, sym, ◌∙◌}
 use Rattle.std.specs.Prelude.{slice_get, is_some}
 use Rattle.std.specs.Option.{option_map}
 use Rattle.std.specs.List.{list_all}
@@ -9,7 +9,7 @@ use Rattle.l4_model.proofs.Chains.{some_is, bind_then}
 use Rattle.l4_core_model.specs.Letters.{Letter}
 use Rattle.l4_core_model.specs.Local.{Local}
 use Rattle.l4_core_model.specs.Turns.{choice as core_choice, does_choice, opened, turn, is_busy}
-use Rattle.l4_core_model.specs.Runs.{System, Posted, letters, Happening, Handles, Turns, Ticks, Happened, happens, Run, IsMachine, core_run, opening_run, opening_system, processors, then_event, is_empty, local_at_rest, at_rest}
+use Rattle.l4_core_model.specs.Runs.{System, Posted, letters, Happening, Ticks, Happened, happens, Run, IsMachine, core_run, opening_run, opening_system, processors, then_event, is_empty, local_at_rest, at_rest}
 use Rattle.l4_core_model.specs.Schedules.{least_deadline, first_poster, turn_of}
 use Rattle.l4_choices.specs.Alike.{unstamped, contents, IsAlike, AreAlike}
 use Rattle.l4_choices.specs.Entries.{Entry, TurnOf, TickOf, LetterOf, CoreOf, TickTo, entry_event}

@@ -1,14 +1,12 @@
 -- What a search of all choices has found are all core runs whose ticks go to least deadlines.
-use Rattle.std.proofs.Common.{◌≡◌, ℕ, ◌<◌, ◌≤◌, Bool, true, ◌⊎◌, inl, inr, Option, Some, None, List, length, refl, ap, sym, subst, ◌∙◌, arith}
+use Rattle.std.proofs.Common.{◌≡◌, ℕ, ◌<◌, ◌≤◌, Bool, true, Some, List, length, ap, sym, ◌∙◌, arith}
 use Rattle.std.specs.Option.{option_map}
 use Rattle.l4_model.specs.Machine.{Machine}
-use Rattle.l4_core_model.specs.Runs.{System, IsMachine, opening_system, at_rest}
+use Rattle.l4_core_model.specs.Runs.{System, IsMachine, opening_system}
 use Rattle.l4_choices.specs.Alike.{IsAlike}
-use Rattle.l4_explore.specs.Orders.{IsNotAfter}
 use Rattle.l4_explore.specs.Tries.{State}
 use Rattle.l4_explore.specs.Search.{Seen, seen_at, IsFound, IsExplored}
 use Rattle.l4_explore.proofs.Orders.{not_after_length}
-use Rattle.l4_states.specs.Codes.{code_of}
 use Rattle.l4_states.specs.Choices.{after_choices, state_in, state_after, IsLeastRun}
 use Rattle.l4_states.specs.Listed.{IsListed, LeadsSoon, AreAllListed}
 use Rattle.l4_states.proofs.Following.{state_led, code_alike, alike_state}

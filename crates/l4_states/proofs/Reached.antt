@@ -1,13 +1,12 @@
 -- Letters under way in a state that a core run leads to are between processors of the machine.
-use Rattle.std.proofs.Common.{◌≡◌, ℕ, ◌+◌, ◌<◌, ◌≤◌, Bool, true, false, cond, ◌&&◌, Option, Some, None, List, [], ◌∷◌, ◌++◌, length, map, refl, ap, sym, subst, ◌∙◌, arith}
+use Rattle.std.proofs.Common.{◌≡◌, ℕ, ◌<◌, ◌≤◌, Bool, true, false, cond, Option, Some, None, List, [], ◌∷◌, ◌++◌, length, map, refl, subst, ◌∙◌, arith}
 use Rattle.std.specs.Prelude.{slice_get, filter, ◌==◌}
 use Rattle.std.specs.Option.{option_map}
 use Rattle.std.specs.List.{AllByRecursion}
-use Rattle.std.proofs.lemmas.Bool.{eqb-true, and_parts, cases_lt}
+use Rattle.std.proofs.lemmas.Bool.{eqb-true, and_parts}
 use Rattle.std.proofs.lemmas.List.FromFn.{length-map-range_with_len}
 use Rattle.std.proofs.lemmas.Option.{slice_get_within}
 use Rattle.l4_model.specs.Machine.{Machine}
-use Rattle.l4_model.specs.Conditions.{◌>>=◌}
 use Rattle.l4_model.proofs.Chains.{some_is, bind_then}
 use Rattle.l4_core_model.specs.Letters.{Letter}
 use Rattle.l4_core_model.specs.Local.{Local, opening_local}
@@ -16,7 +15,7 @@ use Rattle.l4_core_model.specs.Mail.{handle}
 use Rattle.l4_core_model.specs.Turns.{turn, advance}
 use Rattle.l4_core_model.specs.Runs.{System, Posted, letters, is_between, without_first, posted, taken, done, Happening, Handles, Turns, Ticks, Happened, happens, Run, IsMachine, core_run, opening_run, opening_system, then_event}
 use Rattle.l4_core_model.proofs.Changed.{length-changed}
-use Rattle.l4_split.proofs.Law.{RunFacts, run_facts}
+use Rattle.l4_split.proofs.Law.{run_facts}
 use Rattle.l4_split.proofs.Letters.Addressed.{IsAddressedTo}
 use Rattle.l4_states.specs.Choices.{IsReached}
 

@@ -1,15 +1,15 @@
 -- Of states within a machine, those of one code are alike, and alike ones have one code.
-use Rattle.std.proofs.Common.{◌≡◌, ℕ, zero, suc, ◌+◌, ◌<◌, ◌≤◌, ◌↔◌, ◌⊎◌, inl, inr, List, [], ◌∷◌, map, length, refl, ap, sym, ◌∙◌, subst, arith}
+use Rattle.std.proofs.Common.{◌≡◌, ℕ, zero, suc, ◌+◌, ◌<◌, ◌≤◌, ◌⊎◌, inl, inr, List, [], ◌∷◌, map, length, refl, ap, sym, ◌∙◌, subst, arith}
 use Rattle.std.specs.List.{AllByRecursion, range_with_len}
 use Rattle.std.proofs.lemmas.Bool.{cases_lt}
 use Rattle.l4_model.specs.Machine.{Machine}
 use Rattle.l4_core_model.specs.Letters.{Content}
 use Rattle.l4_core_model.specs.Local.{Local}
-use Rattle.l4_core_model.specs.Runs.{System, Posted, letters, processors, IsMachine}
+use Rattle.l4_core_model.specs.Runs.{System, letters, processors, IsMachine}
 use Rattle.l4_choices.specs.Alike.{unstamped, contents, IsAlike}
 use Rattle.l4_states.specs.Bytes.{bytes_of}
 use Rattle.l4_states.specs.Codes.{each, chained, content_code, sized, length_code, local_code, mail_from_code, mail_to_code, system_code, code_of}
-use Rattle.l4_states.specs.Choices.{IsReached, IsCoded}
+use Rattle.l4_states.specs.Choices.{IsCoded}
 use Rattle.l4_states.proofs.Bytes.{bytes_apart}
 use Rattle.l4_states.proofs.Parts.{contents_apart, locals_apart}
 use Rattle.l4_states.proofs.Reached.{IsWithin, reached_within}

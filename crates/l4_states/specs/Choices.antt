@@ -1,5 +1,5 @@
 -- All that may happen next in a core run, by numbers, and the states that lists of them lead to.
-use Rattle.std.specs.Prelude.{ℕ, ◌+◌, ◌*◌, ◌/◌, ◌%◌, ◌≡◌, ◌↔◌, ◌==◌, nat_lt, Bool, if◌then◌else◌, Option, None, Some, List, [], ◌∷◌, length}
+use Rattle.std.specs.Prelude.{ℕ, ◌+◌, ◌*◌, ◌/◌, ◌%◌, ◌≡◌, ◌↔◌, ◌==◌, nat_lt, if◌then◌else◌, Option, Some, List, [], ◌∷◌, length}
 use Rattle.std.specs.Option.{option_map}
 use Rattle.l4_model.specs.Machine.{Machine}
 use Rattle.l4_model.specs.Conditions.{◌>>=◌}

@@ -1,11 +1,11 @@
 -- The code of a state of a core run, all of it but stamps and the order of letters of different
 -- pairs.
-use Rattle.std.specs.Prelude.{ℕ, ◌+◌, ◌==◌, Bool, if◌then◌else◌, Option, None, Some, List, [], ◌∷◌, map, length}
+use Rattle.std.specs.Prelude.{ℕ, ◌+◌, ◌==◌, Bool, if◌then◌else◌, Option, None, Some, List, [], ◌∷◌, length}
 use Rattle.l4_model.specs.Words.{GlobalId, Id, NilThread, AnyThread, AnyLocalThread, LocalThread, GlobalThread, register_count}
 use Rattle.l4_model.specs.Machine.{Machine}
 use Rattle.l4_model.specs.World.{Name, Context, Receive, Message, Send, Asked, Owed, Phase, Ready, Sending, Receiving, Ordering, Ended, Deleted, Thread}
 use Rattle.l4_model.specs.Steps.{what_code}
-use Rattle.l4_core_model.specs.Letters.{Refusal, TimedOut, Nobody, Cancelled, Dropped, Result, Delivered, Refused, Cause, ByTimeout, ByCancel, ByDeletion, Content, SendLetter, DoneLetter, WithdrawLetter, GoneLetter, OrderLetter, OrderDoneLetter, RetargetLetter, Letter}
+use Rattle.l4_core_model.specs.Letters.{Refusal, TimedOut, Nobody, Cancelled, Dropped, Result, Delivered, Refused, Cause, ByTimeout, ByCancel, ByDeletion, Content, SendLetter, DoneLetter, WithdrawLetter, GoneLetter, OrderLetter, OrderDoneLetter, RetargetLetter}
 use Rattle.l4_core_model.specs.Plain.{Waiting, Plain}
 use Rattle.l4_core_model.specs.Local.{Local}
 use Rattle.l4_core_model.specs.Runs.{System, Posted, letters, processors}

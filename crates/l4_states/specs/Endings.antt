@@ -1,13 +1,12 @@
 -- What the endings of a machine are.
-use Rattle.std.specs.Prelude.{ℕ, ◌<◌, ◌≤◌, ◌≡◌, Bool, true, Some, List, [], ◌∷◌, length, map, filter, slice_index_or}
+use Rattle.std.specs.Prelude.{ℕ, ◌<◌, ◌≤◌, ◌≡◌, Bool, true, List, [], ◌∷◌, length, map, filter, slice_index_or}
 use Rattle.std.specs.List.{AllByRecursion}
 use Rattle.l4_model.specs.Machine.{Machine}
-use Rattle.l4_core_model.specs.Runs.{System, opening_system, at_rest}
+use Rattle.l4_core_model.specs.Runs.{System, at_rest}
 use Rattle.l4_choices.specs.Alike.{IsAlike}
 use Rattle.l4_choices.specs.Entries.{Entry, replay_entries}
-use Rattle.l4_explore.specs.Orders.{IsBefore, IsNotAfter}
 use Rattle.l4_explore.specs.Search.{Seen}
-use Rattle.l4_states.specs.Choices.{after_choices, choice, IsLeastRun}
+use Rattle.l4_states.specs.Choices.{choice, IsLeastRun}
 use Rattle.l4_states.specs.Listed.{AreAllListed}
 
 -- The entries of choices.

@@ -1,7 +1,6 @@
-use Rattle.std.proofs.Common.{◌≡◌, Bool, List, [], ◌∷◌, length, map, ap, sym, subst, ◌∙◌}
-use Rattle.l4_explore.specs.Search.{IsStopped}
+use Rattle.std.proofs.Common.{map, ap, sym, subst, ◌∙◌}
 use Rattle.l4_explore.specs.Views.{next_from}
-use Rattle.l4_explore.proofs.Trying.{HasMet, begin, one_tried, goes_on, all_tried, going_near, no_items, stopped_near}
+use Rattle.l4_explore.proofs.Trying.{HasMet, one_tried, goes_on, all_tried, going_near, no_items, stopped_near}
 use Rattle.l4_explore.proofs.search.expand.Goals as goal
 
 pub returns-then-not-branch-clause-near : goal.returns-then-not-branch-clause-near

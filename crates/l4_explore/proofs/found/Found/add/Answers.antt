@@ -1,7 +1,6 @@
-use Rattle.std.proofs.Common.{ℕ, List, [], ◌∷◌, ◌++◌, ◌≡◌, ◌<◌, ◌∙◌, length, refl, sym, ap, subst, Vec, Global}
+use Rattle.std.proofs.Common.{ℕ, ◌∙◌, Vec, Global}
 use Rattle.std.specs.Str.{bytes_eq}
 use Rattle.indexmap.proofs.CallerLemmas.{insert_entry-new}
-use Rattle.l4_explore.specs.Search.{seen_next}
 use Rattle.l4_explore.specs.declared.found.Arrival.{Arrival}
 use Rattle.l4_explore.proofs.Growing.{absent, nodes_added, seen_added}
 use Rattle.l4_explore.proofs.found.Found.add.Goals as goal

@@ -1,6 +1,5 @@
 use Rattle.std.proofs.Common.{◌≡◌, ◌<◌, Some, length, slice_get, sym, ap, arith}
 use Rattle.std.proofs.lemmas.List.{length-map}
-use Rattle.l4_explore.specs.Search.{Seen}
 use Rattle.l4_explore.specs.Views.{node_from, nodes_from}
 use Rattle.l4_explore.proofs.Growing.{arrived, is_end_there, length-seen_of, seen_of-first}
 use Rattle.l4_explore.proofs.found.Found.arrival.Goals as goal

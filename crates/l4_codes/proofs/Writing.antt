@@ -3,7 +3,7 @@ use Rattle.std.proofs.Common.{◌≡◌, ℕ, zero, suc, ◌+◌, ◌*◌, ◌/�
 use Rattle.std.proofs.Math.Seq.{drop-cons}
 use Rattle.std.proofs.lemmas.Bool.{lt-ltb, le-ltb, eqb-true, eq-eqb}
 use Rattle.l4_states.specs.Bytes.{bytes_from, put_by, put_number, longest_run, ended, tokens_from, put_tokens, Above, Zeros}
-use Rattle.l4_states.specs.Codes.{each, length_code, number_code}
+use Rattle.l4_states.specs.Codes.{chained, each, length_code, number_code}
 use Rattle.l4_codes.specs.Written.{Written, with_numbers, Writes, zero_bytes, zeros_told, room, IsLeft}
 
 -- One value, and then another.
@@ -103,6 +103,38 @@ each_on code xs i d a b c lt before one rest =
     one (each code (drop (i + 1) xs) rest)
     ∙ ap (λ ys. with_numbers b (each code ys rest)) (sym (drop-cons xs i d lt ∙ ap (λ k. get_or xs i d ∷ drop k xs) (let s : suc i ≡ i + 1 = omega arith in s)))
     ∙ before rest
+
+-- One of a list that is read from its front was written, behind those before it.
+pub chained_on : {A : Type 0} (code : A → List ℕ → List ℕ) (before xs : List A) (x : A)
+    (a b c d : Written) →
+    ((left : List A) (rest : List ℕ) →
+    with_numbers b (chained code left rest) ≡ with_numbers a (chained code (before ++ left) rest)) →
+    Writes (number_code 1) b c → Writes (code x) c d → xs ≡ before ++ x ∷ [] →
+    (left : List A) (rest : List ℕ) →
+    with_numbers d (chained code left rest) ≡ with_numbers a (chained code (xs ++ left) rest)
+chained_on code before xs x a b c d same one value is left rest =
+    value (chained code left rest) ∙ one (code x (chained code left rest)) ∙ same (x ∷ left) rest
+    ∙ ap (λ ys. with_numbers a (chained code ys rest))
+    (sym (append_assoc before (x ∷ []) left) ∙ ap (λ ys. ys ++ left) (sym is))
+
+-- Of what is left of it the first was written.
+pub first_told : {A : Type 0} (code : A → List ℕ → List ℕ) (xs ys : List A) (x : A)
+    (all : List A) (a b c d : Written) →
+    ((rest : List ℕ) → with_numbers b (chained code xs rest) ≡ with_numbers a (chained code all rest)) →
+    Writes (number_code 1) b c → Writes (code x) c d → xs ≡ x ∷ ys →
+    (rest : List ℕ) → with_numbers d (chained code ys rest) ≡ with_numbers a (chained code all rest)
+first_told code xs ys x all a b c d same one value is rest =
+    value (chained code ys rest) ∙ one (code x (chained code ys rest))
+    ∙ ap (λ zs. with_numbers b (chained code zs rest)) (sym is) ∙ same rest
+
+-- None is left.
+pub all_told : {A E : Type 0} (r : Result (Unit {0}) E) (code : A → List ℕ → List ℕ)
+    (xs all : List A) (a b c : Written) →
+    ((rest : List ℕ) → with_numbers b (chained code xs rest) ≡ with_numbers a (chained code all rest)) →
+    OnOk r (Writes (number_code 0) b c) → xs ≡ [] → OnOk r (Writes (chained code all) a c)
+all_told (Ok t) code xs all a b c same zero is = λ rest.
+    zero rest ∙ ap (λ zs. with_numbers b (chained code zs rest)) (sym is) ∙ same rest
+all_told (Err e) code xs all a b c same zero is = tt
 
 -- The length of a list that has always so many.
 

@@ -199,9 +199,9 @@ module _ (m : Machine) where
       apart = all_unlike found unlike;
     }
 
-pub all_endings : (m : Machine) (endings : List (List Entry)) (states depth : ℕ)
-    (is_whole : Bool) → AreEndings m endings states depth is_whole →
+pub all_endings : (m : Machine) (endings : List (List Entry)) (states asked most depth : ℕ)
+    (is_whole : Bool) → AreEndings m endings states asked most depth is_whole →
     AreAllEndings m endings depth is_whole
-all_endings m endings states depth is_whole e =
+all_endings m endings states asked most depth is_whole e =
     subst (λ (es : List (List Entry)). AreAllEndings m es depth is_whole) (sym e.endings_are)
     (of_found m e.found depth is_whole e.all)

@@ -1,14 +1,15 @@
 -- What a search of all choices has found are all core runs whose ticks go to least deadlines.
-use Rattle.std.proofs.Common.{◌≡◌, ℕ, ◌<◌, ◌≤◌, Bool, true, Some, List, length, ap, sym, ◌∙◌, arith}
+use Rattle.std.proofs.Common.{◌≡◌, ℕ, ◌+◌, ◌-◌, ◌<◌, ◌≤◌, Bool, true, ◌⊎◌, inl, inr, Some, List, [], length, refl, ap, sym, subst, ◌∙◌, arith}
 use Rattle.std.specs.Option.{option_map}
+use Rattle.std.proofs.lemmas.Bool.{cases_lt}
 use Rattle.l4_model.specs.Machine.{Machine}
 use Rattle.l4_core_model.specs.Runs.{System, IsMachine, opening_system}
 use Rattle.l4_choices.specs.Alike.{IsAlike}
 use Rattle.l4_explore.specs.Tries.{State}
-use Rattle.l4_explore.specs.Search.{Seen, seen_at, IsFound, IsExplored}
+use Rattle.l4_explore.specs.Search.{Seen, seen_at, IsCut, IsFound, IsExplored}
 use Rattle.l4_explore.proofs.Orders.{not_after_length}
 use Rattle.l4_states.specs.Choices.{after_choices, state_in, state_after, IsLeastRun}
-use Rattle.l4_states.specs.Listed.{IsListed, LeadsSoon, AreAllListed}
+use Rattle.l4_states.specs.Listed.{AreAllListed, GoesFar, IsCutOff, IsListed, LeadsSoon}
 use Rattle.l4_states.proofs.Following.{state_led, code_alike, alike_state}
 use Rattle.l4_states.proofs.Chosen.{AreChosen, are_chosen, least_run}
 
@@ -98,3 +99,51 @@ module _ (m : Machine) (machine : IsMachine m) (found : List Seen) (depth : ℕ)
     once = once;
     rising = ex.rising;
   }
+
+  -- Some state was found, the one at the beginning.
+  some_found : 0 < length found
+  some_found = by (ex.complete [] (state_in m (opening_system m)) refl (omega arith))
+    where
+      by : IsFound found (state_in m (opening_system m)) [] → 0 < length found
+      by f = omega (arith, f.inside)
+
+  -- A state that is not found is as far as its schedule is long, where all nearer ones are.
+  far_out : (s : List ℕ) (state : State) → state_after m s ≡ Some state →
+      length s ≡ depth + 1 →
+      ((i : ℕ) → i < length found → (seen_at found i).state ≡ state → ⊥) → GoesFar m (depth + 1)
+  far_out s state leads long new =
+      let led = state_led m s state leads in
+      record {
+        system = led.0;
+        run = subst (λ (n : ℕ). IsLeastRun m n led.0) long (least_run m s led.0 led.1);
+        shortest = λ h fewer r alike. by led.0 led.1 led.2 h fewer r alike (cases_lt depth fewer);
+      }
+    where
+      by : (g : System) → after_choices m (opening_system m) s ≡ Some g → state_in m g ≡ state →
+          (h : System) (fewer : ℕ) → IsLeastRun m fewer h → IsAlike g h →
+          (depth < fewer) ⊎ (fewer ≤ depth) → depth + 1 ≤ fewer
+      by g at is h fewer r alike (inl l) = omega (arith, l)
+      by g at is h fewer r alike (inr le) =
+          let c = are_chosen m fewer h r in
+          let f = ex.complete c.schedule (state_in m h) (state_of_choices c.schedule h c.leads)
+          (omega (arith, c.long, le)) in
+          absurd (new f.place f.inside
+          (f.is ∙ sym (alike_state m machine s c.schedule g h at c.leads alike) ∙ is))
+
+  pub cut_off : (asked most : ℕ) → IsCut (state_after m) found asked most depth →
+      IsCutOff m (length found) asked most depth
+  cut_off asked most (inl d) =
+      let s = sound (length found - 1) (omega (arith, some_found)) in
+      inl (record {
+        all = d.all;
+        deep = record {
+          system = s.system;
+          run = subst (λ (n : ℕ). IsLeastRun m n s.system) d.deep s.run;
+          shortest = λ g fewer r alike. omega (arith, s.shortest g fewer r alike, d.deep);
+        };
+      })
+  cut_off asked most (inr c) = inr (record {
+    shallow = c.shallow;
+    full = c.full;
+    one_more = far_out c.schedule c.one_more.state c.one_more.leads c.long c.one_more.new;
+  })

@@ -1,5 +1,5 @@
 -- What the endings of a machine are.
-use Rattle.std.specs.Prelude.{ℕ, ◌<◌, ◌≤◌, ◌≡◌, Bool, true, List, [], ◌∷◌, length, map, filter, slice_index_or}
+use Rattle.std.specs.Prelude.{ℕ, ◌<◌, ◌≤◌, ◌≡◌, Bool, true, false, List, [], ◌∷◌, length, map, filter, slice_index_or}
 use Rattle.std.specs.List.{AllByRecursion}
 use Rattle.l4_model.specs.Machine.{Machine}
 use Rattle.l4_core_model.specs.Runs.{System, at_rest}
@@ -7,7 +7,7 @@ use Rattle.l4_choices.specs.Alike.{IsAlike}
 use Rattle.l4_choices.specs.Entries.{Entry, replay_entries}
 use Rattle.l4_explore.specs.Search.{Seen}
 use Rattle.l4_states.specs.Choices.{choice, IsLeastRun}
-use Rattle.l4_states.specs.Listed.{AreAllListed}
+use Rattle.l4_states.specs.Listed.{AreAllListed, IsCutOff}
 
 -- The entries of choices.
 abbrev pub entries_of : Machine → List ℕ → List Entry
@@ -17,13 +17,14 @@ entries_of m schedule = map (choice m) schedule
 abbrev pub ends_of : List Seen → List (List ℕ)
 ends_of found = map (λ s. s.schedule) (filter (λ s. s.state.is_end) found)
 
--- A search of all choices has found so many states. The endings are those at rest, each told by the
--- entries that lead there.
-pub record AreEndings (m : Machine) (endings : List (List Entry)) (states depth : ℕ)
+-- A search of all choices, that was to go so deep and to find so many states at most, has found so
+-- many. The endings are those at rest, each told by the entries that lead there.
+pub record AreEndings (m : Machine) (endings : List (List Entry)) (states asked most depth : ℕ)
     (is_whole : Bool) : Type 0 where
   pub found : List Seen
   pub count : states ≡ length found
   pub all : AreAllListed m found depth is_whole
+  pub cut : is_whole ≡ false → IsCutOff m states asked most depth
   pub endings_are : endings ≡ map (entries_of m) (ends_of found)
 
 -- What that comes to:

@@ -1,5 +1,5 @@
 -- What a search of all choices finds of the core runs of a machine.
-use Rattle.std.specs.Prelude.{ℕ, ◌<◌, ◌≤◌, ◌≡◌, Bool, true, Some, List, length}
+use Rattle.std.specs.Prelude.{ℕ, ◌+◌, ◌<◌, ◌≤◌, ◌≡◌, ◌⊎◌, Bool, true, Some, List, length}
 use Rattle.l4_model.specs.Machine.{Machine}
 use Rattle.l4_core_model.specs.Runs.{System, opening_system, at_rest}
 use Rattle.l4_choices.specs.Alike.{IsAlike}
@@ -48,3 +48,25 @@ pub record AreAllListed (m : Machine) (found : List Seen) (depth : ℕ)
   -- in the order of their schedules
   pub rising : (i j : ℕ) → i < j → j < length found →
       IsBefore (seen_at found i).schedule (seen_at found j).schedule
+
+-- So many events lead to a state, and no fewer to one that is alike.
+pub record GoesFar (m : Machine) (events : ℕ) : Type 0 where
+  pub system : System
+  pub run : IsLeastRun m events system
+  pub shortest : (g : System) (fewer : ℕ) → IsLeastRun m fewer g → IsAlike system g →
+      events ≤ fewer
+
+-- Why a search that was to go so deep is not whole: there is a state as deep ..
+pub record IsCutOffByDepth (m : Machine) (asked depth : ℕ) : Type 0 where
+  pub all : depth ≡ asked
+  pub deep : GoesFar m asked
+
+-- .. or it has found as many as were asked for, and there is one more, of one event more.
+pub record IsCutOffByStates (m : Machine) (states asked most depth : ℕ) : Type 0 where
+  pub shallow : depth < asked
+  pub full : states ≡ most
+  pub one_more : GoesFar m (depth + 1)
+
+abbrev pub IsCutOff : Machine → (states asked most depth : ℕ) → Type 0
+IsCutOff m states asked most depth =
+    IsCutOffByDepth m asked depth ⊎ IsCutOffByStates m states asked most depth

@@ -12,16 +12,16 @@
 //! ```
 #![tactic(auto)]
 
-ghost use Rattle.std.specs.Prelude.{ℕ, ◌≡◌, Bool, List};
+ghost use Rattle.std.specs.Prelude.{ℕ, ◌≡◌, Bool, List, length};
 ghost use Rattle.l4_model.specs.Machine.{Machine};
 ghost use Rattle.l4_core_model.specs.Runs.{IsMachine};
 ghost use Rattle.l4_explore.specs.Tries.{AreSchedules};
-ghost use Rattle.l4_explore.specs.Search.{IsExplored, Seen};
+ghost use Rattle.l4_explore.specs.Search.{IsCut, IsExplored, Seen};
 ghost use Rattle.l4_states.specs.Bytes.{bytes_of};
 ghost use Rattle.l4_states.specs.Choices.{IsCoded, state_after};
 ghost use Rattle.l4_choices.specs.Entries.{Entry};
 ghost use Rattle.l4_states.specs.Endings.{AreAllEndings, AreEndings};
-ghost use Rattle.l4_states.specs.Listed.{AreAllListed};
+ghost use Rattle.l4_states.specs.Listed.{AreAllListed, IsCutOff};
 
 /// Numbers are told by their bytes.
 pub fn law_bytes()
@@ -45,8 +45,18 @@ pub fn law_listed()
         IsExplored (state_after m) found depth is_whole → AreAllListed m found depth is_whole }
 {}
 
+/// Where it is cut off, so many events as it was to go deep lead to a state, and no fewer to one
+/// that is alike; or it has found as many states as it was to find, and there is one more.
+pub fn law_cut_off()
+    ensures { (m : Machine) (found : List Seen) (asked most depth : ℕ) (is_whole : Bool) →
+        IsMachine m → IsExplored (state_after m) found depth is_whole →
+        IsCut (state_after m) found asked most depth →
+        IsCutOff m (length found) asked most depth }
+{}
+
 /// Those at rest are all endings of such core runs, each by a shortest one.
 pub fn law_endings()
-    ensures { (m : Machine) (endings : List (List Entry)) (states depth : ℕ) (is_whole : Bool) →
-        AreEndings m endings states depth is_whole → AreAllEndings m endings depth is_whole }
+    ensures { (m : Machine) (endings : List (List Entry)) (states asked most depth : ℕ)
+        (is_whole : Bool) → AreEndings m endings states asked most depth is_whole →
+        AreAllEndings m endings depth is_whole }
 {}

@@ -1,9 +1,10 @@
 -- What is written one after the other.
 use Rattle.std.proofs.Common.{◌≡◌, ℕ, zero, suc, ◌+◌, ◌*◌, ◌/◌, ◌%◌, ◌<◌, ◌≤◌, Bool, true, false, cond, ◌==◌, nat_lt, List, [], ◌∷◌, ◌++◌, length, get_or, drop, Result, Ok, Err, OnOk, refl, sym, ap, ◌∙◌, subst, arith, append_assoc}
 use Rattle.std.proofs.Math.Seq.{drop-cons}
+use Rattle.std.proofs.lemmas.List.{append-nil, drop_all}
 use Rattle.std.proofs.lemmas.Bool.{lt-ltb, le-ltb, eqb-true, eq-eqb}
 use Rattle.l4_states.specs.Bytes.{bytes_from, put_by, put_number, longest_run, ended, tokens_from, put_tokens, Above, Zeros}
-use Rattle.l4_states.specs.Codes.{chained, each, length_code, number_code}
+use Rattle.l4_states.specs.Codes.{chained, each, length_code, number_code, sized}
 use Rattle.l4_codes.specs.Written.{Written, with_numbers, Writes, zero_bytes, zeros_told, room, IsLeft}
 
 -- One value, and then another.
@@ -96,13 +97,24 @@ longer_run w other rest = by (w.zeros == longest_run) refl
 -- Lists
 
 -- One of a list was written, and the others are left.
-pub each_on : {A : Type 0} (code : A → List ℕ → List ℕ) (xs : List A) (i : ℕ) (d : A) (a b c : Written) → i < length xs →
-    ((rest : List ℕ) → with_numbers b (each code (drop i xs) rest) ≡ with_numbers a (each code xs rest)) → Writes (code (get_or xs i d)) b c →
-    (rest : List ℕ) → with_numbers c (each code (drop (i + 1) xs) rest) ≡ with_numbers a (each code xs rest)
-each_on code xs i d a b c lt before one rest =
+pub each_on : {A : Type 0} (code : A → List ℕ → List ℕ) (all : List ℕ → List ℕ) (xs : List A)
+    (i : ℕ) (d : A) (a b c : Written) → i < length xs →
+    ((rest : List ℕ) → with_numbers b (each code (drop i xs) rest) ≡ with_numbers a (all rest)) →
+    Writes (code (get_or xs i d)) b c →
+    (rest : List ℕ) → with_numbers c (each code (drop (i + 1) xs) rest) ≡ with_numbers a (all rest)
+each_on code all xs i d a b c inside same one rest =
     one (each code (drop (i + 1) xs) rest)
-    ∙ ap (λ ys. with_numbers b (each code ys rest)) (sym (drop-cons xs i d lt ∙ ap (λ k. get_or xs i d ∷ drop k xs) (let s : suc i ≡ i + 1 = omega arith in s)))
-    ∙ before rest
+    ∙ ap (λ ys. with_numbers b (each code ys rest)) (sym (drop-cons xs i d inside
+    ∙ ap (λ k. get_or xs i d ∷ drop k xs) (let s : suc i ≡ i + 1 = omega arith in s)))
+    ∙ same rest
+
+-- All were written.
+pub each_over : {A : Type 0} (code : A → List ℕ → List ℕ) (all : List ℕ → List ℕ) (xs : List A)
+    (i : ℕ) (a c : Written) → length xs ≤ i →
+    ((rest : List ℕ) → with_numbers c (each code (drop i xs) rest) ≡ with_numbers a (all rest)) →
+    Writes all a c
+each_over code all xs i a c none same rest =
+    ap (λ ys. with_numbers c (each code ys rest)) (sym (drop_all i xs none)) ∙ same rest
 
 -- One of a list that is read from its front was written, behind those before it.
 pub chained_on : {A : Type 0} (code : A → List ℕ → List ℕ) (before xs : List A) (x : A)
@@ -127,14 +139,16 @@ first_told code xs ys x all a b c d same one value is rest =
     value (chained code ys rest) ∙ one (code x (chained code ys rest))
     ∙ ap (λ zs. with_numbers b (chained code zs rest)) (sym is) ∙ same rest
 
--- None is left.
+-- All of it was written, and none is left.
 pub all_told : {A E : Type 0} (r : Result (Unit {0}) E) (code : A → List ℕ → List ℕ)
-    (xs all : List A) (a b c : Written) →
-    ((rest : List ℕ) → with_numbers b (chained code xs rest) ≡ with_numbers a (chained code all rest)) →
-    OnOk r (Writes (number_code 0) b c) → xs ≡ [] → OnOk r (Writes (chained code all) a c)
-all_told (Ok t) code xs all a b c same zero is = λ rest.
-    zero rest ∙ ap (λ zs. with_numbers b (chained code zs rest)) (sym is) ∙ same rest
-all_told (Err e) code xs all a b c same zero is = tt
+    (before all : List A) (a b c : Written) →
+    ((left : List A) (rest : List ℕ) →
+    with_numbers b (chained code left rest) ≡ with_numbers a (chained code (before ++ left) rest)) →
+    OnOk r (Writes (number_code 0) b c) → before ≡ all → OnOk r (Writes (chained code all) a c)
+all_told (Ok t) code before all a b c same end is = λ rest.
+    end rest ∙ same [] rest
+    ∙ ap (λ ys. with_numbers a (chained code ys rest)) (append-nil before ∙ is)
+all_told (Err e) code before all a b c same end is = tt
 
 -- The length of a list that has always so many.
 
@@ -147,3 +161,12 @@ other_length usual n ne = by (n == usual) refl
     by : (b : Bool) → (n == usual) ≡ b → length_code usual n ≡ n + 1
     by true e = absurd (ne (eqb-true n usual e))
     by false e = ap (λ b. cond b 0 (n + 1)) e
+
+-- None of such a list was written yet.
+pub each_begun : {A : Type 0} (code : A → List ℕ → List ℕ) (usual : ℕ) (xs : List A)
+    (a b : Written) → length xs ≡ usual → Writes (number_code 0) a b →
+    (rest : List ℕ) → with_numbers b (each code (drop 0 xs) rest)
+    ≡ with_numbers a (sized usual code xs rest)
+each_begun code usual xs a b size zeros rest =
+    zeros (each code xs rest)
+    ∙ ap (λ k. with_numbers a (k ∷ each code xs rest)) (sym (usual_length usual (length xs) size))

@@ -2,3 +2,4 @@ pub mod Possible
 pub mod Walking
 pub mod Nexts
 pub mod Ending
+pub mod States

@@ -1,17 +1,19 @@
 -- Core runs that choices lead to.
-use Rattle.std.proofs.Common.{◌≡◌, ℕ, ◌+◌, ◌*◌, ◌<◌, Option, None, Some, List, [], ◌∷◌, ◌++◌, length, map, refl, ap, sym, subst, ◌∙◌, arith, length-append}
-use Rattle.std.specs.Prelude.{IsSome, slice_get}
-use Rattle.std.proofs.lemmas.List.{length-map}
+use Rattle.std.proofs.Common.{◌≡◌, ℕ, ◌+◌, ◌*◌, ◌/◌, ◌%◌, ◌<◌, ◌≤◌, true, false, Option, None, Some, List, [], ◌∷◌, ◌++◌, length, map, get_or, take, drop, refl, ap, sym, subst, ◌∙◌, arith, length-append}
+use Rattle.std.specs.Prelude.{IsSome, is_some, slice_get}
+use Rattle.std.specs.Option.{option_map}
+use Rattle.std.proofs.lemmas.List.{length-map, take-append-drop, take_more}
 use Rattle.l4_model.specs.Machine.{Machine}
 use Rattle.l4_model.specs.Conditions.{◌>>=◌}
-use Rattle.l4_core_model.specs.Runs.{System, Run, opening_run, opening_system}
+use Rattle.l4_core_model.specs.Runs.{Event, IsMachine, System, Run, opening_run, opening_system}
 use Rattle.l4_choices.specs.Entries.{Entry}
 use Rattle.l4_machine.specs.Entries.{after_entry as after_entry_of_run}
 use Rattle.l4_machine.specs.Stations.{Station}
 use Rattle.l4_machine.specs.UnderWay.{UnderWay, GoesOn, HasRun, IsRun}
-use Rattle.l4_states.specs.Choices.{after_choices, after_entry, choice}
+use Rattle.l4_states.specs.Choices.{after_choices, after_entry, choice, choice_of, state_after, state_in}
 use Rattle.l4_states.proofs.Endings.{replayed}
-use Rattle.l4_states.proofs.Following.{after-append}
+use Rattle.l4_states.proofs.Following.{after-append, has_reached}
+use Rattle.l4_states.proofs.Reached.{reached_within}
 use Rattle.l4_endings.specs.Walked.{AreChoices, IsWalked}
 use Rattle.l4_endings.proofs.Possible.{number_below}
 
@@ -40,16 +42,19 @@ record IsOn (m : Machine) (s : List ℕ) (w : UnderWay) (e : ℕ) (walked : IsWa
   pub next : System
   pub leads : after_entry m walked.run.system (choice m e) ≡ Some next
 
+next_is : (m : Machine) (s : List ℕ) (w : UnderWay) (e : ℕ) (walked : IsWalked m s w) →
+    after_choices m (opening_system m) (s ++ e ∷ [])
+    ≡ after_entry m walked.run.system (choice m e)
+next_is m s w e walked =
+    after-append m (opening_system m) s e
+    ∙ ap (λ (o : Option System). o >>= λ h. after_entry m h (choice m e)) walked.leads
+
 on : (m : Machine) (s : List ℕ) (w : UnderWay) (e : ℕ) (walked : IsWalked m s w) →
     AreChoices m (s ++ e ∷ []) → IsOn m s w e walked
 on m s w e walked some =
-    by (after_entry m walked.run.system (choice m e)) refl (subst IsSome same some)
+    by (after_entry m walked.run.system (choice m e)) refl
+    (subst IsSome (next_is m s w e walked) some)
   where
-    same : after_choices m (opening_system m) (s ++ e ∷ [])
-        ≡ after_entry m walked.run.system (choice m e)
-    same = after-append m (opening_system m) s e
-        ∙ ap (λ (o : Option System). o >>= λ h. after_entry m h (choice m e)) walked.leads
-
     by : (o : Option System) → after_entry m walked.run.system (choice m e) ≡ o → IsSome o →
         IsOn m s w e walked
     by None is some = absurd some
@@ -80,8 +85,98 @@ walked_on m s w v e entry walked some same goes =
     record {
       run = after_entry_of_run (choice m e) m walked.run;
       is = is;
-      leads = after-append m (opening_system m) s e
-          ∙ ap (λ (o : Option System). o >>= λ h. after_entry m h (choice m e)) walked.leads
-          ∙ o.leads ∙ ap (λ (g : System). Some g) (sym r.system);
+      leads = next_is m s w e walked ∙ o.leads ∙ ap (λ (g : System). Some g) (sym r.system);
       events = r.count ∙ omega (arith, walked.events, length-append s (e ∷ []));
     }
+
+-- Of a list of choices the next one
+
+-- as many events as there were choices
+pub order_length : (m : Machine) (s : List ℕ) (w : UnderWay) → IsWalked m s w →
+    length w.order ≡ length s
+order_length m s w walked =
+    ap length walked.is.events.order
+    ∙ length-map walked.run.events (λ (e : Event). e.cpu) ∙ walked.events
+
+up_to : (m : Machine) (s : List ℕ) (i : ℕ) → AreChoices m s → AreChoices m (take i s)
+up_to m s i some =
+    choices_before m (opening_system m) (take i s) (drop i s)
+    (subst (AreChoices m) (sym (take-append-drop i s)) some)
+
+-- with the ones before it
+before_it : (s : List ℕ) (i e : ℕ) → i < length s → e ≡ get_or s i e →
+    take i s ++ e ∷ [] ≡ take (i + 1) s
+before_it s i e inside is =
+    ap (λ k. take i s ++ k ∷ []) is ∙ sym (take_more s i e inside)
+
+pub is_choice : (m : Machine) (s : List ℕ) (i e : ℕ) → AreChoices m s → i < length s →
+    e ≡ get_or s i e → AreChoices m (take i s ++ e ∷ [])
+is_choice m s i e some inside is =
+    subst (AreChoices m) (sym (before_it s i e inside is)) (up_to m s (i + 1) some)
+
+pub walked_more : (m : Machine) (s : List ℕ) (w v : UnderWay) (i e : ℕ) (entry : Entry) →
+    IsWalked m (take i s) w → AreChoices m s → i < length s → e ≡ get_or s i e →
+    entry ≡ choice m e → GoesOn (after_entry_of_run entry) w v → IsWalked m (take (i + 1) s) v
+walked_more m s w v i e entry walked some inside is same goes =
+    subst (λ (t : List ℕ). IsWalked m t v) (before_it s i e inside is)
+    (walked_on m (take i s) w v e entry walked (is_choice m s i e some inside is) same goes)
+
+-- The entry of a choice, where it is told by the number of processors.
+pub entry_is : (m : Machine) (cpus e : ℕ) (entry : Entry) → cpus ≡ m.cpus →
+    entry ≡ choice_of cpus (e / (cpus + 2)) (e % (cpus + 2)) → entry ≡ choice m e
+entry_is m cpus e entry same is =
+    is ∙ ap (λ n. choice_of n (e / (n + 2)) (e % (n + 2))) same
+
+-- A choice that leads on from some choices is below their count.
+pub number_at : (m : Machine) (s : List ℕ) (i e : ℕ) → IsMachine m → AreChoices m s →
+    i < length s → e ≡ get_or s i e → e < m.cpus * (m.cpus + 2)
+number_at m s i e machine some inside is =
+    by (after_choices m (opening_system m) (take i s)) refl
+    (subst IsSome (after-append m (opening_system m) (take i s) e) (is_choice m s i e some inside is))
+  where
+    by : (o : Option System) → after_choices m (opening_system m) (take i s) ≡ o →
+        IsSome (o >>= λ g. after_entry m g (choice m e)) → e < m.cpus * (m.cpus + 2)
+    by None at some = absurd some
+    by (Some g) at some = within (after_entry m g (choice m e)) refl some
+      where
+        within : (o : Option System) → after_entry m g (choice m e) ≡ o → IsSome o →
+            e < m.cpus * (m.cpus + 2)
+        within None leads some = absurd some
+        within (Some h) leads some =
+            let b = reached_within m g machine (has_reached m (take i s) g at) in
+            number_below m g h e b.locals leads
+
+-- Whether one choice more leads on
+
+pub leads_on : (m : Machine) (s : List ℕ) (w : UnderWay) (e : ℕ) (walked : IsWalked m s w) →
+    is_some (after_entry m walked.run.system (choice m e)) ≡ true → AreChoices m (s ++ e ∷ [])
+leads_on m s w e walked possible =
+    subst IsSome (sym (next_is m s w e walked))
+    (by (after_entry m walked.run.system (choice m e)) possible)
+  where
+    by : (o : Option System) → is_some o ≡ true → IsSome o
+    by None is = cc
+    by (Some g) is = tt
+
+pub leads_nowhere : (m : Machine) (s : List ℕ) (w : UnderWay) (e : ℕ) (walked : IsWalked m s w) →
+    is_some (after_entry m walked.run.system (choice m e)) ≡ false →
+    state_after m (s ++ e ∷ []) ≡ None
+leads_nowhere m s w e walked impossible =
+    ap (option_map (state_in m)) (next_is m s w e walked
+    ∙ by (after_entry m walked.run.system (choice m e)) impossible)
+  where
+    by : (o : Option System) → is_some o ≡ false → o ≡ None
+    by None is = refl
+    by (Some g) is = cc
+
+pub none_above : (m : Machine) (s : List ℕ) (w : UnderWay) (e : ℕ) → IsWalked m s w →
+    m.cpus * (m.cpus + 2) ≤ e → state_after m (s ++ e ∷ []) ≡ None
+none_above m s w e walked above =
+    ap (option_map (state_in m)) (next_is m s w e walked
+    ∙ by (after_entry m walked.run.system (choice m e)) refl)
+  where
+    by : (o : Option System) → after_entry m walked.run.system (choice m e) ≡ o → o ≡ None
+    by None is = refl
+    by (Some h) is =
+        let b = number_below m walked.run.system h e (locals_of_run m walked.run w walked.is) is in
+        absurd (omega (arith, b, above))

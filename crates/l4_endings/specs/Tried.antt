@@ -1,5 +1,6 @@
 -- What is tried of a machine.
-use Rattle.std.specs.Prelude.{List, map}
+use Rattle.std.specs.Prelude.{List, Vec, map}
+use Rattle.std.proofs.Common.{Global}
 use Rattle.l4_model.specs.Machine.{Machine}
 use Rattle.l4_core_model.specs.Runs.{IsMachine}
 use Rattle.l4_choices.specs.Entries.{Entry}
@@ -15,3 +16,6 @@ schedules m machine = are_schedules m machine
 
 abbrev pub entries_from : List code.Entry → List Entry
 entries_from entries = map entry_from entries
+
+abbrev pub told : List (Vec code.Entry Global) → List (List Entry)
+told endings = map (λ e. entries_from e.items) endings

@@ -1,8 +1,8 @@
 //! The endings of a machine.
-ghost use Rattle.std.specs.Prelude.{ℕ, ◌≡◌, ◌<◌, ◌≤◌, ◌⊎◌, IfOk, false, length, map, true};
+ghost use Rattle.std.specs.Prelude.{ℕ, ◌≡◌, ◌<◌, ◌≤◌, IfOk, length, map, true};
 ghost use Rattle.l4_explore.specs.Search.{seen_at};
-ghost use Rattle.l4_states.specs.Endings.{ends_of, entries_of, AreEndings};
-ghost use Rattle.l4_endings.specs.Tried.{entries_from};
+ghost use Rattle.l4_states.specs.Endings.{ends_of, entries_of, AreAllEndings, AreEndings};
+ghost use Rattle.l4_endings.specs.Tried.{entries_from, told};
 ghost use Rattle.l4_endings.specs.Walked.{AreChoices};
 
 use crate::choices::choice;
@@ -11,7 +11,7 @@ use l4_explore::found::Found;
 use l4_explore::search::explore;
 use l4_machine::Entry;
 use l4_script::machine::Machine;
-use l4_states::law_listed;
+use l4_states::{law_cut_off, law_endings, law_listed};
 use l4_types::errors::NoMemory;
 use std::alloc::Global;
 
@@ -33,20 +33,22 @@ pub struct Endings {
 /// The endings of all core runs of a machine, of at most so many events, whose ticks go to the
 /// least deadline of their processor: each once, of those that differ in stamps only, or in the
 /// order of letters of different pairs of processors. At most so many states are looked at; where
-/// there is one more, those that fewer events lead to are all there.
+/// there is one more, those that fewer events lead to are all there. A search that is not whole
+/// was cut off: there is a state that so many events lead to, and no fewer, or one state more.
 ///
 /// `NoMemory`: memory was refused.
 pub fn endings(alloc: Global, machine: &Machine, depth: u32, most: u32) -> Result<Endings, NoMemory>
     requires { 0 < most }
-    ensures endings { IfOk result (λ r.
-        AreEndings machine.now (map (λ e. entries_from e.items) r.endings.items)
-        r.states r.depth r.is_whole) }
+    ensures all { IfOk result (λ r.
+        AreAllEndings machine.now (told r.endings.items) r.depth r.is_whole) }
+    ensures found { IfOk result (λ r.
+        AreEndings machine.now (told r.endings.items) r.states depth most r.depth r.is_whole) }
     ensures few { IfOk result (λ r. r.states ≤ most) }
     ensures whole { IfOk result (λ r. r.is_whole ≡ true → r.depth < depth) }
-    ensures cut { IfOk result (λ r.
-        r.is_whole ≡ false → (r.depth ≡ depth) ⊎ ((r.depth < depth) × (r.states ≡ most))) }
 {
     law_listed();
+    law_cut_off();
+    law_endings();
     let _ = machine.cpus();
     let explored = explore(alloc, &Choices { machine }, depth, most)?;
     Ok(Endings {
@@ -62,8 +64,7 @@ fn ends(alloc: Global, machine: &Machine, found: &Found) -> Result<Vec<Vec<Entry
     requires { (i : ℕ) → i < length found.now →
         AreChoices machine.now (seen_at found.now i).schedule }
     ensures { IfOk result (λ ends.
-        map (λ e. entries_from e.items) ends.items
-        ≡ map (entries_of machine.now) (ends_of found.now)) }
+        told ends.items ≡ map (entries_of machine.now) (ends_of found.now)) }
 {
     let mut ends = Vec::new(alloc);
     for place in 0..found.len() {

@@ -1,12 +1,12 @@
 use Rattle.std.proofs.Common.{◌≡◌, ℕ, List, drop, length}
-use Rattle.l4_states.specs.Codes.{chained, each, number_code, optional, owed_code, sized, thread_code, waiting_code}
+use Rattle.l4_states.specs.Codes.{each, optional, owed_code, sized}
 use Rattle.l4_codes.specs.Written.{with_numbers}
 use Rattle.l4_codes.proofs.processors.put_all_owed.Given as goal
 
 -- With those that are left it is the code of all.
 abbrev pub invariant-loop-place : goal.invariant-loop-place
-invariant-loop-place l = record {
-  same : (rest : List ℕ) → with_numbers l.code (each (optional owed_code) (drop l.place l.core.local.owed) rest)
-      ≡ with_numbers l.fn.code (sized (length l.core.machine.threads) (optional owed_code) l.core.local.owed rest);
-  end : l.place-end ≡ length l.core.machine.threads;
-}
+invariant-loop-place l =
+    (rest : List ℕ) →
+    with_numbers l.code (each (optional owed_code) (drop l.place l.core.local.owed) rest)
+    ≡ with_numbers l.fn.code
+    (sized (length l.core.machine.threads) (optional owed_code) l.core.local.owed rest)

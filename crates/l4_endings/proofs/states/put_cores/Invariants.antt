@@ -1,0 +1,15 @@
+use Rattle.std.proofs.Common.{◌≡◌, ℕ, List, drop, length}
+use Rattle.l4_model.specs.Machine.{Machine}
+use Rattle.l4_core_model.specs.Runs.{Run}
+use Rattle.l4_machine.specs.UnderWay.{IsRun}
+use Rattle.l4_states.specs.Codes.{each, local_code, sized}
+use Rattle.l4_codes.specs.Written.{with_numbers}
+use Rattle.l4_endings.proofs.states.put_cores.Given as goal
+
+-- With those that are left it is the code of all.
+abbrev pub invariant-loop-cpu : goal.invariant-loop-cpu
+invariant-loop-cpu l =
+    (m : Machine) (r : Run) → IsRun m r l.walk → (rest : List ℕ) →
+    with_numbers l.code (each (local_code (length m.threads)) (drop l.cpu r.system.locals) rest)
+    ≡ with_numbers l.fn.code
+    (sized m.cpus (local_code (length m.threads)) r.system.locals rest)

@@ -1,8 +1,8 @@
 -- Which choices can be made.
-use Rattle.std.proofs.Common.{◌≡◌, ◌↔◌, ℕ, ◌+◌, ◌*◌, ◌/◌, ◌%◌, ◌<◌, Bool, true, false, cond, ◌&&◌, not, Option, None, Some, List, [], ◌∷◌, length, refl, ap, sym, ◌∙◌, arith}
+use Rattle.std.proofs.Common.{◌≡◌, ◌↔◌, ℕ, ◌+◌, ◌*◌, ◌/◌, ◌%◌, ◌<◌, ◌≤◌, Bool, true, false, cond, ◌&&◌, not, Option, None, Some, List, [], ◌∷◌, length, refl, ap, sym, ◌∙◌, arith}
 use Rattle.std.specs.Prelude.{is_some, slice_get, nat_lt, ◌==◌}
 use Rattle.std.specs.Option.{option_map}
-use Rattle.std.proofs.lemmas.Bool.{and_from, lt-ltb}
+use Rattle.std.proofs.lemmas.Bool.{eq-eqb, le-ltb, lt-ltb, ne_eqb}
 use Rattle.std.proofs.lemmas.Option.{slice_get_within}
 use Rattle.std.proofs.Math.Nat.{div-lt_iff_lt-mul}
 use Rattle.l4_model.specs.Words.{clock_limit}
@@ -129,3 +129,23 @@ pub number_below : (m : Machine) (g h : System) (e : ℕ) → length g.locals �
 number_below m g h e size is =
     let own = own_below m g (e / (m.cpus + 2)) (e % (m.cpus + 2)) h size is in
     (div-lt_iff_lt-mul {m.cpus + 2} {e} {m.cpus} (omega arith)).0 own
+
+-- Which choice of a processor a number stands for
+
+pub choice_is_letter : (cpus cpu k : ℕ) → k < cpus → choice_of cpus cpu k ≡ LetterOf cpu k
+choice_is_letter cpus cpu k less =
+    ap (λ b. cond b (LetterOf cpu k) (cond (k == cpus) (CoreOf cpu) (TickOf cpu)))
+    (lt-ltb k cpus less)
+
+pub choice_is_core : (cpus cpu k : ℕ) → k ≡ cpus → choice_of cpus cpu k ≡ CoreOf cpu
+choice_is_core cpus cpu k is =
+    ap (λ b. cond b (LetterOf cpu k) (cond (k == cpus) (CoreOf cpu) (TickOf cpu)))
+    (le-ltb k cpus (omega (arith, is)))
+    ∙ ap (λ b. cond b (CoreOf cpu) (TickOf cpu)) (eq-eqb k cpus is)
+
+pub choice_is_tick : (cpus cpu k : ℕ) → cpus ≤ k → (k ≡ cpus → ⊥) →
+    choice_of cpus cpu k ≡ TickOf cpu
+choice_is_tick cpus cpu k least other =
+    ap (λ b. cond b (LetterOf cpu k) (cond (k == cpus) (CoreOf cpu) (TickOf cpu)))
+    (le-ltb k cpus least)
+    ∙ ap (λ b. cond b (CoreOf cpu) (TickOf cpu)) (ne_eqb k cpus other)

@@ -1,15 +1,17 @@
 -- The code of a state, processor by processor and poster by poster.
-use Rattle.std.proofs.Common.{◌≡◌, ℕ, ◌+◌, ◌<◌, List, drop, length, map, refl, ap, sym, subst, ◌∙◌, arith}
+use Rattle.std.proofs.Common.{◌≡◌, ℕ, ◌+◌, ◌<◌, Bool, List, [], drop, length, map, refl, ap, sym, subst, ◌∙◌, arith}
 use Rattle.std.proofs.lemmas.List.FromFn.{get_or-range_with_len, length-range_with_len}
 use Rattle.std.proofs.lemmas.Option.{get_or_from_slice_get}
 use Rattle.l4_model.specs.Machine.{Machine}
 use Rattle.l4_core_model.specs.Letters.{Letter}
 use Rattle.l4_core_model.specs.Local.{Local}
-use Rattle.l4_core_model.specs.Runs.{Run, letters, processors}
+use Rattle.l4_core_model.specs.Runs.{Run, at_rest, letters, processors}
 use Rattle.l4_choices.specs.Alike.{contents}
 use Rattle.l4_core.specs.Processor.{Processor}
 use Rattle.l4_machine.specs.UnderWay.{UnderWay, IsProcessorOf, IsRun}
-use Rattle.l4_states.specs.Codes.{chained, content_code, each, local_code, mail_from_code, mail_to_code, sized}
+use Rattle.l4_states.specs.Codes.{chained, code_of, content_code, each, local_code, mail_code, mail_from_code, mail_to_code, sized}
+use Rattle.l4_states.specs.Choices.{state_in}
+use Rattle.l4_explore.specs.Tries.{State}
 use Rattle.l4_codes.specs.Written.{with_numbers, Written, Writes}
 use Rattle.l4_codes.proofs.Writing.{each_on}
 use Rattle.l4_endings.proofs.Walking.{locals_of_run}
@@ -56,3 +58,18 @@ letters_told m r to from ls a b c own are same one =
     one_on m (mail_from_code r.system.mail to) (mail_to_code (processors m) r.system.mail to) from
     a b c own same
     (subst (λ (ls : List Letter). Writes (chained content_code (contents ls)) b c) are one)
+
+-- All of it was written.
+pub is_state : (m : Machine) (r : Run) (a b c : Written) (bytes : List ℕ) (rests : Bool) →
+    a ≡ record { bytes = []; zeros = 0 } →
+    Writes (sized m.cpus (local_code (length m.threads)) r.system.locals) a b →
+    Writes (mail_code (processors m) r.system.mail) b c → bytes ≡ with_numbers c [] →
+    rests ≡ at_rest m r.system →
+    ◌≡◌ {A = State} (record { code = bytes; is_end = rests }) (state_in m r.system)
+is_state m r a b c bytes rests none locals mail are at =
+    let code : bytes ≡ code_of m r.system
+    = are ∙ mail [] ∙ locals (mail_code (processors m) r.system.mail [])
+    ∙ ap (λ (w : Written). with_numbers w
+    (sized m.cpus (local_code (length m.threads)) r.system.locals
+    (mail_code (processors m) r.system.mail []))) none in
+    λ i. record { code = code i; is_end = at i }

@@ -17,7 +17,7 @@ use std::alloc::Global;
 
 /// What a search for endings has come to.
 #[derive(Drop)]
-pub struct Endings {
+pub struct FoundEndings {
     /// The endings, each by the entries that lead there: a shortest schedule, and of these the
     /// first. The shorter ones come first.
     pub endings: Vec<Vec<Entry>>,
@@ -37,7 +37,12 @@ pub struct Endings {
 /// was cut off: there is a state that so many events lead to, and no fewer, or one state more.
 ///
 /// `NoMemory`: memory was refused.
-pub fn endings(alloc: Global, machine: &Machine, depth: u32, most: u32) -> Result<Endings, NoMemory>
+pub fn endings(
+    alloc: Global,
+    machine: &Machine,
+    depth: u32,
+    most: u32,
+) -> Result<FoundEndings, NoMemory>
     requires { 0 < most }
     ensures all { IfOk result (λ r.
         AreAllEndings machine.now (told r.endings.items) r.depth r.is_whole) }
@@ -51,7 +56,7 @@ pub fn endings(alloc: Global, machine: &Machine, depth: u32, most: u32) -> Resul
     law_endings();
     let _ = machine.cpus();
     let explored = explore(alloc, &Choices { machine }, depth, most)?;
-    Ok(Endings {
+    Ok(FoundEndings {
         endings: ends(alloc, machine, &explored.found)?,
         states: explored.found.len(),
         depth: explored.depth,

@@ -18,4 +18,4 @@ mod states;
 mod tried;
 mod walks;
 
-pub use endings_of::{Endings, endings};
+pub use endings_of::{FoundEndings, endings};

@@ -15,6 +15,7 @@ use l4_types::errors::NoMemory;
 use std::alloc::{AllocError, Global};
 
 /// What may be done with a machine, one thing after the other, whatever happens first.
+#[derive(Drop)]
 pub(crate) struct Choices<'m> {
     pub(crate) machine: &'m Machine,
     ghost lawful: { IsMachine machine.now },

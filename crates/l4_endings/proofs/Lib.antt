@@ -3,3 +3,4 @@ pub mod Walking
 pub mod Nexts
 pub mod Ending
 pub mod States
+pub mod Listing

@@ -2,14 +2,10 @@
 use Rattle.std.proofs.Common.{◌≡◌, ℕ, ◌+◌, ◌<◌, ◌≤◌, ◌⊎◌, inl, inr, Option, None, Some, List, [], ◌∷◌, ◌++◌, refl, ap, sym, subst, ◌∙◌, arith}
 use Rattle.std.proofs.lemmas.Bool.{cases_lt}
 use Rattle.l4_explore.specs.Tries.{State, Next, IsNext, AreNexts}
+use Rattle.l4_endings.specs.Tried.{AreUpTo}
 
 module _ (f : List ℕ → Option State) (s : List ℕ) where
-  -- All of those below a number.
-  abbrev pub AreUpTo : (from n : ℕ) → List Next → Type 0
-  AreUpTo from n [] = (e : ℕ) → from ≤ e → e < n → f (s ++ e ∷ []) ≡ None
-  AreUpTo from n (x ∷ xs) = (x.entry < n) × IsNext f s from x × AreUpTo (x.entry + 1) n xs
-
-  pub none_yet : AreUpTo 0 0 []
+  pub none_yet : AreUpTo f s 0 0 []
   none_yet e least less = absurd (omega (arith, less))
 
   below_next : (n e : ℕ) → e < n + 1 → (e < n) ⊎ (e ≡ n)
@@ -20,8 +16,8 @@ module _ (f : List ℕ → Option State) (s : List ℕ) where
       by (inr le) = inr (omega (arith, less, le))
 
   -- One that does not lead on
-  pub skipped : (from n : ℕ) (xs : List Next) → AreUpTo from n xs → f (s ++ n ∷ []) ≡ None →
-      AreUpTo from (n + 1) xs
+  pub skipped : (from n : ℕ) (xs : List Next) → AreUpTo f s from n xs → f (s ++ n ∷ []) ≡ None →
+      AreUpTo f s from (n + 1) xs
   skipped from n [] all none e least less = by (below_next n e less)
     where
       by : (e < n) ⊎ (e ≡ n) → f (s ++ e ∷ []) ≡ None
@@ -31,9 +27,9 @@ module _ (f : List ℕ → Option State) (s : List ℕ) where
       (omega (arith, all.0), all.1, skipped (x.entry + 1) n xs all.2 none)
 
   -- One that does
-  pub listed : (from n : ℕ) (xs : List Next) (state : State) → from ≤ n → AreUpTo from n xs →
+  pub listed : (from n : ℕ) (xs : List Next) (state : State) → from ≤ n → AreUpTo f s from n xs →
       f (s ++ n ∷ []) ≡ Some state →
-      AreUpTo from (n + 1) (xs ++ record { entry = n; state = state } ∷ [])
+      AreUpTo f s from (n + 1) (xs ++ record { entry = n; state = state } ∷ [])
   listed from n [] state least all leads = (
     omega arith,
     record { later = least; first = all; leads = leads },
@@ -46,7 +42,7 @@ module _ (f : List ℕ → Option State) (s : List ℕ) where
   )
 
   -- Above the last number there is none.
-  pub all_nexts : (from n : ℕ) (xs : List Next) → AreUpTo from n xs →
+  pub all_nexts : (from n : ℕ) (xs : List Next) → AreUpTo f s from n xs →
       ((e : ℕ) → n ≤ e → f (s ++ e ∷ []) ≡ None) → AreNexts f s from xs
   all_nexts from n [] all none e least = by (cases_lt e n)
     where

@@ -15,6 +15,7 @@ use Rattle.l4_core_model.specs.Turns.{advance, does_choice, is_busy, opened, tur
 use Rattle.l4_core_model.specs.Turns.{choice as core_choice}
 use Rattle.l4_core_model.specs.Runs.{System, letters, Happening, Handles, Turns, Ticks, Happened, done, taken, happens, is_empty}
 use Rattle.l4_core_model.specs.Schedules.{least_deadline}
+use Rattle.l4_split.specs.Laws.{LettersAreLawful}
 use Rattle.l4_choices.specs.Entries.{Entry, TickOf, LetterOf, CoreOf, entry_event}
 use Rattle.l4_states.specs.Choices.{after_entry, choice, choice_of}
 
@@ -149,3 +150,42 @@ choice_is_tick cpus cpu k least other =
     ap (λ b. cond b (LetterOf cpu k) (cond (k == cpus) (CoreOf cpu) (TickOf cpu)))
     (le-ltb k cpus least)
     ∙ ap (λ b. cond b (CoreOf cpu) (TickOf cpu)) (ne_eqb k cpus other)
+
+-- Below their count a number has its processor and a place of it.
+pub own_of : (cpus number : ℕ) → number < cpus * (cpus + 2) → number / (cpus + 2) < cpus
+own_of cpus number below = (div-lt_iff_lt-mul {cpus + 2} {number} {cpus} (omega arith)).1 below
+
+empty_is : (ls : List Letter) (n : ℕ) → n ≡ length ls → is_empty ls ≡ (n == 0)
+empty_is [] n is = sym (eq-eqb n 0 is)
+empty_is (letter ∷ ls) n is = sym (ne_eqb n 0 (λ zero_now. omega (arith, is, zero_now)))
+
+-- What is read of a processor and its letters says whether a choice of it can be made.
+module _ (m : Machine) (g : System) (cpus cpu k : ℕ) (l : Local)
+    (there : slice_get g.locals cpu ≡ Some l) where
+  pub letters_possible : (ls : List Letter) (n : ℕ) → k < cpus → ls ≡ letters g.mail k cpu →
+      n ≡ length ls → LettersAreLawful m g →
+      not (n == 0) ≡ is_some (after_entry m g (choice_of cpus cpu k))
+  letters_possible ls n less mail count lawful =
+      sym (ap (λ (e : Entry). is_some (after_entry m g e)) (choice_is_letter cpus cpu k less)
+      ∙ letter_possible m g cpu k l ls there (sym mail)
+      (λ letter first. lawful.first k cpu letter l
+      (ap (λ (ls : List Letter). slice_get ls 0) (sym mail) ∙ first) there)
+      ∙ ap not (empty_is ls n count))
+
+  pub core_possible : (b : Bool) → k ≡ cpus → b ≡ is_busy m cpu l →
+      b ≡ is_some (after_entry m g (choice_of cpus cpu k))
+  core_possible b same busy =
+      busy ∙ sym (ap (λ (e : Entry). is_some (after_entry m g e)) (choice_is_core cpus cpu k same)
+      ∙ turn_possible m g cpu l there)
+
+  pub clock_possible : (b : Bool) → cpus ≤ k → (k ≡ cpus → ⊥) →
+      b ≡ is_some (after_entry m g (TickOf cpu)) →
+      b ≡ is_some (after_entry m g (choice_of cpus cpu k))
+  clock_possible b least other same =
+      same ∙ sym (ap (λ (e : Entry). is_some (after_entry m g e))
+      (choice_is_tick cpus cpu k least other))
+
+-- The same choice, told by the number of processors.
+pub entry_same : (m : Machine) (cpus number : ℕ) → cpus ≡ m.cpus →
+    choice_of cpus (number / (cpus + 2)) (number % (cpus + 2)) ≡ choice m number
+entry_same m cpus number same = ap (λ n. choice_of n (number / (n + 2)) (number % (n + 2))) same

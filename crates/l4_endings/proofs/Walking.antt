@@ -5,9 +5,11 @@ use Rattle.std.specs.Option.{option_map}
 use Rattle.std.proofs.lemmas.List.{length-map, take-append-drop, take_more}
 use Rattle.l4_model.specs.Machine.{Machine}
 use Rattle.l4_model.specs.Conditions.{◌>>=◌}
+use Rattle.std.proofs.lemmas.Option.{slice_get-get_or}
+use Rattle.l4_core_model.specs.Local.{opening_local}
 use Rattle.l4_core_model.specs.Runs.{Event, IsMachine, System, Run, opening_run, opening_system}
 use Rattle.l4_choices.specs.Entries.{Entry}
-use Rattle.l4_machine.specs.Entries.{after_entry as after_entry_of_run}
+use Rattle.l4_machine.specs.Entries.{after_entry as after_entry_of_run, is_entry, is_entry_of}
 use Rattle.l4_machine.specs.Stations.{Station}
 use Rattle.l4_machine.specs.UnderWay.{UnderWay, GoesOn, HasRun, IsRun}
 use Rattle.l4_states.specs.Choices.{after_choices, after_entry, choice, choice_of, state_after, state_in}
@@ -104,18 +106,18 @@ up_to m s i some =
     (subst (AreChoices m) (sym (take-append-drop i s)) some)
 
 -- with the ones before it
-before_it : (s : List ℕ) (i e : ℕ) → i < length s → e ≡ get_or s i e →
+before_it : (s : List ℕ) (i e : ℕ) → i < length s → e ≡ get_or s i 0 →
     take i s ++ e ∷ [] ≡ take (i + 1) s
 before_it s i e inside is =
-    ap (λ k. take i s ++ k ∷ []) is ∙ sym (take_more s i e inside)
+    ap (λ k. take i s ++ k ∷ []) is ∙ sym (take_more s i 0 inside)
 
 pub is_choice : (m : Machine) (s : List ℕ) (i e : ℕ) → AreChoices m s → i < length s →
-    e ≡ get_or s i e → AreChoices m (take i s ++ e ∷ [])
+    e ≡ get_or s i 0 → AreChoices m (take i s ++ e ∷ [])
 is_choice m s i e some inside is =
     subst (AreChoices m) (sym (before_it s i e inside is)) (up_to m s (i + 1) some)
 
 pub walked_more : (m : Machine) (s : List ℕ) (w v : UnderWay) (i e : ℕ) (entry : Entry) →
-    IsWalked m (take i s) w → AreChoices m s → i < length s → e ≡ get_or s i e →
+    IsWalked m (take i s) w → AreChoices m s → i < length s → e ≡ get_or s i 0 →
     entry ≡ choice m e → GoesOn (after_entry_of_run entry) w v → IsWalked m (take (i + 1) s) v
 walked_more m s w v i e entry walked some inside is same goes =
     subst (λ (t : List ℕ). IsWalked m t v) (before_it s i e inside is)
@@ -129,7 +131,7 @@ entry_is m cpus e entry same is =
 
 -- A choice that leads on from some choices is below their count.
 pub number_at : (m : Machine) (s : List ℕ) (i e : ℕ) → IsMachine m → AreChoices m s →
-    i < length s → e ≡ get_or s i e → e < m.cpus * (m.cpus + 2)
+    i < length s → e ≡ get_or s i 0 → e < m.cpus * (m.cpus + 2)
 number_at m s i e machine some inside is =
     by (after_choices m (opening_system m) (take i s)) refl
     (subst IsSome (after-append m (opening_system m) (take i s) e) (is_choice m s i e some inside is))
@@ -180,3 +182,18 @@ none_above m s w e walked above =
     by (Some h) is =
         let b = number_below m walked.run.system h e (locals_of_run m walked.run w walked.is) is in
         absurd (omega (arith, b, above))
+
+pub lawful_here : (m : Machine) (s : List ℕ) (w : UnderWay) (cpus : ℕ) (entry : Entry) →
+    IsWalked m s w → cpus ≡ m.cpus → is_entry_of cpus entry ≡ true →
+    is_entry w.machine entry ≡ true
+lawful_here m s w cpus entry walked same lawful =
+    ap (λ n. is_entry_of n entry)
+    (ap (λ (n : Machine). n.cpus) walked.is.machine ∙ sym same)
+    ∙ lawful
+
+-- A processor of a run has a local state.
+pub local_here : (m : Machine) (r : Run) (w : UnderWay) (cpu : ℕ) → IsRun m r w → cpu < m.cpus →
+    slice_get r.system.locals cpu ≡ Some (get_or r.system.locals cpu (opening_local m 0))
+local_here m r w cpu is own =
+    slice_get-get_or r.system.locals cpu (opening_local m 0)
+    (omega (arith, own, locals_of_run m r w is))

@@ -1,5 +1,5 @@
 //! The endings of a machine.
-ghost use Rattle.std.specs.Prelude.{ℕ, ◌≡◌, ◌<◌, ◌≤◌, IfOk, length, map, true};
+ghost use Rattle.std.specs.Prelude.{ℕ, ◌≡◌, ◌<◌, ◌≤◌, ◌++◌, ◌∷◌, [], IfOk, OnOk, length, map, true};
 ghost use Rattle.l4_explore.specs.Search.{seen_at};
 ghost use Rattle.l4_states.specs.Endings.{ends_of, entries_of, AreAllEndings, AreEndings};
 ghost use Rattle.l4_endings.specs.Tried.{entries_from, told};
@@ -11,7 +11,6 @@ use l4_explore::found::Found;
 use l4_explore::search::explore;
 use l4_machine::Entry;
 use l4_script::machine::Machine;
-use l4_states::{law_cut_off, law_endings, law_listed};
 use l4_types::errors::NoMemory;
 use std::alloc::Global;
 
@@ -51,9 +50,6 @@ pub fn endings(
     ensures few { IfOk result (λ r. r.states ≤ most) }
     ensures whole { IfOk result (λ r. r.is_whole ≡ true → r.depth < depth) }
 {
-    law_listed();
-    law_cut_off();
-    law_endings();
     let _ = machine.cpus();
     let explored = explore(alloc, &Choices { machine }, depth, most)?;
     Ok(FoundEndings {
@@ -73,12 +69,30 @@ fn ends(alloc: Global, machine: &Machine, found: &Found) -> Result<Vec<Vec<Entry
 {
     let mut ends = Vec::new(alloc);
     for place in 0..found.len() {
-        if found.is_end(place) {
-            let schedule = found.schedule(alloc, place)?;
-            ends.push(entries_of(alloc, machine, &schedule)?)?;
-        }
+        list_end(alloc, machine, found, place, &mut ends)?;
     }
     Ok(ends)
+}
+
+// Appends the entries that lead to one of them, where it is an end.
+fn list_end(
+    alloc: Global,
+    machine: &Machine,
+    found: &Found,
+    place: usize,
+    ends: &mut Vec<Vec<Entry>>,
+) -> Result<(), NoMemory>
+    requires place { place < length found.now }
+    requires choices { AreChoices machine.now (seen_at found.now place).schedule }
+    ensures { OnOk result (told ends.new.items ≡ told ends.old.items
+        ++ map (entries_of machine.now) (ends_of (seen_at found.now place ∷ []))) }
+{
+    if !found.is_end(place) {
+        return Ok(());
+    }
+    let schedule = found.schedule(alloc, place)?;
+    ends.push(entries_of(alloc, machine, &schedule)?)?;
+    Ok(())
 }
 
 // The entries of choices.

@@ -1,17 +1,17 @@
 //! What may be done with a machine.
-ghost use Rattle.std.specs.Prelude.{◌<◌, ◌≡◌, ◌++◌, ◌∷◌, ◌^◌, [], IfOk, Some, length};
+ghost use Rattle.std.specs.Prelude.{◌+◌, ◌*◌, ◌<◌, ◌≡◌, ◌++◌, ◌∷◌, ◌^◌, [], IfOk, OnOk, Some, length, map};
 ghost use Rattle.l4_core_model.specs.Runs.{IsMachine};
-ghost use Rattle.l4_explore.specs.Views.{state_from};
+ghost use Rattle.l4_explore.specs.Views.{next_from, state_from};
 ghost use Rattle.l4_states.specs.Choices.{state_after};
-ghost use Rattle.l4_endings.specs.Tried.{schedules};
-ghost use Rattle.l4_endings.specs.Walked.{AreChoices};
+ghost use Rattle.l4_endings.specs.Tried.{schedules, AreUpTo};
+ghost use Rattle.l4_endings.specs.Walked.{AreChoices, IsWalked};
 
 use crate::choices::{choice_count, is_possible};
 use crate::states::state_of;
 use crate::walks::{walk_on, walk_to};
 use l4_explore::tries::{Choice, Reached, Tries};
+use l4_machine::Walk;
 use l4_script::machine::Machine;
-use l4_types::errors::NoMemory;
 use std::alloc::{AllocError, Global};
 
 /// What may be done with a machine, one thing after the other, whatever happens first.
@@ -27,24 +27,51 @@ impl<'m> Tries for Choices<'m> {
     ghost schedules = { λ c. schedules c.machine.now c.lawful };
 
     fn opening(&self, alloc: Global) -> Result<Reached, AllocError> {
-        let walk = walk_to(alloc, self.machine, &[]).map_err(refused)?;
+        let Ok(walk) = walk_to(alloc, self.machine, &[]) else {
+            return Err(AllocError);
+        };
         state_of(alloc, &walk, self.machine.cpus())
     }
 
     fn choices(&self, alloc: Global, schedule: &[u16]) -> Result<Vec<Choice>, AllocError> {
-        let cpus = self.machine.cpus();
-        let walk = walk_to(alloc, self.machine, schedule).map_err(refused)?;
+        let Ok(walk) = walk_to(alloc, self.machine, schedule) else {
+            return Err(AllocError);
+        };
+        let count = choice_count(self.machine.cpus());
         let mut choices = Vec::new(alloc);
-        for number in 0..choice_count(cpus) {
-            if is_possible(&walk, cpus, number) {
-                choices.push(Choice {
-                    entry: number,
-                    reached: reached_by(alloc, self.machine, schedule, number)?,
-                })?;
-            }
+        for number in 0..count {
+            list_choice(alloc, self.machine, &walk, schedule, number, &mut choices)?;
         }
         Ok(choices)
     }
+}
+
+// Appends a choice, where it leads on.
+fn list_choice(
+    alloc: Global,
+    machine: &Machine,
+    walk: &Walk<'_>,
+    schedule: &[u16],
+    number: u16,
+    choices: &mut Vec<Choice>,
+) -> Result<(), AllocError>
+    requires walk { IsWalked machine.now schedule.now walk.now }
+    requires few { length schedule.now < 2 ^ 60 }
+    requires number { number < machine.now.cpus * (machine.now.cpus + 2) }
+    ensures { OnOk result (
+        AreUpTo (state_after machine.now) schedule.now 0 number (map next_from choices.old.items) →
+        AreUpTo (state_after machine.now) schedule.now 0 (number + 1)
+        (map next_from choices.new.items)) }
+{
+    if !is_possible(walk, machine.cpus(), number) {
+        return Ok(());
+    }
+    let reached = reached_by(alloc, machine, schedule, number)?;
+    choices.push(Choice {
+        entry: number,
+        reached,
+    })?;
+    Ok(())
 }
 
 // The state that one choice more leads to.
@@ -59,11 +86,8 @@ fn reached_by(
     ensures { IfOk result (λ s.
         state_after machine.now (schedule.now ++ number ∷ []) ≡ Some (state_from s)) }
 {
-    let walk = walk_on(alloc, machine, schedule, number).map_err(refused)?;
+    let Ok(walk) = walk_on(alloc, machine, schedule, number) else {
+        return Err(AllocError);
+    };
     state_of(alloc, &walk, machine.cpus())
-}
-
-// A refusal of memory, as a search has it.
-fn refused(_error: NoMemory) -> AllocError {
-    AllocError
 }

@@ -1,0 +1,9 @@
+use Rattle.std.proofs.Common.{◌≡◌, map, take}
+use Rattle.l4_states.specs.Endings.{ends_of, entries_of}
+use Rattle.l4_endings.specs.Tried.{told}
+use Rattle.l4_endings.proofs.endings_of.ends.Given as goal
+
+-- Those before the next one were listed.
+abbrev pub invariant-loop-place : goal.invariant-loop-place
+invariant-loop-place l =
+    told l.ends.items ≡ map (entries_of l.machine) (ends_of (take l.place l.found))

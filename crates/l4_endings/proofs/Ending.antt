@@ -75,7 +75,7 @@ one_entry m numbers i e old new entry inside is one same before =
 pub are_choices : (m : Machine) (s : List ℕ) (state : State) → state_after m s ≡ Some state →
     AreChoices m s
 are_choices m s state is =
-    let led = state_led m s state is in subst IsSome (sym led.1) tt
+    let led = state_led m s state is in subst IsSome (sym led.1) refl
 
 pub are_endings : (m : Machine) (found : List Seen) (endings : List (List Entry))
     (states asked most depth : ℕ) (is_whole : Bool) → IsMachine m →

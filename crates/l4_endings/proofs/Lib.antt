@@ -2,5 +2,5 @@ pub mod Possible
 pub mod Walking
 pub mod Nexts
 pub mod Ending
-pub mod States
+pub mod Coding
 pub mod Listing

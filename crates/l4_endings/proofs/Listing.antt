@@ -1,5 +1,5 @@
 -- Choices that lead on, listed one by one.
-use Rattle.std.proofs.Common.{◌≡◌, ℕ, ◌+◌, Option, None, Some, List, [], ◌∷◌, ◌++◌, map, ap, sym, subst, ◌∙◌, arith, Result, Ok, Err}
+use Rattle.std.proofs.Common.{◌≡◌, ℕ, ◌+◌, Option, None, Some, List, [], ◌∷◌, ◌++◌, map, refl, ap, sym, subst, ◌∙◌, arith, Result, Ok, Err}
 use Rattle.std.specs.Prelude.{IfOk, IsSome}
 use Rattle.std.specs.Option.{option_map}
 use Rattle.std.proofs.lemmas.List.{map-append}
@@ -40,4 +40,4 @@ have_led m s some = by (after_choices m (opening_system m) s) some
   where
     by : (o : Option System) → IsSome (option_map (state_in m) o) → IsSome o
     by None some = some
-    by (Some g) some = tt
+    by (Some g) some = refl

@@ -18,11 +18,11 @@ module _ (f : List ℕ → Option State) (s : List ℕ) where
   -- One that does not lead on
   pub skipped : (from n : ℕ) (xs : List Next) → AreUpTo f s from n xs → f (s ++ n ∷ []) ≡ None →
       AreUpTo f s from (n + 1) xs
-  skipped from n [] all none e least less = by (below_next n e less)
+  skipped from n [] all none = λ e least less. by e least (below_next n e less)
     where
-      by : (e < n) ⊎ (e ≡ n) → f (s ++ e ∷ []) ≡ None
-      by (inl l) = all e least l
-      by (inr same) = ap (λ k. f (s ++ k ∷ [])) same ∙ none
+      by : (e : ℕ) → from ≤ e → (e < n) ⊎ (e ≡ n) → f (s ++ e ∷ []) ≡ None
+      by e least (inl l) = all e least l
+      by e least (inr same) = ap (λ k. f (s ++ k ∷ [])) same ∙ none
   skipped from n (x ∷ xs) all none =
       (omega (arith, all.0), all.1, skipped (x.entry + 1) n xs all.2 none)
 
@@ -44,9 +44,9 @@ module _ (f : List ℕ → Option State) (s : List ℕ) where
   -- Above the last number there is none.
   pub all_nexts : (from n : ℕ) (xs : List Next) → AreUpTo f s from n xs →
       ((e : ℕ) → n ≤ e → f (s ++ e ∷ []) ≡ None) → AreNexts f s from xs
-  all_nexts from n [] all none e least = by (cases_lt e n)
+  all_nexts from n [] all none = λ e least. by e least (cases_lt e n)
     where
-      by : (e < n) ⊎ (n ≤ e) → f (s ++ e ∷ []) ≡ None
-      by (inl l) = all e least l
-      by (inr le) = none e le
+      by : (e : ℕ) → from ≤ e → (e < n) ⊎ (n ≤ e) → f (s ++ e ∷ []) ≡ None
+      by e least (inl l) = all e least l
+      by e least (inr le) = none e le
   all_nexts from n (x ∷ xs) all none = (all.1, all_nexts (x.entry + 1) n xs all.2 none)

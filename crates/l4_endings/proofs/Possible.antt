@@ -129,7 +129,7 @@ pub number_below : (m : Machine) (g h : System) (e : ℕ) → length g.locals �
     after_entry m g (choice m e) ≡ Some h → e < m.cpus * (m.cpus + 2)
 number_below m g h e size is =
     let own = own_below m g (e / (m.cpus + 2)) (e % (m.cpus + 2)) h size is in
-    (div-lt_iff_lt-mul {m.cpus + 2} {e} {m.cpus} (omega arith)).0 own
+    (div-lt_iff_lt-mul {k = m.cpus + 2} {x = e} {y = m.cpus} (omega arith)).0 own
 
 -- Which choice of a processor a number stands for
 
@@ -153,7 +153,7 @@ choice_is_tick cpus cpu k least other =
 
 -- Below their count a number has its processor and a place of it.
 pub own_of : (cpus number : ℕ) → number < cpus * (cpus + 2) → number / (cpus + 2) < cpus
-own_of cpus number below = (div-lt_iff_lt-mul {cpus + 2} {number} {cpus} (omega arith)).1 below
+own_of cpus number below = (div-lt_iff_lt-mul {k = cpus + 2} {x = number} {y = cpus} (omega arith)).1 below
 
 empty_is : (ls : List Letter) (n : ℕ) → n ≡ length ls → is_empty ls ≡ (n == 0)
 empty_is [] n is = sym (eq-eqb n 0 is)

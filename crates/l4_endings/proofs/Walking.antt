@@ -22,7 +22,7 @@ use Rattle.l4_endings.proofs.Possible.{number_below}
 -- Where choices lead, some of them do.
 pub choices_before : (m : Machine) (g : System) (s t : List ℕ) →
     IsSome (after_choices m g (s ++ t)) → IsSome (after_choices m g s)
-choices_before m g [] t some = tt
+choices_before m g [] t some = refl
 choices_before m g (e ∷ s) t some =
     by (after_entry m g (choice m e)) (λ h. choices_before m h s t) some
   where
@@ -59,7 +59,7 @@ on m s w e walked some =
   where
     by : (o : Option System) → after_entry m walked.run.system (choice m e) ≡ o → IsSome o →
         IsOn m s w e walked
-    by None is some = absurd some
+    by None is some = absurd cc
     by (Some h) is some = record { next = h; leads = is }
 
 pub locals_of_run : (m : Machine) (r : Run) (w : UnderWay) → IsRun m r w →
@@ -138,12 +138,12 @@ number_at m s i e machine some inside is =
   where
     by : (o : Option System) → after_choices m (opening_system m) (take i s) ≡ o →
         IsSome (o >>= λ g. after_entry m g (choice m e)) → e < m.cpus * (m.cpus + 2)
-    by None at some = absurd some
+    by None at some = absurd cc
     by (Some g) at some = within (after_entry m g (choice m e)) refl some
       where
         within : (o : Option System) → after_entry m g (choice m e) ≡ o → IsSome o →
             e < m.cpus * (m.cpus + 2)
-        within None leads some = absurd some
+        within None leads some = absurd cc
         within (Some h) leads some =
             let b = reached_within m g machine (has_reached m (take i s) g at) in
             number_below m g h e b.locals leads
@@ -158,7 +158,7 @@ leads_on m s w e walked possible =
   where
     by : (o : Option System) → is_some o ≡ true → IsSome o
     by None is = cc
-    by (Some g) is = tt
+    by (Some g) is = refl
 
 pub leads_nowhere : (m : Machine) (s : List ℕ) (w : UnderWay) (e : ℕ) (walked : IsWalked m s w) →
     is_some (after_entry m walked.run.system (choice m e)) ≡ false →

@@ -4,7 +4,7 @@ use Rattle.l4_model.specs.Machine.{Machine}
 use Rattle.l4_core_model.specs.Runs.{processors}
 use Rattle.l4_states.specs.Codes.{mail_code, mail_to_code}
 use Rattle.l4_codes.proofs.Writing.{each_over}
-use Rattle.l4_endings.proofs.States.{one_on}
+use Rattle.l4_endings.proofs.Coding.{one_on}
 use Rattle.l4_endings.proofs.states.put_mail.Goals as goal
 
 pub loop-to-preserved : goal.loop-to-preserved

@@ -5,7 +5,7 @@ use Rattle.l4_core_model.specs.Runs.{processors}
 use Rattle.l4_types.specs.LetterView.{letter_of}
 use Rattle.l4_states.specs.Codes.{mail_from_code, mail_to_code}
 use Rattle.l4_codes.proofs.Writing.{each_over}
-use Rattle.l4_endings.proofs.States.{letters_told}
+use Rattle.l4_endings.proofs.Coding.{letters_told}
 use Rattle.l4_endings.proofs.states.put_mail_to.Goals as goal
 
 pub loop-from-preserved : goal.loop-from-preserved

@@ -1,4 +1,4 @@
-use Rattle.l4_endings.proofs.States.{is_state}
+use Rattle.l4_endings.proofs.Coding.{is_state}
 use Rattle.l4_endings.proofs.states.state_of.Goals as goal
 
 pub returns : goal.returns

@@ -1,0 +1,25 @@
+use Rattle.std.proofs.Common.{◌≡◌, ◌<◌, get_or, length, map, not, ap, sym, ◌∙◌, arith}
+use Rattle.std.proofs.lemmas.List.{length-map}
+use Rattle.l4_model.specs.Machine.{Machine}
+use Rattle.l4_core_model.specs.Local.{opening_local}
+use Rattle.l4_types.specs.LetterView.{letter_of}
+use Rattle.l4_endings.proofs.Possible.{letters_possible}
+use Rattle.l4_endings.proofs.Walking.{local_here}
+use Rattle.l4_endings.proofs.choices.is_possible_at.Goals as goal
+
+pub returns-then-k-cpus : goal.returns-then-k-cpus
+returns-then-k-cpus c = λ m r is.
+    let own : c.args.cpu < m.cpus = omega (
+      arith,
+      c.requires.own,
+      c.requires.cpus,
+      ap (λ (n : Machine). n.cpus) is.machine,
+    ) in
+    let items = c.letters.result.now.items in
+    ap not c.is_empty.ensures
+    ∙ letters_possible m r.system c.args.cpus c.args.cpu c.args.k
+    (get_or r.system.locals c.args.cpu (opening_local m 0))
+    (local_here m r c.args.walk.now c.args.cpu is own) (map letter_of items)
+    (length items) c.if-k-cpus.true
+    (c.letters.ensures m r is) (sym (length-map items letter_of))
+    (c.law_of_core_runs.ensures m r is.lawful is.core_run).letters

@@ -43,7 +43,8 @@ pub one_on : (m : Machine) (code : ℕ → List ℕ → List ℕ) (all : List �
 one_on m code all cpu a b c own same one =
     each_on code all (processors m) cpu 0 a b c
     (omega (arith, own, length-range_with_len 0 m.cpus)) same
-    (subst (λ (k : ℕ). Writes (code k) b c) (sym (get_or-range_with_len 0 m.cpus cpu 0 own)) one)
+    (subst (λ (k : ℕ). Writes (code k) b c) (sym (get_or-range_with_len 0 m.cpus cpu 0 own
+    ∙ (let s : 0 + cpu ≡ cpu = omega arith in s))) one)
 
 -- The letters of one poster were written.
 pub letters_told : (m : Machine) (r : Run) (to from : ℕ) (ls : List Letter) (a b c : Written) →

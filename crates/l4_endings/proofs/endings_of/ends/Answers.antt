@@ -7,17 +7,17 @@ use Rattle.l4_endings.proofs.Ending.{ends_on}
 use Rattle.l4_endings.proofs.endings_of.ends.Goals as goal
 
 pub list_end-requires-clause-place : goal.list_end-requires-clause-place
-list_end-requires-clause-place c = omega (arith, c.loop-place-test.true, c.len.ensures.value)
+list_end-requires-clause-place c = omega (arith, c.loop-place-test.true, c.len-place-end.ensures.value)
 
 pub list_end-requires-clause-choices : goal.list_end-requires-clause-choices
 list_end-requires-clause-choices c =
-    c.requires c.loop-place.place (omega (arith, c.loop-place-test.true, c.len.ensures.value))
+    c.requires c.loop-place.place (omega (arith, c.loop-place-test.true, c.len-place-end.ensures.value))
 
 pub loop-place-preserved : goal.loop-place-preserved
 loop-place-preserved c =
     ends_on c.args.machine.now c.args.found.now c.loop-place.place (told c.loop-place.ends.items)
     (told c.list_end.new.ends.items)
-    (omega (arith, c.loop-place-test.true, c.len.ensures.value)) c.loop-place.invariant
+    (omega (arith, c.loop-place-test.true, c.len-place-end.ensures.value)) c.loop-place.invariant
     c.in_ok-list_end.ensures
 
 pub returns : goal.returns
@@ -25,5 +25,5 @@ returns c =
     subst (λ (xs : List Seen). told c.loop-place.ends.items
     ≡ map (entries_of c.args.machine.now) (ends_of xs))
     (take_all c.loop-place.place c.args.found.now
-    (omega (arith, c.loop-place-test.false, c.len.ensures.value)))
+    (omega (arith, c.loop-place-test.false, c.len-place-end.ensures.value)))
     c.loop-place.invariant

@@ -1,7 +1,7 @@
 -- The entries of the states that are ends.
-use Rattle.std.proofs.Common.{◌≡◌, ℕ, zero, suc, ◌+◌, ◌<◌, ◌≤◌, Bool, true, false, cond, List, [], ◌∷◌, ◌++◌, length, map, get_or, take, drop, subst, Some, refl, ap, sym, ◌∙◌, arith, append_assoc}
+use Rattle.std.proofs.Common.{◌≡◌, ℕ, ◌+◌, ◌<◌, Bool, true, false, cond, List, [], ◌∷◌, ◌++◌, length, map, get_or, take, subst, Some, refl, ap, sym, ◌∙◌}
 use Rattle.std.proofs.Common.{Global}
-use Rattle.std.specs.Prelude.{filter, IsSome, slice_index_or, Vec}
+use Rattle.std.specs.Prelude.{filter, IsSome, Vec}
 use Rattle.std.proofs.lemmas.List.Elements.{filter-append}
 use Rattle.std.proofs.lemmas.List.{append-nil, map-append, take_more}
 use Rattle.l4_model.specs.Machine.{Machine}

@@ -4,3 +4,4 @@ pub mod Nexts
 pub mod Ending
 pub mod Coding
 pub mod Listing
+pub mod Depths

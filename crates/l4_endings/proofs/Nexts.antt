@@ -1,7 +1,7 @@
 -- All that leads on, listed one by one.
-use Rattle.std.proofs.Common.{◌≡◌, ℕ, ◌+◌, ◌<◌, ◌≤◌, ◌⊎◌, inl, inr, Option, None, Some, List, [], ◌∷◌, ◌++◌, refl, ap, sym, subst, ◌∙◌, arith}
+use Rattle.std.proofs.Common.{◌≡◌, ℕ, ◌+◌, ◌<◌, ◌≤◌, ◌⊎◌, inl, inr, Option, None, Some, List, [], ◌∷◌, ◌++◌, ap, ◌∙◌, arith}
 use Rattle.std.proofs.lemmas.Bool.{cases_lt}
-use Rattle.l4_explore.specs.Tries.{State, Next, IsNext, AreNexts}
+use Rattle.l4_explore.specs.Tries.{State, Next, AreNexts}
 use Rattle.l4_endings.specs.Tried.{AreUpTo}
 
 module _ (f : List ℕ → Option State) (s : List ℕ) where

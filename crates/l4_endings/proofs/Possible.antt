@@ -1,5 +1,5 @@
 -- Which choices can be made.
-use Rattle.std.proofs.Common.{◌≡◌, ◌↔◌, ℕ, ◌+◌, ◌*◌, ◌/◌, ◌%◌, ◌<◌, ◌≤◌, Bool, true, false, cond, ◌&&◌, not, Option, None, Some, List, [], ◌∷◌, length, refl, ap, sym, ◌∙◌, arith}
+use Rattle.std.proofs.Common.{◌≡◌, ℕ, ◌+◌, ◌*◌, ◌/◌, ◌%◌, ◌<◌, ◌≤◌, Bool, true, false, cond, ◌&&◌, not, Option, None, Some, List, [], ◌∷◌, length, refl, ap, sym, ◌∙◌, arith}
 use Rattle.std.specs.Prelude.{is_some, slice_get, nat_lt, ◌==◌}
 use Rattle.std.specs.Option.{option_map}
 use Rattle.std.proofs.lemmas.Bool.{eq-eqb, le-ltb, lt-ltb, ne_eqb}
@@ -13,10 +13,10 @@ use Rattle.l4_core_model.specs.Local.{Local}
 use Rattle.l4_core_model.specs.Mail.{handle}
 use Rattle.l4_core_model.specs.Turns.{advance, does_choice, is_busy, opened, turn}
 use Rattle.l4_core_model.specs.Turns.{choice as core_choice}
-use Rattle.l4_core_model.specs.Runs.{System, letters, Happening, Handles, Turns, Ticks, Happened, done, taken, happens, is_empty}
+use Rattle.l4_core_model.specs.Runs.{System, letters, Handles, Turns, Ticks, Happened, done, taken, happens, is_empty}
 use Rattle.l4_core_model.specs.Schedules.{least_deadline}
 use Rattle.l4_split.specs.Laws.{LettersAreLawful}
-use Rattle.l4_choices.specs.Entries.{Entry, TickOf, LetterOf, CoreOf, entry_event}
+use Rattle.l4_choices.specs.Entries.{Entry, TickOf, LetterOf, CoreOf}
 use Rattle.l4_states.specs.Choices.{after_entry, choice, choice_of}
 
 is_some_map : {A B : Type 0} (f : A → B) (o : Option A) → is_some (option_map f o) ≡ is_some o
@@ -76,8 +76,8 @@ module _ (m : Machine) (g : System) (cpu : ℕ) where
       is_some (after_entry m g (TickOf cpu)) ≡ (nat_lt l.clock deadline && nat_lt deadline clock_limit)
   tick_possible deadline l there least =
       let here : least_deadline g cpu ≡ Some deadline
-          = ap (λ (o : Option Local). o >>= λ l. option_map (λ e. e.0) (slice_get l.lists.armed 0))
-          there ∙ least in
+      = ap (λ (o : Option Local). o >>= λ l. option_map (λ e. e.0) (slice_get l.lists.armed 0))
+      there ∙ least in
       ap (λ (o : Option ℕ). is_some (option_map (Ticks cpu) o >>=
       λ e. option_map (λ h. h.system) (happens m g e))) here
       ∙ is_some_map (λ (h : Happened). h.system) (happens m g (Ticks cpu deadline))
@@ -91,8 +91,8 @@ module _ (m : Machine) (g : System) (cpu : ℕ) where
       is_some (after_entry m g (TickOf cpu)) ≡ false
   tick_impossible l there least =
       let here : least_deadline g cpu ≡ None
-          = ap (λ (o : Option Local). o >>= λ l. option_map (λ e. e.0) (slice_get l.lists.armed 0))
-          there ∙ least in
+      = ap (λ (o : Option Local). o >>= λ l. option_map (λ e. e.0) (slice_get l.lists.armed 0))
+      there ∙ least in
       ap (λ (o : Option ℕ). is_some (option_map (Ticks cpu) o >>=
       λ e. option_map (λ h. h.system) (happens m g e))) here
 
@@ -111,8 +111,8 @@ module _ (m : Machine) (g : System) (cpu : ℕ) where
           λ l. option_map (done cpu g) (turn m cpu l))) none
       by false false =
           let here : least_deadline g cpu ≡ None
-              = ap (λ (o : Option Local). o >>=
-              λ l. option_map (λ e. e.0) (slice_get l.lists.armed 0)) none in
+          = ap (λ (o : Option Local). o >>=
+          λ l. option_map (λ e. e.0) (slice_get l.lists.armed 0)) none in
           ap (λ (o : Option ℕ). option_map (Ticks cpu) o >>=
           λ e. option_map (λ h. h.system) (happens m g e)) here
 

@@ -2,6 +2,7 @@
 ghost use Rattle.std.specs.Prelude.{ℕ, ◌≡◌, ◌<◌, ◌≤◌, ◌++◌, ◌∷◌, [], IfOk, OnOk, length, map, true};
 ghost use Rattle.l4_explore.specs.Search.{seen_at};
 ghost use Rattle.l4_states.specs.Endings.{ends_of, entries_of, AreAllEndings, AreEndings};
+ghost use Rattle.l4_endings.specs.Deepest.{IsDeepest};
 ghost use Rattle.l4_endings.specs.Tried.{entries_from, told};
 ghost use Rattle.l4_endings.specs.Walked.{AreChoices};
 
@@ -23,7 +24,7 @@ pub struct FoundEndings {
     /// How many states were found, at rest or not, of which no two are alike.
     pub states: usize,
     /// All states that core runs of at most so many events lead to are among them. Where the search
-    /// is whole, how many events the longest of their schedules has.
+    /// is whole, no state is farther away, and one is as far.
     pub depth: usize,
     /// Whether longer core runs lead to no more.
     pub is_whole: bool,
@@ -48,7 +49,8 @@ pub fn endings(
     ensures found { IfOk result (λ r.
         AreEndings machine.now (told r.endings.items) r.states depth most r.depth r.is_whole) }
     ensures few { IfOk result (λ r. r.states ≤ most) }
-    ensures whole { IfOk result (λ r. r.is_whole ≡ true → r.depth < depth) }
+    ensures whole { IfOk result (λ r.
+        r.is_whole ≡ true → (r.depth < depth) × IsDeepest machine.now r.depth) }
 {
     let _ = machine.cpus();
     let explored = explore(alloc, &Choices { machine }, depth, most)?;

@@ -1,5 +1,7 @@
 use Rattle.l4_states.proofs.Endings.{all_endings}
 use Rattle.l4_endings.specs.Tried.{told}
+use Rattle.std.proofs.Common.{◌<◌, subst}
+use Rattle.l4_endings.proofs.Depths.{deepest_of}
 use Rattle.l4_endings.proofs.Ending.{are_choices, are_endings}
 use Rattle.l4_explore.specs.Search.{seen_at}
 use Rattle.l4_endings.proofs.endings_of.endings.Goals as goal
@@ -27,3 +29,14 @@ returns-clause-found c =
     c.args.depth c.args.most x.depth x.is_whole c.cpus.ensures.lawful
     c.in_ok-explored.ensures.explored c.in_ok-explored.ensures.cut c.len.ensures.value
     c.in_ok-ends.ensures
+
+pub returns-clause-whole : goal.returns-clause-whole
+returns-clause-whole c = λ whole.
+    let x = c.in_ok-explored.explored in
+    let depths = c.in_ok-explored.ensures.whole whole in
+    (
+      depths.1,
+      deepest_of c.args.machine.now x.found x.depth x.is_whole c.cpus.ensures.lawful
+          c.in_ok-explored.ensures.explored (subst (λ n. 0 < n) c.len.ensures.value c.len.ensures.some)
+          depths.0 whole,
+    )

@@ -1,4 +1,4 @@
-use Rattle.std.proofs.Common.{[], ◌∷◌, ◌++◌, ◌*◌, ◌+◌, ◌<◌, sym, subst, arith}
+use Rattle.std.proofs.Common.{[], ◌∷◌, ◌*◌, ◌+◌, ◌<◌, sym, subst, arith}
 use Rattle.l4_core_model.specs.Runs.{opening_system}
 use Rattle.l4_endings.proofs.Walking.{choices_before, entry_is, has_run, lawful_here, next_below, order_length, walked_on}
 use Rattle.l4_endings.proofs.walks.walk_on.Goals as goal

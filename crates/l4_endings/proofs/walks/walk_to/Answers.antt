@@ -1,6 +1,5 @@
-use Rattle.std.proofs.Common.{◌≡◌, ◌+◌, ◌*◌, ◌<◌, get_or, length, take, refl, ap, sym, subst, ◌∙◌, arith}
+use Rattle.std.proofs.Common.{◌+◌, ◌*◌, ◌<◌, get_or, length, take, refl, sym, subst, arith}
 use Rattle.std.proofs.lemmas.List.{length-take-le, take_all}
-use Rattle.l4_model.specs.Machine.{Machine}
 use Rattle.l4_endings.specs.Walked.{IsWalked}
 use Rattle.l4_endings.proofs.Walking.{entry_is, has_run, lawful_here, number_at, order_length, walked_more, walked_start}
 use Rattle.l4_endings.proofs.walks.walk_to.Goals as goal
@@ -32,7 +31,7 @@ take-requires-clause-few c =
       c.requires.few,
       inside,
       order_length c.args.machine.now (take c.loop-number.number-index c.args.numbers.now)
-      c.loop-number.walk c.loop-number.invariant,
+          c.loop-number.walk c.loop-number.invariant,
       length-take-le c.loop-number.number-index c.args.numbers.now (omega (arith, inside)),
     )
 

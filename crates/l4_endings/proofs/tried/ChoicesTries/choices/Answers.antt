@@ -1,10 +1,8 @@
-use Rattle.std.proofs.Common.{ℕ, ◌+◌, ◌*◌, ◌<◌, ◌≤◌, List, map, sym, subst, ap, arith}
-use Rattle.l4_explore.specs.Tries.{Next}
+use Rattle.std.proofs.Common.{◌+◌, ◌*◌, ◌<◌, ◌≤◌, map, subst, arith}
 use Rattle.l4_explore.specs.Views.{next_from}
 use Rattle.l4_states.specs.Choices.{state_after}
-use Rattle.l4_endings.specs.Tried.{AreUpTo}
 use Rattle.l4_endings.proofs.Listing.{have_led}
-use Rattle.l4_endings.proofs.Nexts.{all_nexts, none_yet}
+use Rattle.l4_endings.proofs.Nexts.{all_nexts}
 use Rattle.l4_endings.proofs.Walking.{none_above}
 use Rattle.l4_endings.proofs.tried.ChoicesTries.choices.Goals as goal
 

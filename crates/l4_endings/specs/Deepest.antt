@@ -1,0 +1,20 @@
+-- How far away the states of a machine are.
+use Rattle.std.specs.Prelude.{ℕ, ◌≤◌}
+use Rattle.l4_model.specs.Machine.{Machine}
+use Rattle.l4_core_model.specs.Runs.{System}
+use Rattle.l4_choices.specs.Alike.{IsAlike}
+use Rattle.l4_states.specs.Choices.{IsLeastRun}
+use Rattle.l4_states.specs.Listed.{GoesFar}
+
+-- At most so many events lead to a state that is alike.
+pub record IsWithin (m : Machine) (depth : ℕ) (g : System) : Type 0 where
+  pub system : System
+  pub events : ℕ
+  pub run : IsLeastRun m events system
+  pub alike : IsAlike system g
+  pub short : events ≤ depth
+
+-- So it is for every state, and one is as far away.
+pub record IsDeepest (m : Machine) (depth : ℕ) : Type 0 where
+  pub far : GoesFar m depth
+  pub near : (g : System) (events : ℕ) → IsLeastRun m events g → IsWithin m depth g

@@ -25,7 +25,7 @@ module _ (m : Machine) (found : List Seen) (depth : ℕ) (a : AreAllListed m fou
             arith,
             deepest,
             not_after_length (seen_at found i).schedule
-            (seen_at found (length found - 1)).schedule (inr before),
+                (seen_at found (length found - 1)).schedule (inr before),
           )
       by (inr least) =
           let same : i ≡ length found - 1 = omega (arith, inside, least) in

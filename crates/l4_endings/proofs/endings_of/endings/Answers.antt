@@ -33,8 +33,7 @@ returns-clause-found c =
 pub returns-clause-whole : goal.returns-clause-whole
 returns-clause-whole c = λ whole.
     let x = c.in_ok-explored.explored in
-    let depths = c.in_ok-explored.ensures.whole whole in
-    (
+    let depths = c.in_ok-explored.ensures.whole whole in (
       depths.1,
       deepest_of c.args.machine.now x.found x.depth x.is_whole c.cpus.ensures.lawful
           c.in_ok-explored.ensures.explored (subst (λ n. 0 < n) c.len.ensures.value c.len.ensures.some)

@@ -26,9 +26,13 @@ returns c =
     number_code c.args.thread.now.context.words rest)) (number_code c.args.thread.now.context.error)
     c.args.code.now c.put_all.new.self c.put.new.self (then (number_code (length_code register_count
     (length c.args.thread.now.context.words))) (each number_code c.args.thread.now.context.words)
-    c.args.code.now c.put_length.new.self c.put_all.new.self (rw (c.as_slice-words.ensures,
-    c.regs-regs.ensures) at c.in_ok-put_length.ensures) (rw (c.as_slice-words.ensures,
-    c.regs-regs.ensures) at c.in_ok-put_all.ensures)) (rw c.regs-regs.ensures at
+    c.args.code.now c.put_length.new.self c.put_all.new.self (rw (
+      c.as_slice-words.ensures,
+      c.regs-regs.ensures,
+    ) at c.in_ok-put_length.ensures) (rw (
+      c.as_slice-words.ensures,
+      c.regs-regs.ensures,
+    ) at c.in_ok-put_all.ensures)) (rw c.regs-regs.ensures at
     c.in_ok-put.ensures)) (rw c.regs-regs.ensures at c.in_ok-put_id.ensures)) (rw
     c.regs-regs.ensures at c.in_ok-put_id-2.ensures)) (rw c.place.ensures at c.in_ok-put-2.ensures))
     (rw c.begun.ensures at c.put-3.ensures)

@@ -1,4 +1,4 @@
-"""Gives the program machine texts, traces and schedules that somebody spoilt, and judges its status and its lines."""
+"""Gives the program machine texts, traces and schedules that somebody spoilt, and has spoilt traces drawn, and judges its status and its lines."""
 
 import collections
 import os
@@ -12,7 +12,7 @@ TURNS = "300"
 # How far it is is told after so many of each.
 PROGRESS = 5_000
 KINDS = "BadLine|BadNumber|BadId|BadCpu|TypedItems|DoubleId|TooManyThreads|TooManyInstructions|BadTarget|TooLong"
-FAULTS = re.compile(rf"l4run: (line \d+: (?:{KINDS})|schedule item \d+|turns out of range|trace line \d+|refused at step \d+)\n")
+FAULTS = re.compile(rf"l4run: (line \d+: (?:{KINDS})|schedule item \d+|turns out of range|trace line \d+|threads item \d+|refused at step \d+)\n")
 PASSED = re.compile(rb"passed \d+ (quiet|spent)\n")
 QUIET, FAULT, SPENT = 0, 1, 3
 
@@ -94,13 +94,27 @@ def schedule(dice):
     return told.decode()
 
 
-def judged(words, seen, lines):
-    """Runs the program, counts what it answers, and ends where that is nothing it may answer."""
+def chart(dice):
+    """The words behind `chart FILE TRACE`."""
+    words = []
+    for name in ("--from", "--to", "--width"):
+        if dice.random() < 0.3:
+            words.append(f"{name}={dice.choice([0, 1, 2, 5, 40, 2**64 - 1])}")
+    if dice.random() < 0.4:
+        threads = ",".join(f"{dice.randint(1, 6)}.1" for _ in range(dice.randint(0, 4)))
+        words.append("--threads=" + spoilt(dice, threads.encode()).replace(b"\0", b"").decode("utf-8", "ignore"))
+    if dice.random() < 0.6:
+        words.append(dice.choice(["--ascii", "--svg", "--html", "--mermaid"]))
+    return words
+
+
+def judged(words, seen, lines, beside=""):
+    """Runs the program, counts what it answers, and ends where that is nothing it may answer. Lines stand beside a fault only where it begins so."""
     told = subprocess.run(words, stdout=subprocess.PIPE, stderr=subprocess.PIPE)
     out, faults = told.stdout, told.stderr.decode("utf-8", "replace")
     if told.returncode == FAULT:
         fault = FAULTS.fullmatch(faults)
-        right = not out and fault
+        right = fault and (not out or beside and fault[1].startswith(beside))
         kind = re.sub(r"\d+", "N", fault[1]) if fault else "?"
     else:
         right = told.returncode in (QUIET, SPENT) and not faults and lines(out)
@@ -118,7 +132,7 @@ def write(name, told):
 
 def main(program, folder, count, part):
     name, trace = f"{folder}/hostile-{part}.l4", f"{folder}/hostile-{part}.trace"
-    seen = {about: collections.Counter() for about in ("texts", "traces", "schedules")}
+    seen = {about: collections.Counter() for about in ("texts", "traces", "schedules", "charts")}
     dice = random.Random(SEED + part)
     for done in range(count):
         if done and done % PROGRESS == 0:
@@ -131,6 +145,7 @@ def main(program, folder, count, part):
         told = judged([program, "run", name, "--turns", TURNS], collections.Counter(), lambda out: True)
         write(trace, spoilt(dice, told or b"tick 0 1\n"))
         judged([program, "audit", name, trace], seen["traces"], PASSED.fullmatch)
+        judged([program, "chart", name, trace, *chart(dice)], seen["charts"], lambda out: True, beside="refused")
     for about, kinds in seen.items():
         for kind, number in kinds.items():
             print(f"{about}\t{kind}\t{number}")

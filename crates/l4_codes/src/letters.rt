@@ -1,8 +1,10 @@
 //! Letters.
 ghost use Rattle.std.specs.Prelude.{OnOk, map};
 ghost use Rattle.l4_choices.specs.Alike.{contents};
-ghost use Rattle.l4_states.specs.Codes.{cause_code, chained, content_code, owed_code, refusal_code, result_code};
-ghost use Rattle.l4_types.specs.LetterView.{cause_of_withdrawal, content_of, decision_of, letter_of, refusal_of_send};
+ghost use Rattle.l4_states.specs.Codes.{cause_code, chained, content_code, owed_code, refusal_code};
+ghost use Rattle.l4_states.specs.Codes.{result_code};
+ghost use Rattle.l4_types.specs.LetterView.{cause_of_withdrawal, content_of, decision_of};
+ghost use Rattle.l4_types.specs.LetterView.{letter_of, refusal_of_send};
 ghost use Rattle.l4_types.specs.OwedView.{owed_of};
 ghost use Rattle.l4_codes.specs.Written.{Writes};
 

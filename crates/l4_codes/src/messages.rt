@@ -1,6 +1,7 @@
 //! Messages and sends.
 ghost use Rattle.std.specs.Prelude.{OnOk};
-ghost use Rattle.l4_states.specs.Codes.{listed, message_code, number_code, optional, receive_code, send_code};
+ghost use Rattle.l4_states.specs.Codes.{listed, message_code, number_code, optional, receive_code};
+ghost use Rattle.l4_states.specs.Codes.{send_code};
 ghost use Rattle.l4_types.specs.PeriodView.{period_of};
 ghost use Rattle.l4_codes.specs.Written.{Writes};
 

@@ -1,7 +1,9 @@
 //! Processors.
 ghost use Rattle.std.specs.Prelude.{◌<◌, OnOk, length};
 ghost use Rattle.l4_core_model.specs.Plain.{list_of};
-ghost use Rattle.l4_states.specs.Codes.{armed_code, chained, each, lists_code, local_code, number_code, optional, owed_code, sized, thread_code, waiting_code};
+ghost use Rattle.l4_states.specs.Codes.{armed_code, chained, each, lists_code, local_code};
+ghost use Rattle.l4_states.specs.Codes.{number_code, optional, owed_code, sized, thread_code};
+ghost use Rattle.l4_states.specs.Codes.{waiting_code};
 ghost use Rattle.l4_types.specs.OwedView.{owed_of};
 ghost use Rattle.std.specs.Option.{option_map};
 ghost use Rattle.l4_codes.specs.Written.{Writes};
@@ -73,7 +75,8 @@ fn put_all_owed(code: &mut Code, core: &Core<'_>) -> Result<(), AllocError>
 
 // A retarget, where one is owed.
 fn put_owed_beside(code: &mut Code, owed: Option<Owed>) -> Result<(), AllocError>
-    ensures { OnOk result (Writes (optional owed_code (option_map owed_of owed)) code.old code.new) }
+    ensures { OnOk result (Writes (optional owed_code (option_map owed_of owed))
+        code.old code.new) }
 {
     match owed {
         None => code.put(0),

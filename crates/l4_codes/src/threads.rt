@@ -1,6 +1,7 @@
 //! Threads.
 ghost use Rattle.std.specs.Prelude.{OnOk};
-ghost use Rattle.l4_states.specs.Codes.{asked_code, context_code, optional, phase_code, send_code, thread_code};
+ghost use Rattle.l4_states.specs.Codes.{asked_code, context_code, optional, phase_code, send_code};
+ghost use Rattle.l4_states.specs.Codes.{thread_code};
 ghost use Rattle.l4_types.specs.StepView.{what_of};
 ghost use Rattle.l4_model.specs.Steps.{what_code};
 ghost use Rattle.l4_states.specs.Codes.{number_code};

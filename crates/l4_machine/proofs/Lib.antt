@@ -8,10 +8,13 @@ pub mod Cores
 pub mod InLogs
 pub mod Inboxes
 pub mod Members
+pub mod OneOutcome
 pub mod Opened
 pub mod Opening
 pub mod Outcomes
 pub mod Posting
+pub mod Recorded
+pub mod Lawful
 pub mod Replays
 pub mod Rising
 pub mod Stamps

@@ -41,8 +41,8 @@ core_is p c machine cpu =
     ∙ ap (λ (n : ℕ). record { machine = c.machine; cpu = n; local = p.local }) cpu
 
 module _ (old w new : Worker) (hand : Option (ℕ × letters.Letter)) (k : Keeps old) (h : IsAtHand old w hand) (t : HasTakenTurn w new) where
-  turned_log : IsLogged old.log new.log t.stamp t.told.log.told.steps
-  turned_log = logged old.log w.log t.told.log new.log t.stamp t.told.log.ticks k.closed h.log t.done.cpu (ap (λ ends. ends.items) t.done.ends) t.done.event.kept t.ended
+  turned_log : IsLogged old.log new.log t.stamp t.choice t.told.log.told.steps
+  turned_log = logged old.log w.log t.told.log new.log t.stamp t.choice t.told.log.ticks k.closed h.log t.done.cpu (ap (λ ends. ends.items) t.done.ends) t.done.event.kept t.ended
 
   turned_core : new.core ≡ t.told.core
   turned_core = ap (λ (w : Worker). w.core) t.is
@@ -231,14 +231,14 @@ station_ticked clock old new k inbox t =
       rest = inbox;
     }
   where
-    ticked_log : (clock : ℕ) (old new : Worker) → Keeps old → (t : HasTickedTo clock old new) → IsLogged old.log new.log t.stamp t.after.told.steps
+    ticked_log : (clock : ℕ) (old new : Worker) → Keeps old → (t : HasTickedTo clock old new) → IsLogged old.log new.log t.stamp t.choice t.after.told.steps
     ticked_log clock old new k t =
-        logged old.log t.before t.after new.log t.stamp (t.after.ticks + 1) k.closed t.is.begun t.is.cpu (ap (λ ends. ends.items) t.is.ends) t.is.event.kept t.is.ended
+        logged old.log t.before t.after new.log t.stamp t.choice (t.after.ticks + 1) k.closed t.is.begun t.is.cpu (ap (λ ends. ends.items) t.is.ends) t.is.event.kept t.is.ended
 
 pub ticked_kept : (clock : ℕ) (old new : Worker) → Keeps old → HasTickedTo clock old new → Keeps new
 ticked_kept clock old new k t = record {
   empty = t.is.hand ∙ k.empty;
-  closed = (logged old.log t.before t.after new.log t.stamp (t.after.ticks + 1) k.closed t.is.begun t.is.cpu (ap (λ ends. ends.items) t.is.ends) t.is.event.kept t.is.ended).closed;
+  closed = (logged old.log t.before t.after new.log t.stamp t.choice (t.after.ticks + 1) k.closed t.is.begun t.is.cpu (ap (λ ends. ends.items) t.is.ends) t.is.event.kept t.is.ended).closed;
   own = t.is.ended.cpu ∙ t.is.cpu ∙ t.is.begun.cpu ∙ k.own ∙ sym t.is.event.cpu;
 }
 

@@ -5,6 +5,7 @@ pub mod Gathered
 pub mod Gathers
 pub mod Homes
 pub mod Outcomes
+pub mod Recorded
 pub mod Rising
 pub mod Inboxes
 pub mod InOrder

@@ -1,8 +1,10 @@
 //! The law of core runs: what is true of every core run, in whatever order its processors go on.
+ghost use Rattle.std.specs.Prelude.{◌≡◌};
 ghost use Rattle.l4_model.specs.Machine.{Machine};
 ghost use Rattle.l4_core_model.specs.Laws.{IsCoreRun};
 ghost use Rattle.l4_core_model.specs.Runs.{IsMachine, Run};
 ghost use Rattle.l4_machine.specs.CoreRuns.{HasLawfulMergedRun};
+ghost use Rattle.l4_machine.specs.Outcomes.{Findings, IsOutcomeOf};
 ghost use Rattle.l4_merge.specs.Merges.{SortAsMerged};
 ghost use Rattle.l4_split.specs.Laws.{IsLawfulRun};
 
@@ -34,3 +36,10 @@ pub fn law_core_run()
     law_of_core_runs();
     law_reorder();
 }
+
+/// Two outcomes of one core run are the same: they have the same history, undecided sends, threads,
+/// ending and number of turns.
+pub fn law_one_outcome()
+    ensures { (m : Machine) (r : Run) (a b : Findings) →
+        IsOutcomeOf m r a → IsOutcomeOf m r b → a ≡ b }
+{}

@@ -7,7 +7,8 @@
 //! `run_compact` and `replay_compact` keep the history in 24 bytes a step.
 //!
 //! Which of its histories a run of several processors takes is up to the host; a replay has one.
-//! Each history that a run may have is that of some entries of a replay (`l4_choices`).
+//! Each history that a run may have is that of some entries of a replay (`l4_choices`), and
+//! `run_recorded` answers these entries too.
 //! That a run succeeds where memory is ample, and that processors work at the same time, is tested
 //! (`l4_host_tests`), in no clause.
 //!
@@ -27,6 +28,7 @@ mod logs;
 mod merging;
 mod ordered;
 mod outcome;
+mod recording;
 mod run_history;
 mod runs;
 mod scheduler;
@@ -42,12 +44,12 @@ mod workers;
 
 pub use entries::Entry;
 pub use gathering::gather;
-pub use laws::law_core_run;
+pub use laws::{law_core_run, law_one_outcome};
 pub use listener::Listener;
 pub use logs::Logs;
 pub use ordered::OrderedLogs;
 pub use outcome::{CompactOutcome, Outcome, RunFault};
 pub use run_history::RunHistory;
-pub use runs::{MOST_TURNS, run, run_compact};
+pub use runs::{MOST_TURNS, run, run_compact, run_recorded};
 pub use schedules::{MOST_ENTRIES, MOST_EVENTS, replay, replay_compact};
 pub use walk::Walk;

@@ -8,6 +8,7 @@ ghost use Rattle.l4_machine.specs.Gathers.{events_of, merged_steps, pasts_of, wi
 ghost use Rattle.l4_machine.specs.Gathers.{AreOfOne, HaveNumbers, IsMerge};
 ghost use Rattle.l4_machine.specs.Outcomes.{steps_of};
 ghost use Rattle.l4_machine.specs.EventsLeft.{left, IsUnmerged};
+ghost use Rattle.l4_machine.specs.Recorded.{happened_left, happenings_of};
 ghost use Rattle.l4_machine.specs.Rising.{HaveRisingLogs};
 
 use crate::listener::Listener;
@@ -118,6 +119,9 @@ pub(crate) fn unmerged_logs(
     ensures events { IfOk result (λ logs.
         map (left processors.now) logs.items ≡
         map (λ cpu. events_of (with_number cpu processors.now)) (range_with_len 0 cpus)) }
+    ensures happened { IfOk result (λ logs.
+        map (happened_left processors.now) logs.items ≡
+        map (λ cpu. happenings_of (with_number cpu processors.now)) (range_with_len 0 cpus)) }
 {
     let mut logs = Vec::new(alloc);
     for cpu in 0..cpus {

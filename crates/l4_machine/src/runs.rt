@@ -1,9 +1,12 @@
 //! Runs of a machine by host threads.
 ghost use Rattle.std.specs.Prelude.{◌≡◌, ◌<◌, ◌≤◌, ◌↔◌, ◌⊎◌, IfErr, IfOk, IsErrOf, Some};
-ghost use Rattle.l4_machine.specs.Entries.{most_turns, turns_fault};
-ghost use Rattle.l4_machine.specs.Outcomes.{IsCompactOutcome, IsOutcome, IsTrueOf};
-ghost use Rattle.l4_machine.specs.Outcomes.{compact_findings_of, findings_of};
+ghost use Rattle.std.specs.Prelude.{None, map};
+ghost use Rattle.l4_machine.specs.Entries.{entries_fault, entry_from, most_turns};
+ghost use Rattle.l4_machine.specs.Entries.{turns_fault};
+ghost use Rattle.l4_machine.specs.Outcomes.{IsCompactOutcome, IsCompactReplay, IsOutcome};
+ghost use Rattle.l4_machine.specs.Outcomes.{IsTrueOf, compact_findings_of, findings_of};
 
+use crate::entries::Entry;
 use crate::outcome::{CompactOutcome, Outcome, RunFault};
 use crate::team::Team;
 use l4_proc::gate::Gate;
@@ -67,6 +70,54 @@ pub fn run_compact<'m, R: Threads + Sync, G: Gate + Sync>(
         return Err(RunFault::Turns);
     }
     Ok(outcome_of_turns(rt, alloc, machine, turns, gate)?)
+}
+
+/// Runs a machine as `run_compact` does, with the same outcome and the same faults, and records
+/// the run: each event, in order of stamp and of equal ones by processor, as an entry that names
+/// the letter that was handled, the core's turn, or the value of a clock. `replay_compact` takes
+/// these entries, and comes to the same outcome.
+pub fn run_recorded<'m, R: Threads + Sync, G: Gate + Sync>(
+    rt: &R,
+    alloc: Global,
+    machine: &'m Machine,
+    turns: u64,
+    gate: &G,
+) -> Result<(CompactOutcome<'m>, Vec<Entry>), RunFault>
+    ensures ok { IfOk result (λ r. IsCompactOutcome machine.now turns r.0) }
+    ensures replayed { IfOk result (λ r.
+        IsCompactReplay machine.now (map entry_from r.1.items) r.0) }
+    ensures lawful { IfOk result (λ r.
+        entries_fault machine.now (map entry_from r.1.items) ≡ None) }
+    ensures err { IfErr result (λ fault. (fault ≡ RunFault.NoMemory) ⊎
+        (turns_fault turns ≡ Some fault)) }
+    ensures range { IsErrOf result RunFault.Turns ↔ ((turns ≡ 0) ⊎ (most_turns < turns)) }
+{
+    if turns == 0 || MOST_TURNS < turns {
+        return Err(RunFault::Turns);
+    }
+    Ok(recorded_turns(rt, alloc, machine, turns, gate)?)
+}
+
+fn recorded_turns<'m, R: Threads + Sync, G: Gate + Sync>(
+    rt: &R,
+    alloc: Global,
+    machine: &'m Machine,
+    turns: u64,
+    gate: &G,
+) -> Result<(CompactOutcome<'m>, Vec<Entry>), NoMemory>
+    requires { turns ≤ most_turns }
+    ensures ok { IfOk result (λ r. IsCompactOutcome machine.now turns r.0) }
+    ensures replayed { IfOk result (λ r.
+        IsCompactReplay machine.now (map entry_from r.1.items) r.0) }
+    ensures lawful { IfOk result (λ r.
+        entries_fault machine.now (map entry_from r.1.items) ≡ None) }
+{
+    let _ = machine.cpus();
+    let mut team = Team::new(alloc, machine, turns)?;
+    team.run(rt, alloc, gate)?;
+    let entries = team.recorded(alloc)?;
+    let outcome = team.into_outcome(alloc)?;
+    Ok((outcome, entries))
 }
 
 fn outcome_of_turns<'m, R: Threads + Sync, G: Gate + Sync>(

@@ -14,12 +14,15 @@ ghost use Rattle.l4_machine.specs.Gathers.{AreResting};
 ghost use Rattle.l4_machine.specs.Outcomes.{compact_findings_of};
 ghost use Rattle.l4_machine.specs.Teams.{count_events, deadline_of, first_deadline, AreIdle};
 ghost use Rattle.l4_machine.specs.Teams.{HasComeTo, HaveComeTo, IsTeam};
-ghost use Rattle.l4_machine.specs.Entries.{most_turns};
+ghost use Rattle.l4_machine.specs.Entries.{entry_from, most_turns};
+ghost use Rattle.l4_machine.specs.Recorded.{recorded_entries};
 
+use crate::entries::Entry;
 use crate::gathering::{at_home, ending};
 use crate::laws::law_core_run;
 use crate::merging::run_history;
 use crate::outcome::{CompactOutcome, outcome_of};
+use crate::recording::recorded;
 use l4_mail::rests::RestFault;
 use l4_proc::assembly::assemble;
 use l4_proc::gate::Gate;
@@ -92,6 +95,16 @@ impl<'m> Team<'m> {
             }
         }
         Ok(())
+    }
+
+    /// What the processors did, as entries of a schedule.
+    pub(crate) fn recorded(&self, alloc: Global) -> Result<Vec<Entry>, NoMemory>
+        requires { IsTeam self.now }
+        ensures { IfOk result (λ entries.
+            map entry_from entries.items ≡
+            recorded_entries self.now.machine.now self.now.processors.items) }
+    {
+        recorded(alloc, self.machine, self.processors.as_slice())
     }
 
     /// The outcome of the run.

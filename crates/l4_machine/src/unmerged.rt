@@ -8,6 +8,7 @@ ghost use Rattle.l4_proc.specs.Logs.{events};
 ghost use Rattle.l4_proc.specs.declared.processor.Processor.{Processor as ProcessorOfMachine};
 ghost use Rattle.l4_machine.specs.EventsLeft.{all_left, least_place, left, HasTakenFirst};
 ghost use Rattle.l4_machine.specs.EventsLeft.{IsUnmerged};
+ghost use Rattle.l4_machine.specs.Recorded.{happened_left, happenings_of};
 ghost use Rattle.l4_machine.specs.Rising.{RiseFrom};
 ghost use Rattle.l4_machine.specs.Gathers.{events_of};
 
@@ -35,6 +36,8 @@ pub(crate) fn untold(processors: &[Processor<'_>], place: usize) -> Unmerged
     requires { place < length processors.now }
     ensures whole { IsUnmerged processors.now result }
     ensures left { left processors.now result ≡ events_of (slice_get processors.now place) }
+    ensures happened { happened_left processors.now result ≡
+        happenings_of (slice_get processors.now place) }
 {
     let log = processors[place].log();
     let count = log.len();

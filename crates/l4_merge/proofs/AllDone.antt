@@ -10,14 +10,14 @@ use Rattle.l4_core_model.specs.Letters.{Letter}
 use Rattle.l4_core_model.specs.Local.{Local, opening_local}
 use Rattle.l4_core_model.specs.Runs.{System, letters, Happening, Run, then_event, core_run}
 use Rattle.l4_core_model.proofs.Lists.{all-map, all-map_with, all-filter}
-use Rattle.l4_merge.specs.Deeds.{LocalEvent, Handled, Turned, Ticked, is_turn, letter_of, Deed, told_by, posted_by, handled_by, letters_with, Lead}
+use Rattle.l4_merge.specs.Deeds.{LocalEvent, Handled, Turned, Ticked, is_turn, happening_of, letter_of, Deed, told_by, happened_by, posted_by, handled_by, letters_with, Lead}
 use Rattle.l4_merge.specs.Pasts.{Begins}
 use Rattle.l4_merge.specs.Rounds.{is_no_tick}
 use Rattle.l4_merge.proofs.Lists.{all-of_map, all-flat_map}
 use Rattle.l4_merge.proofs.Deeds.{stamp_of, HasStamps}
 use Rattle.l4_merge.proofs.Own.{own, own_first, handled_own}
 use Rattle.l4_merge.proofs.Arranged.{AreArranged, rising}
-use Rattle.l4_merge.proofs.OneDeed.{happening_of, IsGiven, done_by, happens_so}
+use Rattle.l4_merge.proofs.OneDeed.{IsGiven, done_by, happens_so}
 use Rattle.l4_merge.proofs.Ahead.{AreAhead, ahead_next}
 
 -- The letters that are still to be posted have at least the first deed's stamp. The letter that it handles has a lower one: it is under way
@@ -86,6 +86,7 @@ pub record AreDone (m : Machine) (before : Run) (ds : List Deed) (ends : List Lo
   pub happenings : List Happening
   pub run : Run
   pub is : core_run m before happenings ≡ Some run
+  pub by : happenings ≡ map happened_by ds
   pub events : run.events ≡ before.events ++ map told_by ds
   pub locals : run.system.locals ≡ ends
   pub mail : (from to : ℕ) → letters run.system.mail from to ≡ left from to
@@ -102,6 +103,7 @@ all_done m [] r ends left ahead order = record {
   happenings = [];
   run = r;
   is = refl;
+  by = refl;
   events = sym (append-nil r.events);
   locals = same_lists r.system.locals ends ahead.size (λ cpu l lt.
       let now : Local = get_or r.system.locals cpu l in
@@ -124,6 +126,7 @@ all_done m (d ∷ ds) r ends left ahead order =
       happenings = happening_of d.cpu d.event ∷ rest.happenings;
       run = rest.run;
       is = rw (happens_so m g d l at lead.0 first) rest.is;
+      by = ap (λ hs. happening_of d.cpu d.event ∷ hs) rest.by;
       events = rest.events ∙ append_assoc r.events (told_by d ∷ []) (map told_by ds);
       locals = rest.locals;
       mail = rest.mail;

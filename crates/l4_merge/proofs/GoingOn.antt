@@ -10,7 +10,7 @@ use Rattle.l4_core_model.specs.Letters.{Letter}
 use Rattle.l4_core_model.specs.Local.{Local}
 use Rattle.l4_core_model.specs.Runs.{letters, Run, merged}
 use Rattle.l4_core_model.proofs.Lists.{all-map}
-use Rattle.l4_merge.specs.Deeds.{Deed, is_turn, posted_by, handled_by, letters_with, Lead}
+use Rattle.l4_merge.specs.Deeds.{Deed, is_turn, happened_by, posted_by, handled_by, letters_with, Lead}
 use Rattle.l4_merge.specs.Pasts.{Past, posted_in, handled_in, letters_posted, letters_handled, HaveWorked, HaveTurned}
 use Rattle.l4_merge.specs.Merges.{EndsAt, IsMergedRun, HasMergedRun, HasTurnedRun}
 use Rattle.l4_merge.proofs.Lists.{slice_get_none}
@@ -145,6 +145,12 @@ pub merge : (m : Machine) (before : Run) (olds news : List Past) → EndsAt befo
 merge m before olds news ends w =
     let all = gathered m olds news w in
     ((done m before olds news ends w all).run, is_merged m before olds news ends w all)
+
+-- What happens is what happened by the deeds, in that order.
+pub merge_happens : (m : Machine) (before : Run) (olds news : List Past) (ends : EndsAt before olds) (w : HaveWorked m olds news) →
+    (merge m before olds news ends w).1.happenings ≡ map happened_by (arranged (gathered m olds news w).deeds)
+unfolding merge is_merged done
+merge_happens m before olds news ends w = (done m before olds news ends w (gathered m olds news w)).by
 
 -- Where they went on by turns alone, so does the run.
 

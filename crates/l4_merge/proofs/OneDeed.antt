@@ -8,17 +8,11 @@ use Rattle.l4_model.specs.World.{changed}
 use Rattle.l4_model.proofs.Chains.{get-changed_same, get-changed_other}
 use Rattle.l4_core_model.specs.Letters.{Letter}
 use Rattle.l4_core_model.specs.Local.{Local}
-use Rattle.l4_core_model.specs.Runs.{System, letters, without_first, posted, taken, Happening, Handles, Turns, Ticks, Happened, done, happens}
-use Rattle.l4_merge.specs.Deeds.{LocalEvent, Handled, Turned, Ticked, work_of, letter_of, Deed, letters_with, Does}
+use Rattle.l4_core_model.specs.Runs.{System, letters, without_first, posted, taken, Happened, done, happens}
+use Rattle.l4_merge.specs.Deeds.{LocalEvent, Handled, Turned, Ticked, work_of, happening_of, letter_of, Deed, letters_with, Does}
 use Rattle.l4_merge.specs.Pasts.{Begins}
 use Rattle.l4_merge.proofs.Mail.{letters-append, no_letters, letters-posted, letters-without_first, letters-without_other}
 use Rattle.l4_merge.proofs.Own.{if_own}
-
--- The event of all processors that a local event is.
-abbrev pub happening_of : (cpu : ℕ) → LocalEvent → Happening
-happening_of cpu (Handled from letter) = Handles cpu from
-happening_of cpu Turned = Turns cpu
-happening_of cpu (Ticked clock) = Ticks cpu clock
 
 -- All processors, less the letter that a local event handles.
 abbrev pub given : (cpu : ℕ) → LocalEvent → System → System

@@ -11,7 +11,7 @@ use Rattle.l4_core_model.specs.Local.{Local, opening_local}
 use Rattle.l4_core_model.specs.Runs.{Event, Run, opening_run, processors, letters}
 use Rattle.l4_core_model.specs.Laws.{IsCoreRun}
 use Rattle.l4_core_model.proofs.Lists.{all-map}
-use Rattle.l4_merge.specs.Deeds.{Deed, told_by, posted_by, handled_by, letters_with, Lead}
+use Rattle.l4_merge.specs.Deeds.{Deed, told_by, happened_by, posted_by, handled_by, letters_with, Lead}
 use Rattle.l4_merge.specs.Pasts.{Past, empty_past, HasWorked, posted_in, handled_in, letters_posted, letters_handled}
 use Rattle.l4_merge.specs.Merges.{HasPasts}
 use Rattle.l4_merge.proofs.Own.{own, own_none}
@@ -21,11 +21,17 @@ use Rattle.l4_merge.proofs.RunDeeds.{HasDeeds, has_deeds}
 -- What a processor has done that has done these deeds.
 abbrev past_by : List Deed → Local → Past
 past_by ds now =
-    record { events = map told_by ds; posted = λ to. letters_with to (posted_by ds); handled = λ from. letters_with from (handled_by ds); local = now }
+    record {
+      events = map told_by ds;
+      happenings = map happened_by ds;
+      posted = λ to. letters_with to (posted_by ds);
+      handled = λ from. letters_with from (handled_by ds);
+      local = now;
+    }
 
 worked_by : (m : Machine) (cpu : ℕ) (l now : Local) (ds : List Deed) → Lead m cpu l ds now → HasWorked m cpu (empty_past l) (past_by ds now)
 worked_by m cpu l now ds lead =
-    record { deeds = ds; are = record { lead = lead; events = refl; posted = λ to. refl; handled = λ from. refl } }
+    record { deeds = ds; are = record { lead = lead; events = refl; happenings = refl; posted = λ to. refl; handled = λ from. refl } }
 
 own_told : (cpu : ℕ) (ds : List Deed) → filter (λ e. e.cpu == cpu) (map told_by ds) ≡ map told_by (own cpu ds)
 own_told cpu [] = refl

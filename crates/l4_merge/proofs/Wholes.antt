@@ -1,16 +1,27 @@
 -- Processors that have worked from the opening on make a core run.
-use Rattle.std.proofs.Common.{◌≡◌, ℕ, List, [], ◌∷◌, ◌++◌, Option, Some, None, map, length, refl, ap, sym, ◌∙◌, subst, arith}
+use Rattle.std.proofs.Common.{◌≡◌, ℕ, ◌+◌, ◌<◌, List, [], ◌∷◌, ◌++◌, Option, Some, None, map, length, get_or, refl, ap, ap₂, sym, ◌∙◌, subst, arith}
 use Rattle.std.specs.Prelude.{slice_get}
 use Rattle.std.specs.Option.{option_map}
-use Rattle.std.proofs.lemmas.Option.{slice_get-map}
-use Rattle.std.proofs.lemmas.List.FromFn.{length-map-range_with_len, length-range_with_len}
+use Rattle.std.specs.List.{AllByRecursion}
+use Rattle.std.proofs.lemmas.List.{length-map}
+use Rattle.std.proofs.lemmas.Option.{slice_get-map, slice_get-get_or, get_or_from_slice_get}
+use Rattle.std.proofs.lemmas.List.FromFn.{length-map-range_with_len, length-range_with_len, fill_by_all}
 use Rattle.l4_model.specs.Machine.{Machine}
+use Rattle.l4_model.proofs.Chains.{get-map}
 use Rattle.l4_core_model.specs.Local.{opening_local}
-use Rattle.l4_core_model.specs.Runs.{opening_run, processors, merged}
+use Rattle.l4_core_model.specs.Runs.{Event, core_run, opening_run, processors, merged}
+use Rattle.l4_core_model.proofs.Lists.{all-map}
+use Rattle.l4_merge.specs.Deeds.{Deed, told_by, happened_by}
 use Rattle.l4_merge.specs.Pasts.{Past, empty_past, HasWorked, posted_in, handled_in, HaveWorked, AreWholePasts, opening_pasts, all_events, added_events}
 use Rattle.l4_merge.specs.Merges.{EndsAt, HaveWholeRun, SortAsMerged}
-use Rattle.l4_merge.proofs.Processors.{locals-map, of_processor}
-use Rattle.l4_merge.proofs.GoingOn.{pasts_ahead, gathered, merge}
+use Rattle.l4_merge.specs.Recorded.{happenings_in, merged_order, recorded}
+use Rattle.l4_merge.proofs.Own.{own}
+use Rattle.l4_merge.proofs.Arranged.{arranged, told-arranged, all-arranged}
+use Rattle.l4_merge.proofs.Gathered.{Gathered}
+use Rattle.l4_merge.proofs.AnyOrder.{own_same}
+use Rattle.l4_merge.proofs.Recorded.{happened_to, happened_in_order}
+use Rattle.l4_merge.proofs.Processors.{locals-map, at_processor, of_processor}
+use Rattle.l4_merge.proofs.GoingOn.{pasts_ahead, gathered, merge, merge_happens}
 use Rattle.l4_merge.proofs.Sorted.{sort_as_merged}
 
 -- The opening
@@ -53,13 +64,69 @@ added_to_none m (cpu ∷ cpus) (past ∷ pasts) size = ap (λ es. past.events ++
 pub added_to_opening : (m : Machine) (pasts : List Past) → AreWholePasts m pasts → added_events (opening_pasts m) pasts ≡ all_events pasts
 added_to_opening m pasts w = added_to_none m (processors m) pasts (w.for_each ∙ sym (length-range_with_len 0 m.cpus))
 
+-- What each knows of what happened, in the order of all events
+
+cpus_told : (ds : List Deed) → map (λ (e : Event). e.cpu) (map told_by ds) ≡ map (λ d. d.cpu) ds
+cpus_told [] = refl
+cpus_told (d ∷ ds) = ap (λ cpus. d.cpu ∷ cpus) (cpus_told ds)
+
+recorded_is : (m : Machine) (pasts : List Past) (w : AreWholePasts m pasts) →
+    recorded pasts ≡ map happened_by (arranged (gathered m (opening_pasts m) pasts (all_worked m pasts w)).deeds)
+recorded_is m pasts w =
+    ap₂ happenings_in order (fill_by_all (happened_to xs) (map (λ (past : Past). past.happenings) pasts) m.cpus [] size each)
+    ∙ happened_in_order m.cpus xs within
+  where
+    all : Gathered m 0 (opening_pasts m) pasts
+    all = gathered m (opening_pasts m) pasts (all_worked m pasts w)
+
+    ds : List Deed
+    ds = all.deeds
+
+    xs : List Deed
+    xs = arranged ds
+
+    order : merged_order pasts ≡ map (λ d. d.cpu) xs
+    order =
+        ap (λ es. map (λ (e : Event). e.cpu) (merged es)) (sym (all.are.told ∙ added_to_opening m pasts w))
+        ∙ ap (map (λ (e : Event). e.cpu)) (sym (told-arranged ds)) ∙ cpus_told xs
+
+    within : AllByRecursion (λ d. d.cpu < m.cpus) xs
+    within =
+        all-arranged (λ (d : Deed). d.cpu < m.cpus) ds
+        (all-map (λ (d : Deed). d.cpu < 0 + length pasts) (λ (d : Deed). d.cpu < m.cpus) (λ d lt. omega (arith, w.for_each)) ds all.are.below)
+
+    size : length (map (λ (past : Past). past.happenings) pasts) ≡ m.cpus
+    size = length-map pasts (λ (past : Past). past.happenings) ∙ w.for_each
+
+    same : (cpu : ℕ) → own cpu xs ≡ own cpu ds
+    same =
+        own_same m (opening_run m).system ds (map (λ past. past.local) pasts) (λ from to. ((all_worked m pasts w).in_order from to).rest)
+        (pasts_ahead m (opening_run m) (opening_pasts m) pasts (opening_ends m) (all_worked m pasts w) all)
+
+    each : (cpu : ℕ) → cpu < m.cpus → get_or (map (λ (past : Past). past.happenings) pasts) cpu [] ≡ happened_to xs cpu
+    each cpu lt =
+        let first : Past = empty_past (opening_local m cpu) in
+        let past : Past = get_or pasts cpu first in
+        let at : slice_get pasts cpu ≡ Some past = slice_get-get_or pasts cpu first (omega (arith, w.for_each)) in
+        let was = at_processor m (λ cpu. empty_past (opening_local m cpu)) cpu lt in
+        get_or_from_slice_get (map (λ (past : Past). past.happenings) pasts) cpu past.happenings [] (get-map (λ (past : Past). past.happenings) pasts cpu past at)
+        ∙ (all.are.each cpu cpu first past (omega arith) was at).happenings ∙ ap (map happened_by) (sym (same cpu))
+
 -- The whole
 
 pub make_whole : (m : Machine) (pasts : List Past) → AreWholePasts m pasts → HaveWholeRun m pasts
 make_whole m pasts w =
     let run = merge m (opening_run m) (opening_pasts m) pasts (opening_ends m) (all_worked m pasts w) in
     let is = run.1 in
-    (run.0, record { core_run = (is.happenings, is.is); ends = is.ends; events = is.events ∙ ap merged (added_to_opening m pasts w) })
+    let happened = merge_happens m (opening_run m) (opening_pasts m) pasts (opening_ends m) (all_worked m pasts w) in (
+      run.0,
+      record {
+        core_run = (is.happenings, is.is);
+        recorded = ap (core_run m (opening_run m)) (recorded_is m pasts w ∙ sym happened) ∙ is.is;
+        ends = is.ends;
+        events = is.events ∙ ap merged (added_to_opening m pasts w);
+      },
+    )
 
 pub whole_sorts_as_merged : (m : Machine) (pasts : List Past) → AreWholePasts m pasts → SortAsMerged (all_events pasts)
 whole_sorts_as_merged m pasts w =

@@ -5,7 +5,7 @@ use Rattle.std.proofs.lemmas.List.{append-nil, map-append}
 use Rattle.std.proofs.lemmas.List.Concat.{flat_map-append}
 use Rattle.l4_model.specs.Machine.{Machine}
 use Rattle.l4_core_model.specs.Letters.{Letter}
-use Rattle.l4_merge.specs.Deeds.{letter_of, Deed, is_turn, told_by, posted_by, handled_by, letters_with, Does}
+use Rattle.l4_merge.specs.Deeds.{letter_of, Deed, is_turn, told_by, happened_by, posted_by, handled_by, letters_with, Does}
 use Rattle.l4_merge.specs.Pasts.{Past, HasWorked, HasTurned, Begins}
 use Rattle.l4_merge.proofs.Deeds.{lead-append}
 use Rattle.l4_merge.proofs.Mail.{letters_with-append}
@@ -17,6 +17,7 @@ worked_none m cpu past = record {
   are = record {
     lead = refl;
     events = sym (append-nil past.events);
+    happenings = sym (append-nil past.happenings);
     posted = λ to. sym (append-nil (past.posted to));
     handled = λ from. sym (append-nil (past.handled from));
   };
@@ -26,6 +27,7 @@ worked_none m cpu past = record {
 pub record IsNext (m : Machine) (cpu : ℕ) (old new : Past) (d : Deed) : Type 0 where
   pub does : Does m cpu old.local d
   pub events : new.events ≡ old.events ++ told_by d ∷ []
+  pub happenings : new.happenings ≡ old.happenings ++ happened_by d ∷ []
   pub posted : (to : ℕ) → new.posted to ≡ old.posted to ++ letters_with to d.work.letters
   pub handled : (from : ℕ) → new.handled from ≡ old.handled from ++ letters_with from (letter_of d.event)
   pub local : d.work.local ≡ new.local
@@ -37,6 +39,7 @@ worked_one m cpu old new d next = record {
   are = record {
     lead = (next.does, next.local);
     events = next.events;
+    happenings = next.happenings;
     posted = λ to. next.posted to ∙ ap (λ ls. old.posted to ++ letters_with to ls) (sym (append-nil d.work.letters));
     handled = λ from. next.handled from ∙ ap (λ ls. old.handled from ++ letters_with from ls) (sym (append-nil (letter_of d.event)));
   };
@@ -59,6 +62,9 @@ worked_trans m cpu old middle new first then =
       are = record {
         lead = lead-append m cpu old.local middle.local new.local xs ys a.lead b.lead;
         events = goes_on old.events middle.events new.events (map told_by xs) (map told_by ys) _ a.events b.events (map-append told_by xs ys);
+        happenings =
+            goes_on old.happenings middle.happenings new.happenings (map happened_by xs) (map happened_by ys) _ a.happenings b.happenings
+            (map-append happened_by xs ys);
         posted = λ to.
             goes_on (old.posted to) (middle.posted to) (new.posted to) (letters_with to (posted_by xs)) (letters_with to (posted_by ys)) _ (a.posted to)
             (b.posted to) (ap (letters_with to) (flat_map-append (λ (d : Deed). d.work.letters) xs ys) ∙ letters_with-append to (posted_by xs) (posted_by ys));

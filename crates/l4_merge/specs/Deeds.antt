@@ -7,7 +7,7 @@ use Rattle.l4_core_model.specs.Local.{Local}
 use Rattle.l4_core_model.specs.Acts.{Work}
 use Rattle.l4_core_model.specs.Turns.{turn, advance}
 use Rattle.l4_core_model.specs.Mail.{handle}
-use Rattle.l4_core_model.specs.Runs.{Event}
+use Rattle.l4_core_model.specs.Runs.{Event, Happening, Handles, Turns, Ticks}
 
 -- A local event of a processor: it handles a letter that came from another one, takes the core's turn, or ticks.
 pub data LocalEvent : Type 0 where
@@ -27,6 +27,12 @@ work_of m cpu l (Handled from letter) = handle m cpu l letter
 work_of m cpu l Turned = turn m cpu l
 work_of m cpu l (Ticked clock) = advance m cpu clock l
 
+-- The event of all processors that a local event is.
+abbrev pub happening_of : (cpu : ℕ) → LocalEvent → Happening
+happening_of cpu (Handled from letter) = Handles cpu from
+happening_of cpu Turned = Turns cpu
+happening_of cpu (Ticked clock) = Ticks cpu clock
+
 -- The letter that a local event handles, if any, with the processor that the letter came from.
 abbrev pub letter_of : LocalEvent → List (ℕ × Letter)
 letter_of (Handled from letter) = (from, letter) ∷ []
@@ -42,6 +48,10 @@ pub record Deed : Type 0 where
 -- What is told of a deed.
 abbrev pub told_by : Deed → Event
 told_by d = record { cpu = d.cpu; stamp = d.work.local.stamp; steps = d.work.steps }
+
+-- What happened by a deed.
+abbrev pub happened_by : Deed → Happening
+happened_by d = happening_of d.cpu d.event
 
 -- The letters that deeds posted, each with the processor that it goes to.
 abbrev pub posted_by : List Deed → List (ℕ × Letter)

@@ -8,6 +8,7 @@ use Rattle.l4_core_model.specs.Turns.{is_busy}
 use Rattle.l4_core_model.specs.Runs.{Event, Happening, Run, core_run, letters, is_earlier, merged, is_empty, at_rest}
 use Rattle.l4_core_model.specs.Laws.{IsCoreRun}
 use Rattle.l4_merge.specs.Pasts.{Past, letters_posted, letters_handled, AreWholePasts, all_events, added_events}
+use Rattle.l4_merge.specs.Recorded.{IsRecorded}
 use Rattle.l4_merge.specs.Rounds.{is_no_tick}
 
 -- A run ends where the processors are: it has their local states, and the letters posted of each pair are those handled and those
@@ -34,9 +35,11 @@ pub record IsTurnedRun (m : Machine) (before : Run) (olds news : List Past) (aft
 abbrev pub HasTurnedRun : Machine → (before : Run) → (olds news : List Past) → Type 0
 HasTurnedRun m before olds news = (after : Run) × IsTurnedRun m before olds news after
 
--- The core run of all processors from the opening on: its events are those of all logs in order of stamp.
+-- The core run of all processors from the opening on: its events are those of all logs in order of stamp, and in each of them happened
+-- what its processor knows of it.
 pub record IsWholeRun (m : Machine) (pasts : List Past) (r : Run) : Type 0 where
   pub core_run : IsCoreRun m r
+  pub recorded : IsRecorded m pasts r
   pub ends : EndsAt r pasts
   pub events : r.events ≡ merged (all_events pasts)
 

@@ -6,25 +6,27 @@ use Rattle.l4_core_model.specs.Letters.{Letter}
 use Rattle.l4_core_model.specs.Local.{Local, opening_local}
 use Rattle.l4_core_model.specs.Acts.{Work}
 use Rattle.l4_core_model.specs.Turns.{advance}
-use Rattle.l4_core_model.specs.Runs.{Event, processors}
-use Rattle.l4_merge.specs.Deeds.{Deed, Ticked, is_turn, told_by, posted_by, handled_by, letters_with, Lead}
+use Rattle.l4_core_model.specs.Runs.{Event, Happening, Ticks, processors}
+use Rattle.l4_merge.specs.Deeds.{Deed, Ticked, is_turn, told_by, happened_by, posted_by, handled_by, letters_with, Lead}
 
--- What a processor has done so far: its log of events, the letters that it has posted to each processor and handled of each, and the
--- local state that it has come to.
+-- What a processor has done so far: its log of events, what happened in each of them, the letters that it has posted to each processor and
+-- handled of each, and the local state that it has come to.
 pub record Past : Type 0 where
   pub events : List Event
+  pub happenings : List Happening
   pub posted : (to : ℕ) → List Letter
   pub handled : (from : ℕ) → List Letter
   pub local : Local
 
 -- The past of a processor that has done nothing.
 abbrev pub empty_past : Local → Past
-empty_past l = record { events = []; posted = λ to. []; handled = λ from. []; local = l }
+empty_past l = record { events = []; happenings = []; posted = λ to. []; handled = λ from. []; local = l }
 
 -- Deeds are what a processor did between an earlier past and a later one.
 pub record AreDeedsBetween (m : Machine) (cpu : ℕ) (old new : Past) (deeds : List Deed) : Type 0 where
   pub lead : Lead m cpu old.local deeds new.local
   pub events : new.events ≡ old.events ++ map told_by deeds
+  pub happenings : new.happenings ≡ old.happenings ++ map happened_by deeds
   pub posted : (to : ℕ) → new.posted to ≡ old.posted to ++ letters_with to (posted_by deeds)
   pub handled : (from : ℕ) → new.handled from ≡ old.handled from ++ letters_with from (handled_by deeds)
 
@@ -100,6 +102,7 @@ pub record HasTicked (m : Machine) (cpu clock : ℕ) (old new : Past) : Type 0 w
   pub work : Work
   pub advances : advance m cpu clock old.local ≡ Some work
   pub events : new.events ≡ old.events ++ told_by (record { cpu = cpu; event = Ticked clock; work = work }) ∷ []
+  pub happenings : new.happenings ≡ old.happenings ++ Ticks cpu clock ∷ []
   pub posted : (to : ℕ) → new.posted to ≡ old.posted to
   pub handled : (from : ℕ) → new.handled from ≡ old.handled from
   pub local : work.local ≡ new.local

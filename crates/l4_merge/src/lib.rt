@@ -31,8 +31,9 @@ ghost use Rattle.l4_merge.specs.Merges.{HasReorderedRun};
 ghost use Rattle.l4_merge.specs.Rounds.{IsInRounds, events_of};
 
 /// Let each processor keep a log, and handle the letters of each pair in the order of posting. Then
-/// the events of all logs, in order of stamp and processor, are those of a core run. The same holds
-/// of what they add to the end of a core run. The run is at rest exactly where each of them is and
+/// the events of all logs, in order of stamp and processor, are those of a core run, and in each of
+/// them happened what its processor knows of it. The same holds of the events that they add to the
+/// end of a core run. The run is at rest exactly where each of them is and
 /// all letters are handled. Where they took only turns, the run goes on by turns, and no clock
 /// changes. Where one clock advanced, the run goes on by that tick. A bound on what each processor
 /// adds is a bound on its events in the run.

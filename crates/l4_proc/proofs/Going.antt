@@ -17,16 +17,17 @@ use Rattle.l4_core.specs.Processor.{Processor as Core}
 use Rattle.l4_core.specs.Turning.{work}
 use Rattle.l4_mail.specs.Ports.{posted_to, place}
 use Rattle.l4_mail.specs.declared.ports.Port.{Port}
-use Rattle.l4_proc.specs.Logs.{all_steps, events, IsClosed}
+use Rattle.l4_proc.specs.Logs.{all_steps, events, happenings, IsClosed}
+use Rattle.l4_proc.specs.Choices.{happening_in}
 use Rattle.l4_proc.specs.Whole.{past_with, handled_from, IsFreshPort, IsPortOf, IsWhole}
-use Rattle.l4_proc.specs.Working.{past, BeginWithMail, HasGoneOn, HasTaken, HasTakenUpTo, HasTicked, HasTickedTo, IsIdle, IsSameWorker, IsStopped, IsTicking}
+use Rattle.l4_proc.specs.Working.{past, BeginWithMail, HasGoneOn, HasStayed, HasTaken, HasTakenUpTo, HasTicked, HasTickedTo, IsIdle, IsSameWorker, IsStopped, IsTicking}
 use Rattle.l4_proc.specs.declared.stops.Stop.{Stop}
 use Rattle.l4_proc.specs.declared.stops.Stop.TheVariants as stop
 use Rattle.l4_proc.specs.declared.log.End.{End}
 use Rattle.l4_proc.specs.declared.log.Log.{Log}
 use Rattle.l4_proc.specs.declared.processor.Processor.{Processor}
 use Rattle.l4_proc.specs.declared.worker.Worker.{Worker}
-use Rattle.l4_proc.proofs.Logging.{logged, same_closed, IsLogged}
+use Rattle.l4_proc.proofs.Logging.{logged, same_closed, same_events, same_happenings, IsLogged}
 
 -- The opening
 
@@ -38,6 +39,7 @@ opened_past port w fresh ends hand = record {
   are = record {
     lead = refl;
     events = rw (ends) refl;
+    happenings = rw (ends) refl;
     posted = λ to. ap (map letter_of) (fresh.posted to);
     handled = λ from. rw (hand, fresh.taken from) refl;
   };
@@ -45,21 +47,21 @@ opened_past port w fresh ends hand = record {
 
 -- A tick
 
-tick_logged : (to : ℕ) (old new : Worker) (before after : Log) (stamp : ℕ) → IsClosed old.log → IsTicking to old new before after stamp →
-    IsLogged old.log new.log stamp after.told.steps
-tick_logged to old new before after stamp closed t =
-    logged old.log before after new.log stamp (after.ticks + 1) closed t.begun t.cpu (ap (λ ends. ends.items) t.ends) t.event.kept t.ended
+tick_logged : (to : ℕ) (old new : Worker) (before after : Log) (stamp choice : ℕ) → IsClosed old.log → IsTicking to old new before after stamp choice →
+    IsLogged old.log new.log stamp choice after.told.steps
+tick_logged to old new before after stamp choice closed t =
+    logged old.log before after new.log stamp choice (after.ticks + 1) closed t.begun t.cpu (ap (λ ends. ends.items) t.ends) t.event.kept t.ended
 
 port_of_same : (port : Port) (old new : Core) → new.machine ≡ old.machine → new.cpu ≡ old.cpu → IsPortOf port old → IsPortOf port new
 port_of_same port old new machine cpu is = record { number = rw (cpu) is.number; size = rw (machine) is.size; ways = rw (machine, cpu) is.ways }
 
 -- A processor that is whole is whole behind a tick.
-pub tick_whole : (to : ℕ) (port : Port) (old new : Worker) (before after : Log) (stamp : ℕ) → IsWhole port old → IsTicking to old new before after stamp →
+pub tick_whole : (to : ℕ) (port : Port) (old new : Worker) (before after : Log) (stamp choice : ℕ) → IsWhole port old → IsTicking to old new before after stamp choice →
     IsWhole port new
-tick_whole to port old new before after stamp whole t = record {
+tick_whole to port old new before after stamp choice whole t = record {
   port_of = port_of_same port old.core new.core t.event.machine t.event.cpu whole.port_of;
   log_of = t.ended.cpu ∙ t.cpu ∙ t.begun.cpu ∙ whole.log_of ∙ sym t.event.cpu;
-  closed = (tick_logged to old new before after stamp whole.closed t).closed;
+  closed = (tick_logged to old new before after stamp choice whole.closed t).closed;
   hand = rw (t.hand) whole.hand;
 }
 
@@ -70,9 +72,9 @@ tick_posts_none m cpu to l x is =
     guard_then (nat_lt to (2 ^ 62)) _ x is λ below is.
     sym (ap (λ (x : Work). x.letters) (some_is _ x is))
 
-tick_worked : (to : ℕ) (port : Port) (old new : Worker) (before after : Log) (stamp : ℕ) → IsWhole port old → IsTicking to old new before after stamp →
+tick_worked : (to : ℕ) (port : Port) (old new : Worker) (before after : Log) (stamp choice : ℕ) → IsWhole port old → IsTicking to old new before after stamp choice →
     HasWorked old.core.machine old.core.cpu (past_with port old) (past_with port new)
-tick_worked to port old new before after stamp whole t =
+tick_worked to port old new before after stamp choice whole t =
     let m = old.core.machine in
     let cpu = old.core.cpu in
     let deed : Deed = record { cpu = cpu; event = Ticked to; work = work new.core.local after.told } in
@@ -80,21 +82,23 @@ tick_worked to port old new before after stamp whole t =
     let none = tick_posts_none m cpu to old.core.local _ t.event.is in
     worked_one m cpu (past_with port old) (past_with port new) deed record {
       does = record { own = refl; work = t.event.is };
-      events = (tick_logged to old new before after stamp whole.closed t).events
+      events = (tick_logged to old new before after stamp choice whole.closed t).events
           ∙ ap (λ c. events old.log ++ event c stamp) whole.log_of
           ∙ ap (λ s. events old.log ++ event cpu s) t.event.stamped;
+      happenings = (tick_logged to old new before after stamp choice whole.closed t).happenings
+          ∙ ap (λ c. happenings old.log ++ happening_in c choice ∷ []) whole.log_of ∙ ap (λ h. happenings old.log ++ h ∷ []) (t.happened cpu);
       posted = λ to. sym (ap (λ ls. map letter_of (posted_to port to) ++ letters_with to ls) none ∙ append-nil (map letter_of (posted_to port to)));
       handled = λ from. ap (λ hand. map letter_of (handled_from port hand from)) t.hand ∙ sym (append-nil (map letter_of (handled_from port old.hand from)));
       local = refl;
     }
 
-pub has_ticked : (to : ℕ) (old new : Processor) (before after : Log) (stamp : ℕ) → new.port ≡ old.port → IsWhole old.port old.worker →
-    IsTicking to old.worker new.worker before after stamp → HasTicked to old new
-has_ticked to old new before after stamp port whole t =
-    let l = tick_logged to old.worker new.worker before after stamp whole.closed t in
-    let worked = tick_worked to old.port old.worker new.worker before after stamp whole t in
+pub has_ticked : (to : ℕ) (old new : Processor) (before after : Log) (stamp choice : ℕ) → new.port ≡ old.port → IsWhole old.port old.worker →
+    IsTicking to old.worker new.worker before after stamp choice → HasTicked to old new
+has_ticked to old new before after stamp choice port whole t =
+    let l = tick_logged to old.worker new.worker before after stamp choice whole.closed t in
+    let worked = tick_worked to old.port old.worker new.worker before after stamp choice whole t in
     let event : ℕ → ℕ → List Event = λ c s. record { cpu = c; stamp = s; steps = after.told.steps } ∷ [] in
-    let end : End = record { stamp = stamp; place = length (all_steps after.told) } in
+    let end : End = record { stamp = stamp; place = length (all_steps after.told); choice = choice } in
     let items : new.worker.log.ends.items ≡ old.worker.log.ends.items ++ end ∷ [] =
     t.ended.ends ∙ ap (λ (es : List End). es ++ end ∷ []) (ap (λ ends. ends.items) t.ends ∙ t.begun.ends) in
     let longer : length new.worker.log.ends.items ≡ length old.worker.log.ends.items + 1 = ap length items ∙ length-append old.worker.log.ends.items (end ∷ []) in
@@ -112,6 +116,8 @@ has_ticked to old new before after stamp port whole t =
         work = work new.worker.core.local after.told;
         advances = t.event.is;
         events = l.events ∙ ap (λ c. events old.worker.log ++ event c stamp) whole.log_of ∙ ap (λ s. events old.worker.log ++ event old.worker.core.cpu s) t.event.stamped;
+        happenings = l.happenings ∙ ap (λ c. happenings old.worker.log ++ happening_in c choice ∷ []) whole.log_of
+            ∙ ap (λ h. happenings old.worker.log ++ h ∷ []) (t.happened old.worker.core.cpu);
         posted = λ to. ap (λ (p : Port). map letter_of (posted_to p to)) port;
         handled = λ from. ap (λ (p : Port). map letter_of (handled_from p new.worker.hand from)) port
             ∙ ap (λ hand. map letter_of (handled_from old.port hand from)) t.hand;
@@ -135,13 +141,26 @@ same_whole port old new same whole = record {
 
 pub tried_whole : (to : ℕ) (port : Port) (old new : Worker) {A E : Type 0} (r : Result A E) → OnOk r (HasTickedTo to old new) → OnErr r (IsSameWorker old new) →
     IsWhole port old → IsWhole port new
-tried_whole to port old new (Ok x) ticked same whole = tick_whole to port old new ticked.before ticked.after ticked.stamp whole ticked.is
+tried_whole to port old new (Ok x) ticked same whole = tick_whole to port old new ticked.before ticked.after ticked.stamp ticked.choice whole ticked.is
 tried_whole to port old new (Err e) ticked same whole = same_whole port old new same whole
 
 pub has_tried : (to : ℕ) (old new : Processor) {A E : Type 0} (r : Result A E) → new.port ≡ old.port → IsWhole old.port old.worker →
     OnOk r (HasTickedTo to old.worker new.worker) → OnOk r (HasTicked to old new)
-has_tried to old new (Ok x) port whole ticked = has_ticked to old new ticked.before ticked.after ticked.stamp port whole ticked.is
+has_tried to old new (Ok x) port whole ticked = has_ticked to old new ticked.before ticked.after ticked.stamp ticked.choice port whole ticked.is
 has_tried to old new (Err e) port whole ticked = ticked
+
+pub has_stayed : (old new : Processor) {A E : Type 0} (r : Result A E) → new.port ≡ old.port → new.worker.stop ≡ old.worker.stop →
+    OnErr r (IsSameWorker old.worker new.worker) → OnErr r (HasStayed old new)
+has_stayed old new (Ok x) port stopped same = same
+has_stayed old new (Err e) port stopped same = record {
+  port = port;
+  core = same.core;
+  hand = same.hand;
+  events = same_events old.worker.log new.worker.log same.log;
+  happenings = same_happenings old.worker.log new.worker.log same.log;
+  turns = rw (same.log.ends, same.log.ticks) refl;
+  stop = stopped;
+}
 
 -- Turns
 

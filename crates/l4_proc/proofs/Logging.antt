@@ -1,13 +1,14 @@
 -- What is told of an event becomes an event of the log.
-use Rattle.std.proofs.Common.{◌≡◌, ℕ, ◌≤◌, true, List, [], ◌∷◌, ◌++◌, length, take, drop, refl, ap, sym, ◌∙◌, subst, arith}
-use Rattle.std.proofs.lemmas.List.{append-nil, take_all, length-append}
+use Rattle.std.proofs.Common.{◌≡◌, ℕ, ◌≤◌, true, List, [], ◌∷◌, ◌++◌, length, map, take, drop, refl, ap, sym, ◌∙◌, subst, arith}
+use Rattle.std.proofs.lemmas.List.{append-nil, map-append, take_all, length-append}
 use Rattle.std.proofs.Math.Seq.{drop-append_seam}
 use Rattle.l4_model.specs.Steps.{Step}
 use Rattle.l4_core_model.specs.Runs.{Event}
 use Rattle.l4_proc.specs.declared.log.End.{End}
 use Rattle.l4_proc.specs.declared.log.Log.{Log}
+use Rattle.l4_proc.specs.Choices.{happening_in}
 use Rattle.l4_proc.specs.Ends.{are_ends, events_between}
-use Rattle.l4_proc.specs.Logs.{all_steps, events, HasBegun, HasEnded, IsClosed, IsSameLog}
+use Rattle.l4_proc.specs.Logs.{all_steps, events, happenings, HasBegun, HasEnded, IsClosed, IsSameLog}
 use Rattle.l4_proc.proofs.Ends.{are_pushed, events_pushed, events_kept}
 
 pub begun_steps : (old new : Log) → HasBegun old new → all_steps new.told ≡ all_steps old.told
@@ -16,31 +17,38 @@ begun_steps old new h = rw (h.told.opened.steps, h.told.before) (append-nil (all
 pub begun_events : (old new : Log) → HasBegun old new → events new ≡ events old
 begun_events old new h = rw (begun_steps old new h, h.ends, h.cpu) refl
 
+pub begun_happenings : (old new : Log) → HasBegun old new → happenings new ≡ happenings old
+begun_happenings old new h = rw (h.ends, h.cpu) refl
+
 pub begun_closed : (old new : Log) → HasBegun old new → IsClosed old → IsClosed new
 begun_closed old new h closed = rw (begun_steps old new h, h.ends) closed
 
 pub same_events : (old new : Log) → IsSameLog old new → events new ≡ events old
 same_events old new h = rw (h.told, h.ends, h.cpu) refl
 
+pub same_happenings : (old new : Log) → IsSameLog old new → happenings new ≡ happenings old
+same_happenings old new h = rw (h.ends, h.cpu) refl
+
 pub same_closed : (old new : Log) → IsSameLog old new → IsClosed old → IsClosed new
 same_closed old new h closed = rw (h.told, h.ends) closed
 
 -- An event of so many steps has begun behind a closed log, and ended: it is the last event, and the log is closed again.
-pub record IsLogged (old new : Log) (stamp : ℕ) (steps : List Step) : Type 0 where
+pub record IsLogged (old new : Log) (stamp choice : ℕ) (steps : List Step) : Type 0 where
   pub events : events new ≡ events old ++ record { cpu = old.cpu; stamp = stamp; steps = steps } ∷ []
+  pub happenings : happenings new ≡ happenings old ++ happening_in old.cpu choice ∷ []
   pub closed : IsClosed new
 
-pub logged : (old begun told new : Log) (stamp count : ℕ) → IsClosed old → HasBegun old begun → told.cpu ≡ begun.cpu →
+pub logged : (old begun told new : Log) (stamp choice count : ℕ) → IsClosed old → HasBegun old begun → told.cpu ≡ begun.cpu →
     told.ends.items ≡ begun.ends.items → told.told.before ≡ begun.told.before →
-    HasEnded told new stamp count → IsLogged old new stamp told.told.steps
-logged old begun told new stamp count closed b cpu ends before e =
+    HasEnded told new stamp choice count → IsLogged old new stamp choice told.told.steps
+logged old begun told new stamp choice count closed b cpu ends before e =
     let all = all_steps old.told in
     let steps = told.told.steps in
     let whole : all_steps told.told ≡ all ++ steps = ap (λ (ls : List Step). ls ++ steps) (before ∙ b.told.before) in
     let now : all_steps new.told ≡ all ++ steps = ap all_steps e.told ∙ whole in
-    let end : End = record { stamp = stamp; place = length (all ++ steps) } in
+    let end : End = record { stamp = stamp; place = length (all ++ steps); choice = choice } in
     let items : new.ends.items ≡ old.ends.items ++ end ∷ [] =
-    e.ends ∙ ap (λ (ls : List Step). told.ends.items ++ record { stamp = stamp; place = length ls } ∷ []) whole
+    e.ends ∙ ap (λ (ls : List Step). told.ends.items ++ record { stamp = stamp; place = length ls; choice = choice } ∷ []) whole
     ∙ ap (λ (es : List End). es ++ end ∷ []) (ends ∙ b.ends) in
     let event : List Step → List Event = λ ls. record { cpu = old.cpu; stamp = stamp; steps = ls } ∷ [] in
     let fits : length all ≤ length (all ++ steps) = omega (arith, length-append all steps) in
@@ -54,6 +62,9 @@ logged old begun told new stamp count closed b cpu ends before e =
           ∙ ap (λ (es : List Event). es ++ event (drop (length all) (take (length (all ++ steps)) (all ++ steps)))) (events_kept old.cpu 0 (length
           all) old.ends.items all steps closed (omega arith))
           ∙ ap (λ (ls : List Step). events old ++ event ls) told_steps;
+      happenings = ap (λ (c : ℕ). map (λ (e : End). happening_in c e.choice) new.ends.items) (e.cpu ∙ cpu ∙ b.cpu)
+          ∙ ap (map (λ (e : End). happening_in old.cpu e.choice)) items
+          ∙ map-append (λ (e : End). happening_in old.cpu e.choice) old.ends.items (end ∷ []);
       closed = subst (λ (es : List End). are_ends 0 es (length (all_steps new.told)) ≡ true) (sym items)
           (subst (λ (ls : List Step). are_ends 0 (old.ends.items ++ end ∷ []) (length ls) ≡ true) (sym now) (are_pushed old.ends.items 0 (length all)
           end closed fits));

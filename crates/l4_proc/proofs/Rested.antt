@@ -20,7 +20,7 @@ use Rattle.l4_mail.specs.Rests.{has_number, have_numbers, have_size, are_all, un
 use Rattle.l4_mail.specs.declared.ports.Port.{Port}
 use Rattle.l4_mail.proofs.Fabrics.{fabric_kept}
 use Rattle.l4_mail.proofs.Whole.{same_length}
-use Rattle.l4_proc.specs.Logs.{events}
+use Rattle.l4_proc.specs.Logs.{events, happenings}
 use Rattle.l4_proc.specs.Rests.{AreAsBefore, HaveHandledAll}
 use Rattle.l4_proc.specs.Whole.{hand_from, handled_from, IsWhole}
 use Rattle.l4_proc.specs.Working.{past, HaveWorkedOn}
@@ -129,6 +129,7 @@ nothing_changed ps = record { workers = refl; accounts = refl }
 abbrev past_of : Account → Worker → Past
 past_of a w = record {
   events = events w.log;
+  happenings = happenings w.log;
   posted = λ to. map letter_of (a.posted to);
   handled = λ from. map letter_of (take (length (a.taken from) - length (hand_from w.hand from)) (a.taken from));
   local = w.core.local;

@@ -1,4 +1,5 @@
 pub mod Assembled
+pub mod Choices
 pub mod Ends
 pub mod Events
 pub mod Logs

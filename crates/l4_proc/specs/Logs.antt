@@ -1,9 +1,10 @@
 -- The log of one processor: its events in order, and what is told of the event under way.
-use Rattle.std.specs.Prelude.{◌≡◌, ℕ, ◌++◌, ◌<◌, true, List, [], ◌∷◌, length, vec_len}
+use Rattle.std.specs.Prelude.{◌≡◌, ℕ, ◌++◌, ◌<◌, true, List, [], ◌∷◌, length, map, vec_len}
 use Rattle.std.specs.Vec.{vec_capacity}
 use Rattle.l4_model.specs.Steps.{Step}
-use Rattle.l4_core_model.specs.Runs.{Event}
+use Rattle.l4_core_model.specs.Runs.{Event, Happening}
 use Rattle.l4_core.specs.Tellings.{Told, IsBegun}
+use Rattle.l4_proc.specs.Choices.{happening_in}
 use Rattle.l4_proc.specs.Ends.{are_ends, events_between}
 use Rattle.l4_proc.specs.declared.log.EventRef.{EventRef}
 use Rattle.l4_proc.specs.declared.log.Log.{Log}
@@ -14,6 +15,10 @@ all_steps t = t.before ++ t.steps
 
 abbrev pub events : Log → List Event
 events log = events_between log.cpu 0 log.ends.items (all_steps log.told)
+
+-- What happened in each of them.
+abbrev pub happenings : Log → List Happening
+happenings log = map (λ end. happening_in log.cpu end.choice) log.ends.items
 
 abbrev pub event_of : EventRef → Event
 event_of e = record { cpu = e.cpu; stamp = e.stamp; steps = e.steps }
@@ -37,10 +42,10 @@ pub record IsSameLog (old new : Log) : Type 0 where
   pub ticks : new.ticks ≡ old.ticks
   pub told : new.told ≡ old.told
 
--- The event under way ended, with this stamp. So many of all are ticks then.
-pub record HasEnded (old new : Log) (stamp count : ℕ) : Type 0 where
+-- The event under way ended, with this stamp and the number of what happened. So many of all are ticks then.
+pub record HasEnded (old new : Log) (stamp choice count : ℕ) : Type 0 where
   pub cpu : new.cpu ≡ old.cpu
-  pub ends : new.ends.items ≡ old.ends.items ++ record { stamp = stamp; place = length (all_steps old.told) } ∷ []
+  pub ends : new.ends.items ≡ old.ends.items ++ record { stamp = stamp; place = length (all_steps old.told); choice = choice } ∷ []
   pub ticks : new.ticks ≡ count
   pub told : new.told ≡ old.told
 

@@ -6,7 +6,7 @@ use Rattle.l4_types.specs.declared.letters.Letter.{Letter}
 use Rattle.l4_core.specs.Processor.{Processor}
 use Rattle.l4_mail.specs.Ports.{posted_to, taken_from, fabric_size, only, place}
 use Rattle.l4_mail.specs.declared.ports.Port.{Port}
-use Rattle.l4_proc.specs.Logs.{events, IsClosed}
+use Rattle.l4_proc.specs.Logs.{events, happenings, IsClosed}
 use Rattle.l4_proc.specs.declared.worker.Worker.{Worker}
 
 -- The letter in hand, if it came from this processor.
@@ -22,6 +22,7 @@ handled_from port hand from = take (length (taken_from port from) - length (hand
 abbrev pub past_with : Port → Worker → Past
 past_with port w = record {
   events = events w.log;
+  happenings = happenings w.log;
   posted = λ to. map letter_of (posted_to port to);
   handled = λ from. map letter_of (handled_from port w.hand from);
   local = w.core.local;

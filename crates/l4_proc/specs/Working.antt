@@ -2,7 +2,8 @@
 use Rattle.std.specs.Prelude.{◌≡◌, ◌≢◌, ◌∷◌, ◌⊎◌, ◌↔◌, ℕ, ◌+◌, ◌-◌, ◌≤◌, List, [], Option, Some, None, length, slice_get}
 use Rattle.std.specs.Option.{option_map}
 use Rattle.l4_core_model.specs.Turns.{advance}
-use Rattle.l4_merge.specs.Deeds.{Deed, Handled, Turned, work_of}
+use Rattle.l4_core_model.specs.Runs.{Ticks}
+use Rattle.l4_merge.specs.Deeds.{Deed, Handled, Turned, happening_of, work_of}
 use Rattle.l4_merge.specs.Pasts as pasts
 use Rattle.l4_merge.specs.Pasts.{Past, HasWorked, HasTurned}
 use Rattle.l4_core.specs.Turning.{IsEvent}
@@ -11,7 +12,8 @@ use Rattle.l4_types.specs.declared.letters.Letter.{Letter}
 use Rattle.l4_mail.specs.declared.ports.Port.{Port}
 use Rattle.l4_mail.specs.Ports.{posted_to, taken_from, kept_from, room_to, place, HasWayTo}
 use Rattle.l4_proc.specs.Events.{event_in_hand, HasPostedAll, IsRefused}
-use Rattle.l4_proc.specs.Logs.{events, HasBegun, HasEnded, HasLetters, IsSameLog}
+use Rattle.l4_proc.specs.Choices.{happening_in}
+use Rattle.l4_proc.specs.Logs.{events, happenings, HasBegun, HasEnded, HasLetters, IsSameLog}
 use Rattle.l4_proc.specs.Whole.{handled_from, past_with}
 use Rattle.l4_proc.specs.declared.log.Log.{Log}
 use Rattle.l4_proc.specs.declared.processor.Processor.{Processor}
@@ -143,12 +145,14 @@ pub record IsSameWorker (old new : Worker) : Type 0 where
 pub record HasTakenTurn (old new : Worker) : Type 0 where
   pub told : Worker
   pub stamp : ℕ
+  pub choice : ℕ
   pub done : HasDone old told stamp
-  pub ended : HasEnded told.log new.log stamp told.log.ticks
+  pub happened : (cpu : ℕ) → happening_in cpu choice ≡ happening_of cpu (event_in_hand old.hand)
+  pub ended : HasEnded told.log new.log stamp choice told.log.ticks
   pub is : new ≡ record { core = told.core; log = new.log; hand = told.hand; stop = told.stop }
 
 -- The clock went on between the begin of an event and its end.
-pub record IsTicking (to : ℕ) (old new : Worker) (before after : Log) (stamp : ℕ) : Type 0 where
+pub record IsTicking (to : ℕ) (old new : Worker) (before after : Log) (stamp choice : ℕ) : Type 0 where
   pub begun : HasBegun old.log before
   pub event : IsEvent (advance old.core.machine old.core.cpu to old.core.local) old.core new.core before.told after.told stamp
   pub hand : new.hand ≡ old.hand
@@ -156,13 +160,15 @@ pub record IsTicking (to : ℕ) (old new : Worker) (before after : Log) (stamp :
   pub cpu : after.cpu ≡ before.cpu
   pub ends : after.ends ≡ before.ends
   pub ticks : after.ticks ≡ before.ticks
-  pub ended : HasEnded after new.log stamp (after.ticks + 1)
+  pub happened : (cpu : ℕ) → happening_in cpu choice ≡ Ticks cpu to
+  pub ended : HasEnded after new.log stamp choice (after.ticks + 1)
 
 pub record HasTickedTo (to : ℕ) (old new : Worker) : Type 0 where
   pub before : Log
   pub after : Log
   pub stamp : ℕ
-  pub is : IsTicking to old new before after stamp
+  pub choice : ℕ
+  pub is : IsTicking to old new before after stamp choice
 
 -- The letters of the event under way were posted.
 pub record HasPostedOwn (old new : Processor) : Type 0 where
@@ -188,5 +194,6 @@ pub record HasStayed (old new : Processor) : Type 0 where
   pub core : new.worker.core ≡ old.worker.core
   pub hand : new.worker.hand ≡ old.worker.hand
   pub events : events new.worker.log ≡ events old.worker.log
+  pub happenings : happenings new.worker.log ≡ happenings old.worker.log
   pub turns : turns_of new ≡ turns_of old
   pub stop : new.worker.stop ≡ old.worker.stop

@@ -17,6 +17,7 @@
 #![tactic(auto)]
 
 pub mod assembly;
+pub mod choice;
 pub mod gate;
 pub mod log;
 pub mod processor;

@@ -5,6 +5,7 @@ ghost use Rattle.std.specs.Prelude.{take, vec_len};
 ghost use Rattle.std.specs.Vec.{vec_capacity};
 ghost use Rattle.l4_proc.specs.Ends.{start_of};
 
+use crate::choice::{Choice, choice_of};
 use l4_core::told::Told;
 use l4_history::history::History;
 use l4_history::steps::Steps;
@@ -20,6 +21,8 @@ const CHUNK_ENDS: usize = 64;
 pub(crate) struct End {
     stamp: u64,
     place: usize,
+    // What the processor did, as a number (`choice`).
+    choice: u64,
 }
 
 /// The events of one processor in order.
@@ -46,10 +49,11 @@ pub struct EventRef<'a> {
 }
 
 impl Log {
-    ghost use Rattle.l4_proc.specs.Logs.{all_steps, event_of, events, HasBegun, HasEnded};
-    ghost use Rattle.l4_proc.specs.Logs.{HasLetters, IsClosed, IsSameLog};
+    ghost use Rattle.l4_proc.specs.Logs.{all_steps, event_of, events, happenings, HasBegun};
+    ghost use Rattle.l4_proc.specs.Logs.{HasEnded, HasLetters, IsClosed, IsSameLog};
     ghost use Rattle.std.specs.Option.{option_map, option_to_list};
     ghost use Rattle.l4_core_model.specs.Runs.{told};
+    ghost use Rattle.l4_proc.specs.Choices.{happening_of};
     ghost use Rattle.l4_core.specs.Tellings.{posted_of};
 
     /// The log of a processor that has done nothing. It takes no memory.
@@ -116,6 +120,16 @@ impl Log {
         ends[i].stamp
     }
 
+    /// What the processor did in the i-th event, counted from 0.
+    #[tactic(auto, using(crate::proofs::Ends::as_many))]
+    pub fn choice(&self, i: usize) -> Choice
+        requires { i < length (events self.now) }
+        ensures { slice_get (happenings self.now) i ≡ Some (happening_of self.now.cpu result) }
+    {
+        let ends = self.ends.as_slice();
+        choice_of(ends[i].choice)
+    }
+
     /// Where the steps of the i-th event, counted from 0, stand in the history: the place of the
     /// first, and the one after the last.
     #[tactic(auto, using(crate::proofs::Ends::as_many))]
@@ -157,21 +171,25 @@ impl Log {
         self.told.begin()
     }
 
-    // Ends the current event, a turn.
-    pub(crate) fn end_turn(&mut self, stamp: u64)
+    // Ends the current event, a turn of which this is the number.
+    pub(crate) fn end_turn(&mut self, stamp: u64, choice: u64)
         requires { vec_len self.old.ends < vec_capacity self.old.ends }
-        ensures { HasEnded self.old self.new stamp self.old.ticks }
+        ensures { HasEnded self.old self.new stamp choice self.old.ticks }
     {
         let place = self.told.sink().len();
-        self.ends.push_reserved(End { stamp, place });
+        self.ends.push_reserved(End {
+            stamp,
+            place,
+            choice,
+        });
     }
 
-    // Ends the current event, a tick.
-    pub(crate) fn end_tick(&mut self, stamp: u64)
+    // Ends the current event, a tick of which this is the number.
+    pub(crate) fn end_tick(&mut self, stamp: u64, choice: u64)
         requires { vec_len self.old.ends < vec_capacity self.old.ends }
-        ensures { HasEnded self.old self.new stamp (self.old.ticks + 1) }
+        ensures { HasEnded self.old self.new stamp choice (self.old.ticks + 1) }
     {
-        self.end_turn(stamp);
+        self.end_turn(stamp, choice);
         self.ticks += 1;
     }
 

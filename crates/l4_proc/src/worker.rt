@@ -7,6 +7,7 @@ ghost use Rattle.l4_types.specs.LetterView.{letter_of};
 ghost use Rattle.l4_core.specs.Tellings.{IsOpen};
 ghost use Rattle.l4_core.specs.Turning.{IsEvent};
 
+use crate::choice::{CORE, letter_number, tick_number};
 use crate::log::Log;
 use crate::stops::{ProcFault, Stop};
 use l4_core::processor::{Core, Fault};
@@ -75,15 +76,17 @@ fn turn(core: &mut Core<'_>, told: &mut Told<History>) -> Result<u64, Stop>
 }
 
 impl<'m> Worker<'m> {
-    ghost use Rattle.std.specs.Prelude.{◌≡◌, ◌↔◌, ◌++◌, ◌<◌, [], false, true, IfErr, IfNone, IfOk};
-    ghost use Rattle.std.specs.Prelude.{IsErrOf, IsSome, None, OnErr, OnOk, is_some, vec_len};
+    ghost use Rattle.std.specs.Prelude.{ℕ, ◌≡◌, ◌↔◌, ◌++◌, ◌<◌, [], false, true, IfErr, IfNone};
+    ghost use Rattle.std.specs.Prelude.{IfOk, IsErrOf, IsSome, None, OnErr, OnOk, is_some, vec_len};
     ghost use Rattle.std.specs.Option.{option_map, option_to_list};
     ghost use Rattle.std.specs.Vec.{vec_capacity};
     ghost use Rattle.l4_core_model.specs.Runs.{IsMachine};
     ghost use Rattle.l4_core_model.specs.Turns.{advance, can_stamp};
     ghost use Rattle.l4_core.specs.Tellings.{posted_of, IsOpen};
     ghost use Rattle.l4_core.specs.Turning.{IsEvent};
-    ghost use Rattle.l4_proc.specs.Events.{IsRefused};
+    ghost use Rattle.l4_merge.specs.Deeds.{happening_of};
+    ghost use Rattle.l4_proc.specs.Choices.{happening_in};
+    ghost use Rattle.l4_proc.specs.Events.{event_in_hand, IsRefused};
     ghost use Rattle.l4_proc.specs.Logs.{all_steps, HasBegun, HasLetters, IsSameLog};
     ghost use Rattle.l4_proc.specs.Working.{HasDone, HasTakenTurn, HasTickedTo, IsSameWorker};
 
@@ -160,9 +163,21 @@ impl<'m> Worker<'m> {
         ensures machine { IsMachine self.old.core.machine }
         ensures cpu { self.old.core.cpu < self.old.core.machine.cpus }
     {
+        let choice = self.next_choice();
         let stamp = self.go_on()?;
-        self.log.end_turn(stamp);
+        self.log.end_turn(stamp, choice);
         Ok(())
+    }
+
+    // The number of the next turn: it handles the letter in hand, else it is the core's.
+    fn next_choice(&self) -> u64
+        ensures { (cpu : ℕ) → happening_in cpu result ≡
+            happening_of cpu (event_in_hand self.now.hand) }
+    {
+        match &self.hand {
+            Some((from, _)) => letter_number(*from),
+            None => CORE,
+        }
     }
 
     // Handles the letter in hand, else takes the core's turn.
@@ -221,7 +236,7 @@ impl<'m> Worker<'m> {
         }
         self.log.begin()?;
         let stamp = self.advance(to);
-        self.log.end_tick(stamp);
+        self.log.end_tick(stamp, tick_number(to));
         Ok(())
     }
 

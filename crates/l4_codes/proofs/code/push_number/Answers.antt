@@ -9,11 +9,14 @@ loop-left-init c =
 
 pub loop-left-preserved : goal.loop-left-preserved
 loop-left-preserved c =
-    subst (IsLeft c.args.number (c.loop-left.left / 128) c.args.bytes.now.items) (sym c.in_ok-push.ensures.items)
-    (goes_on c.args.number c.loop-left.left c.args.bytes.now.items c.loop-left.bytes.items c.loop-left-test.true c.loop-left.invariant)
+    subst (IsLeft c.args.number (c.loop-left.left / 128) c.args.bytes.now.items) (sym
+    c.in_ok-push.ensures.items)
+    (goes_on c.args.number c.loop-left.left c.args.bytes.now.items c.loop-left.bytes.items
+    c.loop-left-test.true c.loop-left.invariant)
 
 pub returns : goal.returns
 returns c =
     λ rest.
     ap (λ bs. bs ++ rest) c.in_ok-push-2.ensures.items
-    ∙ over c.args.number c.loop-left.left c.args.bytes.now.items c.loop-left.bytes.items c.loop-left-test.false c.loop-left.invariant rest
+    ∙ over c.args.number c.loop-left.left c.args.bytes.now.items c.loop-left.bytes.items
+    c.loop-left-test.false c.loop-left.invariant rest

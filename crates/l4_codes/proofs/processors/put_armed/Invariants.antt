@@ -7,4 +7,5 @@ use Rattle.l4_codes.proofs.processors.put_armed.Given as goal
 -- With those that are left it is the code of all.
 abbrev pub invariant-loop-deadline : goal.invariant-loop-deadline
 invariant-loop-deadline l =
-    (rest : List ℕ) → with_numbers l.code (chained armed_code l.deadline-iterator rest) ≡ with_numbers l.fn.code (chained armed_code (l.lists.armed) rest)
+    (rest : List ℕ) → with_numbers l.code (chained armed_code l.deadline-iterator rest) ≡
+    with_numbers l.fn.code (chained armed_code (l.lists.armed) rest)

@@ -7,4 +7,5 @@ use Rattle.l4_codes.proofs.processors.put_ready.Given as goal
 -- With those that are left it is the code of all.
 abbrev pub invariant-loop-block : goal.invariant-loop-block
 invariant-loop-block l =
-    (rest : List ℕ) → with_numbers l.code (chained number_code l.block-iterator rest) ≡ with_numbers l.fn.code (chained number_code (l.lists.ready) rest)
+    (rest : List ℕ) → with_numbers l.code (chained number_code l.block-iterator rest) ≡ with_numbers
+    l.fn.code (chained number_code (l.lists.ready) rest)

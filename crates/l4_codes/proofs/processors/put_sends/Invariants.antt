@@ -7,4 +7,5 @@ use Rattle.l4_codes.proofs.processors.put_sends.Given as goal
 -- With those that are left it is the code of all.
 abbrev pub invariant-loop-send : goal.invariant-loop-send
 invariant-loop-send l =
-    (rest : List ℕ) → with_numbers l.code (chained waiting_code l.send-iterator rest) ≡ with_numbers l.fn.code (chained waiting_code (list_of l.lists l.receiver) rest)
+    (rest : List ℕ) → with_numbers l.code (chained waiting_code l.send-iterator rest) ≡ with_numbers
+    l.fn.code (chained waiting_code (list_of l.lists l.receiver) rest)

@@ -7,6 +7,7 @@ use Rattle.l4_codes.proofs.processors.put_waiting.Given as goal
 abbrev pub invariant-loop-receiver : goal.invariant-loop-receiver
 invariant-loop-receiver l =
     (rest : List ℕ) →
-    with_numbers l.code (each (chained waiting_code) (drop l.receiver l.core.local.lists.waiting) rest)
+    with_numbers l.code (each (chained waiting_code) (drop l.receiver l.core.local.lists.waiting)
+    rest)
     ≡ with_numbers l.fn.code
     (sized (length l.core.machine.threads) (chained waiting_code) l.core.local.lists.waiting rest)

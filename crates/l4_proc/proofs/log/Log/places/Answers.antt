@@ -8,7 +8,7 @@ use Rattle.l4_proc.proofs.log.Log.places.Goals as goal
 
 -- What stands behind the last end.
 none : End
-none = record { stamp = 0; place = 0 }
+none = record { stamp = 0; place = 0; choice = 0 }
 
 pub returns-clause-steps : goal.returns-clause-steps
 unfolding none

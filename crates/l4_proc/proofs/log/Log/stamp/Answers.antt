@@ -6,7 +6,7 @@ use Rattle.l4_proc.proofs.log.Log.stamp.Goals as goal
 
 -- What stands behind the last end.
 none : End
-none = record { stamp = 0; place = 0 }
+none = record { stamp = 0; place = 0; choice = 0 }
 
 pub returns : goal.returns
 unfolding none

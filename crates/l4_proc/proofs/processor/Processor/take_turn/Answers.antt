@@ -40,9 +40,9 @@ send_all-requires-clause-room c =
 pub returns-clause-ok : goal.returns-clause-ok
 returns-clause-ok c =
     let t = c.in_ok-take_turn.ensures.ok in
-    turn_taken c.args.self.now c.get_ready.new.self c.send_all.new.self _ t.told c.take_turn.new.self.log t.stamp
+    turn_taken c.args.self.now c.get_ready.new.self c.send_all.new.self _ t.told c.take_turn.new.self.log t.stamp t.choice
     c.args.self.now.whole c.get_ready.new.self.whole c.args.self.now.worker.log.few
-    c.in_ok-get_ready.ensures.ok t.done t.ended c.send_all.ensures.port
+    c.in_ok-get_ready.ensures.ok t.done t.happened t.ended c.send_all.ensures.port
     (c.send_all.ensures.core ∙ ap (λ (w : Worker). w.core) t.is) (c.send_all.ensures.hand ∙ ap (λ (w : Worker). w.hand) t.is)
     c.send_all.ensures.log (same_port c.send_all.new.self.port) refl
 

@@ -1,39 +1,131 @@
-"""Prints all endings of a machine, as a second emulator finds them: the states at rest that its core runs lead to.
+"""Prints what `l4run endings` says of a machine, as a second emulator finds it, and ends with the same status.
 
-    python3 -B bench/endings.py FILE DEPTH [STATES]
+    python3 -B bench/endings.py FILE [--depth N] [--states N] [--stuck] [--with LINE] [--never LINE] [--none]
 
-A core run has at most DEPTH events, and its ticks go to the least deadline of their processor. Each ending is printed once, with the first schedule that leads
-there and its report; the last line says how many states there are, how deep all were found, and whether there are no more.
+A core run has at most so many events, and its ticks go to the least deadline of their processor. Each ending, a state at rest that core runs lead to, is printed
+once, with the first schedule that leads there and its report; the last line says how many states there are, how deep all were found, and whether there are no
+more. Faults are not told as the program tells them.
 """
 
+import argparse
 import pathlib
 import sys
 
-from second import machines, model, searches
+from second import machines, model, searches, words
+from second.threads import Phase
 
-MOST_STATES = 100_000
+DEPTH, STATES = 1_000, 100_000
+LEAST, MOST = 1, 1_000_000
+WHOLE, USAGE, CUT, FOUND = 0, 2, 3, 4
+ANY_WORD, ANY_WORDS = "*", ".."
+OPEN = (words.ANY, words.ANY_LOCAL)
+BEGINNINGS = ("thread", "waiting", "ending", ANY_WORD)
 
 
-def ending_lines(machine, number, state):
-    items = ",".join(map(str, searches.named(machine, state.choices)))
-    history = searches.walk(machine, state.choices).history
-    return f"ending {number} {items}\n{model.world_of(machine, history).report(at_rest=True)}"
+class Ending:
+    """A state at rest, as the replay of the choices that lead there has it."""
+
+    def __init__(self, machine, choices):
+        self.choices = choices
+        self.end = searches.walk(machine, choices)
+        self.world = model.world_of(machine, self.end.history)
+        self.report = self.world.report(at_rest=True)
+
+    def text(self, number):
+        items = ",".join(map(str, self.choices))
+        return f"ending {number} {items}".rstrip(" ") + f"\n{self.report}"
+
+    def is_stuck(self):
+        return bool(self.world.sends) or any(map(is_closed, self.blocks()))
+
+    def blocks(self):
+        return [block for processor in self.end.processors for block in processor.own.values()]
+
+    def has_line(self, asked):
+        return any(fits(asked.split(" "), line.split(" ")) for line in self.report.splitlines())
+
+
+def is_closed(block):
+    """Whether a thread receives from one thread alone."""
+    return not block.deleted and block.phase is Phase.RECEIVING and block.source not in OPEN
+
+
+def fits(asked, line):
+    """Whether the words of a line are those that are asked for."""
+    if asked == [ANY_WORDS]:
+        return True
+    if not asked or not line:
+        return asked == line
+    return asked[0] in (ANY_WORD, line[0]) and fits(asked[1:], line[1:])
+
+
+def may_be_asked(line):
+    """Whether a report may have such a line, and it asks for no register of a deleted thread."""
+    first, *others = line.split(" ")
+    if first not in BEGINNINGS:
+        return False
+    may_be_deleted = first in ("thread", ANY_WORD) and len(others) > 1 and others[1] in ("deleted", ANY_WORD)
+    return not may_be_deleted or others[2:] == [ANY_WORDS]
+
+
+def is_asked(asked, ending):
+    return (
+        (not asked.stuck or ending.is_stuck())
+        and (asked.with_line is None or ending.has_line(asked.with_line))
+        and (asked.never is None or not ending.has_line(asked.never))
+    )
 
 
 def last_line(found):
     return f"states {len(found.states)} depth {found.depth} {'whole' if found.is_whole else 'cut'}\n"
 
 
-def endings(text, depth, most):
+def answer(text, asked):
+    """The lines that answer a question, and the exit status."""
     machine = machines.read(text)
-    found = searches.search(machine, depth, most)
-    lines = [ending_lines(machine, number, state) for number, state in enumerate(found.endings(), 1)]
-    return "".join(lines) + last_line(found)
+    found = searches.search(machine, asked.depth, asked.states)
+    endings = [ending for state in found.endings() if is_asked(asked, ending := Ending(machine, state.choices))]
+    lines = [ending.text(number) for number, ending in enumerate(endings, 1)]
+    status = FOUND if asked.none and endings else WHOLE if found.is_whole else CUT
+    return "".join(lines) + last_line(found), status
 
 
-def main(file, depth, most=MOST_STATES):
-    sys.stdout.write(endings(pathlib.Path(file).read_text(), int(depth), int(most)))
+def number(word):
+    value = int(word)
+    if not LEAST <= value <= MOST:
+        raise argparse.ArgumentTypeError("out of range")
+    return value
+
+
+def line(word):
+    if not may_be_asked(word):
+        raise argparse.ArgumentTypeError("no line that may be asked for")
+    return word
+
+
+def question(arguments):
+    reader = argparse.ArgumentParser()
+    reader.add_argument("file", type=pathlib.Path)
+    reader.add_argument("--depth", type=number, default=DEPTH)
+    reader.add_argument("--states", type=number, default=STATES)
+    reader.add_argument("--stuck", action="store_true")
+    reader.add_argument("--with", type=line, dest="with_line")
+    reader.add_argument("--never", type=line)
+    reader.add_argument("--none", action="store_true")
+    return reader.parse_args(arguments)
+
+
+def endings(text, depth, most):
+    """All endings of a machine, by a search as deep as this among as many states."""
+    return answer(text, argparse.Namespace(depth=depth, states=most, stuck=False, with_line=None, never=None, none=False))[0]
+
+
+def main(arguments):
+    asked = question(arguments)
+    lines, status = answer(asked.file.read_text(), asked)
+    sys.stdout.write(lines)
+    return status
 
 
 if __name__ == "__main__":
-    main(*sys.argv[1:])
+    sys.exit(main(sys.argv[1:]))

@@ -1,4 +1,5 @@
-"""Gives the program machine texts, traces and schedules that somebody spoilt, and has spoilt traces drawn, and judges its status and its lines."""
+"""Gives the program machine texts, traces and schedules that somebody spoilt, has spoilt traces drawn, records runs and asks for endings, and judges its
+status and its lines."""
 
 import collections
 import os
@@ -12,9 +13,10 @@ TURNS = "300"
 # How far it is is told after so many of each.
 PROGRESS = 5_000
 KINDS = "BadLine|BadNumber|BadId|BadCpu|TypedItems|DoubleId|TooManyThreads|TooManyInstructions|BadTarget|TooLong"
-FAULTS = re.compile(rf"l4run: (line \d+: (?:{KINDS})|schedule item \d+|turns out of range|trace line \d+|threads item \d+|refused at step \d+)\n")
+FAULTS = re.compile(rf"l4run: (line \d+: (?:{KINDS})|schedule item \d+|(?:turns|depth|states) out of range|trace line \d+|threads item \d+|refused at step \d+)\n")
 PASSED = re.compile(rb"passed \d+ (quiet|spent)\n")
-QUIET, FAULT, SPENT = 0, 1, 3
+ENDINGS = re.compile(rb"(^|\n)states \d+ depth \d+ (whole|cut)\n$")
+QUIET, FAULT, USAGE, SPENT, FOUND = 0, 1, 2, 3, 4
 
 NUMBERS = ["0", "1", "63", "64", "15", "16", "17", "0x3f", "18446744073709551615", "18446744073709551616", "4294967296", "-1", "0x", "00", "1.", ""]
 WORDS = ["never", "zero", "nil", "any", "anylocal", "last", "S", "R", "SR", "1.1", "2.1", "3.65", "1.64", "1.0", "#0000000000000001", "#00004001", "262143.16383", ";", "cpu", "end", "tick", "retarget"]
@@ -94,6 +96,25 @@ def schedule(dice):
     return told.decode()
 
 
+def list_file(dice):
+    """The text of a file with a schedule: items with blanks around them, comments, and what was spoilt of it."""
+    items = [dice.choice(ITEMS) + dice.choice(["", "", " ", "\n", "\t", "\r\n"]) for _ in range(dice.randint(0, 40))]
+    told = ",".join(items)
+    if dice.random() < 0.5:
+        told = "; a list\n" + told
+    return spoilt(dice, told.encode()) if dice.random() < 0.5 else told.encode()
+
+
+def question(dice):
+    """The words behind `endings FILE`."""
+    words = [f"--depth={dice.choice([0, 1, 3, 6, 6, 6, 1000001])}", f"--states={dice.choice([0, 1, 50, 200, 200, 200, 1000001])}"]
+    for name in ("--with", "--never"):
+        if dice.random() < 0.3:
+            line = dice.choice(["thread 1.1 *", "thread * ended ..", "waiting ..", "thread 1.1 deleted 0", "ending quiet", "thread 2.1 sending 0 nil nil 0", "..", ""])
+            words.append(f"{name}=" + spoilt(dice, line.encode()).replace(b"\0", b"").decode("utf-8", "ignore"))
+    return words + [name for name in ("--stuck", "--none") if dice.random() < 0.3]
+
+
 def chart(dice):
     """The words behind `chart FILE TRACE`."""
     words = []
@@ -108,16 +129,20 @@ def chart(dice):
     return words
 
 
-def judged(words, seen, lines, beside=""):
-    """Runs the program, counts what it answers, and ends where that is nothing it may answer. Lines stand beside a fault only where it begins so."""
+def judged(words, seen, lines, beside="", others=()):
+    """Runs the program, counts what it answers, and ends where that is nothing it may answer. Lines stand beside a fault only where it begins so. Other
+    statuses than those of a run are given."""
     told = subprocess.run(words, stdout=subprocess.PIPE, stderr=subprocess.PIPE)
     out, faults = told.stdout, told.stderr.decode("utf-8", "replace")
     if told.returncode == FAULT:
         fault = FAULTS.fullmatch(faults)
         right = fault and (not out or beside and fault[1].startswith(beside))
         kind = re.sub(r"\d+", "N", fault[1]) if fault else "?"
+    elif told.returncode == USAGE and USAGE in others:
+        right = faults.startswith("error: ") and not out
+        kind = "status 2"
     else:
-        right = told.returncode in (QUIET, SPENT) and not faults and lines(out)
+        right = told.returncode in (QUIET, SPENT, *others) and not faults and lines(out)
         kind = f"status {told.returncode}"
     if not right:
         sys.exit(f"{words}: status {told.returncode}: {faults or out[:200]}")
@@ -131,8 +156,8 @@ def write(name, told):
 
 
 def main(program, folder, count, part):
-    name, trace = f"{folder}/hostile-{part}.l4", f"{folder}/hostile-{part}.trace"
-    seen = {about: collections.Counter() for about in ("texts", "traces", "schedules", "charts")}
+    name, trace, listed = (f"{folder}/hostile-{part}.{kind}" for kind in ("l4", "trace", "list"))
+    seen = {about: collections.Counter() for about in ("texts", "traces", "schedules", "lists", "charts", "endings")}
     dice = random.Random(SEED + part)
     for done in range(count):
         if done and done % PROGRESS == 0:
@@ -142,7 +167,12 @@ def main(program, folder, count, part):
         judged([program, "run", name, "--turns", TURNS], seen["texts"], lambda out: True)
         write(name, text)
         judged([program, "replay", name, "--schedule=" + schedule(dice)], seen["schedules"], lambda out: True)
-        told = judged([program, "run", name, "--turns", TURNS], collections.Counter(), lambda out: True)
+        write(listed, list_file(dice))
+        judged([program, "replay", name, "--schedule=@" + listed], seen["lists"], lambda out: True)
+        judged([program, "endings", name, *question(dice)], seen["endings"], ENDINGS.search, others=(USAGE, FOUND))
+        told = judged([program, "run", name, "--turns", TURNS, "--record", listed], collections.Counter(), lambda out: True)
+        if told != judged([program, "replay", name, "--schedule=@" + listed], collections.Counter(), lambda out: True):
+            sys.exit(f"{name}: the replay of {listed} is another run")
         write(trace, spoilt(dice, told or b"tick 0 1\n"))
         judged([program, "audit", name, trace], seen["traces"], PASSED.fullmatch)
         judged([program, "chart", name, trace, *chart(dice)], seen["charts"], lambda out: True, beside="refused")

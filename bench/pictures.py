@@ -63,7 +63,7 @@ def browser():
 
 
 def opened(page, *options):
-    command = [browser(), "--no-sandbox", "--disable-gpu", *options, page.resolve().as_uri()]
+    command = [browser(), "--headless", "--no-sandbox", "--disable-gpu", *options, page.resolve().as_uri()]
     return subprocess.run(command, check=True, capture_output=True, text=True).stdout
 
 

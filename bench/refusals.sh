@@ -15,7 +15,7 @@ set -eu -o pipefail
 make_work
 cc -shared -fPIC -O2 -Wall -Wextra -o "$work/refuse.so" "$BENCH/refuse.c" -ldl
 programs=()
-for crate in l4_part_tests l4_host_tests l4_endings_tests; do
+for crate in l4_part_tests l4_host_tests; do
     programs+=("$(test_program "$crate" refused::)")
 done
 python3 -B "$BENCH/refusals.py" "$work/refuse.so" "$work" "${programs[@]}"

@@ -1,5 +1,5 @@
-"""Compares the endings that the program finds of random machines with those that the second emulator
-finds: the same endings in the same order, by schedules of the same length. Prints counts.
+"""Compares what `l4run endings` says of random machines with what the second emulator says: the same
+lines and the same status, where both find as many states. Prints counts.
 
 Both search to a depth and among so many states that a machine takes no more than seconds. The program
 may tell more states apart, as its processors know more than the second emulator's: such machines are
@@ -8,56 +8,55 @@ counted, and where a search ends at a number of states, one list of endings then
 
 import collections
 import random
-import re
 import subprocess
 import sys
 
 import endings
-from second import machines, model, randoms, searches
+from second import randoms
 
 SEED = 20_261_127
 KINDS = (randoms.General, randoms.HandingOn, randoms.Conflicts, randoms.HandingOn)
 DEPTH = 40
 MOST_STATES = 2_000
+LINES = ("waiting ..", "thread 1.1 ended ..", "thread * receiving ..", "thread 2.1 sending 0 * * *", "thread 1.1 * ..", "ending quiet")
 
 
-def without_items(lines):
-    """The lines, with how many items a schedule has in the place of its items: the program names each
-    choice, the second emulator turns where it can."""
-    return re.sub(r"^(ending \d+) ?(.*)$", lambda found: f"{found[1]} {items_in(found[2])}", lines, flags=re.M)
+def question(dice):
+    """What is asked of a machine: half of the time all endings."""
+    words = [f"--depth={DEPTH}", f"--states={MOST_STATES}"]
+    if dice.random() < 0.5:
+        return words
+    words += [name for name in ("--stuck", "--none") if dice.random() < 0.5]
+    return words + [f"{name}={dice.choice(LINES)}" for name in ("--with", "--never") if dice.random() < 0.3]
 
 
-def items_in(schedule):
-    return schedule.count(",") + 1 if schedule else 0
-
-
-def compared(program, file, text, counts):
-    """Searches a machine with both. Ends with what differs, where they differ."""
+def compared(program, file, text, words, counts):
+    """Asks both of a machine. Ends with what differs, where they differ."""
     with open(file, "w") as machine_file:
         machine_file.write(text)
-    words = [program, file, str(DEPTH), str(MOST_STATES)]
-    told = subprocess.run(words, stdout=subprocess.PIPE, stderr=subprocess.STDOUT, text=True)
-    expected = endings.endings(text, DEPTH, MOST_STATES)
-    ours, theirs = without_items(told.stdout), without_items(expected)
-    if told.returncode or not agree(ours, theirs):
-        sys.exit(f"the machine:\n{text}\nthe program says:\n{told.stdout}\nthe second emulator says:\n{expected}")
+    told = subprocess.run([program, "endings", file, *words], stdout=subprocess.PIPE, stderr=subprocess.STDOUT, text=True)
+    expected, status = endings.answer(text, endings.question([file, *words]))
+    is_same = told.stdout == expected and told.returncode == status
+    if not is_same and not agree(told.stdout, expected):
+        sys.exit(f"{words}, the machine:\n{text}\nthe program says, {told.returncode}:\n{told.stdout}\nthe second emulator says, {status}:\n{expected}")
     last = expected.splitlines()[-1].split()
     counts[f"machines whose search is {last[-1]}"] += 1
-    counts["machines with as many states"] += ours == theirs
+    counts[f"machines with status {status}"] += 1
+    counts["machines with the same lines and status"] += is_same
     counts["states"] += int(last[1])
     counts["endings"] += expected.count("\nending quiet\n")
 
 
 def agree(ours, theirs):
-    """Whether both tell the same endings; where states were cut off, as far as both went."""
-    if ours == theirs:
-        return True
+    """Whether the program tells more states apart, and both tell the same endings as far as both went."""
     (our_endings, our_last), (their_endings, their_last) = map(parted, (ours, theirs))
-    if our_last[-1] != their_last[-1] or int(our_last[1]) < int(their_last[1]):
-        return False
-    if our_last[-1] == "whole":
-        return our_endings == their_endings
-    return our_endings.startswith(their_endings) or their_endings.startswith(our_endings)
+    if our_last[-1] != their_last[-1] or int(our_last[1]) <= int(their_last[1]):
+        return our_last[-1] == their_last[-1] == "cut" and is_beginning(our_endings, their_endings)
+    return our_endings == their_endings or our_last[-1] == "cut" and is_beginning(our_endings, their_endings)
+
+
+def is_beginning(some, others):
+    return some.startswith(others) or others.startswith(some)
 
 
 def parted(lines):
@@ -71,7 +70,7 @@ def main(program, folder, count, part):
     for number in range(count):
         text = KINDS[number % len(KINDS)](dice).text()
         counts[f"machines of profile {text.split()[1]}"] += 1
-        compared(program, f"{folder}/searches-{part}.l4", text, counts)
+        compared(program, f"{folder}/searches-{part}.l4", text, question(dice), counts)
     for what, number in counts.items():
         print(f"{what}\t{number}")
 

@@ -1,13 +1,9 @@
 #!/bin/bash
-# Compares the endings that `endings` finds of random machines with those of the second emulator
-# (searches.py). Takes how many machines, 100 where none is given. It ends at the first difference,
-# and else prints counts.
+# Compares what `l4run endings` says of random machines, and of random questions about them, with
+# what the second emulator says (searches.py). Takes how many machines, 100 where none is given, and
+# behind it a program, if it is not to be l4run as it stands. It ends at the first difference, and
+# else prints counts.
 set -eu -o pipefail
 # shellcheck source=bench/common.sh
 . "$(dirname "$0")/common.sh"
-mapfile -t crates < <(sed 's/:.*//; s/ .*//' "$BENCH/../crates.txt" | grep -v '_tests$\|^l4$\|^l4run$\|^l4_cases$\|^l4_nowait$\|^l4_samples$\|^l4_round_trips$')
-build_beside endings_bench "${crates[@]}"
-status=0
-(in_parts searches.py "${1:-100}" "$program") || status=$?
-rm -rf "$built"
-exit "$status"
+in_parts searches.py "${1:-100}" "${2:-}"

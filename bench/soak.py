@@ -1,4 +1,4 @@
-"""Runs and replays machines of random scripts, audits each trace, and compares it with what else the program says. Prints counts."""
+"""Runs and replays machines of random scripts, audits each trace, replays each run by its record, and compares what the program says. Prints counts."""
 
 import collections
 import random
@@ -131,6 +131,13 @@ def compared(told, report):
     return len(waiting)
 
 
+def recorded(program, machine, record, told):
+    """Tests that the replay of what a run recorded prints and answers what the run did."""
+    again = done([program, "replay", machine, "--schedule", f"@{record}"], (told.returncode,))
+    if again.stdout != told.stdout:
+        sys.exit(f"the replay of {record} is another run")
+
+
 def watched(words):
     """Tests that the program has given all its memory back when it ends."""
     told = done(["valgrind", "--leak-check=full", *words], (QUIET, SPENT)).stderr
@@ -139,16 +146,17 @@ def watched(words):
 
 
 def main(program, folder, runs, part):
-    machine, trace = f"{folder}/soak-{part}.l4", f"{folder}/soak-{part}.trace"
+    machine, trace, record = (f"{folder}/soak-{part}.{kind}" for kind in ("l4", "trace", "list"))
     dice = random.Random(SEED + part)
     counts, different = collections.Counter(), set()
     for number in range(runs):
         cpus, profile, bits = dice.randint(2, texts.MOST_CPUS), dice.choice(PROFILES), dice.choice(FORMATS)
         with open(machine, "w") as file:
             file.write(text(dice, cpus, profile, bits))
-        run = [program, "run", machine, "--turns", str(TURNS)]
+        run = [program, "run", machine, "--turns", str(TURNS), "--record", record]
         told = done(run, (QUIET, SPENT))
         audited(program, machine, trace, told)
+        recorded(program, machine, record, told)
         lines = told.stdout.splitlines()
         counts["sends undecided at the end of a run"] += len(undecided(lines))
         counts["steps of runs"] += len(lines)
@@ -160,7 +168,7 @@ def main(program, folder, runs, part):
         audited(program, machine, trace, told)
         counts["steps of replays"] += told.stdout.count("\n")
         counts["sends that reports of replays list"] += compared(told, done([*replay, "--report"], (QUIET, SPENT)))
-        counts["runs, each passed, and as many replays"] += 1
+        counts["runs, each passed and replayed by its record, and as many other replays"] += 1
         if number % WATCHED == 0 and shutil.which("valgrind"):
             watched([program, "run", machine, "--turns", str(WATCHED_TURNS)])
             counts["runs watched, with no memory left at the end"] += 1

@@ -4,7 +4,7 @@ leads there. States are told apart by all that processors know and by the letter
 import dataclasses
 
 from second import machines
-from second.processors import Done, Gone, OrderDone, Ordered, OwnTurn, Posted, Processor, Replay, Retarget, TakeLetter, Tick, Turn, Withdraw
+from second.processors import Done, Gone, OrderDone, Ordered, OwnTurn, Posted, Processor, Replay, Retarget, TakeLetter, Tick, Withdraw
 from second.threads import Phase
 
 
@@ -13,9 +13,11 @@ class Watched(Processor):
 
     def __init__(self, machine, cpu):
         super().__init__(machine, cpu)
-        # The clocks at which receive phases began, and of other processors' threads the numbers of their last sends that came here.
+        # The clocks at which receive phases began, of other processors' threads the numbers of their last sends that came here, and the threads whose send was to
+        # be cancelled while it was at another processor: it is asked back, and its thread hears of it in any case.
         self.since = {}
         self.numbers = {}
+        self.asked_back = set()
 
     def begin_receive(self, block, source, period):
         super().begin_receive(block, source, period)
@@ -26,6 +28,15 @@ class Watched(Processor):
             self.numbers[letter.send.actual] = letter.send.name.number
         super().handle(letter)
 
+    def cancel(self, block, bits):
+        if "S" in bits and block.away:
+            self.asked_back.add(block.thread)
+        super().cancel(block, bits)
+
+    def end_send(self, block, decision):
+        self.asked_back.discard(block.thread)
+        super().end_send(block, decision)
+
     def code(self):
         return (
             tuple(map(self.block_code, self.own.values())),
@@ -35,6 +46,7 @@ class Watched(Processor):
             self.clock,
             tuple(sorted(self.gone)),
             tuple(sorted(self.numbers.items())),
+            tuple(sorted(self.asked_back)),
         )
 
     def block_code(self, block):
@@ -109,16 +121,6 @@ class Walk(Replay):
             if processor.can_tick():
                 yield Tick(processor.cpu)
 
-    def shortest_name(self, choice):
-        """A turn of the processor by its number alone, where that is what the turn does."""
-        posters = [poster for poster, letters in enumerate(self.mail[choice.cpu]) if letters]
-        match choice:
-            case TakeLetter(cpu, poster) if posters[0] == poster:
-                return Turn(cpu)
-            case OwnTurn(cpu) if not posters:
-                return Turn(cpu)
-        return choice
-
 
 @dataclasses.dataclass(frozen=True)
 class State:
@@ -145,15 +147,6 @@ def walk(machine, choices):
     for choice in choices:
         done.take(choice)
     return done
-
-
-def named(machine, choices):
-    """The items of a schedule."""
-    done, items = Walk(machine), []
-    for choice in choices:
-        items.append(done.shortest_name(choice))
-        done.take(choice)
-    return items
 
 
 def search(machine, depth, most):

@@ -45,7 +45,7 @@ fn do_job<R: Files + AllocGlobal + Threads + Sync>(
 ) -> u8 {
     let output = &mut done.output;
     let faults = &mut done.faults;
-    if !case.is_apart && job.trace_file() != Some("-") {
+    if !case.is_apart && job.second_file() != Some("-") {
         return perform_on_files(rt, rt.alloc(), rt, job, output, faults);
     }
     let mut text = case.text;

@@ -5,12 +5,12 @@ ghost use Rattle.l4_proc.specs.Working.{HasGoneOn};
 ghost use Rattle.l4_mail.specs.Fabrics.{most_room};
 
 use crate::runs::machine_of;
-use l4_jobs::report_lines::write_report;
 use l4_machine::{Outcome, RunFault, gather};
 use l4_proc::assembly::assemble;
 use l4_proc::gate::Open;
 use l4_proc::processor::Processor;
 use l4_proc::stops::Stop;
+use l4_reports::report_lines::write_report;
 use l4_samples::{ACROSS, call_begins, call_ends};
 use l4_script::machine::Machine;
 use l4_trace::traces::trace;

@@ -1,12 +1,14 @@
-//! Tests of processors at work, and of the program where a stream fails or memory is refused.
+//! Tests of whole machines, of processors at work, and of the program where a stream fails or
+//! memory is refused.
 //!
 //! Processors work one after the other in the hand of a caller, or each on a host thread of its
 //! own. Gates hold some of them back. Which history comes is up to the host, so a test looks for
 //! what each must have: it passes its audit, which finds what the outcome has. `streams` has reads
-//! and writes that fail, `refused` calls in which bench/refusals.sh refuses memory.
+//! and writes that fail, `refused` calls in which bench/refusals.sh refuses memory, `charts` what a
+//! terminal shows.
 //!
 //! No clause says that several host threads are at work, or that memory suffices: these tests show
-//! both.
+//! it.
 //!
 //! ```text
 //! ./x try l4_host_tests
@@ -14,11 +16,15 @@
 #![tactic(auto)]
 
 #[cfg(test)]
+mod charts;
+#[cfg(test)]
 mod gates;
 #[cfg(test)]
 mod gathers;
 #[cfg(test)]
 mod processors;
+#[cfg(test)]
+mod recorded;
 #[cfg(test)]
 mod refused;
 #[cfg(test)]
@@ -27,6 +33,8 @@ mod rooms;
 mod round_trips;
 #[cfg(test)]
 mod runs;
+#[cfg(test)]
+mod searches;
 #[cfg(test)]
 mod server;
 #[cfg(test)]

@@ -4,12 +4,10 @@ ghost use Rattle.l4_mail.specs.Ports.{AreOneFabric};
 ghost use Rattle.l4_proc.specs.Logs.{IsClosed};
 
 use crate::runs::{Meeting, machine_of};
-use l4_mail::rests::RestFault;
 use l4_proc::assembly::assemble;
 use l4_proc::gate::Open;
 use l4_proc::log::Log;
 use l4_proc::processor::Processor;
-use l4_proc::resting::rest;
 use l4_proc::stops::Stop;
 use l4_proc::together::work_together;
 use l4_samples::{ACROSS, endless};
@@ -184,13 +182,6 @@ pub(crate) fn runs_idle(processors: &mut Vec<Processor<'_>>, at: usize) -> bool
     processors[at].work(10, &Open) == Stop::Idle
 }
 
-fn drop_last(processors: &mut Vec<Processor<'_>>)
-    requires { AreOneFabric (map (λ p. p.port) processors.old.items) }
-    ensures { AreOneFabric (map (λ p. p.port) processors.new.items) }
-{
-    let _last = processors.pop();
-}
-
 /// Whether two processors have the logs of letters that came to rest. The send is kept at its
 /// receiver's processor, which queues it, begins to receive, delivers it, and ends its thread.
 pub(crate) fn have_rested(processors: &[Processor<'_>]) -> bool {
@@ -198,44 +189,4 @@ pub(crate) fn have_rested(processors: &[Processor<'_>]) -> bool {
         && has_stamps(processors[0].log(), &[1, 2, 3, 7, 8])
         && has_stamps(processors[1].log(), &[4, 5, 6, 7])
         && processors[0].stop() == Stop::Idle
-}
-
-// Whether letters were brought to rest.
-fn rested(alloc: Global, processors: &mut Vec<Processor<'_>>) -> Result<bool, RestFault>
-    requires { AreOneFabric (map (λ p. p.port) processors.old.items) }
-    ensures { AreOneFabric (map (λ p. p.port) processors.new.items) }
-{
-    rest(alloc, processors)
-}
-
-// Whether letters come to rest once the processors are idle.
-fn come_to_rest(alloc: Global, processors: &mut Vec<Processor<'_>>) -> bool
-    requires { AreOneFabric (map (λ p. p.port) processors.old.items) }
-    ensures { AreOneFabric (map (λ p. p.port) processors.new.items) }
-{
-    rested(alloc, processors) == Ok(true)
-        && runs_idle(processors, 0)
-        && rested(alloc, processors) == Ok(false)
-        && runs_idle(processors, 1)
-        && runs_idle(processors, 0)
-        && rested(alloc, processors) == Ok(true)
-}
-
-// Whether the last one of two is missed.
-fn is_missed(alloc: Global, processors: &mut Vec<Processor<'_>>) -> bool
-    requires { AreOneFabric (map (λ p. p.port) processors.old.items) }
-{
-    drop_last(processors);
-    rested(alloc, processors) == Err(RestFault::Numbers) && processors.len() == 1
-}
-
-#[test]
-fn letters_come_to_rest(rt: HostRuntime) {
-    let machine = machine_of(rt.alloc(), ACROSS).expect(&rt, "a machine");
-    let Ok(mut processors) = assemble(rt.alloc(), &machine, 1) else {
-        panic!(rt; "no processors");
-    };
-    assert!(rt; come_to_rest(rt.alloc(), &mut processors));
-    assert!(rt; have_rested(processors.as_slice()));
-    assert!(rt; is_missed(rt.alloc(), &mut processors));
 }

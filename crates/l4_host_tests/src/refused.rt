@@ -12,6 +12,7 @@ use crate::processors::{have_rested, processors_of, runs_idle};
 use crate::runs::{is_right, machine_of};
 use l4_audit::audit::{Audit, AuditFault, check};
 use l4_audit::auditor::Auditor;
+use l4_endings::{FoundEndings, endings};
 use l4_jobs::job::Job;
 use l4_jobs::perform::perform;
 use l4_jobs::words::{WordsFault, job_of};
@@ -126,15 +127,32 @@ fn rested<R: AllocGlobal + Abort + Print>(
     }
 }
 
-// Whether letters come to rest once the processors are idle.
+// Whether letters come to rest once the processors are idle. There are none at first.
 fn come_to_rest<R: AllocGlobal + Abort + Print>(rt: &R, processors: &mut Vec<Processor<'_>>) -> bool
     requires { AreOneFabric (map (λ p. p.port) processors.old.items) }
+    ensures { AreOneFabric (map (λ p. p.port) processors.new.items) }
 {
-    runs_idle(processors, 0)
+    rested(rt, processors) == Some(true)
+        && runs_idle(processors, 0)
         && rested(rt, processors) == Some(false)
         && runs_idle(processors, 1)
         && runs_idle(processors, 0)
         && rested(rt, processors) == Some(true)
+}
+
+fn drop_last(processors: &mut Vec<Processor<'_>>)
+    requires { AreOneFabric (map (λ p. p.port) processors.old.items) }
+    ensures { AreOneFabric (map (λ p. p.port) processors.new.items) }
+{
+    let _last = processors.pop();
+}
+
+// Whether the last one of two is missed.
+fn is_missed(alloc: Global, processors: &mut Vec<Processor<'_>>) -> bool
+    requires { AreOneFabric (map (λ p. p.port) processors.old.items) }
+{
+    drop_last(processors);
+    rest(alloc, processors) == Err(RestFault::Numbers) && processors.len() == 1
 }
 
 #[test]
@@ -145,6 +163,7 @@ fn letters_come_to_rest(rt: HostRuntime) {
     };
     assert!(rt; come_to_rest(&rt, &mut processors));
     assert!(rt; have_rested(processors.as_slice()));
+    assert!(rt; is_missed(rt.alloc(), &mut processors));
 }
 
 // The outcome of a run, by a second call where memory was refused.
@@ -284,7 +303,7 @@ fn possible_beside<R: AllocGlobal + Print>(
     step: &Step,
 ) -> Option<usize> {
     let steps = listed(rt, auditor).ok()?;
-    if !steps.iter().any(|listed| listed == step) {
+    if !steps.as_slice().contains(step) {
         return None;
     }
     Some(steps.len())
@@ -306,6 +325,24 @@ fn possible_steps_are_listed(rt: HostRuntime) {
     assert!(rt; left.is_empty());
 }
 
+// The endings of a machine, looked for again where memory was refused.
+fn searched<R: AllocGlobal + Print>(rt: &R, machine: &Machine) -> Result<FoundEndings, NoMemory> {
+    call_begins(rt, "endings");
+    let found = endings(rt.alloc(), machine, 100, 100);
+    call_ends(rt);
+    match found {
+        Ok(found) => Ok(found),
+        Err(NoMemory) => endings(rt.alloc(), machine, 100, 100),
+    }
+}
+
+#[test]
+fn endings_are_looked_for(rt: HostRuntime) {
+    let machine = machine_of(rt.alloc(), PING).expect(&rt, "a machine");
+    let found = searched(&rt, &machine).ok().expect(&rt, "endings");
+    assert!(rt; found.is_whole && found.states == 7 && found.endings.len() == 1);
+}
+
 // What words of a command line ask for, read again where memory was refused.
 fn asked<'a, R: AllocGlobal + Print>(rt: &R, words: &'a [&'a str]) -> Result<Job<'a>, WordsFault> {
     call_begins(rt, "job_of");
@@ -321,17 +358,25 @@ const RUN: Job<'static> = Job::Run {
     file: "m.l4",
     turns: 100,
     report: false,
+    record_to: None,
 };
 
 const REPORTED: Job<'static> = Job::Run {
     file: "m.l4",
     turns: 100,
     report: true,
+    record_to: None,
 };
 
 const REPLAY: Job<'static> = Job::Replay {
     file: "m.l4",
     schedule: "1,0,0,0,1,0,0,1",
+    report: false,
+};
+
+const FROM_FILE: Job<'static> = Job::Replay {
+    file: "m.l4",
+    schedule: "@m.list",
     report: false,
 };
 
@@ -409,6 +454,12 @@ fn jobs_are_performed(rt: HostRuntime) {
         (RUN, PING, "", PING_TRACE),
         (REPORTED, PING, "", PING_REPORT),
         (REPLAY, ACROSS, "", ACROSS_TRACE),
+        (
+            FROM_FILE,
+            ACROSS,
+            "; as above\n1, 0,0,\n0,1,0,0,1\n",
+            ACROSS_TRACE,
+        ),
         (AUDIT, ACROSS, ACROSS_TRACE, "passed 8 quiet\n"),
     ] {
         let is_performed = is_performed(&rt, &job, text, told, wanted);

@@ -1,7 +1,6 @@
 // Runs of several processors, each in a host thread of its own. Which of its histories such a
 // machine has is up to the host's threads, so the tests look for what each run must have. Where no
-// letter goes between processors there is only one: each takes its turns by itself, with stamps
-// that count its own events.
+// letter goes between processors there is only one: such runs are cases.
 use crate::gathers::has;
 use l4_audit::audit::check;
 use l4_machine::{Outcome, run};
@@ -149,9 +148,12 @@ impl Gate for Noted {
     }
 }
 
+fn none() -> AtomicU64 {
+    AtomicU64::new(0)
+}
+
 impl Noted {
     fn new() -> Noted {
-        let none = || AtomicU64::new(0);
         Noted {
             last: [none(), none(), none(), none()],
             again: [none(), none(), none(), none()],
@@ -250,66 +252,6 @@ fn a_word_arrives_in_each_run(rt: HostRuntime) {
     for _ in 0..20 {
         let outcome = comes_to(&rt, ACROSS, 1_000, &Open).expect(&rt, "an outcome");
         assert!(rt; has_arrived(rt.alloc(), &outcome) == Some(true));
-    }
-}
-
-// A thread on the first of two processors that waits for five ticks.
-const ONE_WAITS: &str = "l4 1 64
-cpus 2
-thread 1.1 cpu 0 space 1
-ipc nil any never 5
-";
-
-// And one on the second that waits for nine.
-const BOTH_WAIT: &str = "l4 1 64
-cpus 2
-thread 1.1 cpu 0 space 1
-ipc nil any never 5
-thread 2.1 cpu 1 space 2
-ipc nil any never 9
-";
-
-// The clock of a processor advances also where nobody waits for time there. No letter goes, so
-// there is one history. In the last run the ticks count as turns, and are not parted.
-const TICKS: [(&str, u64, &str, &str, u64); 3] = [
-    (
-        ONE_WAITS,
-        100,
-        "wait 1.1\ntick 1 5\ntick 0 5\nrtimeout 1.1\nlocal 1.1\n",
-        "thread 1.1 ended 3 nil nil 8000\nending quiet\n",
-        5,
-    ),
-    (
-        BOTH_WAIT,
-        100,
-        "wait 1.1
-wait 2.1
-tick 0 5
-tick 1 5
-rtimeout 1.1
-tick 1 9
-local 1.1
-rtimeout 2.1
-tick 0 9
-local 2.1
-",
-        "thread 1.1 ended 3 nil nil 8000\nthread 2.1 ended 3 nil nil 8000\nending quiet\n",
-        10,
-    ),
-    (
-        BOTH_WAIT,
-        3,
-        "wait 1.1\nwait 2.1\ntick 0 5\ntick 1 5\n",
-        "thread 1.1 receiving 0 nil nil 0\nthread 2.1 receiving 0 nil nil 0\nending spent\n",
-        4,
-    ),
-];
-
-#[test]
-fn all_clocks_go_on_to_the_least_deadline(rt: HostRuntime) {
-    for (text, turns, lines, report, taken) in TICKS {
-        let outcome = comes_to(&rt, text, turns, &Open).expect(&rt, "an outcome");
-        assert!(rt; has(rt.alloc(), &outcome, lines, report, taken), "{lines}");
     }
 }
 

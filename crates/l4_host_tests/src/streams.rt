@@ -1,10 +1,8 @@
-// The program over readers and writers that fail, and the line of each fault.
-use l4_jobs::fault::{Fault, report};
+// The program over readers and writers that fail.
 use l4_jobs::perform::perform;
 use l4_jobs::refusal::refuse;
 use l4_jobs::words::job_of;
 use l4_samples::{PING, PING_TRACE};
-use std::alloc::Global;
 use std::io;
 use std::io::{Read, Write};
 use std::thread::Threads;
@@ -60,8 +58,9 @@ impl Write for Full {
     }
 }
 
-// Does what the words ask for. Returns the status, and writes faults after those of the caller.
-fn does<R: AllocGlobal + Threads + Sync, M: Read, T: Read, W: Write>(
+/// Does what the words ask for, where the output may show lines. Returns the status, and writes
+/// faults after those of the caller.
+pub(crate) fn does<R: AllocGlobal + Threads + Sync, M: Read, T: Read, W: Write>(
     rt: &R,
     words: &[&str],
     machine: &mut M,
@@ -70,7 +69,10 @@ fn does<R: AllocGlobal + Threads + Sync, M: Read, T: Read, W: Write>(
     faults: &mut Vec<u8>,
 ) -> u8 {
     match job_of(rt.alloc(), words) {
-        Ok(job) => perform(rt, rt.alloc(), &job, machine, trace, out, faults),
+        Ok(job) => {
+            let job = job.on_output(true, 0);
+            perform(rt, rt.alloc(), &job, machine, trace, out, faults)
+        }
         Err(fault) => refuse(rt.alloc(), &fault, out, faults),
     }
 }
@@ -169,26 +171,4 @@ fn a_write_that_fails_is_reported(rt: HostRuntime) {
     let beginning = written(&rt, &RUN, 5).expect(&rt, "a report");
     assert!(rt; beginning.as_slice() == b"local".as_slice());
     assert!(rt; written(&rt, &HELP, 5).is_some());
-}
-
-// Whether a fault is reported by this line.
-fn is_reported(alloc: Global, fault: &Fault<'_>, line: &str) -> bool {
-    let mut faults = Vec::new(alloc);
-    report(alloc, &mut faults, fault) == 1 && faults.as_slice() == line.as_bytes()
-}
-
-#[test]
-fn each_fault_has_one_line(rt: HostRuntime) {
-    for (fault, line) in [
-        (Fault::Turns, "l4run: turns out of range\n"),
-        (Fault::Schedule(2), "l4run: schedule item 2\n"),
-        (Fault::NoMemory, "l4run: no memory\n"),
-        (
-            Fault::Read("no such file"),
-            "l4run: cannot read no such file\n",
-        ),
-        (Fault::Write, "l4run: cannot write\n"),
-    ] {
-        assert!(rt; is_reported(rt.alloc(), &fault, line), "{line}");
-    }
 }

@@ -1,14 +1,8 @@
 pub mod Charted
 pub mod Appending
 pub mod Audited
-pub mod Joined
-pub mod Registers
-pub mod ReportRows
-pub mod CommandSimple
-pub mod ItemSpelling
-pub mod Lawful
-pub mod Matched
+pub mod Recorded
+pub mod Listed
 pub mod Opened
 pub mod RunsShown
 pub mod Shown
-pub mod Splits

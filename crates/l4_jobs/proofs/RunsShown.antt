@@ -6,15 +6,14 @@ use Rattle.l4_model.specs.Machine.{Machine}
 use Rattle.l4_model.specs.History.{reached}
 use Rattle.l4_core_model.specs.Runs.{Run}
 use Rattle.l4_choices.specs.Entries.{Entry, replay_entries}
-use Rattle.l4_types.specs.declared.reports.Ending.{Ending}
-use Rattle.l4_types.specs.declared.reports.Ending.TheVariants.{Quiet, Spent}
 use Rattle.l4_machine.specs.Entries.{turns_fault}
 use Rattle.l4_machine.specs.Outcomes.{Findings, IsFoundFor, IsOutcomeOf, in_order}
 use Rattle.l4_machine.specs.declared.outcome.RunFault.TheVariants.{Turns}
 use Rattle.l4_trace.specs.Lines.{trace_of}
-use Rattle.l4_jobs.specs.Items.{schedule_of}
-use Rattle.l4_jobs.specs.Jobs.{IsReplayAsked, IsReport, IsRunAsked, IsRunShown, Shows, ending_at_rest, lines_of_outcome, replayed, status_at_rest, status_of_ending}
-use Rattle.l4_jobs.specs.ReportLines.{report_text}
+use Rattle.l4_jobs.specs.Jobs.{IsReplayAsked, IsReport, IsRunAsked, IsRunShown, Shows, asked_schedule, lines_of_outcome, replayed, status_at_rest, status_of_ending}
+use Rattle.l4_types.specs.declared.reports.Ending.{Ending}
+use Rattle.l4_types.specs.declared.reports.Ending.TheVariants.{Quiet, Spent}
+use Rattle.l4_reports.specs.ReportLines.{ending_at_rest, report_text}
 
 ending_is : (rests : Bool) (ending : Ending) → (ending ≡ Quiet) ↔ (rests ≡ true) → ending ≡ ending_at_rest rests
 ending_is true ending quiet = quiet.1 refl
@@ -50,7 +49,7 @@ shown report m IsAsked r o lines status asked is written ended = record {
 }
 
 -- A number of turns that is not refused is lawful.
-lawful : (turns : ℕ) → ((turns ≡ 0) ⊎ (1000000 < turns) → ⊥) → turns_fault turns ≡ None
+pub lawful : (turns : ℕ) → ((turns ≡ 0) ⊎ (1000000 < turns) → ⊥) → turns_fault turns ≡ None
 lawful turns right = by (turns == 0 || nat_lt 1000000 turns) refl
   where
     refused : (turns == 0 ≡ true) ⊎ (nat_lt 1000000 turns ≡ true) → ⊥
@@ -61,13 +60,19 @@ lawful turns right = by (turns == 0 || nat_lt 1000000 turns) refl
     by true is = elim (refused (or_cases _ _ is)) [ ]
     by false is = refl
 
-pub run_shown : (report : Bool) (m : Machine) (turns : ℕ) (o : Findings) (lines : List ℕ) (status : ℕ) → ((turns ≡ 0) ⊎ (1000000 < turns) → ⊥) →
-    IsFoundFor m turns o → lines ≡ lines_of_outcome report o → status ≡ status_of_ending o.ending → IsRunShown report m (IsRunAsked m turns) lines status
-run_shown report m turns o lines status right found =
-    let asked : IsRunAsked m turns (in_order found.run) = record { lawful = lawful turns right; run = found.run; is = found.is; sorted = refl } in
+pub run_is_shown : (report : Bool) (m : Machine) (turns : ℕ) (o : Findings) (lines : List ℕ) (status : ℕ) → turns_fault turns ≡ None → IsFoundFor m turns o →
+    lines ≡ lines_of_outcome report o → status ≡ status_of_ending o.ending → IsRunShown report m (IsRunAsked m turns) lines status
+run_is_shown report m turns o lines status right found =
+    let asked : IsRunAsked m turns (in_order found.run) = record { lawful = right; run = found.run; is = found.is; sorted = refl } in
     shown report m (IsRunAsked m turns) (in_order found.run) o lines status asked found.outcome
 
-pub replay_shown : (report : Bool) (m : Machine) (list : List ℕ) (entries : List Entry) (o : Findings) (lines : List ℕ) (status : ℕ) → schedule_of m list ≡ Ok entries →
+pub run_shown : (report : Bool) (m : Machine) (turns : ℕ) (o : Findings) (lines : List ℕ) (status : ℕ) → ((turns ≡ 0) ⊎ (1000000 < turns) → ⊥) →
+    IsFoundFor m turns o → lines ≡ lines_of_outcome report o → status ≡ status_of_ending o.ending → IsRunShown report m (IsRunAsked m turns) lines status
+run_shown report m turns o lines status right = run_is_shown report m turns o lines status (lawful turns right)
+
+pub replay_shown : (report : Bool) (m : Machine) (list text : List ℕ) (entries : List Entry) (o : Findings) (lines : List ℕ) (status : ℕ) →
+    asked_schedule m list text ≡ Ok entries →
     IsOutcomeOf m (replay_entries m entries) o → lines ≡ lines_of_outcome report o → status ≡ status_of_ending o.ending →
-    IsRunShown report m (IsReplayAsked m list) lines status
-replay_shown report m list entries o lines status is = shown report m (IsReplayAsked m list) (replay_entries m entries) o lines status (ap (replayed m) is)
+    IsRunShown report m (IsReplayAsked m list text) lines status
+replay_shown report m list text entries o lines status is =
+    shown report m (IsReplayAsked m list text) (replay_entries m entries) o lines status (ap (replayed m) is)

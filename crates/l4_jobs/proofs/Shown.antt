@@ -1,5 +1,5 @@
 -- What is read of a text, and what is written of a run.
-use Rattle.std.proofs.Common.{◌≡◌, ℕ, ◌≤◌, Bool, true, false, Option, Some, None, Result, Ok, Err, List, length, take, refl, ap, sym, subst, inl, inr, ◌∙◌, arith}
+use Rattle.std.proofs.Common.{◌≡◌, ℕ, ◌≤◌, Bool, true, false, Option, Some, None, Result, Ok, Err, List, [], ◌∷◌, length, take, refl, ap, sym, subst, inl, inr, ◌∙◌, arith}
 use Rattle.std.specs.Prelude.{◌⊎◌, IfErr, nat_lt}
 use Rattle.std.specs.declared.io.ErrorKind.{ErrorKind}
 use Rattle.std.specs.Option.{option_map}
@@ -11,20 +11,17 @@ use Rattle.l4_model.specs.History.{refused_place}
 use Rattle.l4_model.proofs.Faults.{tells_first_fault}
 use Rattle.l4_choices.specs.Entries.{Entry}
 use Rattle.l4_script.specs.Texts.{machine_of_text}
-use Rattle.l4_machine.specs.Entries.{entries_fault}
-use Rattle.l4_machine.specs.declared.outcome.CompactOutcome.{CompactOutcome}
-use Rattle.l4_machine.specs.declared.outcome.RunFault.{RunFault}
-use Rattle.l4_machine.specs.declared.outcome.RunFault.TheVariants.{NoMemory}
-use Rattle.l4_jobs.specs.Items.{schedule_of}
 use Rattle.l4_trace.specs.Reading.{steps_of}
 use Rattle.l4_jobs.specs.ChartJobs.{IsCharted, fault_of_lines, fault_of_threads, or_later, refused_of_steps, status_of_refused}
-use Rattle.l4_jobs.specs.Jobs.{IsDone, IsTold, IsTrueOn, IsTrulyDone, IsFaultOf, IsJobFault, IsPassed, IsShown, IsShownOn, IsNotDone, IsEnded, refused_in, refused_on, status_at_rest, fault_of, fault_of_job, fault_of_trace, fault_of_steps, fault_on as fault_of_judged, fault_of_result, fault_of_run}
+use Rattle.l4_jobs.specs.Jobs.{IsDone, IsTold, IsTrueOn, IsTrulyDone, IsFaultOf, IsJobFault, IsPassed, IsShown, IsShownOn, IsStatusOf, IsNotDone, IsEnded, refused_in, refused_on, status_at_rest, fault_of, fault_of_job, fault_of_trace, fault_of_steps, fault_on as fault_of_judged, fault_of_result, fault_of_run}
+use Rattle.l4_jobs.specs.Searches.{fault_of_question}
 use Rattle.l4_jobs.specs.declared.fault.Fault.{Fault}
 use Rattle.l4_jobs.specs.declared.fault.Fault.TheVariants as fault
-use Rattle.l4_jobs.specs.declared.job.ChartJob.{ChartJob}
-use Rattle.l4_jobs.specs.declared.job.Job.{Job}
-use Rattle.l4_jobs.specs.declared.job.Job.TheVariants.{Run, Replay, Audit, Chart}
-use Rattle.l4_jobs.proofs.Lawful.{lawful_schedule}
+use Rattle.l4_questions.specs.Printed.{answer_status, status_of_search}
+use Rattle.l4_commands.specs.declared.job.ChartJob.{ChartJob}
+use Rattle.l4_commands.specs.declared.job.EndingsJob.{EndingsJob}
+use Rattle.l4_commands.specs.declared.job.Job.{Job}
+use Rattle.l4_commands.specs.declared.job.Job.TheVariants.{Run, Replay, Audit, Chart, Endings}
 
 -- What reading a source may come to.
 abbrev Gives : Type 1
@@ -80,11 +77,12 @@ passed_right m trace lines p =
 
 -- What is shown has no fault.
 right_on : (job : Job) (m : Machine) (trace lines : List ℕ) (status : ℕ) → IsShownOn job m trace lines status → fault_of_job job m trace ≡ None
-right_on (Run file turns report) m trace lines status s = ap (option_map fault_of_run) s.is.lawful
+right_on (Run file turns report record_to) m trace lines status s = ap (option_map fault_of_run) s.is.lawful
 right_on (Replay file schedule report) m trace lines status s = ap fault_of_result s.is
 right_on (Audit file name) m trace lines status s = passed_right m trace lines s.0
 right_on (Chart chart) m trace lines status s =
     ap (λ o. or_later (fault_of_threads o) (fault_of_lines (steps_of trace))) s.chosen ∙ ap fault_of_lines s.reads
+right_on (Endings search) m trace lines status s = ap (option_map fault_of_question) s.lawful
 
 shown_right : (job : Job) (text trace lines : List ℕ) (status : ℕ) → IsShown job text trace lines status → fault_of job text trace ≡ None
 shown_right job text trace lines status s = ap (λ m. fault_of_judged job m trace) s.declares ∙ right_on job s.machine trace lines status s.shown
@@ -96,23 +94,33 @@ right_given P job machine others text trace lines status given told s faulty =
     elim (faulty text trace given told (shown_right job text trace lines status s)) [ ]
 
 -- The exit status of what is shown.
-at_rest_or_not : (rests : Bool) (status : ℕ) → status ≡ status_at_rest rests → (status ≡ 0) ⊎ (status ≡ 1) ⊎ (status ≡ 3)
-at_rest_or_not true status is = inl is
-at_rest_or_not false status is = inr (inr is)
+at_rest_or_not : (job : Job) (rests : Bool) (status : ℕ) → status ≡ status_at_rest rests → IsStatusOf job status
+at_rest_or_not job true status is = inl is
+at_rest_or_not job false status is = inr (inr (inl is))
 
-refused_or_not : (refused : Option ℕ) (status : ℕ) → status ≡ status_of_refused refused → (status ≡ 0) ⊎ (status ≡ 1) ⊎ (status ≡ 3)
-refused_or_not None status is = inl is
-refused_or_not (Some number) status is = inr (inl is)
+refused_or_not : (job : Job) (refused : Option ℕ) (status : ℕ) → status ≡ status_of_refused refused → IsStatusOf job status
+refused_or_not job None status is = inl is
+refused_or_not job (Some number) status is = inr (inl is)
+
+searched_or_cut : (search : EndingsJob) (is_whole : Bool) (status : ℕ) → status ≡ status_of_search is_whole → IsStatusOf (Endings search) status
+searched_or_cut search true status is = inl is
+searched_or_cut search false status is = inr (inr (inl is))
+
+answered_or_cut : (search : EndingsJob) (none : Bool) (asked : List (List Entry)) (is_whole : Bool) (status : ℕ) → search.none ≡ none →
+    status ≡ answer_status none asked is_whole → IsStatusOf (Endings search) status
+answered_or_cut search false asked is_whole status asks is = searched_or_cut search is_whole status is
+answered_or_cut search true [] is_whole status asks is = searched_or_cut search is_whole status is
+answered_or_cut search true (e ∷ asked) is_whole status asks is = inr (inr (inr (is, asks)))
 
 status_on : (job : Job) (m : Machine) (trace lines : List ℕ) (status : ℕ) → IsShownOn job m trace lines status →
-    (status ≡ 0) ⊎ (status ≡ 1) ⊎ (status ≡ 3)
-status_on (Run file turns report) m trace lines status s = at_rest_or_not _ status s.status_is
-status_on (Replay file schedule report) m trace lines status s = at_rest_or_not _ status s.status_is
+    IsStatusOf job status
+status_on (Run file turns report record_to) m trace lines status s = at_rest_or_not (Run file turns report record_to) _ status s.status_is
+status_on (Replay file schedule report) m trace lines status s = at_rest_or_not (Replay file schedule report) _ status s.status_is
 status_on (Audit file name) m trace lines status s = inl s.1
-status_on (Chart chart) m trace lines status s = refused_or_not _ status s.status_is
+status_on (Chart chart) m trace lines status s = refused_or_not (Chart chart) _ status s.status_is
+status_on (Endings search) m trace lines status s = answered_or_cut search search.none _ _ status refl s.status_is
 
-pub shown_status : (job : Job) (text trace lines : List ℕ) (status : ℕ) → IsShown job text trace lines status →
-    (status ≡ 0) ⊎ (status ≡ 1) ⊎ (status ≡ 3)
+pub shown_status : (job : Job) (text trace lines : List ℕ) (status : ℕ) → IsShown job text trace lines status → IsStatusOf job status
 shown_status job text trace lines status s = status_on job s.machine trace lines status s.shown
 
 -- The status is 1 exactly where a step of a trace that is drawn is not possible.
@@ -120,24 +128,35 @@ not_1 : (rests : Bool) (status : ℕ) → status ≡ status_at_rest rests → st
 not_1 true status is one = absurd (omega (arith, is, one))
 not_1 false status is one = absurd (omega (arith, is, one))
 
+searched_not_1 : (is_whole : Bool) (status : ℕ) → status ≡ status_of_search is_whole → status ≡ 1 → ⊥
+searched_not_1 true status is one = absurd (omega (arith, is, one))
+searched_not_1 false status is one = absurd (omega (arith, is, one))
+
+answered_not_1 : (none : Bool) (asked : List (List Entry)) (is_whole : Bool) (status : ℕ) → status ≡ answer_status none asked is_whole → status ≡ 1 → ⊥
+answered_not_1 false asked is_whole status is one = searched_not_1 is_whole status is one
+answered_not_1 true [] is_whole status is one = searched_not_1 is_whole status is one
+answered_not_1 true (e ∷ asked) is_whole status is one = absurd (omega (arith, is, one))
+
 refused_here : (chart : ChartJob) (m : Machine) (trace lines : List ℕ) (status : ℕ) (c : IsCharted chart m trace lines status) →
     refused_of_steps m (steps_of trace) ≡ refused_place m c.steps
 refused_here chart m trace lines status c = ap (refused_of_steps m) c.reads
 
 whole_on : (job : Job) (m : Machine) (trace lines : List ℕ) (status : ℕ) → IsShownOn job m trace lines status → refused_on job m trace ≡ None →
     status ≡ 1 → ⊥
-whole_on (Run file turns report) m trace lines status s none one = not_1 _ status s.status_is one
+whole_on (Run file turns report record_to) m trace lines status s none one = not_1 _ status s.status_is one
 whole_on (Replay file schedule report) m trace lines status s none one = not_1 _ status s.status_is one
 whole_on (Audit file name) m trace lines status s none one = absurd (omega (arith, s.1, one))
+whole_on (Endings search) m trace lines status s none one = answered_not_1 search.none _ _ status s.status_is one
 whole_on (Chart chart) m trace lines status s none one =
     let zero : status ≡ 0 = s.status_is ∙ ap status_of_refused (sym (refused_here chart m trace lines status s) ∙ none) in
     absurd (omega (arith, zero, one))
 
 cut_on : (job : Job) (m : Machine) (trace lines : List ℕ) (status number : ℕ) → IsShownOn job m trace lines status → refused_on job m trace ≡ Some number →
     status ≡ 1
-cut_on (Run file turns report) m trace lines status number s is = absurd (let none : None ≡ Some number = is in cc)
+cut_on (Run file turns report record_to) m trace lines status number s is = absurd (let none : None ≡ Some number = is in cc)
 cut_on (Replay file schedule report) m trace lines status number s is = absurd (let none : None ≡ Some number = is in cc)
 cut_on (Audit file name) m trace lines status number s is = absurd (let none : None ≡ Some number = is in cc)
+cut_on (Endings search) m trace lines status number s is = absurd (let none : None ≡ Some number = is in cc)
 cut_on (Chart chart) m trace lines status number s is =
     s.status_is ∙ ap status_of_refused (sym (refused_here chart m trace lines status s) ∙ is)
 
@@ -165,26 +184,25 @@ not_done_at_end job machine trace is_fault out keeps_out keeps faults text told 
     inr (inr (text, told, lines, number, given, t, subst (IsShown job text told lines) status_is s, sym cut, wrote, reported))
 
 pub end_status : (job : Job) (text told lines : List ℕ) (status result : ℕ) (refused : Option ℕ) (keeps : Type 0) (faults : Takes) →
-    IsShown job text told lines status → IsEnded refused status result keeps faults → (result ≡ 0) ⊎ (result ≡ 1) ⊎ (result ≡ 3)
+    IsShown job text told lines status → IsEnded refused status result keeps faults → IsStatusOf job result
 end_status job text told lines status result None keeps faults s (is, kept) =
-    subst (λ n. (n ≡ 0) ⊎ (n ≡ 1) ⊎ (n ≡ 3)) (sym is) (shown_status job text told lines status s)
+    subst (IsStatusOf job) (sym is) (shown_status job text told lines status s)
 end_status job text told lines status result (Some number) keeps faults s (is, reported) = inr (inl is)
-
--- A schedule that was read has no fault when it is replayed.
-pub replay_fault : (m : Machine) (list : List ℕ) (entries : List Entry) (r : Result CompactOutcome RunFault) → schedule_of m list ≡ Ok entries →
-    IfErr r (λ fault. (fault ≡ NoMemory) ⊎ (entries_fault m entries ≡ Some fault)) →
-    IfErr r (λ fault. (fault ≡ NoMemory) ⊎ (schedule_of m list ≡ Err fault))
-replay_fault m list entries (Ok o) is h = tt
-replay_fault m list entries (Err fault) is (inl e) = inl e
-replay_fault m list entries (Err fault) is (inr e) = absurd (let right = lawful_schedule m list entries is in cc)
 
 -- What is shown is true of the machine.
 pub true_on : (job : Job) (m : Machine) (trace lines : List ℕ) (status : ℕ) → IsShownOn job m trace lines status →
     IsTrueOn job m trace lines status
-true_on (Run file turns report) m trace lines status s = s.is_true
+true_on (Run file turns report record_to) m trace lines status s = s.is_true
 true_on (Replay file schedule report) m trace lines status s = s.is_true
 true_on (Audit file name) m trace lines status s = s
 true_on (Chart chart) m trace lines status s = s
+true_on (Endings search) m trace lines status s = s
+
+-- The status of a run that was recorded.
+pub recorded_status : (job : Job) (status : ℕ) → (status ≡ 0) ⊎ (status ≡ 1) ⊎ (status ≡ 3) → IsStatusOf job status
+recorded_status job status (inl is) = inl is
+recorded_status job status (inr (inl is)) = inr (inl is)
+recorded_status job status (inr (inr is)) = inr (inr (inl is))
 
 pub truly_done : (job : Job) (machine trace : Gives) (out : List ℕ → Bool → Type 0) (keeps : Type 0) (status : ℕ) →
     IsDone job machine trace out keeps status → IsTrulyDone job machine trace out status

@@ -1,5 +1,5 @@
--- The audit of the text of a trace, and its fault.
-use Rattle.std.specs.Prelude.{◌≡◌, ◌↔◌, ◌+◌, ℕ, true, Some, Result, Ok, Err, List, length}
+-- The audit of the text of a trace, its line and its fault.
+use Rattle.std.specs.Prelude.{◌≡◌, ◌↔◌, ◌+◌, ℕ, true, Some, Result, Ok, Err, List, [], ◌∷◌, length, codes, decimal}
 use Rattle.l4_model.specs.Machine.{Machine}
 use Rattle.l4_model.specs.Steps.{Step}
 use Rattle.l4_model.specs.World.{World}
@@ -8,8 +8,11 @@ use Rattle.l4_model.specs.Still.{IsStill}
 use Rattle.l4_audit.specs.Audits.{is_quiet}
 use Rattle.l4_audit.specs.declared.reasons.StepFault.{StepFault}
 use Rattle.l4_audit.specs.declared.reasons.StepFault.TheVariants.{NoMemory, Refused}
+use Rattle.l4_reports.specs.ReportLines.{ending_word}
 use Rattle.l4_trace.specs.Forward.{Ahead}
+use Rattle.l4_trace.specs.Lines.{line_of_words}
 use Rattle.l4_trace.specs.Reading.{steps_of}
+use Rattle.l4_types.specs.declared.reports.Ending.{Ending}
 use Rattle.l4_jobs.specs.declared.audits.PassedTrace.{PassedTrace}
 use Rattle.l4_jobs.specs.declared.fault.Fault.{Fault}
 use Rattle.l4_jobs.specs.declared.fault.Fault.TheVariants as fault
@@ -32,3 +35,7 @@ fault_of_rest place (Err behind) = fault.Trace (place + behind)
 abbrev pub fault_behind : Ahead → StepFault → Fault
 fault_behind ahead NoMemory = fault.NoMemory
 fault_behind ahead (Refused reason) = fault_of_rest ahead.read (steps_of ahead.rest)
+
+-- A trace of so many steps has passed its audit.
+abbrev pub passed_line : (steps : ℕ) → Ending → List ℕ
+passed_line steps ending = line_of_words (codes "passed" ∷ decimal steps ∷ ending_word ending ∷ [])

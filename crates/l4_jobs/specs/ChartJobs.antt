@@ -1,5 +1,5 @@
 -- What a chart of a trace shows, and why there is none.
-use Rattle.std.specs.Prelude.{◌≡◌, ◌==◌, ℕ, Bool, true, false, if◌then◌else◌, Option, Some, None, Result, Ok, Err, List}
+use Rattle.std.specs.Prelude.{◌≡◌, ◌==◌, ℕ, if◌then◌else◌, Option, Some, None, Result, Ok, Err, List}
 use Rattle.std.specs.Option.{option_copied}
 use Rattle.l4_model.specs.Words.{GlobalId}
 use Rattle.l4_model.specs.Machine.{Machine}
@@ -15,10 +15,10 @@ use Rattle.l4_trace.specs.Reading.{steps_of}
 use Rattle.l4_jobs.specs.declared.fault.Fault.{Fault}
 use Rattle.l4_jobs.specs.declared.fault.Fault.TheVariants as fault
 use Rattle.l4_chart.specs.declared.drawing.Form.{Form}
-use Rattle.l4_chart.specs.declared.drawing.Form.TheVariants.{Lines, Ascii}
-use Rattle.l4_jobs.specs.declared.job.ChartJob.{ChartJob}
-use Rattle.l4_jobs.specs.declared.job.Job.{Job}
-use Rattle.l4_jobs.specs.declared.job.Job.TheVariants.{Chart}
+use Rattle.l4_chart.specs.declared.drawing.Form.TheVariants as drawing
+use Rattle.l4_commands.specs.declared.job.ChartForm.{ChartForm}
+use Rattle.l4_commands.specs.declared.job.ChartForm.TheVariants.{Lines, Ascii, Svg, Html, Mermaid}
+use Rattle.l4_commands.specs.declared.job.ChartJob.{ChartJob}
 
 -- The threads that are shown: all where there is no list.
 abbrev pub some_threads : Result (List GlobalId) ℕ → Result (Option (List GlobalId)) ℕ
@@ -39,6 +39,14 @@ part_of chart threads = record { first = chart.first; last = chart.last; threads
 abbrev pub width_of : ChartJob → ℕ
 width_of chart = if chart.width == 0 then 80 else chart.width
 
+-- The form of a drawing.
+abbrev pub drawing_form : ChartForm → Form
+drawing_form Lines = drawing.Lines
+drawing_form Ascii = drawing.Ascii
+drawing_form Svg = drawing.Svg
+drawing_form Html = drawing.Html
+drawing_form Mermaid = drawing.Mermaid
+
 -- The exit status where each step is possible, and where one is not.
 abbrev pub status_of_refused : Option ℕ → ℕ
 status_of_refused None = 0
@@ -50,7 +58,7 @@ pub record IsCharted (chart : ChartJob) (m : Machine) (trace lines : List ℕ) (
   pub chosen : chosen_by m chart ≡ Ok threads
   pub steps : List Step
   pub reads : steps_of trace ≡ Ok steps
-  pub drawn : IsDrawing chart.form (width_of chart) (columns_of m threads) (rows_of m (until_refused (refused_place m steps) (part_of chart threads)) steps) lines
+  pub drawn : IsDrawing (drawing_form chart.form) (width_of chart) (columns_of m threads) (rows_of m (until_refused (refused_place m steps) (part_of chart threads)) steps) lines
   pub status_is : status ≡ status_of_refused (refused_place m steps)
 
 -- Its fault on a list of threads, and on a trace whose lines are not those of steps. The list is judged first.
@@ -77,16 +85,3 @@ fault_of_chart chart m trace = or_later (fault_of_threads (chosen_by m chart)) (
 abbrev pub refused_of_steps : Machine → Result (List Step) ℕ → Option ℕ
 refused_of_steps m (Ok steps) = refused_place m steps
 refused_of_steps m (Err line) = None
-
--- The form and the width of a chart for an output that may show lines, and may have this many columns. What was asked for stays.
-abbrev pub form_on : (shows_lines : Bool) → Form → Form
-form_on true form = form
-form_on false Lines = Ascii
-form_on false form = form
-
-abbrev pub width_on : (columns width : ℕ) → ℕ
-width_on columns width = if width == 0 then columns else width
-
-abbrev pub on_output : (shows_lines : Bool) → (columns : ℕ) → Job → Job
-on_output shows_lines columns (Chart c) = Chart (record c { form = form_on shows_lines c.form; width = width_on columns c.width })
-on_output shows_lines columns job = job

@@ -22,12 +22,15 @@ kind_word kind.BadTarget = codes "BadTarget"
 abbrev pub fault_words : Fault → List ℕ
 fault_words (fault.Text line kind) = codes "line " ++ decimal line ++ codes ": " ++ kind_word kind
 fault_words fault.Turns = codes "turns out of range"
+fault_words fault.Depth = codes "depth out of range"
+fault_words fault.States = codes "states out of range"
 fault_words (fault.Schedule number) = codes "schedule item " ++ decimal number
 fault_words (fault.Threads number) = codes "threads item " ++ decimal number
 fault_words (fault.Trace line) = codes "trace line " ++ decimal line
 fault_words (fault.Refused step) = codes "refused at step " ++ decimal step
 fault_words fault.NoMemory = codes "no memory"
 fault_words (fault.Read name) = codes "cannot read " ++ name.now
+fault_words (fault.Unwritten name) = codes "cannot write " ++ name.now
 fault_words fault.Write = codes "cannot write"
 
 abbrev pub fault_line : Fault → List ℕ

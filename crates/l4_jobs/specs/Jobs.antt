@@ -21,40 +21,36 @@ use Rattle.l4_machine.specs.Outcomes.{Findings, IsRunFor, IsTrueOf, in_order}
 use Rattle.l4_machine.specs.Entries.{turns_fault}
 use Rattle.l4_machine.specs.declared.outcome.RunFault.{RunFault}
 use Rattle.l4_machine.specs.declared.outcome.RunFault.TheVariants as run_fault
+use Rattle.l4_questions.specs.Answers.{IsAnswered}
+use Rattle.l4_reports.specs.ReportLines.{ending_at_rest, report_text}
+use Rattle.l4_schedules.specs.InFiles.{schedule_in_file}
+use Rattle.l4_schedules.specs.Items.{schedule_of}
 use Rattle.l4_trace.specs.Lines.{trace_of}
 use Rattle.l4_trace.specs.Reading.{steps_of}
 use Rattle.l4_trace.specs.declared.fault.TraceFault.{TraceFault}
 use Rattle.l4_trace.specs.declared.fault.TraceFault.TheVariants as trace_fault
+use Rattle.l4_commands.specs.Files.{file_of, list_name, second_file_of}
+use Rattle.l4_jobs.specs.Audits.{passed_line}
 use Rattle.l4_jobs.specs.ChartJobs.{IsCharted, chosen_by, fault_of_chart, fault_of_lines, fault_of_threads, refused_of_steps}
 use Rattle.l4_jobs.specs.FaultLines.{IsReported}
-use Rattle.l4_jobs.specs.Items.{schedule_of}
-use Rattle.l4_jobs.specs.ReportLines.{report_text, passed_line}
+use Rattle.l4_jobs.specs.Searches.{fault_of_search, question_of}
 use Rattle.l4_jobs.specs.Streams.{FileGives}
 use Rattle.l4_jobs.specs.declared.fault.Fault.{Fault}
 use Rattle.l4_jobs.specs.declared.fault.Fault.TheVariants as fault
-use Rattle.l4_jobs.specs.declared.job.ChartJob.{ChartJob}
-use Rattle.l4_jobs.specs.declared.job.Job.{Job}
-use Rattle.l4_jobs.specs.declared.job.Job.TheVariants.{Run, Replay, Audit, Chart}
+use Rattle.l4_commands.specs.declared.job.ChartJob.{ChartJob}
+use Rattle.l4_commands.specs.declared.job.Job.{Job}
+use Rattle.l4_commands.specs.declared.job.Job.TheVariants.{Run, Replay, Audit, Chart, Endings}
 
--- The names of its files: the machine text's, and the trace's where it reads one.
-abbrev pub file_of : Job → List ℕ
-file_of (Run file turns report) = file.now
-file_of (Replay file schedule report) = file.now
-file_of (Audit file trace) = file.now
-file_of (Chart chart) = chart.file.now
+-- The text that is read of a file of this name is what its reader gives. Where there is none,
+-- nothing is read.
+abbrev pub IsRead : (name : Option (List ℕ)) → (gives : Result (List ℕ) ErrorKind → Type 0) →
+    (text : List ℕ) → Type 0
+IsRead None gives text = Unit {0}
+IsRead (Some name) gives text = gives (Ok text)
 
-abbrev pub trace_file_of : Job → Option (List ℕ)
-trace_file_of (Run file turns report) = None
-trace_file_of (Replay file schedule report) = None
-trace_file_of (Audit file trace) = Some trace.now
-trace_file_of (Chart chart) = Some chart.trace.now
-
--- The trace that a job goes by: that of an audit or a chart is what its reader gives, and the others read none.
-abbrev pub IsTold : Job → (gives : Result (List ℕ) ErrorKind → Type 0) → (trace : List ℕ) → Type 0
-IsTold (Run file turns report) gives trace = Unit {0}
-IsTold (Replay file schedule report) gives trace = Unit {0}
-IsTold (Audit file name) gives trace = gives (Ok trace)
-IsTold (Chart chart) gives trace = gives (Ok trace)
+-- The trace or the list that a job goes by.
+abbrev pub IsTold : Job → (gives : Result (List ℕ) ErrorKind → Type 0) → (told : List ℕ) → Type 0
+IsTold job gives told = IsRead (second_file_of job) gives told
 
 -- The fault of this file that can't be read, by the kind of the error.
 abbrev pub Names : (file : List ℕ) → Fault → Type 0
@@ -72,16 +68,26 @@ pub record IsRunAsked (m : Machine) (turns : ℕ) (r : CoreRun) : Type 0 where
   pub is : IsRunFor m turns run
   pub sorted : r ≡ in_order run
 
--- The core run of a machine by a list of items, or why there is none.
+-- The schedule that is asked for: that of the list itself, or where it names a file, that of the
+-- text in the file.
+abbrev pub named_schedule : Machine → (name : Option (List ℕ)) → (list text : List ℕ) →
+    Result (List Entry) RunFault
+named_schedule m None list text = schedule_of m list
+named_schedule m (Some name) list text = schedule_in_file m text
+
+abbrev pub asked_schedule : Machine → (list text : List ℕ) → Result (List Entry) RunFault
+asked_schedule m list text = named_schedule m (list_name list) list text
+
+-- The core run of a machine by it, or why there is none.
 abbrev pub replayed : Machine → Result (List Entry) RunFault → Result CoreRun RunFault
 replayed m (Ok entries) = Ok (replay_entries m entries)
 replayed m (Err fault) = Err fault
 
-abbrev pub run_by_list : Machine → (list : List ℕ) → Result CoreRun RunFault
-run_by_list m list = replayed m (schedule_of m list)
+abbrev pub run_by_list : Machine → (list text : List ℕ) → Result CoreRun RunFault
+run_by_list m list text = replayed m (asked_schedule m list text)
 
-abbrev pub IsReplayAsked : Machine → (list : List ℕ) → CoreRun → Type 0
-IsReplayAsked m list r = run_by_list m list ≡ Ok r
+abbrev pub IsReplayAsked : Machine → (list text : List ℕ) → CoreRun → Type 0
+IsReplayAsked m list text r = run_by_list m list text ≡ Ok r
 
 -- Its fault on a text. The text is judged first.
 abbrev pub text_fault : (line : ℕ) → TextFaultKind → Fault
@@ -115,10 +121,11 @@ abbrev pub fault_of_trace : Machine → (trace : List ℕ) → Option Fault
 fault_of_trace m trace = fault_of_steps m (steps_of trace)
 
 abbrev pub fault_of_job : Job → Machine → (trace : List ℕ) → Option Fault
-fault_of_job (Run file turns report) m trace = fault_of_turns turns
-fault_of_job (Replay file schedule report) m trace = fault_of_result (run_by_list m schedule.now)
+fault_of_job (Run file turns report record_to) m trace = fault_of_turns turns
+fault_of_job (Replay file schedule report) m text = fault_of_result (run_by_list m schedule.now text)
 fault_of_job (Audit file name) m trace = fault_of_trace m trace
 fault_of_job (Chart chart) m trace = fault_of_chart chart m trace
+fault_of_job (Endings search) m trace = fault_of_search search
 
 abbrev pub fault_on : Job → Result Machine TextFault → (trace : List ℕ) → Option Fault
 fault_on job (Err f) trace = Some (text_fault f.line f.kind)
@@ -144,11 +151,28 @@ IsChartFault chart m gives f =
     (fault_of_threads (chosen_by m chart) ≡ Some f)
     ⊎ ((fault_of_threads (chosen_by m chart) ≡ None) × IsLinesFault chart.trace.now gives f)
 
+-- The same of the schedule of a replay. A file of this name with its list is read where there is a
+-- machine to judge it on.
+
+abbrev pub IsListFault : Machine → (name : List ℕ) →
+    (gives : Result (List ℕ) ErrorKind → Type 0) → Fault → Type 0
+IsListFault m name gives f =
+    ((kind : ErrorKind) × gives (Err kind) × IsUnread name kind f)
+    ⊎ ((text : List ℕ) × gives (Ok text)
+    × (fault_of_result (replayed m (schedule_in_file m text)) ≡ Some f))
+
+abbrev pub IsScheduleFault : Machine → (list : List ℕ) → (name : Option (List ℕ)) →
+    (gives : Result (List ℕ) ErrorKind → Type 0) → Fault → Type 0
+IsScheduleFault m list None gives f = fault_of_result (replayed m (schedule_of m list)) ≡ Some f
+IsScheduleFault m list (Some name) gives f = IsListFault m name gives f
+
 abbrev pub IsFaultOn : Job → Machine → (trace : Result (List ℕ) ErrorKind → Type 0) → Fault → Type 0
-IsFaultOn (Run file turns report) m trace f = fault_of_turns turns ≡ Some f
-IsFaultOn (Replay file schedule report) m trace f = fault_of_result (run_by_list m schedule.now) ≡ Some f
+IsFaultOn (Run file turns report record_to) m trace f = fault_of_turns turns ≡ Some f
+IsFaultOn (Replay file schedule report) m list f =
+    IsScheduleFault m schedule.now (list_name schedule.now) list f
 IsFaultOn (Audit file name) m trace f = IsTraceFault m name.now trace f
 IsFaultOn (Chart chart) m trace f = IsChartFault chart m trace f
+IsFaultOn (Endings search) m trace f = fault_of_search search ≡ Some f
 
 abbrev pub IsFaultOf : Job → Result Machine TextFault → (trace : Result (List ℕ) ErrorKind → Type 0) → Fault → Type 0
 IsFaultOf job (Err e) trace f = f ≡ text_fault e.line e.kind
@@ -160,12 +184,13 @@ IsJobFault job machine trace f =
     ⊎ ((kind : ErrorKind) × machine (Err kind) × IsUnread (file_of job) kind f)
     ⊎ ((text : List ℕ) × machine (Ok text) × IsFaultOf job (machine_of_text text) trace f)
 
--- What reading the trace of a job that reads one may come to.
+-- What reading the trace or the list of a job that reads one may come to.
 abbrev pub TraceGives : {File : Type 0} → (opens : List ℕ → Result File ErrorKind → Type 0) → (gives : File → Result (List ℕ) ErrorKind → Type 0) →
     Job → Result (List ℕ) ErrorKind → Type 0
-TraceGives opens gives job trace = IsSomeAnd (trace_file_of job) (λ name. FileGives opens gives name trace)
+TraceGives opens gives job trace = IsSomeAnd (second_file_of job) (λ name. FileGives opens gives name trace)
 
--- Why a job whose machine text was opened prints nothing: the trace of this name can't be opened, or it was opened too.
+-- Why a job whose machine text was opened prints nothing: the trace or list of this name can't be
+-- opened, or it was opened too.
 abbrev pub IsFaultBehind : {File : Type 0} → (opens : List ℕ → Result File ErrorKind → Type 0) → (gives : File → Result (List ℕ) ErrorKind → Type 0) →
     (trace : Option (List ℕ)) → Job → (machine : Result (List ℕ) ErrorKind → Type 0) → Fault → Type 0
 IsFaultBehind opens gives None job machine f = IsJobFault job machine (λ given. ⊥) f
@@ -178,16 +203,12 @@ abbrev pub IsOpenedFault : {File : Type 0} → (opens : List ℕ → Result File
     Job → Fault → Type 0
 IsOpenedFault {File} opens gives job f =
     ((kind : ErrorKind) × opens (file_of job) (Err kind) × IsUnread (file_of job) kind f)
-    ⊎ ((file : File) × opens (file_of job) (Ok file) × IsFaultBehind opens gives (trace_file_of job) job (gives file) f)
+    ⊎ ((file : File) × opens (file_of job) (Ok file) × IsFaultBehind opens gives (second_file_of job) job (gives file) f)
 
 -- The exit status of a run that ends at rest, and of one that does not.
 abbrev pub status_at_rest : Bool → ℕ
 status_at_rest true = 0
 status_at_rest false = 3
-
-abbrev pub ending_at_rest : Bool → Ending
-ending_at_rest true = Quiet
-ending_at_rest false = Spent
 
 -- The report of a core run: the threads and the undecided sends of the world that its history reaches, and its ending.
 pub record IsReport (m : Machine) (r : CoreRun) (lines : List ℕ) : Type 0 where
@@ -237,17 +258,29 @@ pub record IsPassed (machine : Machine) (trace lines : List ℕ) : Type 0 where
 
 -- These are what a job shows on a machine, and the exit status.
 abbrev pub IsShownOn : Job → Machine → (trace lines : List ℕ) → (status : ℕ) → Type 0
-IsShownOn (Run file turns report) m trace lines status = IsRunShown report m (IsRunAsked m turns) lines status
-IsShownOn (Replay file schedule report) m trace lines status = IsRunShown report m (IsReplayAsked m schedule.now) lines status
+IsShownOn (Run file turns report record_to) m trace lines status =
+    IsRunShown report m (IsRunAsked m turns) lines status
+IsShownOn (Replay file schedule report) m text lines status =
+    IsRunShown report m (IsReplayAsked m schedule.now text) lines status
 IsShownOn (Audit file name) m trace lines status = IsPassed m trace lines × (status ≡ 0)
 IsShownOn (Chart chart) m trace lines status = IsCharted chart m trace lines status
+IsShownOn (Endings search) m trace lines status = IsAnswered m (question_of search) lines status
 
 -- They are true of the machine.
 abbrev pub IsTrueOn : Job → Machine → (trace lines : List ℕ) → (status : ℕ) → Type 0
-IsTrueOn (Run file turns report) m trace lines status = IsTrueShown report m lines status
+IsTrueOn (Run file turns report record_to) m trace lines status = IsTrueShown report m lines status
 IsTrueOn (Replay file schedule report) m trace lines status = IsTrueShown report m lines status
 IsTrueOn (Audit file name) m trace lines status = IsPassed m trace lines × (status ≡ 0)
 IsTrueOn (Chart chart) m trace lines status = IsCharted chart m trace lines status
+IsTrueOn (Endings search) m trace lines status = IsAnswered m (question_of search) lines status
+
+-- An exit status. Only a search that is to find nothing may have status 4.
+abbrev pub IsNoneAsked : Job → Type 0
+IsNoneAsked (Endings search) = search.none ≡ true
+IsNoneAsked _ = ⊥
+
+abbrev pub IsStatusOf : Job → (status : ℕ) → Type 0
+IsStatusOf job status = (status ≡ 0) ⊎ (status ≡ 1) ⊎ (status ≡ 3) ⊎ ((status ≡ 4) × IsNoneAsked job)
 
 -- The text declares a machine, and these are what the job shows there.
 pub record IsShown (job : Job) (text trace lines : List ℕ) (status : ℕ) : Type 0 where
@@ -273,10 +306,11 @@ IsTrulyDone job machine trace out status =
 
 -- The first step that is not possible, of a trace that is drawn. No other job shows what comes before one.
 abbrev pub refused_on : Job → Machine → (trace : List ℕ) → Option ℕ
-refused_on (Run file turns report) m trace = None
+refused_on (Run file turns report record_to) m trace = None
 refused_on (Replay file schedule report) m trace = None
 refused_on (Audit file name) m trace = None
 refused_on (Chart chart) m trace = refused_of_steps m (steps_of trace)
+refused_on (Endings search) m trace = None
 
 abbrev pub refused_in : Job → Result Machine TextFault → (trace : List ℕ) → Option ℕ
 refused_in job (Err f) trace = None

@@ -1,9 +1,8 @@
-pub mod Asked
 pub mod Audits
 pub mod ChartJobs
-pub mod Commands
 pub mod FaultLines
-pub mod Items
 pub mod Jobs
-pub mod ReportLines
+pub mod Recording
+pub mod Refusals
+pub mod Searches
 pub mod Streams

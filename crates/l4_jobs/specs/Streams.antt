@@ -22,6 +22,17 @@ abbrev pub MayTake : (old new : Option (List ℕ)) → (bytes : List ℕ) → (a
 MayTake old new bytes true = Appends old new bytes
 MayTake old new bytes false = (left : List ℕ) × HasAppended old new bytes left
 
+-- What writing these bytes to a new file of a name may come to: it is created and then written.
+abbrev pub IsCreated : {Made : Type 0} →
+    (creates : List ℕ → Result Made ErrorKind → Type 0) →
+    (takes : (old new : Made) → List ℕ → Bool → Type 0) →
+    (name bytes : List ℕ) → (all : Bool) → Type 0
+IsCreated {Made} creates takes name bytes true =
+    (made : Made) × (written : Made) × creates name (Ok made) × takes made written bytes true
+IsCreated {Made} creates takes name bytes false =
+    ((kind : ErrorKind) × creates name (Err kind))
+    ⊎ ((made : Made) × (written : Made) × creates name (Ok made) × takes made written bytes false)
+
 -- What reading the file of a name may come to: it is opened and then read.
 abbrev pub FileGives : {File : Type 0} → (opens : List ℕ → Result File ErrorKind → Type 0) → (gives : File → Result (List ℕ) ErrorKind → Type 0) →
     (name : List ℕ) → Result (List ℕ) ErrorKind → Type 0

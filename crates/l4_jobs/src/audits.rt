@@ -1,14 +1,13 @@
 //! The audit of the text of a trace, and its line.
 ghost use Rattle.std.specs.Prelude.{◌≡◌, ◌⊎◌, IfOk, IfErr, Some};
-ghost use Rattle.l4_jobs.specs.Audits.{HasPassed, fault_behind};
+ghost use Rattle.l4_jobs.specs.Audits.{HasPassed, fault_behind, passed_line};
 ghost use Rattle.l4_jobs.specs.Jobs.{IsPassed, fault_of_trace};
-ghost use Rattle.l4_jobs.specs.ReportLines.{passed_line};
 ghost use Rattle.l4_jobs.specs.declared.fault.Fault.TheVariants.{NoMemory as OutOfMemory};
 
 use crate::fault::Fault;
-use crate::report_lines::spelled_ending;
 use l4_audit::auditor::Auditor;
 use l4_audit::reasons::StepFault;
+use l4_reports::report_lines::spelled_ending;
 use l4_script::machine::Machine;
 use l4_trace::reader::{ReadWords, Reader};
 use l4_types::errors::NoMemory;

@@ -1,22 +1,22 @@
 //! The chart of a trace.
-ghost use Rattle.std.specs.Prelude.{◌≡◌, ◌⊎◌, ℕ, List, IfOk, IfErr, Ok, Err, Some};
+ghost use Rattle.std.specs.Prelude.{◌≡◌, ◌⊎◌, ℕ, List, IfOk, IfErr, Ok, Err, Some, map};
 ghost use Rattle.std.specs.Option.{option_copied, option_map};
 ghost use Rattle.l4_model.specs.History.{refused_place};
-ghost use Rattle.l4_chart.specs.Charts.{columns_of, rows_of};
+ghost use Rattle.l4_chart.specs.Charts.{columns_of, row_of, rows_of};
 ghost use Rattle.l4_chart.specs.Drawings.{IsDrawing};
 ghost use Rattle.l4_chart.specs.Windows.{until_refused};
-ghost use Rattle.l4_jobs.specs.ChartJobs.{IsCharted, chosen_by, fault_of_threads, part_of};
+ghost use Rattle.l4_jobs.specs.ChartJobs.{IsCharted, chosen_by, drawing_form, fault_of_threads, part_of};
 ghost use Rattle.l4_jobs.specs.ChartJobs.{refused_of_steps, status_of_refused, width_of};
 ghost use Rattle.l4_jobs.specs.Jobs.{IsChartFault};
 ghost use Rattle.l4_jobs.specs.declared.fault.Fault.TheVariants.{NoMemory as OutOfMemory};
 ghost use Rattle.l4_trace.specs.Reading.{steps_of};
 
 use crate::fault::{Fault, unread};
-use crate::job::ChartJob;
+use crate::job::{ChartForm, ChartJob};
 use crate::perform::Output;
 use crate::streams::Source;
 use l4_chart::chart::Chart;
-use l4_chart::drawing::drawing_of;
+use l4_chart::drawing::{Form, drawing_of};
 use l4_chart::refused::refused_step;
 use l4_chart::threads::threads_of;
 use l4_chart::window::Window;
@@ -68,6 +68,19 @@ fn width_of(chart: &ChartJob<'_>) -> usize
     }
 }
 
+// The form of the drawing.
+fn drawing_form(form: ChartForm) -> Form
+    ensures { result ≡ drawing_form form }
+{
+    match form {
+        ChartForm::Lines => Form::Lines,
+        ChartForm::Ascii => Form::Ascii,
+        ChartForm::Svg => Form::Svg,
+        ChartForm::Html => Form::Html,
+        ChartForm::Mermaid => Form::Mermaid,
+    }
+}
+
 // The exit status by the first step that is not possible.
 fn status_of_refused(refused: Option<usize>) -> u8
     ensures { result ≡ status_of_refused refused }
@@ -76,6 +89,14 @@ fn status_of_refused(refused: Option<usize>) -> u8
         None => 0,
         Some(_) => 1,
     }
+}
+
+// A chart in the form and the width that are asked for.
+fn drawing(alloc: Global, chart: &ChartJob<'_>, shown: &Chart<'_>) -> Result<Vec<u8>, NoMemory>
+    ensures { IfOk result (λ drawing. IsDrawing (drawing_form chart.now.form) (width_of chart.now)
+        shown.now.columns.items (map row_of shown.now.rows.items) drawing.items) }
+{
+    drawing_of(alloc, shown, drawing_form(chart.form), width_of(chart))
 }
 
 // What the chart of a history prints, with these threads or all.
@@ -90,7 +111,7 @@ fn drawn(
         output.refused ≡ refused_place machine.now history.now.steps) }
     ensures status { IfOk result (λ output.
         output.status ≡ status_of_refused (refused_place machine.now history.now.steps)) }
-    ensures lines { IfOk result (λ output. IsDrawing chart.now.form (width_of chart.now)
+    ensures lines { IfOk result (λ output. IsDrawing (drawing_form chart.now.form) (width_of chart.now)
         (columns_of machine.now (option_copied threads.entry))
         (rows_of machine.now
         (until_refused (refused_place machine.now history.now.steps)
@@ -102,7 +123,7 @@ fn drawn(
     let window = all.until_refused(refused);
     let shown = Chart::new(alloc, machine, history, &window)?;
     Ok(Output {
-        lines: drawing_of(alloc, &shown, chart.form, width_of(chart))?,
+        lines: drawing(alloc, chart, &shown)?,
         status: status_of_refused(refused),
         refused,
     })

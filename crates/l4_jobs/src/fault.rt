@@ -4,11 +4,13 @@ ghost use Rattle.std.specs.String.{string_bytes};
 ghost use Rattle.l4_jobs.specs.FaultLines.{kind_word, fault_words, fault_line, IsReported};
 ghost use Rattle.l4_jobs.specs.Jobs.{IsUnread, text_fault, fault_of_run, fault_of_reading};
 ghost use Rattle.l4_jobs.specs.ChartJobs.{fault_of_list};
+ghost use Rattle.l4_jobs.specs.Searches.{fault_of_question};
 ghost use Rattle.l4_jobs.specs.declared.fault.Fault.TheVariants.{NoMemory as OutOfMemory};
 
 use crate::streams::Sink;
 use l4_chart::threads::ThreadsFault;
 use l4_machine::RunFault;
+use l4_questions::question::QuestionFault;
 use l4_script::text::{TextFault, TextFaultKind};
 use l4_trace::fault::TraceFault;
 use l4_types::errors::NoMemory;
@@ -28,8 +30,12 @@ pub enum Fault<'a> {
         kind: TextFaultKind,
     },
     /// The number of turns is 0 or above 1,000,000, or the list of a schedule has more than
-    /// 1,000,000 items.
+    /// 1,000,000 items, or the file that it is in more than 1,000,015, or more than 32 MiB.
     Turns,
+    /// The depth of a search is 0 or above 1,000,000.
+    Depth,
+    /// The number of states of a search is 0 or above 1,000,000.
+    States,
     /// This item of the schedule, counted from 1, is no item, or names no processor of the machine.
     Schedule(usize),
     /// This item of the list of threads, counted from 1, is the first that is no thread of the
@@ -44,6 +50,8 @@ pub enum Fault<'a> {
     NoMemory,
     /// This file can't be read.
     Read(&'a str),
+    /// This file can't be written.
+    Unwritten(&'a str),
     /// The output is closed or full.
     Write,
 }
@@ -97,6 +105,18 @@ impl From<ThreadsFault> for Fault<'_> {
     }
 }
 
+impl From<QuestionFault> for Fault<'_> {
+    ghost from_gives = { λ of fault. fault ≡ fault_of_question of };
+
+    fn from(fault: QuestionFault) -> Self {
+        match fault {
+            QuestionFault::NoMemory => Fault::NoMemory,
+            QuestionFault::Depth => Fault::Depth,
+            QuestionFault::States => Fault::States,
+        }
+    }
+}
+
 impl From<NoMemory> for Fault<'_> {
     ghost from_gives = { λ _ fault. fault ≡ OutOfMemory };
 
@@ -131,12 +151,15 @@ impl Display for Fault<'_> {
         match self {
             Fault::Text { line, kind } => write!(f, "line {line}: {}", spelled_kind(*kind)),
             Fault::Turns => f.write_str("turns out of range"),
+            Fault::Depth => f.write_str("depth out of range"),
+            Fault::States => f.write_str("states out of range"),
             Fault::Schedule(number) => write!(f, "schedule item {number}"),
             Fault::Threads(number) => write!(f, "threads item {number}"),
             Fault::Trace(line) => write!(f, "trace line {line}"),
             Fault::Refused(step) => write!(f, "refused at step {step}"),
             Fault::NoMemory => f.write_str("no memory"),
             Fault::Read(name) => write!(f, "cannot read {name}"),
+            Fault::Unwritten(name) => write!(f, "cannot write {name}"),
             Fault::Write => f.write_str("cannot write"),
         }
     }

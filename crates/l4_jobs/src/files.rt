@@ -1,18 +1,21 @@
 //! Doing a job over the files that it names.
-ghost use Rattle.std.specs.Prelude.{◌≡◌, ◌≢◌, ◌⊎◌};
-ghost use Rattle.l4_jobs.specs.Streams.{FileGives};
+ghost use Rattle.std.specs.Prelude.{◌≡◌, ◌≢◌, ◌⊎◌, IfSome};
+ghost use Rattle.l4_jobs.specs.Recording.{IsRecordDone, IsRecordFault};
+ghost use Rattle.l4_jobs.specs.Streams.{FileGives, IsCreated};
 ghost use Rattle.l4_jobs.specs.Jobs.{IsDone, IsFaultBehind, IsNotDone, IsOpenedFault, TraceGives};
-ghost use Rattle.l4_jobs.specs.Jobs.{IsTrulyDone, file_of, trace_file_of};
+ghost use Rattle.l4_commands.specs.Files.{file_of, record_of, second_file_of};
+ghost use Rattle.l4_jobs.specs.Jobs.{IsStatusOf, IsTrulyDone};
 
 use crate::fault::{report, unread};
 use crate::job::Job;
 use crate::perform::perform;
-use crate::streams::{Folder, Sink, Source};
+use crate::recording::perform_recorded;
+use crate::streams::{Folder, NewFile, Sink, Source};
 use std::alloc::Global;
 use std::thread::Threads;
 
-// Opens the trace of a job that reads one, and does the job.
-fn on_trace<R: Threads + Sync, F: Folder, M: Source, W: Sink, E: Sink>(
+// Opens the trace or the list of a job that reads one, and does the job.
+fn on_second_file<R: Threads + Sync, F: Folder, M: Source, W: Sink, E: Sink>(
     rt: &R,
     alloc: Global,
     folder: &F,
@@ -27,22 +30,64 @@ fn on_trace<R: Threads + Sync, F: Folder, M: Source, W: Sink, E: Sink>(
     ensures whole { result ≡ 1 →
         IsNotDone job.now (M.gives machine.old)
         (TraceGives (F.opens folder.now) F.File.gives job.now)
-        (IsFaultBehind (F.opens folder.now) F.File.gives (trace_file_of job.now) job.now
+        (IsFaultBehind (F.opens folder.now) F.File.gives (second_file_of job.now) job.now
         (M.gives machine.old))
         (W.takes out.old out.new) (out.new ≡ out.old) (E.takes faults.old faults.new) }
-    ensures statuses { (result ≡ 0) ⊎ (result ≡ 1) ⊎ (result ≡ 3) }
+    ensures statuses { IsStatusOf job.now result }
 {
-    let Some(name) = job.trace_file() else {
+    let Some(name) = job.second_file() else {
         return perform(rt, alloc, job, machine, &mut b"".as_slice(), out, faults);
     };
     match folder.open(name) {
-        Ok(mut trace) => perform(rt, alloc, job, machine, &mut trace, out, faults),
+        Ok(mut second) => perform(rt, alloc, job, machine, &mut second, out, faults),
         Err(kind) => report(alloc, faults, &unread(name, kind)),
     }
 }
 
-/// Opens the files of a job, FILE before TRACE, and both before it reads anything. Then it does the
-/// job. The exit status is that of `perform`, and 1 where a file can't be opened.
+// Does a job whose machine text was opened.
+fn on_machine<R: Threads + Sync, F: Folder, M: Source, W: Sink, E: Sink>(
+    rt: &R,
+    alloc: Global,
+    folder: &F,
+    job: &Job<'_>,
+    machine: &mut M,
+    out: &mut W,
+    faults: &mut E,
+) -> u8
+    ensures shown { result ≢ 1 →
+        IsDone job.now (M.gives machine.old) (TraceGives (F.opens folder.now) F.File.gives job.now)
+        (W.takes out.old out.new) (faults.new ≡ faults.old) result }
+    ensures recorded { result ≢ 1 → IfSome (record_of job.now) (λ name.
+        IsRecordDone job.now (M.gives machine.old)
+        (IsCreated (F.creates folder.now) F.Made.takes name)
+        (W.takes out.old out.new) (faults.new ≡ faults.old) result) }
+    ensures whole { result ≡ 1 →
+        IsNotDone job.now (M.gives machine.old)
+        (TraceGives (F.opens folder.now) F.File.gives job.now)
+        (λ f. IsFaultBehind (F.opens folder.now) F.File.gives (second_file_of job.now) job.now
+        (M.gives machine.old) f ⊎
+        IsRecordFault job.now (M.gives machine.old) (IsCreated (F.creates folder.now) F.Made.takes)
+        f)
+        (W.takes out.old out.new) (out.new ≡ out.old) (E.takes faults.old faults.new) }
+    ensures statuses { IsStatusOf job.now result }
+{
+    match job.recording() {
+        Some(recording) => {
+            let mut new_file = NewFile {
+                folder,
+                name: recording.name,
+            };
+            perform_recorded(rt, alloc, &recording, machine, &mut new_file, out, faults)
+        }
+        None => on_second_file(rt, alloc, folder, job, machine, out, faults),
+    }
+}
+
+/// Opens the files of a job, FILE before the trace or the list of a schedule, and both before it
+/// reads anything. Then it does the job. A run is recorded where the job asks for it: what is
+/// printed and what is recorded are made whole, then the file is created and written, and then the
+/// lines are. The exit status is that of `perform` or `perform_recorded`, and 1 where a file can't
+/// be opened.
 pub fn perform_on_files<R: Threads + Sync, F: Folder, W: Sink, E: Sink>(
     rt: &R,
     alloc: Global,
@@ -58,16 +103,22 @@ pub fn perform_on_files<R: Threads + Sync, F: Folder, W: Sink, E: Sink>(
     ensures headline { result ≢ 1 →
         IsTrulyDone job.now (FileGives (F.opens folder.now) F.File.gives (file_of job.now))
         (TraceGives (F.opens folder.now) F.File.gives job.now) (W.takes out.old out.new) result }
+    ensures recorded { result ≢ 1 → IfSome (record_of job.now) (λ name.
+        IsRecordDone job.now (FileGives (F.opens folder.now) F.File.gives (file_of job.now))
+        (IsCreated (F.creates folder.now) F.Made.takes name)
+        (W.takes out.old out.new) (faults.new ≡ faults.old) result) }
     ensures whole { result ≡ 1 →
         IsNotDone job.now (FileGives (F.opens folder.now) F.File.gives (file_of job.now))
         (TraceGives (F.opens folder.now) F.File.gives job.now)
-        (IsOpenedFault (F.opens folder.now) F.File.gives job.now)
+        (λ f. IsOpenedFault (F.opens folder.now) F.File.gives job.now f ⊎
+        IsRecordFault job.now (FileGives (F.opens folder.now) F.File.gives (file_of job.now))
+        (IsCreated (F.creates folder.now) F.Made.takes) f)
         (W.takes out.old out.new) (out.new ≡ out.old) (E.takes faults.old faults.new) }
-    ensures statuses { (result ≡ 0) ⊎ (result ≡ 1) ⊎ (result ≡ 3) }
+    ensures statuses { IsStatusOf job.now result }
 {
     let file = job.file();
     match folder.open(file) {
-        Ok(mut machine) => on_trace(rt, alloc, folder, job, &mut machine, out, faults),
+        Ok(mut machine) => on_machine(rt, alloc, folder, job, &mut machine, out, faults),
         Err(kind) => report(alloc, faults, &unread(file, kind)),
     }
 }

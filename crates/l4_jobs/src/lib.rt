@@ -1,10 +1,11 @@
 //! The program `l4run` without its streams: it reads the words of a command line, and does what
 //! they ask for.
 //!
-//! `job_of` reads words, `perform` does a job over two sources and two sinks, `perform_on_files`
-//! opens its files first. Contracts see bytes: the lines written once are exactly the trace, report
-//! or verdict that the job asks for; else one fault line is written, and the status is 1. They also
-//! say which file is which, and which fault comes first.
+//! `job_of` reads words, `perform` does a job over two sources and two sinks, `perform_recorded` a
+//! run that is recorded in a third sink, `perform_on_files` opens its files first. Contracts see
+//! bytes: the lines written once are exactly the trace, report or verdict that the job asks for;
+//! else one fault line is written, and the status is 1. By what is recorded a replay is that run.
+//! They also say which file is which, and which fault comes first.
 //!
 //! What the system's files and streams do is believed in `streams` and tried by
 //! `.ci/command-lines`. `l4_host_tests` has streams that fail and refused memory, `l4_cases` what
@@ -20,11 +21,11 @@ pub mod audits;
 mod charts;
 pub mod fault;
 pub mod files;
-pub mod items;
-pub mod job;
 pub mod perform;
+pub mod recording;
 pub mod refusal;
-pub mod report_lines;
+mod searches;
 pub mod streams;
 mod trace_lines;
-pub mod words;
+
+pub use l4_commands::{job, words};

@@ -1,29 +1,34 @@
 //! Doing a job over two readers and two writers.
 ghost use Rattle.std.specs.Prelude.{◌≡◌, ◌≢◌, ◌⊎◌, ℕ, List, IfOk, IfErr, Ok, Err, None, Some};
+ghost use Rattle.std.specs.Prelude.{◌+◌, map, take};
 ghost use Rattle.std.specs.declared.io.ErrorKind.{ErrorKind as Kind};
-ghost use Rattle.l4_choices.specs.Entries.{Entry};
 ghost use Rattle.l4_machine.specs.Outcomes.{IsCompactReplay, compact_findings_of};
-ghost use Rattle.l4_machine.specs.declared.outcome.RunFault.TheVariants.{NoMemory as RunOutOfMemory};
+ghost use Rattle.l4_machine.specs.Entries.{entries_fault, entry_from};
 ghost use Rattle.l4_script.specs.Texts.{machine_of_text};
-ghost use Rattle.l4_jobs.specs.Items.{schedule_of};
-ghost use Rattle.l4_jobs.specs.Jobs.{IsUnread, IsTold, file_of, trace_file_of, IsShown, IsShownOn};
+ghost use Rattle.l4_schedules.specs.InFiles.{most_bytes, schedule_in_file};
+ghost use Rattle.l4_commands.specs.Files.{file_of, second_file_of, list_name};
+ghost use Rattle.l4_jobs.specs.Jobs.{IsUnread, IsTold, IsShown, IsShownOn};
 ghost use Rattle.l4_jobs.specs.Jobs.{IsRunShown, IsPassed, IsTraceFault, IsFaultOn, IsFaultOf};
 ghost use Rattle.l4_jobs.specs.Jobs.{IsJobFault, IsDone, IsNotDone, IsRunAsked, IsReplayAsked};
-ghost use Rattle.l4_jobs.specs.Jobs.{IsEnded, IsTrulyDone, refused_in, refused_on};
-ghost use Rattle.l4_jobs.specs.Jobs.{run_by_list, fault_of, fault_of_result, fault_of_turns};
+ghost use Rattle.l4_jobs.specs.Jobs.{IsEnded, IsListFault, IsRead, IsScheduleFault, IsStatusOf};
+ghost use Rattle.l4_jobs.specs.Jobs.{IsTrulyDone};
+ghost use Rattle.l4_jobs.specs.Jobs.{asked_schedule, fault_of, fault_of_turns};
+ghost use Rattle.l4_jobs.specs.Jobs.{refused_in, refused_on};
 ghost use Rattle.l4_jobs.specs.Jobs.{lines_of_outcome, status_of_ending};
 ghost use Rattle.l4_jobs.specs.declared.fault.Fault.TheVariants.{NoMemory as OutOfMemory};
 
 use crate::audits::audited;
 use crate::charts::chart_output;
 use crate::fault::{Fault, report, unread};
-use crate::items::schedule_of;
-use crate::job::Job;
-use crate::report_lines::write_report;
+use crate::job::{Job, list_name};
+use crate::searches::search_output;
 use crate::streams::{Sink, Source};
 use crate::trace_lines::trace_of;
-use l4_machine::{CompactOutcome, RunFault, replay_compact, run_compact};
+use l4_machine::{CompactOutcome, Entry, replay_compact, run_compact};
 use l4_proc::gate::Open;
+use l4_reports::report_lines::write_report;
+use l4_schedules::files::{MOST_FILE_BYTES, schedule_in_file};
+use l4_schedules::items::schedule_of;
 use l4_script::machine::Machine;
 use l4_script::text::MOST_BYTES;
 use l4_types::errors::NoMemory;
@@ -42,7 +47,7 @@ pub(crate) struct Output {
 
 // The machine text of this name. Of one that is too long, one byte more than a text may have is
 // read.
-fn read_text<'a, M: Source>(
+pub(crate) fn read_text<'a, M: Source>(
     alloc: Global,
     name: &'a str,
     machine: &mut M,
@@ -59,20 +64,80 @@ fn read_text<'a, M: Source>(
     }
 }
 
-// The outcome of the replay of a list.
+// The text of the list in the file of this name. Of one that is too long, one byte more than it may
+// have is read.
+fn read_list<'a, L: Source>(
+    alloc: Global,
+    name: &'a str,
+    list: &mut L,
+) -> Result<Vec<u8>, Fault<'a>>
+    ensures ok { IfOk result (λ text.
+        (all : List ℕ) × L.gives list.old (Ok all) ×
+        ((text.items ≡ all) ⊎ (text.items ≡ take (most_bytes + 1) all))) }
+    ensures err { IfErr result (λ fault.
+        (kind : Kind) × L.gives list.old (Err kind) × IsUnread name.now kind fault) }
+{
+    match list.read_beginning(alloc, MOST_FILE_BYTES as u64 + 1) {
+        Ok(text) => Ok(text),
+        Err(kind) => Err(unread(name, kind)),
+    }
+}
+
+// The entries of the schedule in the file of this name.
+fn entries_in_file<'a, L: Source>(
+    alloc: Global,
+    machine: &Machine,
+    name: &'a str,
+    list: &mut L,
+) -> Result<Vec<Entry>, Fault<'a>>
+    ensures ok { IfOk result (λ entries. (all : List ℕ) × L.gives list.old (Ok all) ×
+        (schedule_in_file machine.now all ≡ Ok (map entry_from entries.items))) }
+    ensures lawful { IfOk result (λ entries.
+        entries_fault machine.now (map entry_from entries.items) ≡ None) }
+    ensures err { IfErr result (λ fault. (fault ≡ OutOfMemory) ⊎
+        IsListFault machine.now name.now (L.gives list.old) fault) }
+{
+    let text = read_list(alloc, name, list)?;
+    Ok(schedule_in_file(alloc, machine, text.as_slice())?)
+}
+
+// The entries of the schedule that is asked for: those of the list itself, or of that in the file
+// which it names.
+fn asked_entries<'a, L: Source>(
+    alloc: Global,
+    machine: &Machine,
+    schedule: &'a str,
+    list: &mut L,
+) -> Result<Vec<Entry>, Fault<'a>>
+    ensures ok { IfOk result (λ entries. (text : List ℕ) ×
+        IsRead (list_name schedule.now) (L.gives list.old) text ×
+        (asked_schedule machine.now schedule.now text ≡ Ok (map entry_from entries.items))) }
+    ensures lawful { IfOk result (λ entries.
+        entries_fault machine.now (map entry_from entries.items) ≡ None) }
+    ensures err { IfErr result (λ fault. (fault ≡ OutOfMemory) ⊎
+        IsScheduleFault machine.now schedule.now (list_name schedule.now) (L.gives list.old)
+        fault) }
+    ensures unread { list_name schedule.now ≡ None → list.new ≡ list.old }
+{
+    match list_name(schedule) {
+        None => Ok(schedule_of(alloc, machine, schedule)?),
+        Some(name) => entries_in_file(alloc, machine, name, list),
+    }
+}
+
+// The outcome of the replay of entries of the machine.
 fn replayed<'m>(
     alloc: Global,
     machine: &'m Machine,
-    list: &str,
-) -> Result<CompactOutcome<'m>, RunFault>
-    ensures ok { IfOk result (λ o.
-        (entries : List Entry) ×
-        (schedule_of machine.now list.now ≡ Ok entries) × IsCompactReplay machine.now entries o) }
-    ensures err { IfErr result (λ fault. (fault ≡ RunOutOfMemory) ⊎
-        (schedule_of machine.now list.now ≡ Err fault)) }
+    entries: &[Entry],
+) -> Result<CompactOutcome<'m>, NoMemory>
+    requires { entries_fault machine.now (map entry_from entries.now) ≡ None }
+    ensures { IfOk result (λ o. IsCompactReplay machine.now (map entry_from entries.now) o) }
 {
-    let schedule = schedule_of(alloc, machine, list)?;
-    replay_compact(alloc, machine, schedule.as_slice())
+    match replay_compact(alloc, machine, entries) {
+        Ok(outcome) => Ok(outcome),
+        Err(_) => Err(NoMemory),
+    }
 }
 
 // What is written of an outcome: its report, or its trace.
@@ -103,7 +168,7 @@ fn status(ending: Ending) -> u8
 }
 
 // What is printed of an outcome.
-fn output_of_run(
+pub(crate) fn output_of_run(
     alloc: Global,
     report: bool,
     outcome: CompactOutcome<'_>,
@@ -141,20 +206,25 @@ fn run_output<'a, R: Threads + Sync>(
 }
 
 // What a replay prints.
-fn replay_output<'a>(
+fn replay_output<'a, L: Source>(
     alloc: Global,
     machine: &Machine,
-    list: &str,
+    schedule: &'a str,
     report: bool,
+    list: &mut L,
 ) -> Result<Output, Fault<'a>>
-    ensures ok { IfOk result (λ output.
-        IsRunShown report machine.now (IsReplayAsked machine.now list.now) output.lines.items
-        output.status) }
+    ensures ok { IfOk result (λ output. (text : List ℕ) ×
+        IsRead (list_name schedule.now) (L.gives list.old) text ×
+        IsRunShown report machine.now (IsReplayAsked machine.now schedule.now text)
+        output.lines.items output.status) }
     ensures whole { IfOk result (λ output. output.refused ≡ None) }
     ensures err { IfErr result (λ fault. (fault ≡ OutOfMemory) ⊎
-        (fault_of_result (run_by_list machine.now list.now) ≡ Some fault)) }
+        IsScheduleFault machine.now schedule.now (list_name schedule.now) (L.gives list.old)
+        fault) }
+    ensures unread { list_name schedule.now ≡ None → list.new ≡ list.old }
 {
-    let outcome = replayed(alloc, machine, list)?;
+    let entries = asked_entries(alloc, machine, schedule, list)?;
+    let outcome = replayed(alloc, machine, entries.as_slice())?;
     Ok(output_of_run(alloc, report, outcome)?)
 }
 
@@ -183,7 +253,8 @@ fn audit_output<'a, T: Source>(
     })
 }
 
-// What a job prints for a machine. Only an audit and a chart read the trace.
+// What a job prints for a machine. Only an audit and a chart read a trace, and only a replay may
+// read a list in its place.
 fn output_on<'a, R: Threads + Sync, T: Source>(
     rt: &R,
     alloc: Global,
@@ -196,7 +267,7 @@ fn output_on<'a, R: Threads + Sync, T: Source>(
         (output.refused ≡ refused_on job.now machine.now told)) }
     ensures err { IfErr result (λ fault. (fault ≡ OutOfMemory) ⊎
         IsFaultOn job.now machine.now (T.gives trace.old) fault) }
-    ensures unread { trace_file_of job.now ≡ None → trace.new ≡ trace.old }
+    ensures unread { second_file_of job.now ≡ None → trace.new ≡ trace.old }
 {
     match *job {
         Job::Run { turns, report, .. } => run_output(rt, alloc, machine, turns, report),
@@ -204,9 +275,10 @@ fn output_on<'a, R: Threads + Sync, T: Source>(
             schedule,
             report,
             ..
-        } => replay_output(alloc, machine, schedule, report),
+        } => replay_output(alloc, machine, schedule, report, trace),
         Job::Audit { trace: name, .. } => audit_output(alloc, machine, name, trace),
         Job::Chart(chart) => chart_output(alloc, machine, &chart, trace),
+        Job::Endings(search) => search_output(alloc, machine, &search),
     }
 }
 
@@ -223,7 +295,7 @@ fn output_of<'a, R: Threads + Sync, T: Source>(
         (output.refused ≡ refused_in job.now (machine_of_text text.now) told)) }
     ensures err { IfErr result (λ fault. (fault ≡ OutOfMemory) ⊎
         IsFaultOf job.now (machine_of_text text.now) (T.gives trace.old) fault) }
-    ensures unread { trace_file_of job.now ≡ None → trace.new ≡ trace.old }
+    ensures unread { second_file_of job.now ≡ None → trace.new ≡ trace.old }
 {
     let machine = Machine::parse(alloc, text)?;
     output_on(rt, alloc, job, &machine, trace)
@@ -243,7 +315,7 @@ fn job_output<'a, R: Threads + Sync, M: Source, T: Source>(
         IsShown job.now text told output.lines.items output.status ×
         (output.refused ≡ refused_in job.now (machine_of_text text) told)) }
     ensures err { IfErr result (IsJobFault job.now (M.gives machine.old) (T.gives trace.old)) }
-    ensures unread { trace_file_of job.now ≡ None → trace.new ≡ trace.old }
+    ensures unread { second_file_of job.now ≡ None → trace.new ≡ trace.old }
 {
     let text = read_text(alloc, job.file(), machine)?;
     output_of(rt, alloc, job, text.as_slice(), trace)
@@ -261,11 +333,12 @@ fn ended<E: Sink>(alloc: Global, faults: &mut E, output: &Output) -> u8
 }
 
 /// Does a job, and returns the exit status: 0 where a run came to rest, a trace passed or all of it
-/// was drawn, 3 where a run did not come to rest, 1 where a fault was reported instead. Where a
-/// step of a trace that is drawn is not possible, the steps before it are, and then the fault is
-/// reported. The machine text is judged before anything is read of the trace, and only an audit and
-/// a chart read that. The output is made whole before any of it is written, and it is written once.
-/// A fault is reported by its one line.
+/// was drawn, 3 where a run did not come to rest or a search was cut, 4 where a search found what it
+/// should not, 1 where a fault was reported instead. Where a step of a trace that is drawn is not possible, the steps before it are, and then the fault is
+/// reported. The machine text is judged before anything is read of the trace. An audit and a chart
+/// read a trace, and a replay whose list is in a file reads that list in its place. The output is
+/// made whole before any of it is written, and it is written once. A fault is reported by its one
+/// line. Nothing is recorded: `perform_recorded` does that.
 ///
 /// In a run several processors may work at the same time, each in a host thread. So two runs of
 /// several processors may differ, and each is lawful. A replay does what the items of its schedule
@@ -293,8 +366,8 @@ pub fn perform<R: Threads + Sync, M: Source, T: Source, W: Sink, E: Sink>(
     ensures faulty { ((text told : List ℕ) → M.gives machine.old (Ok text) →
         IsTold job.now (T.gives trace.old) told →
         fault_of job.now text told ≢ None) → (result ≡ 1) × (out.new ≡ out.old) }
-    ensures statuses { (result ≡ 0) ⊎ (result ≡ 1) ⊎ (result ≡ 3) }
-    ensures unread { trace_file_of job.now ≡ None → trace.new ≡ trace.old }
+    ensures statuses { IsStatusOf job.now result }
+    ensures unread { second_file_of job.now ≡ None → trace.new ≡ trace.old }
 {
     let output = match job_output(rt, alloc, job, machine, trace) {
         Ok(output) => output,

@@ -1,6 +1,6 @@
 //! Answering words that ask for no job.
 ghost use Rattle.std.specs.Prelude.{◌≡◌};
-ghost use Rattle.l4_jobs.specs.Asked.{Refuses};
+ghost use Rattle.l4_jobs.specs.Refusals.{Refuses};
 
 use crate::fault::{Fault, report};
 use crate::streams::Sink;

@@ -3,7 +3,7 @@
 ghost use Rattle.std.specs.Prelude.{◌≡◌, ◌⊎◌, ℕ, Bool, List, take, true, false, Result, Ok, Err};
 ghost use Rattle.std.specs.Prelude.{IfOk, OnErr, MatchResult};
 ghost use Rattle.std.specs.declared.io.ErrorKind.{ErrorKind as Kind};
-ghost use Rattle.l4_jobs.specs.Streams.{MayGive, MayTake, HasAppended};
+ghost use Rattle.l4_jobs.specs.Streams.{IsCreated, MayGive, MayTake, HasAppended};
 
 use std::alloc::Global;
 use std::fs;
@@ -99,21 +99,62 @@ impl<W: Write> Sink for W {
 pub trait Folder {
     type File: Source + Drop;
 
+    type Made: Sink + Drop;
+
     // What opening the file of this name may give.
     ghost opens: { Self → (name : List ℕ) → Result Self.File Kind → Type 0 };
 
     /// Opens the file of this name.
     fn open(&self, name: &str) -> Result<Self::File, ErrorKind>
         ensures { opens self.now name.now result };
+
+    // What creating a file of this name may give.
+    ghost creates: { Self → (name : List ℕ) → Result Self.Made Kind → Type 0 };
+
+    /// Creates the file of this name. Where there is one, it is emptied.
+    fn create(&self, name: &str) -> Result<Self::Made, ErrorKind>
+        ensures { creates self.now name.now result };
+}
+
+/// A new file of a folder. It is created where something is put into it, and not before.
+#[derive(Clone, Copy)]
+pub struct NewFile<'a, F> {
+    /// The folder.
+    pub folder: &'a F,
+    /// The name of the file.
+    pub name: &'a str,
+}
+
+impl<F: Folder> Sink for NewFile<'_, F> {
+    ghost takes = { λ old new bytes all.
+        IsCreated (F.creates old.folder.now) F.Made.takes old.name.now bytes all };
+
+    fn put(&mut self, bytes: &[u8]) -> Result<(), NotWritten> {
+        match self.folder.create(self.name) {
+            Ok(mut made) => made.put(bytes),
+            Err(_) => Err(NotWritten),
+        }
+    }
 }
 
 impl<R: Files> Folder for R {
     type File = R::File;
 
+    type Made = R::File;
+
     ghost opens = { λ s name opened. Unit {0} };
 
     fn open(&self, name: &str) -> Result<R::File, ErrorKind> {
         match fs::open(self, name) {
+            Ok(file) => Ok(file),
+            Err(error) => Err(error.kind()),
+        }
+    }
+
+    ghost creates = { λ s name made. Unit {0} };
+
+    fn create(&self, name: &str) -> Result<R::File, ErrorKind> {
+        match fs::create(self, name) {
             Ok(file) => Ok(file),
             Err(error) => Err(error.kind()),
         }

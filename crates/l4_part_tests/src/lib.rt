@@ -2,8 +2,8 @@
 //! proved twice.
 //!
 //! Most are rows of text that drive one processor by hand: lawful and unlawful letters, sessions of
-//! several processors, retargets, clocks and stamps at 2^62. The others try ports, lists,
-//! histories, texts and traces. `refused` marks calls in which bench/refusals.sh refuses memory.
+//! several processors, retargets, clocks and stamps at 2^62. The others try ports, histories,
+//! values, texts and traces. `refused` marks calls in which bench/refusals.sh refuses memory.
 //!
 //! What a contract says needs no test. These show what none says: that a call succeeds where memory
 //! is ample, and that a definition says what was meant.
@@ -13,8 +13,6 @@
 //! ```
 #![tactic(auto)]
 
-#[cfg(test)]
-mod arena;
 #[cfg(test)]
 mod histories;
 #[cfg(test)]

@@ -21,7 +21,6 @@ use l4_types::steps::Step;
 use std::alloc::{AllocError, Global};
 use std::process::Abort;
 use std::test::Fail;
-use tcb_arena::Arena;
 
 // A text of 40 threads on 16 processors, each with a script of 20 instructions.
 fn long_text(alloc: Global) -> Result<String, AllocError> {
@@ -93,24 +92,6 @@ fn a_processor_is_made(rt: HostRuntime) -> Result<(), Fail> {
     let mut core = made(&rt, &machine).ok_or("a processor")?;
     let said = said(rt.alloc(), &mut core)?;
     assert!(rt; said.as_str() == "  at 1\n  wait 2.1\n  done 0 None\n");
-    Ok(())
-}
-
-// An arena of 40 blocks, made again where memory was refused.
-fn arena_made(rt: &HostRuntime) -> Result<Arena, NoMemory> {
-    call_begins(rt, "Arena::new");
-    let made = Arena::new(rt.alloc(), 40);
-    call_ends(rt);
-    match made {
-        Ok(arena) => Ok(arena),
-        Err(NoMemory) => Arena::new(rt.alloc(), 40),
-    }
-}
-
-#[test]
-fn an_arena_is_made(rt: HostRuntime) -> Result<(), Fail> {
-    let arena = arena_made(&rt)?;
-    assert!(rt; arena.least_deadline().is_none());
     Ok(())
 }
 

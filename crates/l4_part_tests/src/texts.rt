@@ -1,4 +1,4 @@
-// Machine texts that end too early or are too long, and bytes that no text has.
+// A machine text that ends too early, and bytes that no text has.
 use l4_samples::PING;
 use l4_script::machine::Machine;
 use l4_script::text::{TextFault, TextFaultKind};
@@ -51,21 +51,4 @@ fn a_text_that_is_cut_or_spoilt_names_the_line(rt: HostRuntime) {
         start = *end;
     }
     assert!(rt; PING.len() == start && fault_of(rt.alloc(), PING.as_bytes()).is_none());
-}
-
-// The fault of a text of this length, whose third line is one long comment. After it the lines are
-// empty.
-fn fault_of_length(alloc: Global, length: usize) -> Option<Option<TextFault>> {
-    let mut text = b"l4 1 64\ncpus 1\n".to_vec(alloc).ok()?;
-    text.resize(1_048_575, b';').ok()?;
-    text.resize(length, b'\n').ok()?;
-    Some(fault_of(alloc, text.as_slice()))
-}
-
-#[test]
-fn a_text_may_have_a_mebibyte(rt: HostRuntime) {
-    let kind = TextFaultKind::TooLong;
-    let too_long = Some(TextFault { line: 0, kind });
-    assert!(rt; fault_of_length(rt.alloc(), 1_048_576) == Some(None));
-    assert!(rt; fault_of_length(rt.alloc(), 1_048_577) == Some(too_long));
 }

@@ -1,32 +1,11 @@
 // Lines of traces, read and written.
 use arrayvec::ArrayVec;
-use l4_samples::PING_TRACE;
-use l4_trace::fault::TraceFault;
-use l4_trace::lines::write_event;
 use l4_trace::reading::read_events;
 use l4_trace::traces::trace;
 use l4_types::ids::GlobalId;
 use l4_types::messages::Message;
 use l4_types::steps::{Delivery, Name, Step, Tick, What};
 use std::alloc::{AllocError, Global};
-
-const FAULTY: [&str; 7] = [
-    "tick 16 1\n",
-    "tick 0 0\n",
-    "tick 0 4611686018427387904\n",
-    "begin 1.1#0\n",
-    "begin 1.1#18446744073709551616\n",
-    "deliver 1.1#1 2.1 1.1 1.1 70041 1\n",
-    "deliver 1.1#1 2.1 1.1 1.1 70002 1\n",
-];
-
-#[test]
-fn a_line_outside_the_grammar_is_refused(rt: HostRuntime) {
-    for line in FAULTY {
-        let read = read_events(rt.alloc(), line.as_bytes());
-        assert!(rt; matches!(read, Err(TraceFault::Line(1))), "{line}");
-    }
-}
 
 // Lines of most kinds, with the least and the greatest numbers.
 const LINES: &str = "deliver 2.65#18446744073709551615 1.1 1.1 2.65 55002 0 ffffffffffffffff
@@ -127,30 +106,4 @@ fn is_longest_line(alloc: Global) -> Option<bool> {
 #[test]
 fn the_longest_line_is_read_and_written(rt: HostRuntime) {
     assert!(rt; is_longest_line(rt.alloc()) == Some(true));
-}
-
-// Whether the line of a tick is appended whole, or where memory is refused, not at all.
-fn is_whole_or_missing(tick: &Step, out: &mut Vec<u8>) -> bool {
-    let before = out.len();
-    let is_written = write_event(tick, out).is_ok();
-    let whole = if is_written { "tick 0 24\n" } else { "" };
-    match out.get(before..) {
-        Some(line) => line == whole.as_bytes(),
-        None => false,
-    }
-}
-
-// To be run with each allocation refused in turn.
-#[test]
-fn a_line_is_whole_or_missing_where_memory_is_refused(rt: HostRuntime) {
-    let tick = Step::Tick(Tick::new(0, 24).expect(&rt, "a tick"));
-    let mut out = Vec::new(rt.alloc());
-    for _ in 0..100 {
-        assert!(rt; is_whole_or_missing(&tick, &mut out));
-    }
-    assert!(rt; out.len() >= 990);
-    match read_events(rt.alloc(), PING_TRACE.as_bytes()) {
-        Ok(steps) => assert!(rt; steps.len() == 8),
-        Err(fault) => assert!(rt; fault == TraceFault::NoMemory),
-    }
 }

@@ -1,5 +1,5 @@
 //! Calls whose contracts are a theorem: the trace of a run or replay is read back as its history,
-//! and passes its audit.
+//! and passes its audit; the replay of what a run recorded is that run.
 //!
 //! `audited_run` and `audited_replay` run a machine, write its trace, read that back, and audit
 //! what they read. Contracts say that the only faults are those of the run: the trace is that of
@@ -14,20 +14,25 @@
 //! ```
 #![tactic(auto)]
 
-ghost use Rattle.std.specs.Prelude.{◌≡◌, ◌<◌, ◌↔◌, ◌⊎◌, List, IfOk, IfErr, IsErrOf, Some, Ok, map};
-ghost use Rattle.std.specs.Prelude.{length};
+ghost use Rattle.std.specs.Prelude.{◌≡◌, ◌<◌, ◌↔◌, ◌⊎◌, List, IfOk, IfErr, IsErrOf, Some, None};
+ghost use Rattle.std.specs.Prelude.{Ok, map, length};
 ghost use Rattle.l4_model.specs.History.{IsHistory};
 ghost use Rattle.l4_model.specs.Steps.{Step as ModelStep};
 ghost use Rattle.l4_types.specs.StepView.{step_of};
 ghost use Rattle.l4_machine.specs.Entries.{most_entries, most_turns, turns_fault, schedule_fault};
-ghost use Rattle.l4_machine.specs.Outcomes.{IsOutcome, IsReplayed};
+ghost use Rattle.l4_machine.specs.Entries.{entries_fault, entry_from};
+ghost use Rattle.l4_machine.specs.Outcomes.{IsCompactOutcome, IsCompactReplay, IsOutcome};
+ghost use Rattle.l4_machine.specs.Outcomes.{IsReplayed, compact_findings_of};
 ghost use Rattle.l4_machine.specs.declared.outcome.RunFault.TheVariants.{NoMemory as RunOutOfMemory};
 ghost use Rattle.l4_trace.specs.Reading.{steps_of};
 ghost use Rattle.l4_audit.specs.Audits.{Passes};
 ghost use Rattle.l4_round_trips.specs.RoundTrips.{IsAudited};
 
 use l4_audit::audit::{Audit, AuditFault, check};
-use l4_machine::{Outcome, RunFault, replay, run};
+use l4_machine::{
+    CompactOutcome, Entry, Outcome, RunFault, law_one_outcome, replay, replay_compact, run,
+    run_recorded,
+};
 use l4_model::law_first_fault;
 use l4_proc::gate::Gate;
 use l4_script::machine::Machine;
@@ -88,6 +93,46 @@ pub fn audited_replay(
 {
     let outcome = replay(alloc, machine, schedule)?;
     Ok(audited(alloc, machine, outcome)?)
+}
+
+/// Runs a machine for `turns` turns, 1 to 1,000,000, as `run_recorded` does, and replays what was
+/// recorded. The outcomes of the run and of the replay are the same.
+///
+/// The faults are those of `run_recorded` alone: what it recorded is a schedule of the machine.
+pub fn replayed_run<'m, R: Threads + Sync, G: Gate + Sync>(
+    rt: &R,
+    alloc: Global,
+    machine: &'m Machine,
+    turns: u64,
+    gate: &G,
+) -> Result<(CompactOutcome<'m>, CompactOutcome<'m>), RunFault>
+    ensures outcome { IfOk result (λ both. IsCompactOutcome machine.now turns both.0) }
+    ensures same { IfOk result (λ both.
+        compact_findings_of both.1 ≡ compact_findings_of both.0) }
+    ensures err { IfErr result (λ fault. (fault ≡ RunFault.NoMemory) ⊎
+        (turns_fault turns ≡ Some fault)) }
+    ensures range { IsErrOf result RunFault.Turns ↔ ((turns ≡ 0) ⊎ (most_turns < turns)) }
+{
+    law_one_outcome();
+    let (outcome, entries) = run_recorded(rt, alloc, machine, turns, gate)?;
+    let again = replay_lawful(alloc, machine, entries.as_slice())?;
+    Ok((outcome, again))
+}
+
+// Replays entries of the machine, which are no more than there may be.
+fn replay_lawful<'m>(
+    alloc: Global,
+    machine: &'m Machine,
+    entries: &[Entry],
+) -> Result<CompactOutcome<'m>, NoMemory>
+    requires { entries_fault machine.now (map entry_from entries.now) ≡ None }
+    ensures { IfOk result (IsCompactReplay machine.now (map entry_from entries.now)) }
+{
+    match replay_compact(alloc, machine, entries) {
+        Ok(outcome) => Ok(outcome),
+        Err(RunFault::NoMemory) => Err(NoMemory),
+        Err(_) => unreachable!(),
+    }
 }
 
 // The trace of an outcome is read back and audited.

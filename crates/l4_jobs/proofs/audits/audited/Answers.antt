@@ -1,5 +1,5 @@
 use Rattle.std.proofs.Common.{ℕ, ap, ◌∙◌}
-use Rattle.l4_jobs.specs.ReportLines.{passed_line}
+use Rattle.l4_jobs.specs.Audits.{passed_line}
 use Rattle.l4_jobs.proofs.audits.audited.Goals as goal
 
 pub returns-clause-ok : goal.returns-clause-ok

@@ -1,0 +1,18 @@
+-- A command that gains an argument, or a subcommand.
+use Rattle.std.proofs.Common.{◌≡◌, false, ap, ap₂, ◌∙◌, refl}
+use Rattle.clap.specs.Words.{AddsArg, AddsSubcommand, App, Rule, app_of, rule_of, with_rule, with_subcommand}
+use Rattle.clap.specs.declared.builder.arg.Arg.{Arg}
+use Rattle.clap.specs.declared.builder.command.Command.{Command}
+use Rattle.clap.specs.declared.builder.command.Command.TheViews.{out-Command}
+
+pub gains : {old new : Command} {arg : Arg} {a : App} {r : Rule} → app_of old ≡ a → rule_of arg ≡ r → arg.global ≡ false → AddsArg old arg new →
+    app_of new ≡ with_rule a r
+gains app rule local adds = adds.shape local ∙ ap₂ with_rule app rule
+
+pub stays_local : {old new : Command} {arg : Arg} → (out-Command old).has_globals ≡ false → arg.global ≡ false → AddsArg old arg new →
+    (out-Command new).has_globals ≡ false
+stays_local old local adds = adds.globals ∙ rw (old, local) refl
+
+pub gains_below : {old sub new : Command} {a b : App} → app_of old ≡ a → app_of sub ≡ b → (out-Command sub).has_globals ≡ false →
+    AddsSubcommand old sub new → app_of new ≡ with_subcommand a b.top
+gains_below app below local adds = adds.shape local ∙ ap₂ with_subcommand app (ap (λ (a : App). a.top) below)

@@ -1,0 +1,5 @@
+mod Chains
+mod CommandSimple
+mod Matched
+mod Names
+mod Simple

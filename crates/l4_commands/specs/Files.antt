@@ -1,0 +1,53 @@
+-- The files that a job reads, and the same job for an output of its own kind.
+use Rattle.std.specs.Prelude.{◌==◌, ℕ, Bool, true, false, if◌then◌else◌, Option, Some, None, List, [], ◌∷◌}
+use Rattle.std.specs.Option.{option_map}
+use Rattle.l4_commands.specs.declared.job.ChartForm.{ChartForm}
+use Rattle.l4_commands.specs.declared.job.ChartForm.TheVariants.{Lines, Ascii}
+use Rattle.l4_commands.specs.declared.job.Job.{Job}
+use Rattle.l4_commands.specs.declared.job.Recording.{Recording}
+use Rattle.l4_commands.specs.declared.job.Job.TheVariants.{Run, Replay, Audit, Chart, Endings}
+
+-- The name of the file that the list of a schedule is in: what follows the `@`, byte 64, that it
+-- begins with.
+abbrev pub list_name : (schedule : List ℕ) → Option (List ℕ)
+list_name [] = None
+list_name (first ∷ name) = if first == 64 then Some name else None
+
+-- The names of the files that a job reads: the machine text's, and then the trace's or the list's,
+-- where there is one.
+
+abbrev pub file_of : Job → List ℕ
+file_of (Run file turns report record_to) = file.now
+file_of (Replay file schedule report) = file.now
+file_of (Audit file trace) = file.now
+file_of (Chart chart) = chart.file.now
+file_of (Endings search) = search.file.now
+
+abbrev pub second_file_of : Job → Option (List ℕ)
+second_file_of (Run file turns report record_to) = None
+second_file_of (Replay file schedule report) = list_name schedule.now
+second_file_of (Audit file trace) = Some trace.now
+second_file_of (Chart chart) = Some chart.trace.now
+second_file_of (Endings search) = None
+
+-- The name of the file that a job records its run in.
+abbrev pub record_of : Job → Option (List ℕ)
+record_of (Run file turns report record_to) = option_map (λ name. name.now) record_to
+record_of _ = None
+
+-- The job of a run that is to be recorded.
+abbrev pub job_of : Recording → Job
+job_of r = Run r.file r.turns r.report (Some r.name)
+
+-- The form and the width of a chart for an output that may show lines, and may have this many columns. What was asked for stays.
+abbrev pub form_on : (shows_lines : Bool) → ChartForm → ChartForm
+form_on true form = form
+form_on false Lines = Ascii
+form_on false form = form
+
+abbrev pub width_on : (columns width : ℕ) → ℕ
+width_on columns width = if width == 0 then columns else width
+
+abbrev pub on_output : (shows_lines : Bool) → (columns : ℕ) → Job → Job
+on_output shows_lines columns (Chart c) = Chart (record c { form = form_on shows_lines c.form; width = width_on columns c.width })
+on_output shows_lines columns job = job

@@ -1,0 +1,190 @@
+//! What is to be done.
+ghost use Rattle.std.specs.Prelude.{◌≡◌, MatchOption, None};
+ghost use Rattle.std.specs.Option.{option_map};
+ghost use Rattle.l4_commands.specs.Files.{file_of, job_of, list_name, on_output, record_of};
+ghost use Rattle.l4_commands.specs.Files.{second_file_of};
+
+/// A form of a chart.
+#[derive(Clone, Copy, Debug, PartialEq, Eq)]
+pub enum ChartForm {
+    /// Text for a terminal that shows lines.
+    Lines,
+    /// Text for any terminal.
+    Ascii,
+    /// A picture, an SVG file that stands alone.
+    Svg,
+    /// A page, an HTML file that stands alone.
+    Html,
+    /// A sequence diagram of Mermaid.
+    Mermaid,
+}
+
+/// What is to be drawn: the steps of the trace in a file, as far as the machine text in another can
+/// take them.
+#[derive(Clone, Copy, Debug, PartialEq, Eq)]
+pub struct ChartJob<'a> {
+    /// The name of the file with the machine text.
+    pub file: &'a str,
+    /// The name of the file with the trace.
+    pub trace: &'a str,
+    /// The first step that is shown, counted from 1.
+    pub first: u64,
+    /// The last one.
+    pub last: u64,
+    /// The list of the threads that are shown, with commas between them. Where there is none, all
+    /// are.
+    pub threads: Option<&'a str>,
+    /// The form of the chart.
+    pub form: ChartForm,
+    /// For how many columns of a terminal a text is laid out, 80 where it is 0.
+    pub width: u64,
+}
+
+/// All endings of the machine text in a file are searched for.
+#[derive(Clone, Copy, Debug, PartialEq, Eq)]
+pub struct EndingsJob<'a> {
+    /// The name of the file with the machine text.
+    pub file: &'a str,
+    /// How many entries a schedule has at most, 1 to 1,000,000. Any other number is a fault.
+    pub depth: u64,
+    /// How many states are looked at, at most, 1 to 1,000,000. Any other number is a fault.
+    pub states: u64,
+    /// Whether only endings are asked for in which somebody waits for ever.
+    pub stuck: bool,
+    /// A line that the report of an ending must have. Where there is none, it may have any.
+    pub with_line: Option<&'a str>,
+    /// A line that it must not have.
+    pub never: Option<&'a str>,
+    /// Whether there should be no such ending: one that is found changes the status.
+    pub none: bool,
+}
+
+/// A run that is to be recorded.
+#[derive(Clone, Copy, Debug, PartialEq, Eq)]
+pub struct Recording<'a> {
+    /// The name of the file with the machine text.
+    pub file: &'a str,
+    /// How many turns, as of `Job::Run`.
+    pub turns: u64,
+    /// Whether the report is printed.
+    pub report: bool,
+    /// The name of the file that the list is written to.
+    pub name: &'a str,
+}
+
+/// What is to be done.
+#[derive(Clone, Copy, Debug, PartialEq, Eq)]
+pub enum Job<'a> {
+    /// Run the machine text in a file until this many turns are taken or nothing is left to do, and
+    /// print its trace, or its report instead.
+    Run {
+        /// The name of the file with the machine text.
+        file: &'a str,
+        /// How many turns, 1 to 1,000,000. Any other number is the fault `Turns`.
+        turns: u64,
+        /// Whether the report is printed.
+        report: bool,
+        /// The name of the file that a list is written to by which a replay is this very run. It is
+        /// not that of the machine text.
+        record_to: Option<&'a str>,
+    },
+    /// Replay a schedule, a list of items, on the machine text in a file, and print its trace, or
+    /// its report in place of it.
+    Replay {
+        /// The name of the file with the machine text.
+        file: &'a str,
+        /// The list of its items, with commas between them, or `@` and the name of the file that
+        /// it is in.
+        schedule: &'a str,
+        /// Whether the report is printed.
+        report: bool,
+    },
+    /// Audit the trace in a file against the machine text in another.
+    Audit {
+        /// The name of the file with the machine text.
+        file: &'a str,
+        /// The name of the file with the trace.
+        trace: &'a str,
+    },
+    /// Draw the trace in a file.
+    Chart(ChartJob<'a>),
+    /// Search for all endings of the machine text in a file.
+    Endings(EndingsJob<'a>),
+}
+
+impl<'a> Job<'a> {
+    /// The name of the file with the machine text.
+    pub fn file(&self) -> &'a str
+        ensures { result.now ≡ file_of self.now }
+    {
+        match *self {
+            Job::Run { file, .. } | Job::Replay { file, .. } | Job::Audit { file, .. } => file,
+            Job::Chart(chart) => chart.file,
+            Job::Endings(search) => search.file,
+        }
+    }
+
+    /// The name of the file that is read beside the machine text, where there is one: it has the
+    /// trace, or the list of the schedule.
+    pub fn second_file(&self) -> Option<&'a str>
+        ensures { option_map (λ name. name.now) result ≡ second_file_of self.now }
+    {
+        match *self {
+            Job::Run { .. } | Job::Endings(_) => None,
+            Job::Replay { schedule, .. } => list_name(schedule),
+            Job::Audit { trace, .. } => Some(trace),
+            Job::Chart(chart) => Some(chart.trace),
+        }
+    }
+
+    /// The run that is to be recorded, where the job is one.
+    pub fn recording(&self) -> Option<Recording<'a>>
+        ensures { MatchOption result (record_of self.now ≡ None)
+            (λ recording. self.now ≡ job_of recording) }
+    {
+        match *self {
+            Job::Run {
+                file,
+                turns,
+                report,
+                record_to: Some(name),
+            } => Some(Recording {
+                file,
+                turns,
+                report,
+                name,
+            }),
+            _ => None,
+        }
+    }
+
+    /// The same job for an output that may show lines, and may say how many columns it has. Where
+    /// it shows none, a chart is drawn in ASCII.
+    pub fn on_output(&self, shows_lines: bool, columns: u64) -> Job<'a>
+        ensures { result ≡ on_output shows_lines columns self.now }
+    {
+        match *self {
+            Job::Chart(chart) => Job::Chart(ChartJob {
+                form: if shows_lines || chart.form != ChartForm::Lines {
+                    chart.form
+                } else {
+                    ChartForm::Ascii
+                },
+                width: if chart.width == 0 {
+                    columns
+                } else {
+                    chart.width
+                },
+                ..chart
+            }),
+            other => other,
+        }
+    }
+}
+
+/// The name of the file that the list of a schedule is in, where it is in one.
+pub fn list_name(schedule: &str) -> Option<&str>
+    ensures { option_map (λ name. name.now) result ≡ list_name schedule.now }
+{
+    schedule.strip_prefix('@')
+}

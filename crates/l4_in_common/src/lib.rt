@@ -1,0 +1,23 @@
+//! What core runs have in common that end at rest in alike states: what a question about endings may
+//! ask for.
+//!
+//! A search looks at one of all alike states, and reports it by one of the histories that lead
+//! there. Any other history gives the same report of each thread, but for the registers of deleted
+//! ones, and the same sends wait.
+//!
+//! All of it is definitions and proofs; the function has an empty body.
+//!
+//! ```rust
+//! law_in_common(); // from here on: two such runs have this in common
+//! ```
+#![tactic(auto)]
+
+ghost use Rattle.l4_model.specs.Machine.{Machine};
+ghost use Rattle.l4_core_model.specs.Runs.{IsMachine};
+ghost use Rattle.l4_in_common.specs.InCommon.{EndingsHaveInCommon};
+
+/// Two core runs that end at rest in alike states tell each thread alike, or as deleted, and leave
+/// the same sends waiting.
+pub fn law_in_common()
+    ensures { (m : Machine) → IsMachine m → EndingsHaveInCommon m }
+{}

@@ -1,0 +1,57 @@
+-- What is printed of endings, and the exit status.
+use Rattle.std.specs.Prelude.{Bool, true, false, ◌+◌, ℕ, List, [], ◌∷◌, ◌++◌, codes, decimal}
+use Rattle.l4_model.specs.Machine.{Machine}
+use Rattle.l4_choices.specs.Entries.{Entry}
+use Rattle.l4_schedules.specs.Written.{schedule_text}
+use Rattle.l4_words.specs.Lines.{line_of_words}
+use Rattle.l4_questions.specs.Asked.{asked_of, report_after}
+use Rattle.l4_questions.specs.declared.question.Question.{Question}
+
+-- The list of a schedule is one word. That of an ending where nothing happens has no item and is
+-- none.
+abbrev pub list_words : List Entry → List (List ℕ)
+list_words [] = []
+list_words (e ∷ entries) = schedule_text (e ∷ entries) ∷ []
+
+abbrev pub head_line : (number : ℕ) → List Entry → List ℕ
+head_line number entries = line_of_words (codes "ending" ∷ decimal number ∷ list_words entries)
+
+-- An ending: its number and its schedule, and then its report.
+abbrev pub ending_text : Machine → (number : ℕ) → List Entry → List ℕ
+ending_text m number entries = head_line number entries ++ report_after m entries
+
+-- Endings in order, numbered from this one on.
+abbrev pub endings_text : Machine → (number : ℕ) → List (List Entry) → List ℕ
+endings_text m number [] = []
+endings_text m number (e ∷ endings) =
+    ending_text m number e ++ endings_text m (number + 1) endings
+
+abbrev pub whole_word : (is_whole : Bool) → List ℕ
+whole_word true = codes "whole"
+whole_word false = codes "cut"
+
+-- How many states there are, how deep all were found, and whether there are no more.
+abbrev pub last_line : (states depth : ℕ) → (is_whole : Bool) → List ℕ
+last_line states depth is_whole =
+    line_of_words
+    (codes "states" ∷ decimal states ∷ codes "depth" ∷ decimal depth ∷ whole_word is_whole ∷ [])
+
+-- Those that are asked for, numbered from 1, and last what the search has come to.
+abbrev pub answer_text : Machine → Question → (endings : List (List Entry)) → (states depth : ℕ) →
+    (is_whole : Bool) → List ℕ
+answer_text m q endings states depth is_whole =
+    endings_text m 1 (asked_of m q endings) ++ last_line states depth is_whole
+
+-- 0 where the search is whole, 3 where it was cut. Where none is to be found, 4 as soon as one was.
+
+abbrev pub status_of_search : (is_whole : Bool) → ℕ
+status_of_search true = 0
+status_of_search false = 3
+
+abbrev pub status_of_asked : (asked : List (List Entry)) → (is_whole : Bool) → ℕ
+status_of_asked [] is_whole = status_of_search is_whole
+status_of_asked (e ∷ endings) is_whole = 4
+
+abbrev pub answer_status : (none : Bool) → (asked : List (List Entry)) → (is_whole : Bool) → ℕ
+answer_status true asked is_whole = status_of_asked asked is_whole
+answer_status false asked is_whole = status_of_search is_whole

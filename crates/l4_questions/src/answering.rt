@@ -1,0 +1,128 @@
+//! The answer to a question.
+ghost use Rattle.std.specs.Prelude.{◌≡◌, ◌++◌, ◌⊎◌, [], List, IfErr, IfOk, Some, cond, length, map};
+ghost use Rattle.l4_choices.specs.Entries.{Entry as ModelEntry};
+ghost use Rattle.l4_machine.specs.Entries.{entry_from};
+ghost use Rattle.l4_endings.specs.Tried.{told};
+ghost use Rattle.l4_questions.specs.Answers.{question_fault, IsAnswered};
+ghost use Rattle.l4_questions.specs.Asked.{asked_of, is_asked};
+ghost use Rattle.l4_questions.specs.Printed.{answer_status, ending_text, endings_text};
+ghost use Rattle.l4_questions.specs.declared.question.QuestionFault.TheVariants.{NoMemory as OutOfMemory};
+
+use crate::asked::Shown;
+use crate::printed::{write_head, write_last};
+use crate::question::{Question, QuestionFault};
+use l4_endings::endings;
+use l4_machine::Entry;
+use l4_script::machine::Machine;
+use l4_types::errors::NoMemory;
+use std::alloc::Global;
+
+/// What answers a question.
+#[derive(Debug, Drop)]
+pub struct Answer {
+    /// Each ending that is asked for, with its report, and last what the search has come to.
+    pub lines: Vec<u8>,
+    /// The exit status: 0 where the search is whole, 3 where it was cut. Where none is to be found,
+    /// 4 as soon as one was.
+    pub status: u8,
+}
+
+// Appends an ending by its number, where a question asks for it, and says whether it does.
+fn write_ending(
+    alloc: Global,
+    machine: &Machine,
+    question: &Question<'_>,
+    entries: &[Entry],
+    number: usize,
+    lines: &mut Vec<u8>,
+) -> Result<bool, NoMemory>
+    ensures asked { IfOk result (λ is.
+        is ≡ is_asked machine.now question.now (map entry_from entries.now)) }
+    ensures lines { IfOk result (λ is. lines.new.items ≡ lines.old.items ++
+        cond is (ending_text machine.now number (map entry_from entries.now)) []) }
+{
+    let shown = Shown::new(alloc, machine, entries)?;
+    if !shown.is_asked(alloc, machine, question, entries)? {
+        return Ok(false);
+    }
+    write_head(number, entries, lines)?;
+    lines.extend_from_slice(shown.report.as_slice())?;
+    Ok(true)
+}
+
+// Appends those endings that a question asks for, and says how many they are. One is replayed after
+// the other.
+fn write_endings(
+    alloc: Global,
+    machine: &Machine,
+    question: &Question<'_>,
+    endings: &[Vec<Entry>],
+    lines: &mut Vec<u8>,
+) -> Result<usize, NoMemory>
+    ensures count { IfOk result (λ count.
+        count ≡ length (asked_of machine.now question.now (told endings.now))) }
+    ensures lines { IfOk result (λ count. lines.new.items ≡ lines.old.items ++
+        endings_text machine.now 1 (asked_of machine.now question.now (told endings.now))) }
+{
+    let mut count = 0;
+    for entries in endings {
+        if write_ending(
+            alloc,
+            machine,
+            question,
+            entries.as_slice(),
+            count + 1,
+            lines,
+        )? {
+            count += 1;
+        }
+    }
+    Ok(count)
+}
+
+// The exit status.
+fn status_of(none: bool, count: usize, is_whole: bool) -> u8
+    ensures { (asked : List (List ModelEntry)) → count ≡ length asked →
+        result ≡ answer_status none asked is_whole }
+{
+    if none && count > 0 {
+        4
+    } else if is_whole {
+        0
+    } else {
+        3
+    }
+}
+
+/// The answer to a question: all endings of the machine that it asks for, numbered from 1, the
+/// shorter schedules first. The endings are those of all core runs of at most so many events, each
+/// once, with a shortest schedule. None of them is kept but by its schedule and its lines.
+///
+/// `Depth`: the depth is 0 or above 1,000,000. `States`: so is the number of states. `NoMemory`:
+/// memory was refused.
+pub fn answers(
+    alloc: Global,
+    machine: &Machine,
+    question: &Question<'_>,
+) -> Result<Answer, QuestionFault>
+    ensures ok { IfOk result (λ answer.
+        IsAnswered machine.now question.now answer.lines.items answer.status) }
+    ensures err { IfErr result (λ fault. (fault ≡ OutOfMemory) ⊎
+        (question_fault question.now ≡ Some fault)) }
+{
+    let (depth, most) = question.limits()?;
+    let found = endings(alloc, machine, depth, most)?;
+    let mut lines = Vec::new(alloc);
+    let count = write_endings(
+        alloc,
+        machine,
+        question,
+        found.endings.as_slice(),
+        &mut lines,
+    )?;
+    write_last(found.states, found.depth, found.is_whole, &mut lines)?;
+    Ok(Answer {
+        lines,
+        status: status_of(question.none, count, found.is_whole),
+    })
+}

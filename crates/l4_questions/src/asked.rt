@@ -1,0 +1,123 @@
+//! Which endings a question asks for.
+ghost use Rattle.std.specs.Prelude.{◌≡◌, IfOk, map, not};
+ghost use Rattle.std.specs.Option.{option_copied};
+ghost use Rattle.l4_core_model.specs.Runs.{is_empty};
+ghost use Rattle.l4_machine.specs.Entries.{entry_from};
+ghost use Rattle.l4_questions.specs.Asked.{has_asked, is_asked, is_stuck};
+ghost use Rattle.l4_questions.specs.Asked.{lacks_asked};
+ghost use Rattle.l4_questions.specs.Shown.{IsShownFor};
+
+use crate::closed::has_closed_receive;
+use crate::question::Question;
+use l4_lines::lines::has_line;
+use l4_machine::{Entry, replay_compact};
+use l4_reports::report_lines::write_report;
+use l4_script::machine::Machine;
+use l4_types::errors::NoMemory;
+use l4_types::ids::ThreadId;
+use l4_types::steps::Name;
+use std::alloc::Global;
+
+/// What a report shows of an ending.
+#[derive(Drop)]
+pub(crate) struct Shown {
+    /// The lines of the report.
+    pub(crate) report: Vec<u8>,
+    /// Whether a send waits.
+    pub(crate) has_waiting_send: bool,
+}
+
+impl Shown {
+    /// The report that the replay of entries ends with.
+    ///
+    /// `NoMemory`: memory was refused, or they are no entries of the machine.
+    pub(crate) fn new(
+        alloc: Global,
+        machine: &Machine,
+        entries: &[Entry],
+    ) -> Result<Shown, NoMemory>
+        ensures { IfOk result (IsShownFor machine.now (map entry_from entries.now)) }
+    {
+        let Ok(outcome) = replay_compact(alloc, machine, entries) else {
+            return Err(NoMemory);
+        };
+        let mut report = Vec::new(alloc);
+        write_report(
+            outcome.threads.as_slice(),
+            outcome.waiting.as_slice(),
+            outcome.ending,
+            &mut report,
+        )?;
+        Ok(Shown {
+            report,
+            has_waiting_send: has_some(outcome.waiting.as_slice()),
+        })
+    }
+
+    /// Whether a question asks for the ending that entries lead to, of which this is shown.
+    ///
+    /// `NoMemory`: memory was refused.
+    pub(crate) fn is_asked(
+        &self,
+        alloc: Global,
+        machine: &Machine,
+        question: &Question<'_>,
+        entries: &[Entry],
+    ) -> Result<bool, NoMemory>
+        requires { IsShownFor machine.now (map entry_from entries.now) self.now }
+        ensures { IfOk result (λ is.
+            is ≡ is_asked machine.now question.now (map entry_from entries.now)) }
+    {
+        if question.stuck && !self.is_stuck(alloc, machine, entries)? {
+            return Ok(false);
+        }
+        let report = self.report.as_slice();
+        Ok(has_asked(question.with_line, report) && lacks_asked(question.never, report))
+    }
+
+    // Whether somebody waits who may wait for ever.
+    fn is_stuck(
+        &self,
+        alloc: Global,
+        machine: &Machine,
+        entries: &[Entry],
+    ) -> Result<bool, NoMemory>
+        requires { IsShownFor machine.now (map entry_from entries.now) self.now }
+        ensures { IfOk result (λ is.
+            is ≡ is_stuck machine.now (map entry_from entries.now)) }
+    {
+        if self.has_waiting_send {
+            return Ok(true);
+        }
+        has_closed_receive(alloc, machine, entries)
+    }
+}
+
+fn has_some(sends: &[(Name, ThreadId)]) -> bool
+    ensures { result ≡ not (is_empty sends.now) }
+{
+    match sends {
+        [] => false,
+        _ => true,
+    }
+}
+
+// Whether a report has a line, where one is asked for.
+fn has_asked(line: Option<&str>, report: &[u8]) -> bool
+    ensures { result ≡ has_asked (option_copied line.entry) report.now }
+{
+    match line {
+        None => true,
+        Some(line) => has_line(line, report),
+    }
+}
+
+// Whether a report lacks a line, where one is asked for.
+fn lacks_asked(line: Option<&str>, report: &[u8]) -> bool
+    ensures { result ≡ lacks_asked (option_copied line.entry) report.now }
+{
+    match line {
+        None => true,
+        Some(line) => !has_line(line, report),
+    }
+}

@@ -1,0 +1,58 @@
+//! The lines of an answer.
+ghost use Rattle.std.specs.Prelude.{◌≡◌, ◌++◌, OnOk, map};
+ghost use Rattle.l4_machine.specs.Entries.{entry_from};
+ghost use Rattle.l4_questions.specs.Printed.{head_line, last_line, whole_word};
+
+use l4_machine::Entry;
+use l4_schedules::writing::write_schedule;
+use l4_types::errors::NoMemory;
+
+/// Appends the first line of an ending: its number, and the entries that lead there.
+///
+/// `NoMemory`: memory was refused, and the lines are of no use any more.
+pub(crate) fn write_head(
+    number: usize,
+    entries: &[Entry],
+    lines: &mut Vec<u8>,
+) -> Result<(), NoMemory>
+    ensures { OnOk result (lines.new.items ≡
+        lines.old.items ++ head_line number (map entry_from entries.now)) }
+{
+    let mut words = String::new(*lines.allocator());
+    write!(words, "ending {number}")?;
+    lines.extend_from_slice(words.as_bytes())?;
+    if !entries.is_empty() {
+        lines.push(b' ')?;
+        write_schedule(entries, lines)?;
+    }
+    lines.push(b'\n')?;
+    Ok(())
+}
+
+/// Appends the last line: how many states there are, how deep all were found, and whether there are
+/// no more.
+///
+/// `NoMemory`: memory was refused, and the lines are of no use any more.
+pub(crate) fn write_last(
+    states: usize,
+    depth: usize,
+    is_whole: bool,
+    lines: &mut Vec<u8>,
+) -> Result<(), NoMemory>
+    ensures { OnOk result (lines.new.items ≡ lines.old.items ++ last_line states depth is_whole) }
+{
+    let mut words = String::new(*lines.allocator());
+    writeln!(
+        words,
+        "states {states} depth {depth} {}",
+        spelled_whole(is_whole)
+    )?;
+    lines.extend_from_slice(words.as_bytes())?;
+    Ok(())
+}
+
+fn spelled_whole(is_whole: bool) -> &'static str
+    ensures { result.now ≡ whole_word is_whole }
+{
+    if is_whole { "whole" } else { "cut" }
+}

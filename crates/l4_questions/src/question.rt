@@ -1,0 +1,92 @@
+//! What is asked of the endings of a machine.
+ghost use Rattle.std.specs.Prelude.{◌≡◌, ◌⊎◌, ◌<◌, ◌≤◌, IfOk, IfErr, None, Some, false, ℕ};
+ghost use Rattle.l4_questions.specs.Answers.{is_out_of_range, most_asked, question_fault};
+ghost use Rattle.l4_questions.specs.declared.question.QuestionFault.TheVariants.{NoMemory as OutOfMemory};
+
+use l4_types::errors::NoMemory;
+
+/// A search goes at most as deep, and finds at most as many states.
+pub const MOST_ASKED: u64 = 1_000_000;
+
+/// Which endings of a machine are asked for. They are those for which all holds that is asked.
+#[derive(Clone, Copy, Debug, PartialEq, Eq)]
+pub struct Question<'a> {
+    /// How many events a core run has at most, 1 to 1,000,000. Any other number is the fault
+    /// `Depth`.
+    pub depth: u64,
+    /// How many states are looked at at most, 1 to 1,000,000. Any other number is the fault
+    /// `States`.
+    pub states: u64,
+    /// Only endings in which a send waits, or a thread receives from one thread alone.
+    pub stuck: bool,
+    /// Only endings whose report has such a line.
+    pub with_line: Option<&'a str>,
+    /// Only endings whose report has no such line.
+    pub never: Option<&'a str>,
+    /// Whether there is to be no such ending, so that one is status 4.
+    pub none: bool,
+}
+
+/// Why a question has no answer.
+#[derive(Clone, Copy, Debug, PartialEq, Eq)]
+pub enum QuestionFault {
+    /// Memory was refused.
+    NoMemory,
+    /// The depth is 0 or above 1,000,000.
+    Depth,
+    /// The number of states is 0 or above 1,000,000.
+    States,
+}
+
+impl From<NoMemory> for QuestionFault {
+    ghost from_gives = { λ _ fault. fault ≡ OutOfMemory };
+
+    fn from(_: NoMemory) -> QuestionFault {
+        QuestionFault::NoMemory
+    }
+}
+
+impl<'a> Question<'a> {
+    /// The question for all endings.
+    pub fn new(depth: u64, states: u64) -> Question<'a>
+        ensures { result ≡ record {
+          depth = depth;
+          states = states;
+          stuck = false;
+          with_line = None;
+          never = None;
+          none = false;
+        } }
+    {
+        Question {
+            depth,
+            states,
+            stuck: false,
+            with_line: None,
+            never: None,
+            none: false,
+        }
+    }
+
+    /// How deep is searched, and among how many states.
+    pub(crate) fn limits(&self) -> Result<(u32, u32), QuestionFault>
+        ensures ok { IfOk result (λ limits.
+            (question_fault self.now ≡ None) × (limits.0 ≡ self.now.depth) ×
+            (limits.1 ≡ self.now.states) × (0 < limits.1)) }
+        ensures err { IfErr result (λ fault. question_fault self.now ≡ Some fault) }
+    {
+        if is_out_of_range(self.depth) {
+            return Err(QuestionFault::Depth);
+        }
+        if is_out_of_range(self.states) {
+            return Err(QuestionFault::States);
+        }
+        Ok((self.depth as u32, self.states as u32))
+    }
+}
+
+fn is_out_of_range(number: u64) -> bool
+    ensures { result ≡ is_out_of_range number }
+{
+    number == 0 || number > MOST_ASKED
+}

@@ -1,0 +1,9 @@
+pub mod Beginnings
+pub mod InLines
+pub mod ItemSpelling
+pub mod Lawful
+pub mod Lengths
+pub mod Plain
+pub mod ReadBack
+pub mod Splits
+pub mod Trimmed

@@ -1,0 +1,3 @@
+pub mod InFiles
+pub mod Items
+pub mod Written

@@ -1,0 +1,124 @@
+//! The list of a schedule, written.
+ghost use Rattle.std.specs.Prelude.{◌≡◌, ◌++◌, codes, decimal, flat_map, map, OnOk, IfOk};
+ghost use Rattle.l4_machine.specs.Entries.{entry_from};
+ghost use Rattle.l4_schedules.specs.Items.{item_of};
+ghost use Rattle.l4_schedules.specs.Written.{in_lines, recorded_text, schedule_text, separator};
+
+use itoa::Buffer;
+use l4_machine::Entry;
+use l4_types::errors::NoMemory;
+use std::alloc::Global;
+
+// How many items a line of a recorded list has.
+const ITEMS_A_LINE: usize = 16;
+
+/// Appends the list of some entries: the item of each, with a comma between two. `schedule_of`
+/// reads it as these entries, where they are of its machine and not too many. Where memory is
+/// refused, a beginning of it may be there.
+pub fn write_schedule(entries: &[Entry], lines: &mut Vec<u8>) -> Result<(), NoMemory>
+    ensures { OnOk result (lines.new.items ≡
+        lines.old.items ++ schedule_text (map entry_from entries.now)) }
+{
+    let Some((first, others)) = entries.split_first() else {
+        return Ok(());
+    };
+    push_item(lines, *first)?;
+    push_others(lines, others)
+}
+
+// Appends the items of these entries, each behind a comma.
+fn push_others(lines: &mut Vec<u8>, entries: &[Entry]) -> Result<(), NoMemory>
+    ensures { OnOk result (lines.new.items ≡ lines.old.items ++
+        flat_map (λ entry. codes "," ++ item_of entry) (map entry_from entries.now)) }
+{
+    for entry in entries {
+        push_text(lines, ",")?;
+        push_item(lines, *entry)?;
+    }
+    Ok(())
+}
+
+/// What is recorded of a run that did what these entries say: a comment line that says what it is,
+/// and the list, 16 items in a line. `schedule_in_file` reads it as these entries.
+pub fn recorded_text(alloc: Global, entries: &[Entry]) -> Result<Vec<u8>, NoMemory>
+    ensures { IfOk result (λ text. text.items ≡ recorded_text (map entry_from entries.now)) }
+{
+    let mut text = Vec::new(alloc);
+    push_text(&mut text, "; l4run replay FILE --schedule @NAME\n")?;
+    push_lines(&mut text, entries)?;
+    push_text(&mut text, "\n")?;
+    Ok(text)
+}
+
+// Appends the items of these entries in lines.
+fn push_lines(text: &mut Vec<u8>, entries: &[Entry]) -> Result<(), NoMemory>
+    ensures { OnOk result (text.new.items ≡
+        text.old.items ++ in_lines 0 (map entry_from entries.now)) }
+{
+    for (before, entry) in entries.iter().enumerate() {
+        push_text(text, separator(before))?;
+        push_item(text, *entry)?;
+    }
+    Ok(())
+}
+
+// What stands before an item that so many come before.
+fn separator(before: usize) -> &'static str
+    ensures { result.now ≡ separator before }
+{
+    if before == 0 {
+        ""
+    } else if before % ITEMS_A_LINE == 0 {
+        ",\n"
+    } else {
+        ","
+    }
+}
+
+// Appends the item of an entry.
+fn push_item(text: &mut Vec<u8>, entry: Entry) -> Result<(), NoMemory>
+    ensures { OnOk result (text.new.items ≡ text.old.items ++ item_of (entry_from entry)) }
+{
+    match entry {
+        Entry::Turn(cpu) => push_number(text, u64::from(cpu)),
+        Entry::Tick(cpu) => push_named(text, "t", cpu),
+        Entry::Core(cpu) => push_named(text, "c", cpu),
+        Entry::Letter { cpu, from } => push_pair(text, cpu, u64::from(from)),
+        Entry::TickTo { cpu, clock } => {
+            push_text(text, "t")?;
+            push_pair(text, cpu, clock)
+        }
+    }
+}
+
+// Appends a processor and the letter before it.
+fn push_named(text: &mut Vec<u8>, letter: &str, cpu: u8) -> Result<(), NoMemory>
+    ensures { OnOk result (text.new.items ≡ text.old.items ++ letter.now ++ decimal cpu) }
+{
+    push_text(text, letter)?;
+    push_number(text, u64::from(cpu))
+}
+
+// Appends a processor and a number, with a colon between them.
+fn push_pair(text: &mut Vec<u8>, cpu: u8, number: u64) -> Result<(), NoMemory>
+    ensures { OnOk result (text.new.items ≡
+        text.old.items ++ decimal cpu ++ codes ":" ++ decimal number) }
+{
+    push_number(text, u64::from(cpu))?;
+    push_text(text, ":")?;
+    push_number(text, number)
+}
+
+fn push_number(text: &mut Vec<u8>, number: u64) -> Result<(), NoMemory>
+    ensures { OnOk result (text.new.items ≡ text.old.items ++ decimal number) }
+{
+    let mut buffer = Buffer::new();
+    push_text(text, buffer.format(number))
+}
+
+fn push_text(text: &mut Vec<u8>, more: &str) -> Result<(), NoMemory>
+    ensures { OnOk result (text.new.items ≡ text.old.items ++ more.now) }
+{
+    text.extend_from_slice(more.as_bytes())?;
+    Ok(())
+}

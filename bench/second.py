@@ -9,7 +9,7 @@ import random
 import subprocess
 import sys
 
-from second import machines, model, randoms, traces
+from second import machines, model, randoms, traces, waits
 
 SEED = 20_261_125
 QUIET, FAULT, SPENT = 0, 1, 3
@@ -49,18 +49,37 @@ class Case:
         words = ["replay", self.machine_file, "--schedule", self.schedule, *flags]
         self.compare(f"the {what} of a replay", words, said, "", QUIET if at_rest else SPENT)
 
-    def audit(self, machine, trace):
-        """Answers how the audit ended."""
+    def audit(self, machine, trace, *flags, behind=""):
+        """Answers how the audit ended. Where the trace passes, this stands behind its line."""
         write(self.trace_file, trace)
         said, fault = model.audit(machine, trace)
-        expected = ("", f"{FAULTS}{fault}\n", FAULT) if fault else (said, "", QUIET)
-        self.compare("an audit", ["audit", self.machine_file, self.trace_file], *expected, trace=trace)
+        expected = ("", f"{FAULTS}{fault}\n", FAULT) if fault else (said + behind, "", QUIET)
+        self.compare("an audit", ["audit", self.machine_file, self.trace_file, *flags], *expected, trace=trace)
         return " ".join(word for word in (said or fault).split() if not word.isdigit())
 
 
 def write(name, text):
     with open(name, "w") as file:
         file.write(text)
+
+
+ASKED = ("--waits", "--counts")
+
+
+def waited(case, dice, machine, replay, counts):
+    """Compares who waits for whom and what each thread did, at the end of a replay and after a beginning of its trace."""
+    history = replay.history
+    text = waits_and_counts(machine, history, counts)
+    case.replay("waits", traces.text(history) + text, replay.is_at_rest(), *ASKED)
+    beginning = history[: dice.randint(0, len(history))]
+    case.audit(machine, traces.text(beginning), *ASKED, behind=waits_and_counts(machine, beginning, counts))
+
+
+def waits_and_counts(machine, history, counts):
+    told = waits.waits_text(model.world_of(machine, history))
+    for line in told.splitlines():
+        counts[f"lines of {line.split()[0]}"] += 1
+    return told + waits.counts_text(machine, history)
 
 
 def tried(case, dice, kind, counts):
@@ -78,6 +97,7 @@ def tried(case, dice, kind, counts):
             ending = case.audit(machine, other)
             counts[f"audits of {what}"] += 1
             counts[f"audits of {what}: {ending}"] += 1
+    waited(case, dice, machine, replay, counts)
     counts["machines"] += 1
     counts[f"machines of profile {machine.profile}"] += 1
     counts[f"machines of {machine.format.bits} bits"] += 1

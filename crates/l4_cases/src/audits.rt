@@ -12,7 +12,7 @@ use std::thread::Threads;
 fn has_trace(job: &Job<'_>) -> bool {
     match *job {
         Job::Run { report, .. } | Job::Replay { report, .. } => !report,
-        Job::Audit { .. } | Job::Chart(_) | Job::Endings(_) => false,
+        Job::Audit { .. } | Job::Chart(_) | Job::Endings(_) | Job::Lint { .. } => false,
     }
 }
 

@@ -1,7 +1,7 @@
 -- Clap tells exactly what it makes of the program's words.
 use Rattle.std.proofs.Common.{◌≡◌, true, codes, refl}
 use Rattle.clap.specs.Words.{Text, is_simple, is_simple_and_free}
-use Rattle.l4_commands.specs.Commands.{file_rule, trace_rule, turns_rule, schedule_rule, number_rule, text_rule, flag_rule, run_app, replay_app, audit_app, steps_app, part_app, forms_app, chart_app, searched_app, lines_app, endings_app, top_app, l4run_app}
+use Rattle.l4_commands.specs.Commands.{file_rule, trace_rule, turns_rule, schedule_rule, number_rule, text_rule, flag_rule, run_app, replay_app, audit_app, steps_app, part_app, forms_app, chart_app, searched_app, lines_app, endings_app, lint_app, top_app, l4run_app}
 use Rattle.l4_commands.proofs.Simple.{IsSingle, IsCommand, IsProgram, named, more, below, reads_exactly, simple_of_free}
 
 file_is : IsSingle file_rule
@@ -55,12 +55,15 @@ lines_is = more (more searched_is (text_is _)) (text_is _)
 endings_is : IsCommand endings_app
 endings_is = more (more lines_is (flag_is _)) (flag_is _)
 
+lint_is : IsCommand lint_app
+lint_is = more (named (codes "lint")) file_is
+
 top_is : IsProgram top_app
 top_is = record { top = record { plain = refl; fresh = refl; rules = tt }; subs = tt }
 
 program_is : IsProgram l4run_app
 unfolding l4run_app
-program_is = below (below (below (below (below top_is run_is) replay_is) audit_is) chart_is) endings_is
+program_is = below (below (below (below (below (below top_is run_is) replay_is) audit_is) chart_is) endings_is) lint_is
 
 pub l4run_is_free : is_simple_and_free l4run_app ≡ true
 l4run_is_free = reads_exactly program_is

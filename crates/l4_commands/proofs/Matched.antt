@@ -9,7 +9,7 @@ use Rattle.clap.specs.declared.error.kind.ErrorKind.{ErrorKind}
 use Rattle.clap.specs.declared.error.kind.ErrorKind.TheVariants.{OutOfMemory}
 use Rattle.clap.specs.declared.parser.matches.Found.{Found}
 use Rattle.clap.proofs.WalkLemmas.{first_value-rows, one_text-rows}
-use Rattle.l4_commands.specs.Asked.{ToRun, ToReplay, ToAudit, ToChart, ToSearch, number_of, number_in, flag_of, flag_in, flags_in, form_of, has_wrong_line, is_over_file, is_same, is_wrong_line, run_in, replay_in, audit_in, chart_in, endings_in, IsRefusal}
+use Rattle.l4_commands.specs.Asked.{ToRun, ToReplay, ToAudit, ToChart, ToSearch, ToLint, number_of, number_in, flag_of, flag_in, flags_in, form_of, has_wrong_line, is_over_file, is_same, is_wrong_line, run_in, replay_in, audit_in, chart_in, endings_in, lint_in, IsRefusal}
 use Rattle.l4_commands.specs.declared.asked.Flags.{Flags}
 use Rattle.l4_commands.specs.declared.job.ChartForm.{ChartForm}
 use Rattle.l4_commands.specs.declared.words.WordsFault.{WordsFault}
@@ -74,6 +74,9 @@ pub endings_is : (f : Found) (file : Text) (depth states : ℕ) (stuck : Bool) (
     endings_in (rows_of f) ≡ Some (ToSearch file depth states stuck with_line never none)
 endings_is f file depth states stuck with_line never none p deep wide waits has lacks found right =
     rw (text_is f (codes "file") _ p, deep, wide, waits, found, right, text_is f (codes "with") _ has, text_is f (codes "never") _ lacks) refl
+
+pub lint_is : (f : Found) (file : Text) → first_value f (codes "file") ≡ Some file → lint_in (rows_of f) ≡ Some (ToLint file)
+lint_is f file p = rw (text_is f (codes "file") _ p) refl
 
 pub over_is : (f : Found) (file name : Option Text) (is : Bool) → first_value f (codes "file") ≡ file → first_value f (codes "record") ≡ name →
     is ≡ is_same file name → is ≡ is_over_file (rows_of f)

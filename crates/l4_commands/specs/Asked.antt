@@ -14,7 +14,7 @@ use Rattle.l4_commands.specs.declared.asked.Flags.{Flags}
 use Rattle.l4_commands.specs.declared.job.ChartForm.{ChartForm}
 use Rattle.l4_commands.specs.declared.job.ChartForm.TheVariants.{Lines, Ascii, Svg, Html, Mermaid}
 use Rattle.l4_commands.specs.declared.job.Job.{Job}
-use Rattle.l4_commands.specs.declared.job.Job.TheVariants.{Run, Replay, Audit, Chart, Endings}
+use Rattle.l4_commands.specs.declared.job.Job.TheVariants.{Run, Replay, Audit, Chart, Endings, Lint}
 use Rattle.l4_commands.specs.declared.words.WordsFault.{WordsFault}
 use Rattle.l4_commands.specs.declared.words.WordsFault.TheVariants.{Help, Usage, NoMemory}
 
@@ -25,6 +25,7 @@ pub data Asked : Type 0 where
   ToAudit : (file trace : Text) → Asked
   ToChart : (file trace : Text) (first last : ℕ) (threads : Option Text) (form : ChartForm) (width : ℕ) → Asked
   ToSearch : (file : Text) (depth states : ℕ) (stuck : Bool) (with_line never : Option Text) (none : Bool) → Asked
+  ToLint : (file : Text) → Asked
 
 abbrev pub asked_by : Job → Asked
 asked_by (Run file turns report record_to) = ToRun file.now turns report (option_copied record_to)
@@ -32,6 +33,7 @@ asked_by (Replay file schedule report) = ToReplay file.now schedule.now report
 asked_by (Audit file trace) = ToAudit file.now trace.now
 asked_by (Chart c) = ToChart c.file.now c.trace.now c.first c.last (option_copied c.threads) c.form c.width
 asked_by (Endings e) = ToSearch e.file.now e.depth e.states e.stuck (option_copied e.with_line) (option_copied e.never) e.none
+asked_by (Lint file) = ToLint file.now
 
 -- The number of a text of digits, and the flag of a text.
 abbrev pub number_of : Text → ℕ
@@ -124,6 +126,9 @@ endings_in rows = do
   none ← flag_in (codes "none") rows
   if has_wrong_line rows then None else Some (ToSearch file depth states stuck (first_of (codes "with") rows) (first_of (codes "never") rows) none)
 
+abbrev pub lint_in : List Row → Option Asked
+lint_in rows = option_map ToLint (first_of (codes "file") rows)
+
 -- The job of the matches: of the subcommand that was named.
 abbrev pub asked_in : Text × List Row → Option Asked
 asked_in p =
@@ -132,7 +137,8 @@ asked_in p =
     else (if bytes_eq p.0 (codes "audit") then audit_in p.1
     else (if bytes_eq p.0 (codes "chart") then chart_in p.1
     else (if bytes_eq p.0 (codes "endings") then endings_in p.1
-    else None))))
+    else (if bytes_eq p.0 (codes "lint") then lint_in p.1
+    else None)))))
 
 -- The job of the matches that the words have.
 abbrev pub asked_of : (words : List Text) → Option Asked

@@ -92,11 +92,14 @@ lines_app = with_rule (with_rule searched_app (text_rule (codes "with"))) (text_
 abbrev pub endings_app : App
 endings_app = with_rule (with_rule lines_app (flag_rule (codes "stuck"))) (flag_rule (codes "none"))
 
+abbrev pub lint_app : App
+lint_app = with_rule (new_app (codes "lint")) file_rule
+
 -- It has --version.
 abbrev pub top_app : App
 top_app = let a = new_app (codes "l4run") in record a { top = record a.top { has_version = true; subcommand_required = true } }
 
--- One of the five has to be named.
+-- One of the six has to be named.
 abbrev pub runs_app : App
 runs_app = with_subcommand (with_subcommand top_app run_app.top) replay_app.top
 
@@ -104,7 +107,7 @@ abbrev pub traces_app : App
 traces_app = with_subcommand (with_subcommand runs_app audit_app.top) chart_app.top
 
 unfoldable pub l4run_app : App
-l4run_app = with_subcommand traces_app endings_app.top
+l4run_app = with_subcommand (with_subcommand traces_app endings_app.top) lint_app.top
 
 -- What may be wrong with words, or that help is asked for: none of it where they ask for a job.
 abbrev pub faults_of : (words : List Text) → Kinds

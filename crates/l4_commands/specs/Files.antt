@@ -5,7 +5,7 @@ use Rattle.l4_commands.specs.declared.job.ChartForm.{ChartForm}
 use Rattle.l4_commands.specs.declared.job.ChartForm.TheVariants.{Lines, Ascii}
 use Rattle.l4_commands.specs.declared.job.Job.{Job}
 use Rattle.l4_commands.specs.declared.job.Recording.{Recording}
-use Rattle.l4_commands.specs.declared.job.Job.TheVariants.{Run, Replay, Audit, Chart, Endings}
+use Rattle.l4_commands.specs.declared.job.Job.TheVariants.{Run, Replay, Audit, Chart, Endings, Lint}
 
 -- The name of the file that the list of a schedule is in: what follows the `@`, byte 64, that it
 -- begins with.
@@ -22,6 +22,7 @@ file_of (Replay file schedule report) = file.now
 file_of (Audit file trace) = file.now
 file_of (Chart chart) = chart.file.now
 file_of (Endings search) = search.file.now
+file_of (Lint file) = file.now
 
 abbrev pub second_file_of : Job → Option (List ℕ)
 second_file_of (Run file turns report record_to) = None
@@ -29,6 +30,7 @@ second_file_of (Replay file schedule report) = list_name schedule.now
 second_file_of (Audit file trace) = Some trace.now
 second_file_of (Chart chart) = Some chart.trace.now
 second_file_of (Endings search) = None
+second_file_of (Lint file) = None
 
 -- The name of the file that a job records its run in.
 abbrev pub record_of : Job → Option (List ℕ)

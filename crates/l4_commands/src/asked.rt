@@ -6,7 +6,7 @@ ghost use Rattle.clap.specs.Words.{rows_of, found_of, subcommand_rows_of};
 ghost use Rattle.clap.specs.declared.error.kind.ErrorKind.TheVariants.{ArgumentConflict};
 ghost use Rattle.l4_commands.specs.Asked.{asked_by, asked_in, flag_in, number_in};
 ghost use Rattle.l4_commands.specs.Asked.{is_over_file, is_same, run_in, replay_in, audit_in, flags_in};
-ghost use Rattle.l4_commands.specs.Asked.{form_of, chart_in, endings_in, excludes};
+ghost use Rattle.l4_commands.specs.Asked.{form_of, chart_in, endings_in, lint_in, excludes};
 ghost use Rattle.l4_commands.specs.Asked.{excluded_in, is_wrong_line, has_wrong_line};
 
 use crate::job::{ChartForm, ChartJob, EndingsJob, Job};
@@ -185,6 +185,16 @@ fn endings_job<'a>(matches: &ArgMatches<'a>) -> Option<Job<'a>>
     }))
 }
 
+// The job of the matches of `lint`.
+fn lint_job<'a>(matches: &ArgMatches<'a>) -> Option<Job<'a>>
+    ensures { IfSome result (λ job.
+        lint_in (rows_of (found_of matches.now)) ≡ Some (asked_by job)) }
+{
+    Some(Job::Lint {
+        file: matches.get_str("file")?,
+    })
+}
+
 pub fn job_of_matches<'a>(matches: &ArgMatches<'a>) -> Option<Job<'a>>
     ensures { IfSome result (λ job.
         option_and_then asked_in (subcommand_rows_of matches.now) ≡ Some (asked_by job)) }
@@ -196,6 +206,7 @@ pub fn job_of_matches<'a>(matches: &ArgMatches<'a>) -> Option<Job<'a>>
         "audit" => audit_job(matches),
         "chart" => chart_job(matches),
         "endings" => endings_job(matches),
+        "lint" => lint_job(matches),
         _ => None,
     }
 }

@@ -5,13 +5,14 @@ ghost use Rattle.clap.specs.declared.builder.command.Command.TheViews.{out-Comma
 ghost use Rattle.l4_commands.specs.Commands.{turned_app, run_app};
 ghost use Rattle.l4_commands.specs.Commands.{replay_app, audit_app, traced_app, steps_app, part_app};
 ghost use Rattle.l4_commands.specs.Commands.{forms_app, chart_app, searched_app, lines_app};
-ghost use Rattle.l4_commands.specs.Commands.{endings_app, runs_app, traces_app, l4run_app};
+ghost use Rattle.l4_commands.specs.Commands.{endings_app, lint_app, runs_app, traces_app, l4run_app};
 
 use crate::args::{
     file_arg, flag_arg, number_arg, report_arg, schedule_arg, text_arg, trace_arg, turns_arg,
 };
 use crate::texts::{
-    AUDIT_EXAMPLE, CHART_EXAMPLE, ENDINGS_EXAMPLE, REPLAY_EXAMPLE, RUN_EXAMPLE, VERSION,
+    AUDIT_EXAMPLE, CHART_EXAMPLE, ENDINGS_EXAMPLE, LINT_EXAMPLE, REPLAY_EXAMPLE, RUN_EXAMPLE,
+    VERSION,
 };
 use clap::Command;
 use std::alloc::{AllocError, Global};
@@ -197,6 +198,17 @@ fn endings_command<'a>(alloc: Global) -> Result<Command<'a>, AllocError>
     endings.arg(stuck)?.arg(none)
 }
 
+fn lint_command<'a>(alloc: Global) -> Result<Command<'a>, AllocError>
+    ensures app { IfOk result (λ command. app_of command ≡ lint_app) }
+    ensures local { IfOk result (λ command. (out-Command command).has_globals ≡ false) }
+{
+    let file = file_arg(alloc);
+    let lint = Command::new(alloc, "lint")
+        .about("Tells all that is wrong in a machine text")
+        .after_help(LINT_EXAMPLE);
+    lint.arg(file)
+}
+
 // The program with what runs a machine text.
 fn runs_command<'a>(alloc: Global) -> Result<Command<'a>, AllocError>
     ensures { IfOk result (λ command. app_of command ≡ runs_app) }
@@ -225,6 +237,7 @@ pub fn l4run_command<'a>(alloc: Global) -> Result<Command<'a>, AllocError>
     ensures { IfOk result (λ command. app_of command ≡ l4run_app) }
 {
     let endings = endings_command(alloc)?;
+    let lint = lint_command(alloc)?;
     let l4run = traces_command(alloc)?;
-    l4run.subcommand(endings)
+    l4run.subcommand(endings)?.subcommand(lint)
 }

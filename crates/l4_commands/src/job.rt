@@ -110,6 +110,11 @@ pub enum Job<'a> {
     Chart(ChartJob<'a>),
     /// Search for all endings of the machine text in a file.
     Endings(EndingsJob<'a>),
+    /// Say all that is wrong in the machine text in a file.
+    Lint {
+        /// The name of the file with the machine text.
+        file: &'a str,
+    },
 }
 
 impl<'a> Job<'a> {
@@ -121,6 +126,7 @@ impl<'a> Job<'a> {
             Job::Run { file, .. } | Job::Replay { file, .. } | Job::Audit { file, .. } => file,
             Job::Chart(chart) => chart.file,
             Job::Endings(search) => search.file,
+            Job::Lint { file } => file,
         }
     }
 
@@ -130,7 +136,7 @@ impl<'a> Job<'a> {
         ensures { option_map (λ name. name.now) result ≡ second_file_of self.now }
     {
         match *self {
-            Job::Run { .. } | Job::Endings(_) => None,
+            Job::Run { .. } | Job::Endings(_) | Job::Lint { .. } => None,
             Job::Replay { schedule, .. } => list_name(schedule),
             Job::Audit { trace, .. } => Some(trace),
             Job::Chart(chart) => Some(chart.trace),

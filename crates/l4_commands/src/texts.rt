@@ -1,7 +1,7 @@
 //! What the program says of itself, and what the help of each command says last.
 
 /// The version of the program.
-pub const VERSION: &str = "0.22";
+pub const VERSION: &str = "0.23";
 
 pub const RUN_EXAMPLE: &str = "Example: `l4run run ping.l4`, where the file ping.l4 has the lines
 
@@ -63,6 +63,11 @@ pub const ENDINGS_EXAMPLE: &str =
 that each schedule comes to, a shortest schedule of it that `l4run replay` takes, and its report. The last line says
 how many states were looked at, how long the longest schedule was, and whether that is the `whole` or was `cut`: then
 there may be more endings, and the status is 3.";
+
+pub const LINT_EXAMPLE: &str =
+    "Example: `l4run lint ping.l4`, with the machine text that `l4run help run` shows but the line `set 64 10`,
+prints `line 4 column 5: BadNumber: `64`: wanted: a register, 1 to 63`. Each fault has such a line: where
+it is, its kind, what stands there, and what may. The status is 1 then, and 0 where nothing is wrong.";
 
 pub const TWO_FORMS: &str =
     "error: only one of '--ascii', '--svg', '--html' and '--mermaid' can be given

@@ -2,6 +2,7 @@ pub mod Charted
 pub mod Appending
 pub mod Audited
 pub mod Recorded
+pub mod Linted
 pub mod Listed
 pub mod Opened
 pub mod RunsShown

@@ -11,7 +11,7 @@ use Rattle.l4_jobs.specs.Streams.{FileGives}
 use Rattle.l4_jobs.specs.declared.fault.Fault.{Fault}
 use Rattle.l4_commands.specs.declared.job.ChartJob.{ChartJob}
 use Rattle.l4_commands.specs.declared.job.Job.{Job}
-use Rattle.l4_commands.specs.declared.job.Job.TheVariants.{Run, Replay, Audit, Chart, Endings}
+use Rattle.l4_commands.specs.declared.job.Job.TheVariants.{Run, Replay, Audit, Chart, Endings, Lint}
 use Rattle.l4_jobs.proofs.Shown.{true_on}
 
 -- What reading a source may come to, and what a writer takes.
@@ -58,6 +58,7 @@ fault_more (Replay file schedule report) (Ok m) less more f h is = list_fault_mo
 fault_more (Audit file name) (Ok m) less more f h is = trace_fault_more m name.now less more f h is
 fault_more (Chart chart) (Ok m) less more f h is = chart_fault_more chart m less more f h is
 fault_more (Endings search) (Ok m) less more f h is = is
+fault_more (Lint file) (Ok m) less more f h is = is
 
 job_fault_more : (job : Job) (machine less more : Gives) (f : Fault) → IsMore job less more → IsJobFault job machine less f → IsJobFault job machine more f
 job_fault_more job machine less more f h (inl none) = inl none

@@ -21,7 +21,7 @@ use Rattle.l4_questions.specs.Printed.{answer_status, status_of_search}
 use Rattle.l4_commands.specs.declared.job.ChartJob.{ChartJob}
 use Rattle.l4_commands.specs.declared.job.EndingsJob.{EndingsJob}
 use Rattle.l4_commands.specs.declared.job.Job.{Job}
-use Rattle.l4_commands.specs.declared.job.Job.TheVariants.{Run, Replay, Audit, Chart, Endings}
+use Rattle.l4_commands.specs.declared.job.Job.TheVariants.{Run, Replay, Audit, Chart, Endings, Lint}
 
 -- What reading a source may come to.
 abbrev Gives : Type 1
@@ -83,6 +83,7 @@ right_on (Audit file name) m trace lines status s = passed_right m trace lines s
 right_on (Chart chart) m trace lines status s =
     ap (λ o. or_later (fault_of_threads o) (fault_of_lines (steps_of trace))) s.chosen ∙ ap fault_of_lines s.reads
 right_on (Endings search) m trace lines status s = ap (option_map fault_of_question) s.lawful
+right_on (Lint file) m trace lines status s = refl
 
 shown_right : (job : Job) (text trace lines : List ℕ) (status : ℕ) → IsShown job text trace lines status → fault_of job text trace ≡ None
 shown_right job text trace lines status s = ap (λ m. fault_of_judged job m trace) s.declares ∙ right_on job s.machine trace lines status s.shown
@@ -118,6 +119,7 @@ status_on (Run file turns report record_to) m trace lines status s = at_rest_or_
 status_on (Replay file schedule report) m trace lines status s = at_rest_or_not (Replay file schedule report) _ status s.status_is
 status_on (Audit file name) m trace lines status s = inl s.1
 status_on (Chart chart) m trace lines status s = refused_or_not (Chart chart) _ status s.status_is
+status_on (Lint file) m trace lines status s = inl s.1
 status_on (Endings search) m trace lines status s = answered_or_cut search search.none _ _ status refl s.status_is
 
 pub shown_status : (job : Job) (text trace lines : List ℕ) (status : ℕ) → IsShown job text trace lines status → IsStatusOf job status
@@ -146,6 +148,7 @@ whole_on : (job : Job) (m : Machine) (trace lines : List ℕ) (status : ℕ) →
 whole_on (Run file turns report record_to) m trace lines status s none one = not_1 _ status s.status_is one
 whole_on (Replay file schedule report) m trace lines status s none one = not_1 _ status s.status_is one
 whole_on (Audit file name) m trace lines status s none one = absurd (omega (arith, s.1, one))
+whole_on (Lint file) m trace lines status s none one = absurd (omega (arith, s.1, one))
 whole_on (Endings search) m trace lines status s none one = answered_not_1 search.none _ _ status s.status_is one
 whole_on (Chart chart) m trace lines status s none one =
     let zero : status ≡ 0 = s.status_is ∙ ap status_of_refused (sym (refused_here chart m trace lines status s) ∙ none) in
@@ -156,6 +159,7 @@ cut_on : (job : Job) (m : Machine) (trace lines : List ℕ) (status number : ℕ
 cut_on (Run file turns report record_to) m trace lines status number s is = absurd (let none : None ≡ Some number = is in cc)
 cut_on (Replay file schedule report) m trace lines status number s is = absurd (let none : None ≡ Some number = is in cc)
 cut_on (Audit file name) m trace lines status number s is = absurd (let none : None ≡ Some number = is in cc)
+cut_on (Lint file) m trace lines status number s is = absurd (let none : None ≡ Some number = is in cc)
 cut_on (Endings search) m trace lines status number s is = absurd (let none : None ≡ Some number = is in cc)
 cut_on (Chart chart) m trace lines status number s is =
     s.status_is ∙ ap status_of_refused (sym (refused_here chart m trace lines status s) ∙ is)
@@ -197,6 +201,7 @@ true_on (Replay file schedule report) m trace lines status s = s.is_true
 true_on (Audit file name) m trace lines status s = s
 true_on (Chart chart) m trace lines status s = s
 true_on (Endings search) m trace lines status s = s
+true_on (Lint file) m trace lines status s = s
 
 -- The status of a run that was recorded.
 pub recorded_status : (job : Job) (status : ℕ) → (status ≡ 0) ⊎ (status ≡ 1) ⊎ (status ≡ 3) → IsStatusOf job status

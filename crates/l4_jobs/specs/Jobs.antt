@@ -1,5 +1,5 @@
 -- What a job asks for, and what is shown for it.
-use Rattle.std.specs.Prelude.{◌≡◌, ◌↔◌, ◌⊎◌, ℕ, Bool, true, false, Option, Some, None, IsSomeAnd, Result, Ok, Err, List, length}
+use Rattle.std.specs.Prelude.{◌≡◌, ◌↔◌, ◌⊎◌, ℕ, Bool, true, false, Option, Some, None, IsSomeAnd, Result, Ok, Err, List, [], length}
 use Rattle.std.specs.Option.{option_map}
 use Rattle.std.specs.declared.io.ErrorKind.{ErrorKind}
 use Rattle.std.specs.declared.io.ErrorKind.TheVariants.{OutOfMemory}
@@ -39,7 +39,7 @@ use Rattle.l4_jobs.specs.declared.fault.Fault.{Fault}
 use Rattle.l4_jobs.specs.declared.fault.Fault.TheVariants as fault
 use Rattle.l4_commands.specs.declared.job.ChartJob.{ChartJob}
 use Rattle.l4_commands.specs.declared.job.Job.{Job}
-use Rattle.l4_commands.specs.declared.job.Job.TheVariants.{Run, Replay, Audit, Chart, Endings}
+use Rattle.l4_commands.specs.declared.job.Job.TheVariants.{Run, Replay, Audit, Chart, Endings, Lint}
 
 -- The text that is read of a file of this name is what its reader gives. Where there is none,
 -- nothing is read.
@@ -126,6 +126,7 @@ fault_of_job (Replay file schedule report) m text = fault_of_result (run_by_list
 fault_of_job (Audit file name) m trace = fault_of_trace m trace
 fault_of_job (Chart chart) m trace = fault_of_chart chart m trace
 fault_of_job (Endings search) m trace = fault_of_search search
+fault_of_job (Lint file) m trace = None
 
 abbrev pub fault_on : Job → Result Machine TextFault → (trace : List ℕ) → Option Fault
 fault_on job (Err f) trace = Some (text_fault f.line f.kind)
@@ -173,6 +174,7 @@ IsFaultOn (Replay file schedule report) m list f =
 IsFaultOn (Audit file name) m trace f = IsTraceFault m name.now trace f
 IsFaultOn (Chart chart) m trace f = IsChartFault chart m trace f
 IsFaultOn (Endings search) m trace f = fault_of_search search ≡ Some f
+IsFaultOn (Lint file) m trace f = ⊥
 
 abbrev pub IsFaultOf : Job → Result Machine TextFault → (trace : Result (List ℕ) ErrorKind → Type 0) → Fault → Type 0
 IsFaultOf job (Err e) trace f = f ≡ text_fault e.line e.kind
@@ -265,6 +267,7 @@ IsShownOn (Replay file schedule report) m text lines status =
 IsShownOn (Audit file name) m trace lines status = IsPassed m trace lines × (status ≡ 0)
 IsShownOn (Chart chart) m trace lines status = IsCharted chart m trace lines status
 IsShownOn (Endings search) m trace lines status = IsAnswered m (question_of search) lines status
+IsShownOn (Lint file) m trace lines status = (lines ≡ []) × (status ≡ 0)
 
 -- They are true of the machine.
 abbrev pub IsTrueOn : Job → Machine → (trace lines : List ℕ) → (status : ℕ) → Type 0
@@ -273,6 +276,7 @@ IsTrueOn (Replay file schedule report) m trace lines status = IsTrueShown report
 IsTrueOn (Audit file name) m trace lines status = IsPassed m trace lines × (status ≡ 0)
 IsTrueOn (Chart chart) m trace lines status = IsCharted chart m trace lines status
 IsTrueOn (Endings search) m trace lines status = IsAnswered m (question_of search) lines status
+IsTrueOn (Lint file) m trace lines status = (lines ≡ []) × (status ≡ 0)
 
 -- An exit status. Only a search that is to find nothing may have status 4.
 abbrev pub IsNoneAsked : Job → Type 0
@@ -311,6 +315,7 @@ refused_on (Replay file schedule report) m trace = None
 refused_on (Audit file name) m trace = None
 refused_on (Chart chart) m trace = refused_of_steps m (steps_of trace)
 refused_on (Endings search) m trace = None
+refused_on (Lint file) m trace = None
 
 abbrev pub refused_in : Job → Result Machine TextFault → (trace : List ℕ) → Option ℕ
 refused_in job (Err f) trace = None

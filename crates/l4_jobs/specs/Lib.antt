@@ -2,6 +2,7 @@ pub mod Audits
 pub mod ChartJobs
 pub mod FaultLines
 pub mod Jobs
+pub mod Lints
 pub mod Recording
 pub mod Refusals
 pub mod Searches

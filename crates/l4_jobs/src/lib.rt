@@ -21,6 +21,7 @@ pub mod audits;
 mod charts;
 pub mod fault;
 pub mod files;
+pub mod lints;
 pub mod perform;
 pub mod recording;
 pub mod refusal;

@@ -279,6 +279,12 @@ fn output_on<'a, R: Threads + Sync, T: Source>(
         Job::Audit { trace: name, .. } => audit_output(alloc, machine, name, trace),
         Job::Chart(chart) => chart_output(alloc, machine, &chart, trace),
         Job::Endings(search) => search_output(alloc, machine, &search),
+        // A text with a fault did not come so far.
+        Job::Lint { .. } => Ok(Output {
+            lines: Vec::new(alloc),
+            status: 0,
+            refused: None,
+        }),
     }
 }
 
@@ -338,7 +344,8 @@ fn ended<E: Sink>(alloc: Global, faults: &mut E, output: &Output) -> u8
 /// reported. The machine text is judged before anything is read of the trace. An audit and a chart
 /// read a trace, and a replay whose list is in a file reads that list in its place. The output is
 /// made whole before any of it is written, and it is written once. A fault is reported by its one
-/// line. Nothing is recorded: `perform_recorded` does that.
+/// line. Nothing is recorded: `perform_recorded` does that. A
+/// text is only judged where all that is wrong in it is asked for: `perform_lint` tells it.
 ///
 /// In a run several processors may work at the same time, each in a host thread. So two runs of
 /// several processors may differ, and each is lawful. A replay does what the items of its schedule

@@ -1,0 +1,3 @@
+pub mod Counts
+pub mod Few
+pub mod Lines

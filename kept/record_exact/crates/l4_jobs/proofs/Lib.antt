@@ -1,0 +1,14 @@
+pub mod Charted
+pub mod Appending
+pub mod Audited
+pub mod Joined
+pub mod Registers
+pub mod Recorded
+pub mod ReportRows
+pub mod CommandSimple
+pub mod Matched
+pub mod Listed
+pub mod Names
+pub mod Opened
+pub mod RunsShown
+pub mod Shown

@@ -1,0 +1,177 @@
+-- What is read of a text, and what is written of a run.
+use Rattle.std.proofs.Common.{◌≡◌, ℕ, ◌≤◌, Bool, true, false, Option, Some, None, Result, Ok, Err, List, length, take, refl, ap, sym, subst, inl, inr, ◌∙◌, arith}
+use Rattle.std.specs.Prelude.{◌⊎◌, IfErr, nat_lt}
+use Rattle.std.specs.declared.io.ErrorKind.{ErrorKind}
+use Rattle.std.specs.Option.{option_map}
+use Rattle.std.proofs.lemmas.Bool.{lt-ltb, ltb-true}
+use Rattle.std.proofs.lemmas.Bool.Decides.{nat_tests}
+use Rattle.std.proofs.lemmas.List.{length-take, take_all}
+use Rattle.l4_model.specs.Machine.{Machine}
+use Rattle.l4_model.specs.History.{refused_place}
+use Rattle.l4_model.proofs.Faults.{tells_first_fault}
+use Rattle.l4_script.specs.Texts.{machine_of_text}
+use Rattle.l4_trace.specs.Reading.{steps_of}
+use Rattle.l4_jobs.specs.ChartJobs.{IsCharted, fault_of_lines, fault_of_threads, or_later, refused_of_steps, status_of_refused}
+use Rattle.l4_jobs.specs.Jobs.{IsDone, IsTold, IsTrueOn, IsTrulyDone, IsFaultOf, IsJobFault, IsPassed, IsShown, IsShownOn, IsNotDone, IsEnded, refused_in, refused_on, status_at_rest, fault_of, fault_of_job, fault_of_trace, fault_of_steps, fault_on as fault_of_judged, fault_of_result, fault_of_run}
+use Rattle.l4_jobs.specs.declared.fault.Fault.{Fault}
+use Rattle.l4_jobs.specs.declared.fault.Fault.TheVariants as fault
+use Rattle.l4_jobs.specs.declared.job.ChartJob.{ChartJob}
+use Rattle.l4_jobs.specs.declared.job.Job.{Job}
+use Rattle.l4_jobs.specs.declared.job.Job.TheVariants.{Run, Replay, Audit, Chart}
+
+-- What reading a source may come to.
+abbrev Gives : Type 1
+Gives = Result (List ℕ) ErrorKind → Type 0
+
+not_below : (a b : ℕ) → nat_lt a b ≡ false → b ≤ a
+not_below a b h = grind (arith, nat_tests)
+
+-- A text that is too long is judged as its beginning is.
+same_judged : (bytes : List ℕ) → machine_of_text (take 0x100001 bytes) ≡ machine_of_text bytes
+same_judged bytes = by (nat_lt 0x100000 (length bytes)) refl
+  where
+    by : (b : Bool) → nat_lt 0x100000 (length bytes) ≡ b → machine_of_text (take 0x100001 bytes) ≡ machine_of_text bytes
+    by true long =
+        let more = ltb-true 0x100000 (length bytes) long in
+        let too = lt-ltb 0x100000 (length (take 0x100001 bytes)) (omega (arith, more, length-take 0x100001 bytes)) in
+        rw (long, too) refl
+    by false short = ap machine_of_text (take_all 0x100001 bytes (let least = not_below _ _ short in omega (arith, least)))
+
+-- What was read of a text is judged as the text is.
+pub judged_same : (gives : Gives) (read : List ℕ) → (all : List ℕ) × gives (Ok all) × ((read ≡ all) ⊎ (read ≡ take 0x100001 all)) →
+    (all : List ℕ) × gives (Ok all) × (machine_of_text read ≡ machine_of_text all)
+judged_same gives read (all, given, inl is) = (all, given, ap machine_of_text is)
+judged_same gives read (all, given, inr is) = (all, given, ap machine_of_text is ∙ same_judged all)
+
+-- What is shown for the text that was read, or its fault, is that of the text that the reader gives.
+pub shown_given : (job : Job) (machine trace : Gives) (read slice lines : List ℕ) (status : ℕ) (refused : Option ℕ) →
+    (all : List ℕ) × machine (Ok all) × (machine_of_text read ≡ machine_of_text all) → slice ≡ read →
+    (told : List ℕ) × IsTold job trace told × IsShown job slice told lines status × (refused ≡ refused_in job (machine_of_text slice) told) →
+    (text : List ℕ) × (told : List ℕ) × machine (Ok text) × IsTold job trace told × IsShown job text told lines status
+    × (refused ≡ refused_in job (machine_of_text text) told)
+shown_given job machine trace read slice lines status refused (all, given, same) is (told, t, s, r) = (
+  all,
+  told,
+  given,
+  t,
+  record { machine = s.machine; declares = sym (ap machine_of_text is ∙ same) ∙ s.declares; shown = s.shown },
+  r ∙ ap (λ m. refused_in job m told) (ap machine_of_text is ∙ same),
+)
+
+pub err_given : {X : Type 0} (job : Job) (machine trace : Gives) (read slice : List ℕ) (r : Result X Fault) →
+    (all : List ℕ) × machine (Ok all) × (machine_of_text read ≡ machine_of_text all) → slice ≡ read →
+    IfErr r (λ f. (f ≡ fault.NoMemory) ⊎ IsFaultOf job (machine_of_text slice) trace f) → IfErr r (IsJobFault job machine trace)
+err_given job machine trace read slice (Ok x) given is h = tt
+err_given job machine trace read slice (Err f) given is (inl e) = inl e
+err_given job machine trace read slice (Err f) (all, given, same) is (inr e) =
+    inr (inr (all, given, subst (λ m. IsFaultOf job m trace f) (ap machine_of_text is ∙ same) e))
+
+-- A trace that passes has no fault.
+passed_right : (m : Machine) (trace lines : List ℕ) → IsPassed m trace lines → fault_of_trace m trace ≡ None
+passed_right m trace lines p =
+    ap (fault_of_steps m) p.reads ∙ ap (option_map fault.Refused) ((tells_first_fault m p.steps).history.1 (p.world, p.reaches))
+
+-- What is shown has no fault.
+right_on : (job : Job) (m : Machine) (trace lines : List ℕ) (status : ℕ) → IsShownOn job m trace lines status → fault_of_job job m trace ≡ None
+right_on (Run file turns report record_to) m trace lines status s = ap (option_map fault_of_run) s.is.lawful
+right_on (Replay file schedule report) m trace lines status s = ap fault_of_result s.is
+right_on (Audit file name) m trace lines status s = passed_right m trace lines s.0
+right_on (Chart chart) m trace lines status s =
+    ap (λ o. or_later (fault_of_threads o) (fault_of_lines (steps_of trace))) s.chosen ∙ ap fault_of_lines s.reads
+
+shown_right : (job : Job) (text trace lines : List ℕ) (status : ℕ) → IsShown job text trace lines status → fault_of job text trace ≡ None
+shown_right job text trace lines status s = ap (λ m. fault_of_judged job m trace) s.declares ∙ right_on job s.machine trace lines status s.shown
+
+pub right_given : (P : Type 0) (job : Job) (machine others : Gives) (text trace lines : List ℕ) (status : ℕ) → machine (Ok text) →
+    IsTold job others trace → IsShown job text trace lines status →
+    ((t told : List ℕ) → machine (Ok t) → IsTold job others told → fault_of job t told ≡ None → ⊥) → P
+right_given P job machine others text trace lines status given told s faulty =
+    elim (faulty text trace given told (shown_right job text trace lines status s)) [ ]
+
+-- The exit status of what is shown.
+at_rest_or_not : (rests : Bool) (status : ℕ) → status ≡ status_at_rest rests → (status ≡ 0) ⊎ (status ≡ 1) ⊎ (status ≡ 3)
+at_rest_or_not true status is = inl is
+at_rest_or_not false status is = inr (inr is)
+
+refused_or_not : (refused : Option ℕ) (status : ℕ) → status ≡ status_of_refused refused → (status ≡ 0) ⊎ (status ≡ 1) ⊎ (status ≡ 3)
+refused_or_not None status is = inl is
+refused_or_not (Some number) status is = inr (inl is)
+
+status_on : (job : Job) (m : Machine) (trace lines : List ℕ) (status : ℕ) → IsShownOn job m trace lines status →
+    (status ≡ 0) ⊎ (status ≡ 1) ⊎ (status ≡ 3)
+status_on (Run file turns report record_to) m trace lines status s = at_rest_or_not _ status s.status_is
+status_on (Replay file schedule report) m trace lines status s = at_rest_or_not _ status s.status_is
+status_on (Audit file name) m trace lines status s = inl s.1
+status_on (Chart chart) m trace lines status s = refused_or_not _ status s.status_is
+
+pub shown_status : (job : Job) (text trace lines : List ℕ) (status : ℕ) → IsShown job text trace lines status →
+    (status ≡ 0) ⊎ (status ≡ 1) ⊎ (status ≡ 3)
+shown_status job text trace lines status s = status_on job s.machine trace lines status s.shown
+
+-- The status is 1 exactly where a step of a trace that is drawn is not possible.
+not_1 : (rests : Bool) (status : ℕ) → status ≡ status_at_rest rests → status ≡ 1 → ⊥
+not_1 true status is one = absurd (omega (arith, is, one))
+not_1 false status is one = absurd (omega (arith, is, one))
+
+refused_here : (chart : ChartJob) (m : Machine) (trace lines : List ℕ) (status : ℕ) (c : IsCharted chart m trace lines status) →
+    refused_of_steps m (steps_of trace) ≡ refused_place m c.steps
+refused_here chart m trace lines status c = ap (refused_of_steps m) c.reads
+
+whole_on : (job : Job) (m : Machine) (trace lines : List ℕ) (status : ℕ) → IsShownOn job m trace lines status → refused_on job m trace ≡ None →
+    status ≡ 1 → ⊥
+whole_on (Run file turns report record_to) m trace lines status s none one = not_1 _ status s.status_is one
+whole_on (Replay file schedule report) m trace lines status s none one = not_1 _ status s.status_is one
+whole_on (Audit file name) m trace lines status s none one = absurd (omega (arith, s.1, one))
+whole_on (Chart chart) m trace lines status s none one =
+    let zero : status ≡ 0 = s.status_is ∙ ap status_of_refused (sym (refused_here chart m trace lines status s) ∙ none) in
+    absurd (omega (arith, zero, one))
+
+cut_on : (job : Job) (m : Machine) (trace lines : List ℕ) (status number : ℕ) → IsShownOn job m trace lines status → refused_on job m trace ≡ Some number →
+    status ≡ 1
+cut_on (Run file turns report record_to) m trace lines status number s is = absurd (let none : None ≡ Some number = is in cc)
+cut_on (Replay file schedule report) m trace lines status number s is = absurd (let none : None ≡ Some number = is in cc)
+cut_on (Audit file name) m trace lines status number s is = absurd (let none : None ≡ Some number = is in cc)
+cut_on (Chart chart) m trace lines status number s is =
+    s.status_is ∙ ap status_of_refused (sym (refused_here chart m trace lines status s) ∙ is)
+
+-- What writers take.
+abbrev Takes : Type 1
+Takes = List ℕ → Bool → Type 0
+
+-- What was done once the lines were written.
+pub done_at_end : (job : Job) (machine trace : Gives) (out : Takes) (keeps : Type 0) (faults : Takes) (text told lines : List ℕ) (status result : ℕ)
+    (refused : Option ℕ) → machine (Ok text) → IsTold job trace told → IsShown job text told lines status → out lines true →
+    IsEnded refused status result keeps faults → (result ≡ 1 → ⊥) → IsDone job machine trace out keeps result
+done_at_end job machine trace out keeps faults text told lines status result None given t s wrote (is, kept) right =
+    (text, told, lines, given, t, subst (IsShown job text told lines) (sym is) s, wrote, kept)
+done_at_end job machine trace out keeps faults text told lines status result (Some number) given t s wrote (is, reported) right =
+    elim (right is) [ ]
+
+pub not_done_at_end : (job : Job) (machine trace : Gives) (is_fault : Fault → Type 0) (out : Takes) (keeps_out keeps : Type 0) (faults : Takes)
+    (text told lines : List ℕ) (status result : ℕ) (refused : Option ℕ) → machine (Ok text) → IsTold job trace told → IsShown job text told lines status →
+    refused ≡ refused_in job (machine_of_text text) told → out lines true → IsEnded refused status result keeps faults → result ≡ 1 →
+    IsNotDone job machine trace is_fault out keeps_out faults
+not_done_at_end job machine trace is_fault out keeps_out keeps faults text told lines status result None given t s cut wrote (is, kept) one =
+    elim (whole_on job s.machine told lines status s.shown (sym (cut ∙ ap (λ m. refused_in job m told) s.declares)) (sym is ∙ one)) [ ]
+not_done_at_end job machine trace is_fault out keeps_out keeps faults text told lines status result (Some number) given t s cut wrote (is, reported) one =
+    let status_is = cut_on job s.machine told lines status number s.shown (sym (cut ∙ ap (λ m. refused_in job m told) s.declares)) in
+    inr (inr (text, told, lines, number, given, t, subst (IsShown job text told lines) status_is s, sym cut, wrote, reported))
+
+pub end_status : (job : Job) (text told lines : List ℕ) (status result : ℕ) (refused : Option ℕ) (keeps : Type 0) (faults : Takes) →
+    IsShown job text told lines status → IsEnded refused status result keeps faults → (result ≡ 0) ⊎ (result ≡ 1) ⊎ (result ≡ 3)
+end_status job text told lines status result None keeps faults s (is, kept) =
+    subst (λ n. (n ≡ 0) ⊎ (n ≡ 1) ⊎ (n ≡ 3)) (sym is) (shown_status job text told lines status s)
+end_status job text told lines status result (Some number) keeps faults s (is, reported) = inr (inl is)
+
+-- What is shown is true of the machine.
+pub true_on : (job : Job) (m : Machine) (trace lines : List ℕ) (status : ℕ) → IsShownOn job m trace lines status →
+    IsTrueOn job m trace lines status
+true_on (Run file turns report record_to) m trace lines status s = s.is_true
+true_on (Replay file schedule report) m trace lines status s = s.is_true
+true_on (Audit file name) m trace lines status s = s
+true_on (Chart chart) m trace lines status s = s
+
+pub truly_done : (job : Job) (machine trace : Gives) (out : List ℕ → Bool → Type 0) (keeps : Type 0) (status : ℕ) →
+    IsDone job machine trace out keeps status → IsTrulyDone job machine trace out status
+truly_done job machine trace out keeps status (text, told, lines, given, t, s, wrote, kept) =
+    (text, told, lines, s.machine, given, s.declares, t, true_on job s.machine told lines status s.shown, wrote)

@@ -1,0 +1,16 @@
+use Rattle.std.proofs.Common.{List, Ok, map, ap, sym, ◌∙◌}
+use Rattle.l4_machine.specs.Entries.{entry_from}
+use Rattle.l4_machine.specs.declared.entries.Entry.{Entry}
+use Rattle.l4_jobs.proofs.RunsShown.{replay_shown}
+use Rattle.l4_jobs.proofs.perform.replay_output.Goals as goal
+
+pub returns-clause-ok : goal.returns-clause-ok
+returns-clause-ok g c =
+    let asked = c.in_ok-entries.ensures.ok in
+    let entries = c.as_slice.ensures.value in
+    let output = c.in_ok-output_of_run.ensures in (
+      asked.0,
+      asked.1,
+      replay_shown c.args.report c.args.machine.now c.args.schedule.now asked.0 _ _ _ _
+          (asked.2 ∙ ap (λ (es : List Entry). Ok (map entry_from es)) (sym entries)) c.in_ok-outcome.ensures output.lines output.status,
+    )

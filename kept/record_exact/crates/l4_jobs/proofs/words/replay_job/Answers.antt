@@ -1,0 +1,7 @@
+use Rattle.std.proofs.Common.{sym}
+use Rattle.clap.specs.Words.{found_of}
+use Rattle.l4_jobs.proofs.Matched.{replay_is}
+use Rattle.l4_jobs.proofs.words.replay_job.Goals as goal
+
+pub returns : goal.returns
+returns c = replay_is (found_of c.args.matches.now) _ _ _ (sym c.in_ok-get_str.ensures) (sym c.in_ok-get_str-2.ensures) c.in_ok-has_report.ensures

@@ -1,0 +1,136 @@
+//! Recording a run: what it prints, and the list by which a replay is that very run.
+ghost use Rattle.std.specs.Prelude.{◌≡◌, ◌≢◌, ◌⊎◌, ℕ, Bool, List, IfOk, IfErr, Ok, Some};
+ghost use Rattle.l4_model.specs.Machine.{Machine as ModelMachine};
+ghost use Rattle.l4_script.specs.Texts.{machine_of_text};
+ghost use Rattle.l4_jobs.specs.Jobs.{IsFaultOf, IsJobFault, IsReplayAsked, IsRunShown};
+ghost use Rattle.l4_jobs.specs.Jobs.{fault_of_turns, list_name};
+ghost use Rattle.l4_jobs.specs.Recording.{IsMade, IsNotRecorded, IsPrinted, IsRecordDone};
+ghost use Rattle.l4_jobs.specs.Recording.{IsRecorded, job_of};
+ghost use Rattle.l4_jobs.specs.declared.fault.Fault.TheVariants.{NoMemory as OutOfMemory};
+
+use crate::fault::{Fault, report};
+use crate::job::Recording;
+use crate::perform::{Output, output_of_run, read_text};
+use crate::streams::{Sink, Source};
+use l4_machine::run_recorded;
+use l4_proc::gate::Open;
+use l4_schedules::writing::recorded_text;
+use l4_script::machine::Machine;
+use std::alloc::Global;
+use std::thread::Threads;
+
+// What a recorded run prints, and what is recorded of it.
+#[derive(Drop)]
+struct Made {
+    output: Output,
+    list: Vec<u8>,
+}
+
+// What is printed and recorded of a run of this machine.
+fn made_on<'a, R: Threads + Sync>(
+    rt: &R,
+    alloc: Global,
+    recording: &Recording<'_>,
+    machine: &Machine,
+) -> Result<Made, Fault<'a>>
+    ensures ok { IfOk result (λ made. IsRecorded recording.now.report machine.now
+        recording.now.turns made.output.lines.items made.list.items made.output.status) }
+    ensures err { IfErr result (λ fault. (fault ≡ OutOfMemory) ⊎
+        (fault_of_turns recording.now.turns ≡ Some fault)) }
+{
+    let _ = machine.cpus();
+    let (outcome, entries) = run_recorded(rt, alloc, machine, recording.turns, &Open)?;
+    Ok(Made {
+        list: recorded_text(alloc, entries.as_slice())?,
+        output: output_of_run(alloc, recording.report, outcome)?,
+    })
+}
+
+// What is printed and recorded for a text.
+fn made_of<'a, R: Threads + Sync>(
+    rt: &R,
+    alloc: Global,
+    recording: &Recording<'a>,
+    text: &[u8],
+) -> Result<Made, Fault<'a>>
+    ensures ok { IfOk result (λ made. (machine : ModelMachine) ×
+        (machine_of_text text.now ≡ Ok machine) ×
+        IsRecorded recording.now.report machine recording.now.turns made.output.lines.items
+        made.list.items made.output.status) }
+    ensures err { IfErr result (λ fault. (fault ≡ OutOfMemory) ⊎
+        IsFaultOf (job_of recording.now) (machine_of_text text.now) (λ given. ⊥) fault) }
+{
+    let machine = Machine::parse(alloc, text)?;
+    made_on(rt, alloc, recording, &machine)
+}
+
+// What is printed and recorded for what the reader of the machine text gives.
+fn all_made<'a, R: Threads + Sync, M: Source>(
+    rt: &R,
+    alloc: Global,
+    recording: &Recording<'a>,
+    machine: &mut M,
+) -> Result<Made, Fault<'a>>
+    ensures ok { IfOk result (λ made. IsMade (job_of recording.now) (M.gives machine.old)
+        made.output.lines.items made.list.items made.output.status) }
+    ensures err { IfErr result (IsJobFault (job_of recording.now) (M.gives machine.old)
+        (λ given. ⊥)) }
+{
+    let text = read_text(alloc, recording.file, machine)?;
+    made_of(rt, alloc, recording, text.as_slice())
+}
+
+// Prints the lines of a run that was recorded, and returns the exit status.
+fn printed<W: Sink, E: Sink>(alloc: Global, output: &Output, out: &mut W, faults: &mut E) -> u8
+    ensures { IsPrinted output.now.lines.items output.now.status result
+        (W.takes out.old out.new) (faults.new ≡ faults.old) (E.takes faults.old faults.new) }
+{
+    match out.put(output.lines.as_slice()) {
+        Ok(()) => output.status,
+        Err(_) => report(alloc, faults, &Fault::Write),
+    }
+}
+
+/// Does a run and records it, and returns the exit status: that of the run, or 1 where a fault was
+/// reported instead. What is printed and what is recorded are made whole, with all memory taken,
+/// before anything is written: so a fault leaves `list` as it was. Then the record is written into
+/// it, once, and then the lines, once. By the schedule in the record a replay has the very findings
+/// that are shown.
+pub fn perform_recorded<R: Threads + Sync, M: Source, L: Sink, W: Sink, E: Sink>(
+    rt: &R,
+    alloc: Global,
+    recording: &Recording<'_>,
+    machine: &mut M,
+    list: &mut L,
+    out: &mut W,
+    faults: &mut E,
+) -> u8
+    ensures done { result ≢ 1 →
+        IsRecordDone (job_of recording.now) (M.gives machine.old) (L.takes list.old list.new)
+        (W.takes out.old out.new) (faults.new ≡ faults.old) result }
+    ensures whole { result ≡ 1 →
+        IsNotRecorded (job_of recording.now) (M.gives machine.old)
+        (L.takes list.old list.new) (list.new ≡ list.old) (W.takes out.old out.new)
+        (out.new ≡ out.old) (E.takes faults.old faults.new) }
+    ensures statuses { (result ≡ 0) ⊎ (result ≡ 1) ⊎ (result ≡ 3) }
+{
+    let whole = match all_made(rt, alloc, recording, machine) {
+        Ok(made) => made,
+        Err(fault) => return report(alloc, faults, &fault),
+    };
+    match list.put(whole.list.as_slice()) {
+        Ok(()) => printed(alloc, &whole.output, out, faults),
+        Err(_) => report(alloc, faults, &Fault::Unwritten(recording.name)),
+    }
+}
+
+/// On the machine of a run that was recorded, a replay of the record prints the lines that the run
+/// printed, and no others, and has its status.
+pub fn law_recorded()
+    ensures { (report : Bool) (m : ModelMachine) (turns : ℕ) (lines text others : List ℕ)
+        (status other : ℕ) (list name : List ℕ) → list_name list ≡ Some name →
+        IsRecorded report m turns lines text status →
+        IsRunShown report m (IsReplayAsked m list text) lines status ×
+        (IsRunShown report m (IsReplayAsked m list text) others other →
+        (others ≡ lines) × (other ≡ status)) }
+{}

@@ -1,0 +1,3 @@
+mod CommandSimple
+mod Matched
+mod Simple

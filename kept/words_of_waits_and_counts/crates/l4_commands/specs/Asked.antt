@@ -1,0 +1,185 @@
+-- What the words of the command line ask for.
+use Rattle.std.specs.Prelude.{◌≡◌, ◌≢◌, ◌⊎◌, ◌||◌, ℕ, Bool, true, false, ⊤, if◌then◌else◌, Option, Some, None, is_none, is_some, List, [], ◌∷◌, ◌++◌, codes, option_map, option_and_then}
+use Rattle.std.specs.Option.{option_copied}
+use Rattle.std.specs.Str.{bytes_eq}
+use Rattle.std.specs.Str.Parse.{digits_value, without_leading_plus}
+use Rattle.l4_model.specs.Conditions.{◌>>=◌}
+use Rattle.clap.specs.Words.{Row, Text, first_of, one_of, subcommand_of}
+use Rattle.clap.specs.Kinds.{Kinds, IsAmong}
+use Rattle.clap.specs.declared.error.kind.ErrorKind.{ErrorKind}
+use Rattle.clap.specs.declared.error.kind.ErrorKind.TheVariants.{DisplayHelp, DisplayVersion, ArgumentConflict}
+use Rattle.l4_lines.specs.Lines.{line_fault}
+use Rattle.l4_commands.specs.Commands.{faults_of, l4run_app}
+use Rattle.l4_commands.specs.declared.asked.Flags.{Flags}
+use Rattle.l4_commands.specs.declared.asked.Printed.{Printed}
+use Rattle.l4_commands.specs.declared.job.ChartForm.{ChartForm}
+use Rattle.l4_commands.specs.declared.job.ChartForm.TheVariants.{Lines, Ascii, Svg, Html, Mermaid}
+use Rattle.l4_commands.specs.declared.job.Job.{Job}
+use Rattle.l4_commands.specs.declared.job.Job.TheVariants.{Run, Replay, Audit, Chart, Endings, Lint}
+use Rattle.l4_commands.specs.declared.words.WordsFault.{WordsFault}
+use Rattle.l4_commands.specs.declared.words.WordsFault.TheVariants.{Help, Usage, NoMemory}
+
+-- A job by its texts.
+pub data Asked : Type 0 where
+  ToRun : (file : Text) (turns : ℕ) (report waits counts : Bool) (record_to : Option Text) → Asked
+  ToReplay : (file schedule : Text) (report waits counts : Bool) → Asked
+  ToAudit : (file trace : Text) (waits : Bool) → Asked
+  ToChart : (file trace : Text) (first last : ℕ) (threads : Option Text) (form : ChartForm) (width : ℕ) → Asked
+  ToSearch : (file : Text) (depth states : ℕ) (stuck : Bool) (with_line never : Option Text) (none : Bool) → Asked
+  ToLint : (file : Text) (schedule : Option Text) → Asked
+
+abbrev pub asked_by : Job → Asked
+asked_by (Run file turns report waits counts record_to) = ToRun file.now turns report waits counts (option_copied record_to)
+asked_by (Replay file schedule report waits counts) = ToReplay file.now schedule.now report waits counts
+asked_by (Audit file trace waits) = ToAudit file.now trace.now waits
+asked_by (Chart c) = ToChart c.file.now c.trace.now c.first c.last (option_copied c.threads) c.form c.width
+asked_by (Endings e) = ToSearch e.file.now e.depth e.states e.stuck (option_copied e.with_line) (option_copied e.never) e.none
+asked_by (Lint file schedule) = ToLint file.now (option_copied schedule)
+
+-- The number of a text of digits, and the flag of a text.
+abbrev pub number_of : Text → ℕ
+number_of text = digits_value 10 (without_leading_plus text)
+
+abbrev pub flag_of : Text → Option Bool
+flag_of text = if bytes_eq text (codes "true") then Some true else if bytes_eq text (codes "false") then Some false else None
+
+-- The number of an argument, and whether a flag was given, by the matches of a subcommand's arguments.
+abbrev pub number_in : (name : Text) → List Row → Option ℕ
+number_in name rows = option_map number_of (one_of name rows)
+
+abbrev pub flag_in : (name : Text) → List Row → Option Bool
+flag_in name rows = option_and_then flag_of (one_of name rows)
+
+-- What is printed of a run.
+abbrev pub printed_in : List Row → Option Printed
+printed_in rows = do
+  report ← flag_in (codes "report") rows
+  waits ← flag_in (codes "waits") rows
+  counts ← flag_in (codes "counts") rows
+  Some (record { report = report; waits = waits; counts = counts })
+
+-- A schedule would be kept in the file of the machine text.
+abbrev pub is_same : (file name : Option Text) → Bool
+is_same (Some file) (Some name) = bytes_eq name file
+is_same file name = false
+
+abbrev pub is_over_file : List Row → Bool
+is_over_file rows = is_same (first_of (codes "file") rows) (first_of (codes "record") rows)
+
+-- The job of the matches.
+abbrev pub run_in : List Row → Option Asked
+run_in rows = do
+  file ← first_of (codes "file") rows
+  turns ← number_in (codes "turns") rows
+  printed ← printed_in rows
+  if is_over_file rows then None else Some (ToRun file turns printed.report printed.waits printed.counts (first_of (codes "record") rows))
+
+abbrev pub replay_in : List Row → Option Asked
+replay_in rows = do
+  file ← first_of (codes "file") rows
+  schedule ← first_of (codes "schedule") rows
+  printed ← printed_in rows
+  Some (ToReplay file schedule printed.report printed.waits printed.counts)
+
+abbrev pub audit_in : List Row → Option Asked
+audit_in rows = do
+  file ← first_of (codes "file") rows
+  trace ← first_of (codes "trace") rows
+  waits ← flag_in (codes "waits") rows
+  Some (ToAudit file trace waits)
+
+abbrev pub flags_in : List Row → Option Flags
+flags_in rows = do
+  ascii ← flag_in (codes "ascii") rows
+  svg ← flag_in (codes "svg") rows
+  html ← flag_in (codes "html") rows
+  mermaid ← flag_in (codes "mermaid") rows
+  Some (record { ascii = ascii; svg = svg; html = html; mermaid = mermaid })
+
+-- One form at most may be asked for: without one, it is a text with lines.
+abbrev pub form_by : (ascii svg html mermaid : Bool) → Option ChartForm
+form_by false false false false = Some Lines
+form_by true false false false = Some Ascii
+form_by false true false false = Some Svg
+form_by false false true false = Some Html
+form_by false false false true = Some Mermaid
+form_by _ _ _ _ = None
+
+abbrev pub form_of : Flags → Option ChartForm
+form_of f = form_by f.ascii f.svg f.html f.mermaid
+
+abbrev pub chart_in : List Row → Option Asked
+chart_in rows = do
+  file ← first_of (codes "file") rows
+  trace ← first_of (codes "trace") rows
+  first ← number_in (codes "from") rows
+  last ← number_in (codes "to") rows
+  flags ← flags_in rows
+  form ← form_of flags
+  width ← number_in (codes "width") rows
+  Some (ToChart file trace first last (first_of (codes "threads") rows) form width)
+
+-- A line that no report has, or that may not be asked for.
+abbrev pub is_wrong_line : Option Text → Bool
+is_wrong_line None = false
+is_wrong_line (Some line) = is_some (line_fault line)
+
+abbrev pub has_wrong_line : List Row → Bool
+has_wrong_line rows = is_wrong_line (first_of (codes "with") rows) || is_wrong_line (first_of (codes "never") rows)
+
+abbrev pub endings_in : List Row → Option Asked
+endings_in rows = do
+  file ← first_of (codes "file") rows
+  depth ← number_in (codes "depth") rows
+  states ← number_in (codes "states") rows
+  stuck ← flag_in (codes "stuck") rows
+  none ← flag_in (codes "none") rows
+  if has_wrong_line rows then None else Some (ToSearch file depth states stuck (first_of (codes "with") rows) (first_of (codes "never") rows) none)
+
+abbrev pub lint_in : List Row → Option Asked
+lint_in rows = do
+  file ← first_of (codes "file") rows
+  Some (ToLint file (first_of (codes "schedule") rows))
+
+-- The job of the matches: of the subcommand that was named.
+abbrev pub asked_in : Text × List Row → Option Asked
+asked_in p =
+    if bytes_eq p.0 (codes "run") then run_in p.1
+    else (if bytes_eq p.0 (codes "replay") then replay_in p.1
+    else (if bytes_eq p.0 (codes "audit") then audit_in p.1
+    else (if bytes_eq p.0 (codes "chart") then chart_in p.1
+    else (if bytes_eq p.0 (codes "endings") then endings_in p.1
+    else (if bytes_eq p.0 (codes "lint") then lint_in p.1
+    else None)))))
+
+-- The job of the matches that the words have.
+abbrev pub asked_of : (words : List Text) → Option Asked
+asked_of words = option_and_then asked_in (subcommand_of l4run_app words)
+
+-- Words that exclude each other: of a run, a schedule that is kept in the file of its machine text; of a chart, two forms; of a search, a line that may
+-- not be asked for.
+abbrev pub excludes : Option Flags → Bool
+excludes None = false
+excludes (Some flags) = is_none (form_of flags)
+
+abbrev pub excluding : Text × List Row → Bool
+excluding p =
+    if bytes_eq p.0 (codes "run") then is_over_file p.1
+    else (if bytes_eq p.0 (codes "chart") then excludes (flags_in p.1)
+    else (if bytes_eq p.0 (codes "endings") then has_wrong_line p.1
+    else false))
+
+abbrev pub excluded_in : Option (Text × List Row) → Kinds
+excluded_in None = []
+excluded_in (Some p) = if excluding p then ArgumentConflict ∷ [] else []
+
+-- What may be wrong with words, or that help is asked for: none of it where they ask for a job.
+abbrev pub wrong_in : (words : List Text) → Kinds
+wrong_in words = faults_of words ++ excluded_in (subcommand_of l4run_app words)
+
+-- Why there is no job, by what may be wrong with the words: help, or the version, is answered only where they ask for it, and usage only where they
+-- are wrong.
+abbrev pub IsRefusal : Kinds → WordsFault → Type 0
+IsRefusal kinds (Help text) = (kind : ErrorKind) × IsAmong kind kinds × ((kind ≡ DisplayHelp) ⊎ (kind ≡ DisplayVersion))
+IsRefusal kinds (Usage text) = (kind : ErrorKind) × IsAmong kind kinds × (kind ≢ DisplayHelp) × (kind ≢ DisplayVersion)
+IsRefusal kinds NoMemory = ⊤

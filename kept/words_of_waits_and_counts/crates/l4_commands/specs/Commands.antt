@@ -1,0 +1,118 @@
+-- The commands of the program, as a parse of words reads them.
+use Rattle.std.specs.Prelude.{true, Some, List, [], ◌∷◌, codes}
+use Rattle.clap.specs.Words.{App, Rule, Text, new_app, new_rule, with_rule, with_subcommand, fault_of}
+use Rattle.clap.specs.Kinds.{Kinds}
+use Rattle.clap.specs.declared.builder.action.ArgAction.TheVariants.{SetTrue}
+use Rattle.clap.specs.declared.builder.value_parser.ValueParser.TheVariants.{Unsigned}
+
+-- FILE
+abbrev pub file_rule : Rule
+file_rule = record (new_rule (codes "file")) { value_names = 1; required = true }
+
+-- TRACE
+abbrev pub trace_rule : Rule
+trace_rule = record (new_rule (codes "trace")) { value_names = 1; required = true }
+
+-- --turns N, a number below 2^64, and 100000 where it is not given
+abbrev pub turns_rule : Rule
+turns_rule = record (new_rule (codes "turns")) { long = Some (codes "turns"); value_names = 1; parser = Some (Unsigned 0 18446744073709551615); defaults = codes "100000" ∷ [] }
+
+-- --schedule LIST
+abbrev pub schedule_rule : Rule
+schedule_rule = record (new_rule (codes "schedule")) { long = Some (codes "schedule"); value_names = 1; required = true }
+
+-- --depth N, --states N, --from N, --to N and --width N, numbers below 2^64. Where they are not given, the depth is 1000, the states are 100000, the
+-- first step is 1, the last is any, and 0 stands for the width of the terminal.
+abbrev pub number_rule : (name default : Text) → Rule
+number_rule name default =
+    record (new_rule name) { long = Some name; value_names = 1; parser = Some (Unsigned 0 18446744073709551615); defaults = default ∷ [] }
+
+abbrev pub depth_rule : Rule
+depth_rule = number_rule (codes "depth") (codes "1000")
+
+abbrev pub states_rule : Rule
+states_rule = number_rule (codes "states") (codes "100000")
+
+abbrev pub from_rule : Rule
+from_rule = number_rule (codes "from") (codes "1")
+
+abbrev pub to_rule : Rule
+to_rule = number_rule (codes "to") (codes "18446744073709551615")
+
+abbrev pub width_rule : Rule
+width_rule = number_rule (codes "width") (codes "0")
+
+-- --record NAME, --with LINE, --never LINE, --threads LIST, and the --schedule LIST that may be left out
+abbrev pub text_rule : (name : Text) → Rule
+text_rule name = record (new_rule name) { long = Some name; value_names = 1 }
+
+-- --report, --waits, --counts, --stuck, --none, --ascii, --svg, --html and --mermaid
+abbrev pub flag_rule : (name : Text) → Rule
+flag_rule name = record (new_rule name) { long = Some name; action = Some SetTrue }
+
+-- What is printed of a run: the report in place of the steps, and behind either who waits for whom, and the counts of each thread.
+abbrev pub with_printed : App → App
+with_printed app = with_rule (with_rule (with_rule app (flag_rule (codes "report"))) (flag_rule (codes "waits"))) (flag_rule (codes "counts"))
+
+-- The command `run`, with its file and turns, what is printed, and where its schedule is kept.
+abbrev pub turned_app : App
+turned_app = with_rule (with_rule (new_app (codes "run")) file_rule) turns_rule
+
+abbrev pub run_app : App
+run_app = with_rule (with_printed turned_app) (text_rule (codes "record"))
+
+abbrev pub scheduled_app : App
+scheduled_app = with_rule (with_rule (new_app (codes "replay")) file_rule) schedule_rule
+
+abbrev pub replay_app : App
+replay_app = with_printed scheduled_app
+
+abbrev pub audit_app : App
+audit_app = with_rule (with_rule (with_rule (new_app (codes "audit")) file_rule) trace_rule) (flag_rule (codes "waits"))
+
+-- The command `chart`, with its files, the steps, the part that is shown, and the forms.
+abbrev pub traced_app : App
+traced_app = with_rule (with_rule (new_app (codes "chart")) file_rule) trace_rule
+
+abbrev pub steps_app : App
+steps_app = with_rule (with_rule traced_app from_rule) to_rule
+
+abbrev pub part_app : App
+part_app = with_rule (with_rule steps_app (text_rule (codes "threads"))) width_rule
+
+abbrev pub forms_app : App
+forms_app = with_rule (with_rule part_app (flag_rule (codes "ascii"))) (flag_rule (codes "svg"))
+
+abbrev pub chart_app : App
+chart_app = with_rule (with_rule forms_app (flag_rule (codes "html"))) (flag_rule (codes "mermaid"))
+
+-- The command `endings`, with its file, how far it searches, and which endings it asks for.
+abbrev pub searched_app : App
+searched_app = with_rule (with_rule (with_rule (new_app (codes "endings")) file_rule) depth_rule) states_rule
+
+abbrev pub lines_app : App
+lines_app = with_rule (with_rule searched_app (text_rule (codes "with"))) (text_rule (codes "never"))
+
+abbrev pub endings_app : App
+endings_app = with_rule (with_rule lines_app (flag_rule (codes "stuck"))) (flag_rule (codes "none"))
+
+abbrev pub lint_app : App
+lint_app = with_rule (with_rule (new_app (codes "lint")) file_rule) (text_rule (codes "schedule"))
+
+-- It has --version.
+abbrev pub top_app : App
+top_app = let a = new_app (codes "l4run") in record a { top = record a.top { has_version = true; subcommand_required = true } }
+
+-- One of the six has to be named.
+abbrev pub runs_app : App
+runs_app = with_subcommand (with_subcommand top_app run_app.top) replay_app.top
+
+abbrev pub traces_app : App
+traces_app = with_subcommand (with_subcommand runs_app audit_app.top) chart_app.top
+
+unfoldable pub l4run_app : App
+l4run_app = with_subcommand (with_subcommand traces_app endings_app.top) lint_app.top
+
+-- What may be wrong with words, or that help is asked for: none of it where they ask for a job.
+abbrev pub faults_of : (words : List Text) → Kinds
+faults_of words = fault_of l4run_app words

@@ -1,0 +1,87 @@
+//! The arguments of the commands.
+ghost use Rattle.std.specs.Prelude.{◌≡◌, false};
+ghost use Rattle.clap.specs.Words.{rule_of};
+ghost use Rattle.l4_commands.specs.Commands.{file_rule, trace_rule, turns_rule, schedule_rule};
+ghost use Rattle.l4_commands.specs.Commands.{number_rule, text_rule, flag_rule};
+
+use clap::{Arg, ArgAction, value_parser};
+use std::alloc::Global;
+
+pub fn file_arg<'a>(alloc: Global) -> Arg<'a>
+    ensures rule { rule_of result ≡ file_rule }
+    ensures local { result.global ≡ false }
+{
+    Arg::new(alloc, "file")
+        .value_name("FILE")
+        .help("The machine text")
+        .required(true)
+}
+
+pub fn trace_arg<'a>(alloc: Global) -> Arg<'a>
+    ensures rule { rule_of result ≡ trace_rule }
+    ensures local { result.global ≡ false }
+{
+    Arg::new(alloc, "trace")
+        .value_name("TRACE")
+        .help("The trace, a line for each step")
+        .required(true)
+}
+
+pub fn turns_arg<'a>(alloc: Global) -> Arg<'a>
+    ensures rule { rule_of result ≡ turns_rule }
+    ensures local { result.global ≡ false }
+{
+    Arg::new(alloc, "turns")
+        .long("turns")
+        .value_name("N")
+        .help("Ends after N turns, 1 to 1000000, and at most one more for each further processor")
+        .value_parser(value_parser!(u64))
+        .default_value("100000")
+}
+
+pub fn schedule_arg<'a>(alloc: Global) -> Arg<'a>
+    ensures rule { rule_of result ≡ schedule_rule }
+    ensures local { result.global ≡ false }
+{
+    Arg::new(alloc, "schedule")
+        .long("schedule")
+        .value_name("LIST")
+        .help("Items joined by commas, or the empty text, or `@` and the name of a file with them")
+        .required(true)
+}
+
+// An option with a number below 2^64.
+pub fn number_arg<'a>(alloc: Global, name: &'a str, help: &'a str, default: &'a str) -> Arg<'a>
+    ensures rule { rule_of result ≡ number_rule name.entry.now default.entry.now }
+    ensures local { result.global ≡ false }
+{
+    Arg::new(alloc, name)
+        .long(name)
+        .value_name("N")
+        .help(help)
+        .value_parser(value_parser!(u64))
+        .default_value(default)
+        .hide_default_value(true)
+}
+
+// An option with a text.
+pub fn text_arg<'a>(alloc: Global, name: &'a str, value: &'a str, help: &'a str) -> Arg<'a>
+    ensures rule { rule_of result ≡ text_rule name.entry.now }
+    ensures local { result.global ≡ false }
+{
+    Arg::new(alloc, name)
+        .long(name)
+        .value_name(value)
+        .help(help)
+}
+
+// An option without a value.
+pub fn flag_arg<'a>(alloc: Global, name: &'a str, help: &'a str) -> Arg<'a>
+    ensures rule { rule_of result ≡ flag_rule name.entry.now }
+    ensures local { result.global ≡ false }
+{
+    Arg::new(alloc, name)
+        .long(name)
+        .help(help)
+        .action(ArgAction::SetTrue)
+}

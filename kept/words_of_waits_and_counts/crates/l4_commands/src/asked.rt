@@ -1,0 +1,255 @@
+//! What the matches of the words ask for.
+ghost use Rattle.std.specs.Prelude.{◌≡◌, ◌∷◌, [], IfSome, IsSome, IsTrue, Some, true};
+ghost use Rattle.std.specs.Prelude.{is_some, option_and_then};
+ghost use Rattle.std.specs.Option.{option_copied};
+ghost use Rattle.clap.specs.Words.{rows_of, found_of, subcommand_rows_of};
+ghost use Rattle.clap.specs.declared.error.kind.ErrorKind.TheVariants.{ArgumentConflict};
+ghost use Rattle.l4_commands.specs.Asked.{asked_by, asked_in, flag_in, number_in, printed_in};
+ghost use Rattle.l4_commands.specs.Asked.{is_over_file, run_in, replay_in, audit_in, flags_in};
+ghost use Rattle.l4_commands.specs.Asked.{form_of, chart_in, endings_in, lint_in, excludes};
+ghost use Rattle.l4_commands.specs.Asked.{excluded_in, is_wrong_line, has_wrong_line};
+
+use crate::job::{ChartForm, ChartJob, EndingsJob, Job};
+use clap::ArgMatches;
+use l4_lines::lines::{LineFault, line_fault};
+
+// Whether the matches have a flag.
+fn flag(matches: &ArgMatches<'_>, name: &str) -> Option<bool>
+    ensures { IfSome result (λ given.
+        flag_in name.now (rows_of (found_of matches.now)) ≡ Some given) }
+{
+    matches.get_one(name)
+}
+
+// A number of the matches.
+fn number(matches: &ArgMatches<'_>, name: &str) -> Option<u64>
+    ensures { IfSome result (λ number.
+        number_in name.now (rows_of (found_of matches.now)) ≡ Some number) }
+{
+    let number = matches.get_one::<u64>(name)?;
+    Some(number)
+}
+
+/// What is printed of a run.
+#[derive(Clone, Copy)]
+pub struct Printed {
+    report: bool,
+    waits: bool,
+    counts: bool,
+}
+
+// What the matches of `run` and `replay` print.
+fn printed_of(matches: &ArgMatches<'_>) -> Option<Printed>
+    ensures { IfSome result (λ printed.
+        printed_in (rows_of (found_of matches.now)) ≡ Some printed) }
+{
+    Some(Printed {
+        report: flag(matches, "report")?,
+        waits: flag(matches, "waits")?,
+        counts: flag(matches, "counts")?,
+    })
+}
+
+// Whether the schedule of a run would be written to the file of its machine text.
+fn is_over_file(matches: &ArgMatches<'_>) -> bool
+    ensures { result ≡ is_over_file (rows_of (found_of matches.now)) }
+{
+    match (matches.get_str("file"), matches.get_str("record")) {
+        (Some(file), Some(name)) => name == file,
+        _ => false,
+    }
+}
+
+// The job of the matches of `run`.
+fn run_job<'a>(matches: &ArgMatches<'a>) -> Option<Job<'a>>
+    ensures { IfSome result (λ job. run_in (rows_of (found_of matches.now)) ≡ Some (asked_by job)) }
+{
+    if is_over_file(matches) {
+        return None;
+    }
+    let printed = printed_of(matches)?;
+    Some(Job::Run {
+        file: matches.get_str("file")?,
+        turns: number(matches, "turns")?,
+        report: printed.report,
+        waits: printed.waits,
+        counts: printed.counts,
+        record_to: matches.get_str("record"),
+    })
+}
+
+// The job of the matches of `replay`.
+fn replay_job<'a>(matches: &ArgMatches<'a>) -> Option<Job<'a>>
+    ensures { IfSome result (λ job.
+        replay_in (rows_of (found_of matches.now)) ≡ Some (asked_by job)) }
+{
+    let printed = printed_of(matches)?;
+    Some(Job::Replay {
+        file: matches.get_str("file")?,
+        schedule: matches.get_str("schedule")?,
+        report: printed.report,
+        waits: printed.waits,
+        counts: printed.counts,
+    })
+}
+
+// The job of the matches of `audit`.
+fn audit_job<'a>(matches: &ArgMatches<'a>) -> Option<Job<'a>>
+    ensures { IfSome result (λ job.
+        audit_in (rows_of (found_of matches.now)) ≡ Some (asked_by job)) }
+{
+    Some(Job::Audit {
+        file: matches.get_str("file")?,
+        trace: matches.get_str("trace")?,
+        waits: flag(matches, "waits")?,
+    })
+}
+
+/// The forms of a chart that are asked for.
+#[derive(Clone, Copy)]
+pub struct Flags {
+    ascii: bool,
+    svg: bool,
+    html: bool,
+    mermaid: bool,
+}
+
+// The forms that the matches of `chart` ask for.
+fn given_flags(matches: &ArgMatches<'_>) -> Option<Flags>
+    ensures { IfSome result (λ flags. flags_in (rows_of (found_of matches.now)) ≡ Some flags) }
+{
+    Some(Flags {
+        ascii: flag(matches, "ascii")?,
+        svg: flag(matches, "svg")?,
+        html: flag(matches, "html")?,
+        mermaid: flag(matches, "mermaid")?,
+    })
+}
+
+// The form of a chart. None where two are asked for.
+fn form_of(flags: &Flags) -> Option<ChartForm>
+    ensures { result ≡ form_of flags.now }
+{
+    match (flags.ascii, flags.svg, flags.html, flags.mermaid) {
+        (false, false, false, false) => Some(ChartForm::Lines),
+        (true, false, false, false) => Some(ChartForm::Ascii),
+        (false, true, false, false) => Some(ChartForm::Svg),
+        (false, false, true, false) => Some(ChartForm::Html),
+        (false, false, false, true) => Some(ChartForm::Mermaid),
+        _ => None,
+    }
+}
+
+// The job of the matches of `chart`.
+fn chart_job<'a>(matches: &ArgMatches<'a>) -> Option<Job<'a>>
+    ensures { IfSome result (λ job.
+        chart_in (rows_of (found_of matches.now)) ≡ Some (asked_by job)) }
+{
+    Some(Job::Chart(ChartJob {
+        file: matches.get_str("file")?,
+        trace: matches.get_str("trace")?,
+        first: number(matches, "from")?,
+        last: number(matches, "to")?,
+        threads: matches.get_str("threads"),
+        form: form_of(&given_flags(matches)?)?,
+        width: number(matches, "width")?,
+    }))
+}
+
+/// What is wrong with words that `clap` lets pass.
+#[derive(Clone, Copy, Debug)]
+pub enum Conflict<'a> {
+    /// A schedule would be written over the machine text.
+    OverItsFile,
+    /// A chart can't have two forms.
+    TwoForms,
+    /// This line may not be asked for.
+    Line(&'a str, LineFault),
+}
+
+// What is wrong with a line that is asked for, if there is one.
+fn line_conflict<'a>(line: Option<&'a str>) -> Option<Conflict<'a>>
+    ensures { is_some result ≡ is_wrong_line (option_copied line.entry) }
+{
+    let line = line?;
+    let fault = line_fault(line)?;
+    Some(Conflict::Line(line, fault))
+}
+
+// What is wrong with the lines that the matches of `endings` ask for.
+fn wrong_line<'a>(matches: &ArgMatches<'a>) -> Option<Conflict<'a>>
+    ensures { is_some result ≡ has_wrong_line (rows_of (found_of matches.now)) }
+{
+    match line_conflict(matches.get_str("with")) {
+        Some(conflict) => Some(conflict),
+        None => line_conflict(matches.get_str("never")),
+    }
+}
+
+// The job of the matches of `endings`.
+fn endings_job<'a>(matches: &ArgMatches<'a>) -> Option<Job<'a>>
+    ensures { IfSome result (λ job.
+        endings_in (rows_of (found_of matches.now)) ≡ Some (asked_by job)) }
+{
+    if wrong_line(matches).is_some() {
+        return None;
+    }
+    Some(Job::Endings(EndingsJob {
+        file: matches.get_str("file")?,
+        depth: number(matches, "depth")?,
+        states: number(matches, "states")?,
+        stuck: flag(matches, "stuck")?,
+        with_line: matches.get_str("with"),
+        never: matches.get_str("never"),
+        none: flag(matches, "none")?,
+    }))
+}
+
+// The job of the matches of `lint`.
+fn lint_job<'a>(matches: &ArgMatches<'a>) -> Option<Job<'a>>
+    ensures { IfSome result (λ job.
+        lint_in (rows_of (found_of matches.now)) ≡ Some (asked_by job)) }
+{
+    Some(Job::Lint {
+        file: matches.get_str("file")?,
+        schedule: matches.get_str("schedule"),
+    })
+}
+
+pub fn job_of_matches<'a>(matches: &ArgMatches<'a>) -> Option<Job<'a>>
+    ensures { IfSome result (λ job.
+        option_and_then asked_in (subcommand_rows_of matches.now) ≡ Some (asked_by job)) }
+{
+    let (name, matches) = matches.subcommand()?;
+    match name {
+        "run" => run_job(matches),
+        "replay" => replay_job(matches),
+        "audit" => audit_job(matches),
+        "chart" => chart_job(matches),
+        "endings" => endings_job(matches),
+        "lint" => lint_job(matches),
+        _ => None,
+    }
+}
+
+// Whether the matches of `chart` ask for two forms.
+fn has_two_forms(matches: &ArgMatches<'_>) -> bool
+    ensures { IsTrue result → excludes (flags_in (rows_of (found_of matches.now))) ≡ true }
+{
+    match given_flags(matches) {
+        Some(flags) => form_of(&flags).is_none(),
+        None => false,
+    }
+}
+
+// What is wrong with the words, where a command was named rightly.
+pub fn excluded<'a>(matches: &ArgMatches<'a>) -> Option<Conflict<'a>>
+    ensures { IsSome result → excluded_in (subcommand_rows_of matches.now) ≡ ArgumentConflict ∷ [] }
+{
+    match matches.subcommand() {
+        Some(("run", run)) if is_over_file(run) => Some(Conflict::OverItsFile),
+        Some(("chart", chart)) if has_two_forms(chart) => Some(Conflict::TwoForms),
+        Some(("endings", endings)) => wrong_line(endings),
+        _ => None,
+    }
+}

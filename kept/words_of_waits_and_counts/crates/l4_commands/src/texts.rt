@@ -1,0 +1,94 @@
+//! What the program says of itself, and what the help of each command says last.
+
+/// The version of the program.
+pub const VERSION: &str = "0.20";
+
+pub const RUN_EXAMPLE: &str = "Example: `l4run run ping.l4`, where the file ping.l4 has the lines
+
+  l4 1 64
+  cpus 1
+  thread 1.1 cpu 0 space 1
+  set 1 10
+  tag 0x70001
+  ipc 2.1 nil never never
+  thread 2.1 cpu 0 space 2
+  ipc nil any never never
+
+prints a line for each step: 1.1 sends the word 10 to 2.1, which waits for anybody.
+With `--report` it prints what the two threads have come to in place of it.
+
+Several processors of a machine text work at the same time, each in a thread of the host. So two runs may differ:
+each is one that the machine can take. `l4run replay` takes turns in the order that you give: by
+`l4run replay ping.l4 --schedule @ping.list` that of a run with `--record ping.list`.
+
+A run that ends with status 0 has nothing left to do. Threads may still wait for ever: `--report` shows which.";
+
+pub const REPLAY_EXAMPLE: &str =
+    "Example: `l4run replay ping.l4 --schedule 0,0,0`, with the machine text that `l4run help run` shows,
+prints the steps of three turns of processor 0.
+
+An item 0 to 15 is one turn of that processor, t0 to t15 one tick of its clock to its least deadline. A turn
+handles a letter first, if one has come. Three items name what else may happen: by 1:0 processor 1
+handles the first letter from processor 0, by c1 it takes a turn of its own though letters may be
+there, by t0:24 the clock of processor 0 goes on to 24. Where there is nothing to do, there is no
+step.";
+
+pub const AUDIT_EXAMPLE: &str =
+    "Example: `l4run audit ping.l4 ping.trace`, with the machine text that `l4run help run` shows and what
+`l4run run ping.l4` printed, prints `passed 8 quiet`: these are 8 steps that the machine can take, and then nothing
+but its clock can go on; `spent` stands there where more can. A trace is refused at its first step that is not
+possible.";
+
+pub const CHART_EXAMPLE: &str =
+    "Example: `l4run chart ping.l4 ping.trace`, with the machine text that `l4run help run` shows and what
+`l4run run ping.l4` printed, prints
+
+   cpu         0 ---------
+  step       1.1       2.1
+     1         *         |  local 1.1
+     2         |         w  wait 2.1
+     3         *         |  local 1.1
+     4         o         |  begin 1.1#1
+     5         q         |  queue 1.1#1
+     6         +-------->|  deliver 1.1#1 2.1 1.1 1.1 70001 a
+     7         |         *  local 2.1
+     8         *         |  local 1.1
+
+On a terminal that shows them there are lines in place of these characters, unless `TERM` is dumb. Without
+`--width` a text is as wide as `COLUMNS` says, else 80. Where a step is not possible, the steps before it are
+drawn, and the status is 1.";
+
+pub const ENDINGS_EXAMPLE: &str =
+    "Example: `l4run endings ping.l4`, with the machine text that `l4run help run` shows, prints the ending
+that each schedule comes to, a shortest schedule of it that `l4run replay` takes, and its report. The last line says
+how many states were looked at, how long the longest schedule was, and whether that is the `whole` or was `cut`: then
+there may be more endings, and the status is 3.";
+
+pub const LINT_EXAMPLE: &str =
+    "Example: `l4run lint ping.l4`, with the machine text that `l4run help run` shows, prints nothing: nothing is
+wrong there. Each fault has a line with its place in the text, and the status is then 1. A doubt has a line, too:
+it is `always` so, or `perhaps`.";
+
+pub const TWO_FORMS: &str =
+    "error: only one of '--ascii', '--svg', '--html' and '--mermaid' can be given
+
+For more information, try '--help'.
+";
+
+pub const OVER_ITS_FILE: &str =
+    "error: the schedule of '--record' can't be written to the file of the machine text
+
+For more information, try '--help'.
+";
+
+pub const UNKNOWN_LINE: &str =
+    "no line of a report begins so, but each with thread, waiting or ending
+
+For more information, try '--help'.
+";
+
+pub const DELETED_LINE: &str =
+    "of a deleted thread no more may be asked for than its state, as thread 1.1 deleted ..
+
+For more information, try '--help'.
+";

@@ -1,0 +1,104 @@
+//! What the words of the command line ask for.
+ghost use Rattle.std.specs.Prelude.{◌≡◌, ◌∷◌, [], IfOk, IfErr, Some, map};
+ghost use Rattle.clap.specs.Words.{subcommand_of, subcommand_rows_of, kind_of};
+ghost use Rattle.clap.specs.declared.error.kind.ErrorKind.TheVariants.{OutOfMemory as MemoryKind};
+ghost use Rattle.clap.specs.declared.error.kind.ErrorKind.TheVariants.{ArgumentConflict};
+ghost use Rattle.l4_commands.specs.Asked.{asked_by, asked_of, wrong_in, IsRefusal};
+ghost use Rattle.l4_commands.specs.Commands.{l4run_app, faults_of};
+ghost use Rattle.l4_commands.specs.declared.words.WordsFault.TheVariants.{NoMemory as OutOfMemory};
+
+use crate::asked::{Conflict, excluded, job_of_matches};
+use crate::commands::l4run_command;
+use crate::job::Job;
+use crate::texts::{DELETED_LINE, OVER_ITS_FILE, TWO_FORMS, UNKNOWN_LINE};
+use clap::error::ErrorKind;
+use clap::{ArgMatches, Error};
+use l4_lines::lines::LineFault;
+use std::alloc::{AllocError, Global};
+
+/// Why the words ask for no job.
+#[derive(Debug, Drop)]
+pub enum WordsFault {
+    /// The words ask for help, or for the version: its text.
+    Help(String),
+    /// The words are wrong: what is wrong, and how they are used.
+    Usage(String),
+    /// Memory was refused.
+    NoMemory,
+}
+
+impl From<AllocError> for WordsFault {
+    ghost from_gives = { λ _ fault. fault ≡ OutOfMemory };
+
+    fn from(_: AllocError) -> WordsFault {
+        WordsFault::NoMemory
+    }
+}
+
+fn fault_of(alloc: Global, error: &Error) -> WordsFault
+    ensures refusal { IsRefusal (kind_of error.now ∷ []) result }
+    ensures memory { kind_of error.now ≡ MemoryKind → result ≡ OutOfMemory }
+{
+    if matches!(error.kind(), ErrorKind::OutOfMemory) {
+        return WordsFault::NoMemory;
+    }
+    match format!(in alloc; "{error}") {
+        Ok(text) if error.use_stderr() => WordsFault::Usage(text),
+        Ok(text) => WordsFault::Help(text),
+        Err(_) => WordsFault::NoMemory,
+    }
+}
+
+// The matches of the words.
+fn matches_of<'a>(alloc: Global, words: &'a [&'a str]) -> Result<ArgMatches<'a>, WordsFault>
+    ensures ok { IfOk result (λ matches.
+        subcommand_rows_of matches ≡ subcommand_of l4run_app (map (λ word. word.now) words.now)) }
+    ensures right { IfOk result (λ matches. faults_of (map (λ word. word.now) words.now) ≡ []) }
+    ensures err { IfErr result (IsRefusal (faults_of (map (λ word. word.now) words.now))) }
+{
+    let command = l4run_command(alloc)?;
+    match command.try_get_matches_from(words) {
+        Ok(matches) => Ok(matches),
+        Err(error) => Err(fault_of(alloc, &error)),
+    }
+}
+
+// What usage says of it.
+fn conflict_text(alloc: Global, conflict: Conflict<'_>) -> Result<String, AllocError> {
+    match conflict {
+        Conflict::OverItsFile => String::from_str(alloc, OVER_ITS_FILE),
+        Conflict::TwoForms => String::from_str(alloc, TWO_FORMS),
+        Conflict::Line(line, LineFault::Unknown) => {
+            format!(in alloc; "error: invalid line '{line}': {UNKNOWN_LINE}")
+        }
+        Conflict::Line(line, LineFault::Deleted) => {
+            format!(in alloc; "error: invalid line '{line}': {DELETED_LINE}")
+        }
+    }
+}
+
+// Words that exclude each other are wrong usage.
+fn usage_of(alloc: Global, conflict: Conflict<'_>) -> WordsFault
+    ensures { IsRefusal (ArgumentConflict ∷ []) result }
+{
+    match conflict_text(alloc, conflict) {
+        Ok(text) => WordsFault::Usage(text),
+        Err(_) => WordsFault::NoMemory,
+    }
+}
+
+/// Reads the words of a command line, of which the first is the program's name.
+///
+/// `Help`: they ask for help, or the version. `Usage`: they are wrong. Else `NoMemory`.
+pub fn job_of<'a>(alloc: Global, words: &'a [&'a str]) -> Result<Job<'a>, WordsFault>
+    ensures ok { IfOk result (λ job.
+        asked_of (map (λ word. word.now) words.now) ≡ Some (asked_by job)) }
+    ensures right { IfOk result (λ job. faults_of (map (λ word. word.now) words.now) ≡ []) }
+    ensures err { IfErr result (IsRefusal (wrong_in (map (λ word. word.now) words.now))) }
+{
+    let matches = matches_of(alloc, words)?;
+    if let Some(conflict) = excluded(&matches) {
+        return Err(usage_of(alloc, conflict));
+    }
+    job_of_matches(&matches).ok_or(WordsFault::NoMemory)
+}

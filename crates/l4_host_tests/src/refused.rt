@@ -13,7 +13,7 @@ use crate::runs::{is_right, machine_of};
 use l4_audit::audit::{Audit, AuditFault, check};
 use l4_audit::auditor::Auditor;
 use l4_endings::{FoundEndings, endings};
-use l4_jobs::job::Job;
+use l4_jobs::job::{ChartForm, ChartJob, EndingsJob, Job};
 use l4_jobs::perform::perform;
 use l4_jobs::words::{WordsFault, job_of};
 use l4_machine::{Entry, Outcome, RunFault, Walk, replay, run};
@@ -385,6 +385,43 @@ const AUDIT: Job<'static> = Job::Audit {
     trace: "m.trace",
 };
 
+const DRAWN: Job<'static> = Job::Chart(ChartJob {
+    file: "m.l4",
+    trace: "m.trace",
+    first: 1,
+    last: 6,
+    threads: Some("1.1,2.1"),
+    form: ChartForm::Ascii,
+    width: 80,
+});
+
+const PING_CHART: &str = " cpu         0 ---------
+step       1.1       2.1
+   1         *         |  local 1.1
+   2         |         w  wait 2.1
+   3         *         |  local 1.1
+   4         o         |  begin 1.1#1
+   5         q         |  queue 1.1#1
+   6         +-------->|  deliver 1.1#1 2.1 1.1 1.1 70001 a
+";
+
+const ENDINGS: Job<'static> = Job::Endings(EndingsJob {
+    file: "m.l4",
+    depth: 100,
+    states: 100,
+    stuck: false,
+    with_line: Some("thread 2.1 ended .."),
+    never: Some("waiting .."),
+    none: false,
+});
+
+const PING_ENDINGS: &str = "ending 1 c0,c0,c0,c0,c0,c0
+thread 1.1 ended 0 nil nil 0 a
+thread 2.1 ended 0 1.1 1.1 70001 a
+ending quiet
+states 7 depth 6 whole
+";
+
 // Whether words ask for this job.
 fn is_asked<R: AllocGlobal + Print>(rt: &R, words: &[&str], job: &Job<'_>) -> bool {
     match asked(rt, words) {
@@ -461,6 +498,8 @@ fn jobs_are_performed(rt: HostRuntime) {
             ACROSS_TRACE,
         ),
         (AUDIT, ACROSS, ACROSS_TRACE, "passed 8 quiet\n"),
+        (DRAWN, PING, PING_TRACE, PING_CHART),
+        (ENDINGS, PING, "", PING_ENDINGS),
     ] {
         let is_performed = is_performed(&rt, &job, text, told, wanted);
         assert!(rt; is_performed == Some(true), "{wanted}");

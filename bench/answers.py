@@ -10,24 +10,24 @@ import random
 import subprocess
 import sys
 
-from second import machines, model, randoms, reasons, traces
+from second import explained, machines, model, randoms, reasons, traces
 
 SEED = 20_261_126
 KINDS = (randoms.General, randoms.HandingOn, randoms.Conflicts, randoms.HandingOn)
 
 
 def answer(machine, history):
-    """What the program is to print of a history, as far as its steps are possible."""
-    world, first = model.World(machine), f"passed {len(history)}"
+    """What the program is to print of a history, as far as its steps are possible, and the reason
+    against the first that is not."""
+    world = model.World(machine)
     for number, step in enumerate(history, 1):
         reason = reasons.first_false(world, step)
         if reason is not None:
             # What tells reasons is not that by which a world takes steps.
             assert not world.is_possible(step), (number, step, reason)
-            first = f"refused {number} {reason}"
-            break
+            return f"refused {number}\n" + explained.explanation(world, step), reason
         world.take(*step)
-    return "".join(line + "\n" for line in [first, *map(traces.line, world.possible())])
+    return f"passed {len(history)}\n" + explained.possible(world), None
 
 
 class Files:
@@ -79,13 +79,12 @@ def tried(files, dice, kind, counts):
             history = traces.read(trace)
         except traces.TraceFault:
             continue
-        expected = answer(machine, history)
+        expected, reason = answer(machine, history)
         files.compare(text, trace, expected)
-        first, *possible = expected.splitlines()
         counts[what] += 1
-        counts["possible steps"] += len(possible)
-        if first.startswith("refused "):
-            counts[f"reason {first.split()[2]}"] += 1
+        counts["possible steps"] += expected.count("\npossible ")
+        if reason is not None:
+            counts[f"reason {reason.split()[0]}"] += 1
 
 
 def main(program, folder, count, part):

@@ -1,5 +1,5 @@
-"""Gives the program machine texts, traces and schedules that somebody spoilt, has spoilt traces drawn, records runs and asks for endings, and judges its
-status and its lines."""
+"""Gives the program machine texts, traces and schedules that somebody spoilt, has spoilt texts linted and spoilt traces drawn, records runs and asks for
+endings, and judges its status and its lines."""
 
 import collections
 import os
@@ -14,7 +14,10 @@ TURNS = "300"
 PROGRESS = 5_000
 KINDS = "BadLine|BadNumber|BadId|BadCpu|TypedItems|DoubleId|TooManyThreads|TooManyInstructions|BadTarget|TooLong"
 FAULTS = re.compile(rf"l4run: (line \d+: (?:{KINDS})|schedule item \d+|(?:turns|depth|states) out of range|trace line \d+|threads item \d+|refused at step \d+)\n")
-PASSED = re.compile(rb"passed \d+ (quiet|spent)\n")
+# A line for each fault of a text, and one for each thread that waits, each circle and each thread's counts.
+LINT = re.compile(rf"line (\d+) column \d+: ({KINDS})(?:: `[ -~]*`)?: [ -~]+".encode())
+BEHIND = rb"(?:waits \S+ \S+ (?:send|receive)\n)*(?:(?:circle|deadlock)(?: \S+)+\n)*(?:counts \S+ turns \d+ sends \d+ delivered \d+ received \d+ refused(?: [2-7]:\d+){6}\n)*"
+PASSED = re.compile(rb"passed \d+ (?:quiet|spent)\n" + BEHIND)
 ENDINGS = re.compile(rb"(^|\n)states \d+ depth \d+ (whole|cut)\n$")
 QUIET, FAULT, USAGE, SPENT, FOUND = 0, 1, 2, 3, 4
 
@@ -115,6 +118,24 @@ def question(dice):
     return words + [name for name in ("--stuck", "--none") if dice.random() < 0.3]
 
 
+def is_linted(out, fault):
+    """Whether these are lines of faults, of which the first is what `run` said of the text."""
+    lines = out.split(b"\n")
+    found = [LINT.fullmatch(line) for line in lines[:-1]]
+    if lines[-1] or not all(found):
+        return False
+    return fault == (b"l4run: line %s: %s\n" % found[0].groups() if found else b"")
+
+
+def linted(program, name, seen):
+    """Lints a text, and ends where the lines are none, or the first fault is another than that of `run`."""
+    fault = subprocess.run([program, "run", name, "--turns", "1"], stdout=subprocess.DEVNULL, stderr=subprocess.PIPE).stderr
+    told = subprocess.run([program, "lint", name], stdout=subprocess.PIPE, stderr=subprocess.PIPE)
+    if told.stderr or told.returncode != (FAULT if fault else QUIET) or not is_linted(told.stdout, fault):
+        sys.exit(f"lint {name}: status {told.returncode}: {told.stderr or told.stdout[:200]}, but run says {fault}")
+    seen[f"{min(told.stdout.count(10), 3)} lines"] += 1
+
+
 def chart(dice):
     """The words behind `chart FILE TRACE`."""
     words = []
@@ -157,7 +178,7 @@ def write(name, told):
 
 def main(program, folder, count, part):
     name, trace, listed = (f"{folder}/hostile-{part}.{kind}" for kind in ("l4", "trace", "list"))
-    seen = {about: collections.Counter() for about in ("texts", "traces", "schedules", "lists", "charts", "endings")}
+    seen = {about: collections.Counter() for about in ("texts", "lint", "traces", "schedules", "lists", "charts", "endings")}
     dice = random.Random(SEED + part)
     for done in range(count):
         if done and done % PROGRESS == 0:
@@ -165,6 +186,7 @@ def main(program, folder, count, part):
         text = machine(dice).encode()
         write(name, spoilt(dice, text))
         judged([program, "run", name, "--turns", TURNS], seen["texts"], lambda out: True)
+        linted(program, name, seen["lint"])
         write(name, text)
         judged([program, "replay", name, "--schedule=" + schedule(dice)], seen["schedules"], lambda out: True)
         write(listed, list_file(dice))
@@ -174,7 +196,8 @@ def main(program, folder, count, part):
         if told != judged([program, "replay", name, "--schedule=@" + listed], collections.Counter(), lambda out: True):
             sys.exit(f"{name}: the replay of {listed} is another run")
         write(trace, spoilt(dice, told or b"tick 0 1\n"))
-        judged([program, "audit", name, trace], seen["traces"], PASSED.fullmatch)
+        behind = [word for word in ("--waits", "--counts") if dice.random() < 0.3]
+        judged([program, "audit", name, trace, *behind], seen["traces"], PASSED.fullmatch)
         judged([program, "chart", name, trace, *chart(dice)], seen["charts"], lambda out: True, beside="refused")
     for about, kinds in seen.items():
         for kind, number in kinds.items():

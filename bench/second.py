@@ -9,7 +9,7 @@ import random
 import subprocess
 import sys
 
-from second import machines, model, randoms, traces
+from second import explained, machines, model, randoms, traces, waits
 
 SEED = 20_261_125
 QUIET, FAULT, SPENT = 0, 1, 3
@@ -49,18 +49,43 @@ class Case:
         words = ["replay", self.machine_file, "--schedule", self.schedule, *flags]
         self.compare(f"the {what} of a replay", words, said, "", QUIET if at_rest else SPENT)
 
-    def audit(self, machine, trace):
-        """Answers how the audit ended."""
+    def explain(self, machine, trace):
+        """What an audit explains of a trace that was just audited, and the report that it prints."""
+        said, fault = explained.audit(machine, trace)
+        expected = (said, f"{FAULTS}{fault}\n" if fault else "", FAULT if fault else QUIET)
+        self.compare("what an audit explains", ["audit", self.machine_file, self.trace_file, "--explain", "--report"], *expected, trace=trace)
+
+    def audit(self, machine, trace, *flags, behind=""):
+        """Answers how the audit ended. Where the trace passes, this stands behind its line."""
         write(self.trace_file, trace)
         said, fault = model.audit(machine, trace)
-        expected = ("", f"{FAULTS}{fault}\n", FAULT) if fault else (said, "", QUIET)
-        self.compare("an audit", ["audit", self.machine_file, self.trace_file], *expected, trace=trace)
+        expected = ("", f"{FAULTS}{fault}\n", FAULT) if fault else (said + behind, "", QUIET)
+        self.compare("an audit", ["audit", self.machine_file, self.trace_file, *flags], *expected, trace=trace)
         return " ".join(word for word in (said or fault).split() if not word.isdigit())
 
 
 def write(name, text):
     with open(name, "w") as file:
         file.write(text)
+
+
+ASKED = ("--waits", "--counts")
+
+
+def waited(case, dice, machine, replay, counts):
+    """Compares who waits for whom and what each thread did, at the end of a replay and after a beginning of its trace."""
+    history = replay.history
+    text = waits_and_counts(machine, history, counts)
+    case.replay("waits", traces.text(history) + text, replay.is_at_rest(), *ASKED)
+    beginning = history[: dice.randint(0, len(history))]
+    case.audit(machine, traces.text(beginning), *ASKED, behind=waits_and_counts(machine, beginning, counts))
+
+
+def waits_and_counts(machine, history, counts):
+    told = waits.waits_text(model.world_of(machine, history))
+    for line in told.splitlines():
+        counts[f"lines of {line.split()[0]}"] += 1
+    return told + waits.counts_text(machine, history)
 
 
 def tried(case, dice, kind, counts):
@@ -76,8 +101,10 @@ def tried(case, dice, kind, counts):
     for what, other in [("spoilt traces", trace and randoms.spoilt(dice, machine, trace)), ("late retargets", randoms.retargeted_late(dice, trace))]:
         if other:
             ending = case.audit(machine, other)
+            case.explain(machine, other)
             counts[f"audits of {what}"] += 1
             counts[f"audits of {what}: {ending}"] += 1
+    waited(case, dice, machine, replay, counts)
     counts["machines"] += 1
     counts[f"machines of profile {machine.profile}"] += 1
     counts[f"machines of {machine.format.bits} bits"] += 1

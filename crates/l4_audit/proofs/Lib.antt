@@ -15,4 +15,5 @@ pub mod Reporting
 pub mod Starting
 pub mod Stilling
 pub mod Taking
+pub mod Waited
 pub mod Writing

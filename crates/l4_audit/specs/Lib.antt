@@ -9,3 +9,4 @@ pub mod Reasons
 pub mod Starting
 pub mod Stillness
 pub mod Taking
+pub mod Waits

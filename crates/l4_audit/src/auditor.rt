@@ -10,12 +10,14 @@ ghost use Rattle.l4_audit.specs.Audits.{is_quiet};
 ghost use Rattle.l4_audit.specs.Possible.{possible};
 ghost use Rattle.l4_audit.specs.Reasons.{reason};
 ghost use Rattle.l4_audit.specs.Stillness.{is_still_now};
+ghost use Rattle.l4_audit.specs.Waits.{waits_in};
 
 use crate::reasons::{Reason, StepFault};
+use crate::waits::Wait;
 use crate::world::World;
 use l4_script::machine::Machine;
 use l4_types::errors::NoMemory;
-use l4_types::ids::ThreadId;
+use l4_types::ids::{GlobalId, ThreadId};
 use l4_types::reports::{Ending, ThreadView};
 use l4_types::step_ref::StepRef;
 use l4_types::steps::{Name, Step};
@@ -109,6 +111,26 @@ impl<'m> Auditor<'m> {
             ≡ possible self.now.at.machine self.now.at.world) }
     {
         self.world.possible(alloc)
+    }
+
+    /// Each thread that waits here, in order of declaration, with what it waits for: one that has
+    /// an undecided send, or is in a receive phase.
+    pub fn waits(&self, alloc: Global) -> Result<Vec<(GlobalId, Wait)>, NoMemory>
+        ensures { IfOk result (λ found. found.items
+            ≡ waits_in self.now.at.machine self.now.at.world) }
+    {
+        self.world.waits(alloc)
+    }
+
+    /// Every step but ticks that is possible once all clocks have their last value, in the order of
+    /// `possible`. No step but a tick is possible after any ticks that is not among them.
+    pub fn possible_late(self, alloc: Global) -> Result<Vec<Step>, NoMemory>
+        ensures { IfOk result (λ steps. map step_of steps.items
+            ≡ possible self.entry.at.machine (late self.entry.at.world)) }
+    {
+        let mut later = self.world;
+        later.stop_clocks()?;
+        later.possible(alloc)
     }
 
     /// How the audit ends: `Quiet` where no step but a tick is possible, now or after any ticks.

@@ -25,4 +25,5 @@ mod found;
 mod periods;
 pub mod possible;
 pub mod reasons;
+pub mod waits;
 mod world;

@@ -2,17 +2,19 @@
 
 use crate::case::Case;
 use crate::outcome::Outcome;
-use l4_jobs::job::Job;
+use l4_jobs::job::{Extras, Job, Judged};
 use l4_jobs::perform::perform;
 use std::alloc::{AllocError, Global};
 use std::io;
 use std::thread::Threads;
 
-// Whether a job prints a trace where it is done.
+// Whether a job prints a trace, and nothing else, where it is done.
 fn has_trace(job: &Job<'_>) -> bool {
     match *job {
-        Job::Run { report, .. } | Job::Replay { report, .. } => !report,
-        Job::Audit { .. } | Job::Chart(_) | Job::Endings(_) => false,
+        Job::Run { printed, .. } | Job::Replay { printed, .. } => {
+            !printed.report && !printed.extras.any()
+        }
+        Job::Audit { .. } | Job::Chart(_) | Job::Endings(_) | Job::Lint { .. } => false,
     }
 }
 
@@ -39,6 +41,14 @@ pub fn audit<R: AllocGlobal + Threads + Sync>(
     let job = Job::Audit {
         file: case.name,
         trace: "its trace",
+        judged: Judged {
+            report: false,
+            explain: false,
+            extras: Extras {
+                waits: false,
+                counts: false,
+            },
+        },
     };
     let mut text = case.text;
     let mut trace = done.output.as_slice();

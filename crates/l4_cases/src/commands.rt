@@ -5,6 +5,7 @@ use crate::case::Case;
 use crate::outcome::Outcome;
 use l4_jobs::files::perform_on_files;
 use l4_jobs::job::Job;
+use l4_jobs::lints::perform_lint;
 use l4_jobs::perform::perform;
 use l4_jobs::refusal::refuse;
 use l4_jobs::words::job_of;
@@ -49,6 +50,9 @@ fn do_job<R: Files + AllocGlobal + Threads + Sync>(
         return perform_on_files(rt, rt.alloc(), rt, job, output, faults);
     }
     let mut text = case.text;
+    if let Job::Lint { file } = *job {
+        return perform_lint(rt.alloc(), file, &mut text, output, faults);
+    }
     let mut trace = trace;
     perform(rt, rt.alloc(), job, &mut text, &mut trace, output, faults)
 }

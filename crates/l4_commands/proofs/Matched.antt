@@ -9,9 +9,12 @@ use Rattle.clap.specs.declared.error.kind.ErrorKind.{ErrorKind}
 use Rattle.clap.specs.declared.error.kind.ErrorKind.TheVariants.{OutOfMemory}
 use Rattle.clap.specs.declared.parser.matches.Found.{Found}
 use Rattle.clap.proofs.WalkLemmas.{first_value-rows, one_text-rows}
-use Rattle.l4_commands.specs.Asked.{ToRun, ToReplay, ToAudit, ToChart, ToSearch, number_of, number_in, flag_of, flag_in, flags_in, form_of, has_wrong_line, is_over_file, is_same, is_wrong_line, run_in, replay_in, audit_in, chart_in, endings_in, IsRefusal}
+use Rattle.l4_commands.specs.Asked.{ToRun, ToReplay, ToAudit, ToChart, ToSearch, ToLint, number_of, number_in, flag_of, flag_in, extras_in, judged_in, printed_in, flags_in, form_of, has_wrong_line, is_over_file, is_same, is_wrong_line, run_in, replay_in, audit_in, chart_in, endings_in, lint_in, IsRefusal}
 use Rattle.l4_commands.specs.declared.asked.Flags.{Flags}
 use Rattle.l4_commands.specs.declared.job.ChartForm.{ChartForm}
+use Rattle.l4_commands.specs.declared.job.Extras.{Extras}
+use Rattle.l4_commands.specs.declared.job.Judged.{Judged}
+use Rattle.l4_commands.specs.declared.job.Printed.{Printed}
 use Rattle.l4_commands.specs.declared.words.WordsFault.{WordsFault}
 use Rattle.l4_commands.specs.declared.words.WordsFault.TheVariants.{Help, Usage, NoMemory}
 
@@ -41,23 +44,36 @@ number_is f name n (t, given, is) =
 text_is : (f : Found) (name : Text) (o : Option Text) → first_value f name ≡ o → first_of name (rows_of f) ≡ o
 text_is f name o given = sym (first_value-rows f name) ∙ given
 
-pub run_is : (f : Found) (file : Text) (turns : ℕ) (report : Bool) (record_to : Option Text) → first_value f (codes "file") ≡ Some file →
-    number_in (codes "turns") (rows_of f) ≡ Some turns → flag_in (codes "report") (rows_of f) ≡ Some report → is_over_file (rows_of f) ≡ false →
-    first_value f (codes "record") ≡ record_to → run_in (rows_of f) ≡ Some (ToRun file turns report record_to)
-run_is f file turns report record_to p q r apart to =
+pub extras_is : (f : Found) (waits counts : Bool) → flag_in (codes "waits") (rows_of f) ≡ Some waits → flag_in (codes "counts") (rows_of f) ≡ Some counts →
+    extras_in (rows_of f) ≡ Some (record { waits = waits; counts = counts })
+extras_is f waits counts p q = rw (p, q) refl
+
+pub printed_is : (f : Found) (report : Bool) (extras : Extras) → flag_in (codes "report") (rows_of f) ≡ Some report → extras_in (rows_of f) ≡ Some extras →
+    printed_in (rows_of f) ≡ Some (record { report = report; extras = extras })
+printed_is f report extras p q = rw (p, q) refl
+
+pub run_is : (f : Found) (file : Text) (turns : ℕ) (printed : Printed) (record_to : Option Text) → first_value f (codes "file") ≡ Some file →
+    number_in (codes "turns") (rows_of f) ≡ Some turns → printed_in (rows_of f) ≡ Some printed → is_over_file (rows_of f) ≡ false →
+    first_value f (codes "record") ≡ record_to → run_in (rows_of f) ≡ Some (ToRun file turns printed record_to)
+run_is f file turns printed record_to p q r apart to =
     let here = text_is f (codes "file") _ p in
     let other : is_same (Some file) (first_of (codes "record") (rows_of f)) ≡ false =
     ap (λ o. is_same o (first_of (codes "record") (rows_of f))) (sym here) ∙ apart in
     rw (here, q, r, other, text_is f (codes "record") _ to) refl
 
-pub replay_is : (f : Found) (file schedule : Text) (report : Bool) → first_value f (codes "file") ≡ Some file →
-    first_value f (codes "schedule") ≡ Some schedule → flag_in (codes "report") (rows_of f) ≡ Some report →
-    replay_in (rows_of f) ≡ Some (ToReplay file schedule report)
-replay_is f file schedule report p q r = rw (text_is f (codes "file") _ p, text_is f (codes "schedule") _ q, r) refl
+pub replay_is : (f : Found) (file schedule : Text) (printed : Printed) → first_value f (codes "file") ≡ Some file →
+    first_value f (codes "schedule") ≡ Some schedule → printed_in (rows_of f) ≡ Some printed →
+    replay_in (rows_of f) ≡ Some (ToReplay file schedule printed)
+replay_is f file schedule printed p q r = rw (text_is f (codes "file") _ p, text_is f (codes "schedule") _ q, r) refl
 
-pub audit_is : (f : Found) (file trace : Text) → first_value f (codes "file") ≡ Some file → first_value f (codes "trace") ≡ Some trace →
-    audit_in (rows_of f) ≡ Some (ToAudit file trace)
-audit_is f file trace p q = rw (text_is f (codes "file") _ p, text_is f (codes "trace") _ q) refl
+pub judged_is : (f : Found) (report explain : Bool) (extras : Extras) → flag_in (codes "report") (rows_of f) ≡ Some report →
+    flag_in (codes "explain") (rows_of f) ≡ Some explain → extras_in (rows_of f) ≡ Some extras →
+    judged_in (rows_of f) ≡ Some (record { report = report; explain = explain; extras = extras })
+judged_is f report explain extras p q r = rw (p, q, r) refl
+
+pub audit_is : (f : Found) (file trace : Text) (judged : Judged) → first_value f (codes "file") ≡ Some file → first_value f (codes "trace") ≡ Some trace →
+    judged_in (rows_of f) ≡ Some judged → audit_in (rows_of f) ≡ Some (ToAudit file trace judged)
+audit_is f file trace judged p q r = rw (text_is f (codes "file") _ p, text_is f (codes "trace") _ q, r) refl
 
 pub chart_is : (f : Found) (file trace : Text) (first last : ℕ) (threads : Option Text) (flags : Flags) (form : ChartForm) (width : ℕ) →
     first_value f (codes "file") ≡ Some file → first_value f (codes "trace") ≡ Some trace → number_in (codes "from") (rows_of f) ≡ Some first →
@@ -74,6 +90,9 @@ pub endings_is : (f : Found) (file : Text) (depth states : ℕ) (stuck : Bool) (
     endings_in (rows_of f) ≡ Some (ToSearch file depth states stuck with_line never none)
 endings_is f file depth states stuck with_line never none p deep wide waits has lacks found right =
     rw (text_is f (codes "file") _ p, deep, wide, waits, found, right, text_is f (codes "with") _ has, text_is f (codes "never") _ lacks) refl
+
+pub lint_is : (f : Found) (file : Text) → first_value f (codes "file") ≡ Some file → lint_in (rows_of f) ≡ Some (ToLint file)
+lint_is f file p = rw (text_is f (codes "file") _ p) refl
 
 pub over_is : (f : Found) (file name : Option Text) (is : Bool) → first_value f (codes "file") ≡ file → first_value f (codes "record") ≡ name →
     is ≡ is_same file name → is ≡ is_over_file (rows_of f)

@@ -13,25 +13,30 @@ use Rattle.l4_commands.specs.Commands.{faults_of, l4run_app}
 use Rattle.l4_commands.specs.declared.asked.Flags.{Flags}
 use Rattle.l4_commands.specs.declared.job.ChartForm.{ChartForm}
 use Rattle.l4_commands.specs.declared.job.ChartForm.TheVariants.{Lines, Ascii, Svg, Html, Mermaid}
+use Rattle.l4_commands.specs.declared.job.Extras.{Extras}
 use Rattle.l4_commands.specs.declared.job.Job.{Job}
-use Rattle.l4_commands.specs.declared.job.Job.TheVariants.{Run, Replay, Audit, Chart, Endings}
+use Rattle.l4_commands.specs.declared.job.Job.TheVariants.{Run, Replay, Audit, Chart, Endings, Lint}
+use Rattle.l4_commands.specs.declared.job.Judged.{Judged}
+use Rattle.l4_commands.specs.declared.job.Printed.{Printed}
 use Rattle.l4_commands.specs.declared.words.WordsFault.{WordsFault}
 use Rattle.l4_commands.specs.declared.words.WordsFault.TheVariants.{Help, Usage, NoMemory}
 
 -- A job by its texts.
 pub data Asked : Type 0 where
-  ToRun : (file : Text) (turns : ℕ) (report : Bool) (record_to : Option Text) → Asked
-  ToReplay : (file schedule : Text) (report : Bool) → Asked
-  ToAudit : (file trace : Text) → Asked
+  ToRun : (file : Text) (turns : ℕ) (printed : Printed) (record_to : Option Text) → Asked
+  ToReplay : (file schedule : Text) (printed : Printed) → Asked
+  ToAudit : (file trace : Text) (judged : Judged) → Asked
   ToChart : (file trace : Text) (first last : ℕ) (threads : Option Text) (form : ChartForm) (width : ℕ) → Asked
   ToSearch : (file : Text) (depth states : ℕ) (stuck : Bool) (with_line never : Option Text) (none : Bool) → Asked
+  ToLint : (file : Text) → Asked
 
 abbrev pub asked_by : Job → Asked
-asked_by (Run file turns report record_to) = ToRun file.now turns report (option_copied record_to)
-asked_by (Replay file schedule report) = ToReplay file.now schedule.now report
-asked_by (Audit file trace) = ToAudit file.now trace.now
+asked_by (Run file turns printed record_to) = ToRun file.now turns printed (option_copied record_to)
+asked_by (Replay file schedule printed) = ToReplay file.now schedule.now printed
+asked_by (Audit file trace judged) = ToAudit file.now trace.now judged
 asked_by (Chart c) = ToChart c.file.now c.trace.now c.first c.last (option_copied c.threads) c.form c.width
 asked_by (Endings e) = ToSearch e.file.now e.depth e.states e.stuck (option_copied e.with_line) (option_copied e.never) e.none
+asked_by (Lint file) = ToLint file.now
 
 -- The number of a text of digits, and the flag of a text.
 abbrev pub number_of : Text → ℕ
@@ -47,6 +52,27 @@ number_in name rows = option_map number_of (one_of name rows)
 abbrev pub flag_in : (name : Text) → List Row → Option Bool
 flag_in name rows = option_and_then flag_of (one_of name rows)
 
+-- What is printed of a run or a replay, and what is printed last.
+abbrev pub extras_in : List Row → Option Extras
+extras_in rows = do
+  waits ← flag_in (codes "waits") rows
+  counts ← flag_in (codes "counts") rows
+  Some (record { waits = waits; counts = counts })
+
+abbrev pub printed_in : List Row → Option Printed
+printed_in rows = do
+  report ← flag_in (codes "report") rows
+  extras ← extras_in rows
+  Some (record { report = report; extras = extras })
+
+-- And of an audit.
+abbrev pub judged_in : List Row → Option Judged
+judged_in rows = do
+  report ← flag_in (codes "report") rows
+  explain ← flag_in (codes "explain") rows
+  extras ← extras_in rows
+  Some (record { report = report; explain = explain; extras = extras })
+
 -- A schedule would be kept in the file of the machine text.
 abbrev pub is_same : (file name : Option Text) → Bool
 is_same (Some file) (Some name) = bytes_eq name file
@@ -60,21 +86,22 @@ abbrev pub run_in : List Row → Option Asked
 run_in rows = do
   file ← first_of (codes "file") rows
   turns ← number_in (codes "turns") rows
-  report ← flag_in (codes "report") rows
-  if is_over_file rows then None else Some (ToRun file turns report (first_of (codes "record") rows))
+  printed ← printed_in rows
+  if is_over_file rows then None else Some (ToRun file turns printed (first_of (codes "record") rows))
 
 abbrev pub replay_in : List Row → Option Asked
 replay_in rows = do
   file ← first_of (codes "file") rows
   schedule ← first_of (codes "schedule") rows
-  report ← flag_in (codes "report") rows
-  Some (ToReplay file schedule report)
+  printed ← printed_in rows
+  Some (ToReplay file schedule printed)
 
 abbrev pub audit_in : List Row → Option Asked
 audit_in rows = do
   file ← first_of (codes "file") rows
   trace ← first_of (codes "trace") rows
-  Some (ToAudit file trace)
+  judged ← judged_in rows
+  Some (ToAudit file trace judged)
 
 abbrev pub flags_in : List Row → Option Flags
 flags_in rows = do
@@ -124,6 +151,9 @@ endings_in rows = do
   none ← flag_in (codes "none") rows
   if has_wrong_line rows then None else Some (ToSearch file depth states stuck (first_of (codes "with") rows) (first_of (codes "never") rows) none)
 
+abbrev pub lint_in : List Row → Option Asked
+lint_in rows = option_map ToLint (first_of (codes "file") rows)
+
 -- The job of the matches: of the subcommand that was named.
 abbrev pub asked_in : Text × List Row → Option Asked
 asked_in p =
@@ -132,7 +162,8 @@ asked_in p =
     else (if bytes_eq p.0 (codes "audit") then audit_in p.1
     else (if bytes_eq p.0 (codes "chart") then chart_in p.1
     else (if bytes_eq p.0 (codes "endings") then endings_in p.1
-    else None))))
+    else (if bytes_eq p.0 (codes "lint") then lint_in p.1
+    else None)))))
 
 -- The job of the matches that the words have.
 abbrev pub asked_of : (words : List Text) → Option Asked

@@ -46,25 +46,49 @@ width_rule = number_rule (codes "width") (codes "0")
 abbrev pub text_rule : (name : Text) → Rule
 text_rule name = record (new_rule name) { long = Some name; value_names = 1 }
 
--- --report, --stuck, --none, --ascii, --svg, --html and --mermaid
+-- --report, --explain, --waits, --counts, --stuck, --none, --ascii, --svg, --html and --mermaid
 abbrev pub flag_rule : (name : Text) → Rule
 flag_rule name = record (new_rule name) { long = Some name; action = Some SetTrue }
 
 abbrev pub report_rule : Rule
 report_rule = flag_rule (codes "report")
 
+abbrev pub waits_rule : Rule
+waits_rule = flag_rule (codes "waits")
+
+abbrev pub counts_rule : Rule
+counts_rule = flag_rule (codes "counts")
+
+-- What is printed of a run, and what is printed last.
+abbrev pub with_extras : App → App
+with_extras a = with_rule (with_rule a waits_rule) counts_rule
+
+abbrev pub with_printed : App → App
+with_printed a = with_extras (with_rule a report_rule)
+
 -- The command `run`, with its file and turns, what is printed, and where its schedule is kept.
 abbrev pub turned_app : App
 turned_app = with_rule (with_rule (new_app (codes "run")) file_rule) turns_rule
 
 abbrev pub run_app : App
-run_app = with_rule (with_rule turned_app report_rule) (text_rule (codes "record"))
+run_app = with_rule (with_printed turned_app) (text_rule (codes "record"))
+
+-- The command `replay`, with its file and schedule, and what is printed.
+abbrev pub scheduled_app : App
+scheduled_app = with_rule (with_rule (new_app (codes "replay")) file_rule) schedule_rule
 
 abbrev pub replay_app : App
-replay_app = with_rule (with_rule (with_rule (new_app (codes "replay")) file_rule) schedule_rule) report_rule
+replay_app = with_printed scheduled_app
+
+-- The command `audit`, with its files, what is told of a world and of a step that is not possible, and what is printed last.
+abbrev pub audited_app : App
+audited_app = with_rule (with_rule (new_app (codes "audit")) file_rule) trace_rule
+
+abbrev pub explained_app : App
+explained_app = with_rule (with_rule audited_app report_rule) (flag_rule (codes "explain"))
 
 abbrev pub audit_app : App
-audit_app = with_rule (with_rule (new_app (codes "audit")) file_rule) trace_rule
+audit_app = with_extras explained_app
 
 -- The command `chart`, with its files, the steps, the part that is shown, and the forms.
 abbrev pub traced_app : App
@@ -92,11 +116,14 @@ lines_app = with_rule (with_rule searched_app (text_rule (codes "with"))) (text_
 abbrev pub endings_app : App
 endings_app = with_rule (with_rule lines_app (flag_rule (codes "stuck"))) (flag_rule (codes "none"))
 
+abbrev pub lint_app : App
+lint_app = with_rule (new_app (codes "lint")) file_rule
+
 -- It has --version.
 abbrev pub top_app : App
 top_app = let a = new_app (codes "l4run") in record a { top = record a.top { has_version = true; subcommand_required = true } }
 
--- One of the five has to be named.
+-- One of the six has to be named.
 abbrev pub runs_app : App
 runs_app = with_subcommand (with_subcommand top_app run_app.top) replay_app.top
 
@@ -104,7 +131,7 @@ abbrev pub traces_app : App
 traces_app = with_subcommand (with_subcommand runs_app audit_app.top) chart_app.top
 
 unfoldable pub l4run_app : App
-l4run_app = with_subcommand traces_app endings_app.top
+l4run_app = with_subcommand (with_subcommand traces_app endings_app.top) lint_app.top
 
 -- What may be wrong with words, or that help is asked for: none of it where they ask for a job.
 abbrev pub faults_of : (words : List Text) → Kinds

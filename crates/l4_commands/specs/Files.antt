@@ -5,7 +5,7 @@ use Rattle.l4_commands.specs.declared.job.ChartForm.{ChartForm}
 use Rattle.l4_commands.specs.declared.job.ChartForm.TheVariants.{Lines, Ascii}
 use Rattle.l4_commands.specs.declared.job.Job.{Job}
 use Rattle.l4_commands.specs.declared.job.Recording.{Recording}
-use Rattle.l4_commands.specs.declared.job.Job.TheVariants.{Run, Replay, Audit, Chart, Endings}
+use Rattle.l4_commands.specs.declared.job.Job.TheVariants.{Run, Replay, Audit, Chart, Endings, Lint}
 
 -- The name of the file that the list of a schedule is in: what follows the `@`, byte 64, that it
 -- begins with.
@@ -17,27 +17,29 @@ list_name (first ∷ name) = if first == 64 then Some name else None
 -- where there is one.
 
 abbrev pub file_of : Job → List ℕ
-file_of (Run file turns report record_to) = file.now
-file_of (Replay file schedule report) = file.now
-file_of (Audit file trace) = file.now
+file_of (Run file turns printed record_to) = file.now
+file_of (Replay file schedule printed) = file.now
+file_of (Audit file trace judged) = file.now
 file_of (Chart chart) = chart.file.now
 file_of (Endings search) = search.file.now
+file_of (Lint file) = file.now
 
 abbrev pub second_file_of : Job → Option (List ℕ)
-second_file_of (Run file turns report record_to) = None
-second_file_of (Replay file schedule report) = list_name schedule.now
-second_file_of (Audit file trace) = Some trace.now
+second_file_of (Run file turns printed record_to) = None
+second_file_of (Replay file schedule printed) = list_name schedule.now
+second_file_of (Audit file trace judged) = Some trace.now
 second_file_of (Chart chart) = Some chart.trace.now
 second_file_of (Endings search) = None
+second_file_of (Lint file) = None
 
 -- The name of the file that a job records its run in.
 abbrev pub record_of : Job → Option (List ℕ)
-record_of (Run file turns report record_to) = option_map (λ name. name.now) record_to
+record_of (Run file turns printed record_to) = option_map (λ name. name.now) record_to
 record_of _ = None
 
 -- The job of a run that is to be recorded.
 abbrev pub job_of : Recording → Job
-job_of r = Run r.file r.turns r.report (Some r.name)
+job_of r = Run r.file r.turns r.printed (Some r.name)
 
 -- The form and the width of a chart for an output that may show lines, and may have this many columns. What was asked for stays.
 abbrev pub form_on : (shows_lines : Bool) → ChartForm → ChartForm

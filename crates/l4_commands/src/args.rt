@@ -3,6 +3,7 @@ ghost use Rattle.std.specs.Prelude.{◌≡◌, false};
 ghost use Rattle.clap.specs.Words.{rule_of};
 ghost use Rattle.l4_commands.specs.Commands.{file_rule, trace_rule, turns_rule, schedule_rule};
 ghost use Rattle.l4_commands.specs.Commands.{number_rule, text_rule, flag_rule, report_rule};
+ghost use Rattle.l4_commands.specs.Commands.{waits_rule, counts_rule};
 
 use clap::{Arg, ArgAction, value_parser};
 use std::alloc::Global;
@@ -94,5 +95,27 @@ pub fn report_arg<'a>(alloc: Global) -> Arg<'a>
         alloc,
         "report",
         "Prints what the threads have come to in place of the steps",
+    )
+}
+
+pub fn waits_arg<'a>(alloc: Global) -> Arg<'a>
+    ensures rule { rule_of result ≡ waits_rule }
+    ensures local { result.global ≡ false }
+{
+    flag_arg(
+        alloc,
+        "waits",
+        "Prints last who waits for whom, and each circle of them, as `deadlock 1.1 2.1`",
+    )
+}
+
+pub fn counts_arg<'a>(alloc: Global) -> Arg<'a>
+    ensures rule { rule_of result ≡ counts_rule }
+    ensures local { result.global ≡ false }
+{
+    flag_arg(
+        alloc,
+        "counts",
+        "Prints last what each thread did, as `counts 1.1 turns 4 sends 1 ..`",
     )
 }

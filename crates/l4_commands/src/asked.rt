@@ -5,11 +5,12 @@ ghost use Rattle.std.specs.Option.{option_copied};
 ghost use Rattle.clap.specs.Words.{rows_of, found_of, subcommand_rows_of};
 ghost use Rattle.clap.specs.declared.error.kind.ErrorKind.TheVariants.{ArgumentConflict};
 ghost use Rattle.l4_commands.specs.Asked.{asked_by, asked_in, flag_in, number_in};
-ghost use Rattle.l4_commands.specs.Asked.{is_over_file, is_same, run_in, replay_in, audit_in, flags_in};
-ghost use Rattle.l4_commands.specs.Asked.{form_of, chart_in, endings_in, excludes};
+ghost use Rattle.l4_commands.specs.Asked.{extras_in, judged_in, printed_in, is_over_file, is_same};
+ghost use Rattle.l4_commands.specs.Asked.{run_in, replay_in, audit_in, flags_in};
+ghost use Rattle.l4_commands.specs.Asked.{form_of, chart_in, endings_in, lint_in, excludes};
 ghost use Rattle.l4_commands.specs.Asked.{excluded_in, is_wrong_line, has_wrong_line};
 
-use crate::job::{ChartForm, ChartJob, EndingsJob, Job};
+use crate::job::{ChartForm, ChartJob, EndingsJob, Extras, Job, Judged, Printed};
 use clap::ArgMatches;
 use l4_lines::lines::{LineFault, line_fault};
 
@@ -28,6 +29,38 @@ fn number(matches: &ArgMatches<'_>, name: &str) -> Option<u64>
 {
     let number = matches.get_one::<u64>(name)?;
     Some(number)
+}
+
+// What the matches print last.
+fn extras(matches: &ArgMatches<'_>) -> Option<Extras>
+    ensures { IfSome result (λ extras. extras_in (rows_of (found_of matches.now)) ≡ Some extras) }
+{
+    Some(Extras {
+        waits: flag(matches, "waits")?,
+        counts: flag(matches, "counts")?,
+    })
+}
+
+// What the matches of `run` and `replay` print.
+fn printed(matches: &ArgMatches<'_>) -> Option<Printed>
+    ensures { IfSome result (λ printed.
+        printed_in (rows_of (found_of matches.now)) ≡ Some printed) }
+{
+    Some(Printed {
+        report: flag(matches, "report")?,
+        extras: extras(matches)?,
+    })
+}
+
+// What the matches of `audit` print.
+fn judged(matches: &ArgMatches<'_>) -> Option<Judged>
+    ensures { IfSome result (λ judged. judged_in (rows_of (found_of matches.now)) ≡ Some judged) }
+{
+    Some(Judged {
+        report: flag(matches, "report")?,
+        explain: flag(matches, "explain")?,
+        extras: extras(matches)?,
+    })
 }
 
 // Whether two names are those of one file.
@@ -57,7 +90,7 @@ fn run_job<'a>(matches: &ArgMatches<'a>) -> Option<Job<'a>>
     Some(Job::Run {
         file: matches.get_str("file")?,
         turns: number(matches, "turns")?,
-        report: flag(matches, "report")?,
+        printed: printed(matches)?,
         record_to: matches.get_str("record"),
     })
 }
@@ -70,7 +103,7 @@ fn replay_job<'a>(matches: &ArgMatches<'a>) -> Option<Job<'a>>
     Some(Job::Replay {
         file: matches.get_str("file")?,
         schedule: matches.get_str("schedule")?,
-        report: flag(matches, "report")?,
+        printed: printed(matches)?,
     })
 }
 
@@ -82,6 +115,7 @@ fn audit_job<'a>(matches: &ArgMatches<'a>) -> Option<Job<'a>>
     Some(Job::Audit {
         file: matches.get_str("file")?,
         trace: matches.get_str("trace")?,
+        judged: judged(matches)?,
     })
 }
 
@@ -185,6 +219,16 @@ fn endings_job<'a>(matches: &ArgMatches<'a>) -> Option<Job<'a>>
     }))
 }
 
+// The job of the matches of `lint`.
+fn lint_job<'a>(matches: &ArgMatches<'a>) -> Option<Job<'a>>
+    ensures { IfSome result (λ job.
+        lint_in (rows_of (found_of matches.now)) ≡ Some (asked_by job)) }
+{
+    Some(Job::Lint {
+        file: matches.get_str("file")?,
+    })
+}
+
 pub fn job_of_matches<'a>(matches: &ArgMatches<'a>) -> Option<Job<'a>>
     ensures { IfSome result (λ job.
         option_and_then asked_in (subcommand_rows_of matches.now) ≡ Some (asked_by job)) }
@@ -196,6 +240,7 @@ pub fn job_of_matches<'a>(matches: &ArgMatches<'a>) -> Option<Job<'a>>
         "audit" => audit_job(matches),
         "chart" => chart_job(matches),
         "endings" => endings_job(matches),
+        "lint" => lint_job(matches),
         _ => None,
     }
 }

@@ -2,19 +2,44 @@
 ghost use Rattle.std.specs.Prelude.{◌≡◌, false, IfOk};
 ghost use Rattle.clap.specs.Words.{app_of};
 ghost use Rattle.clap.specs.declared.builder.command.Command.TheViews.{out-Command};
-ghost use Rattle.l4_commands.specs.Commands.{turned_app, run_app};
-ghost use Rattle.l4_commands.specs.Commands.{replay_app, audit_app, traced_app, steps_app, part_app};
-ghost use Rattle.l4_commands.specs.Commands.{forms_app, chart_app, searched_app, lines_app};
-ghost use Rattle.l4_commands.specs.Commands.{endings_app, runs_app, traces_app, l4run_app};
+ghost use Rattle.l4_commands.specs.Commands.{with_extras, with_printed, turned_app, run_app};
+ghost use Rattle.l4_commands.specs.Commands.{scheduled_app, replay_app, audited_app, explained_app};
+ghost use Rattle.l4_commands.specs.Commands.{audit_app, traced_app, steps_app, part_app, forms_app, chart_app};
+ghost use Rattle.l4_commands.specs.Commands.{searched_app, lines_app, endings_app, lint_app};
+ghost use Rattle.l4_commands.specs.Commands.{runs_app, traces_app, l4run_app};
 
 use crate::args::{
-    file_arg, flag_arg, number_arg, report_arg, schedule_arg, text_arg, trace_arg, turns_arg,
+    counts_arg, file_arg, flag_arg, number_arg, report_arg, schedule_arg, text_arg, trace_arg,
+    turns_arg, waits_arg,
 };
 use crate::texts::{
-    AUDIT_EXAMPLE, CHART_EXAMPLE, ENDINGS_EXAMPLE, REPLAY_EXAMPLE, RUN_EXAMPLE, VERSION,
+    AUDIT_EXAMPLE, CHART_EXAMPLE, ENDINGS_EXAMPLE, LINT_EXAMPLE, REPLAY_EXAMPLE, RUN_EXAMPLE,
+    VERSION,
 };
 use clap::Command;
 use std::alloc::{AllocError, Global};
+
+// A command with what is printed last.
+fn with_extras<'a>(alloc: Global, command: Command<'a>) -> Result<Command<'a>, AllocError>
+    requires { (out-Command command).has_globals ≡ false }
+    ensures app { IfOk result (λ with. app_of with ≡ with_extras (app_of command.entry)) }
+    ensures local { IfOk result (λ with. (out-Command with).has_globals ≡ false) }
+{
+    let waits = waits_arg(alloc);
+    let counts = counts_arg(alloc);
+    command.arg(waits)?.arg(counts)
+}
+
+// A command with what is printed of a run.
+fn with_printed<'a>(alloc: Global, command: Command<'a>) -> Result<Command<'a>, AllocError>
+    requires { (out-Command command).has_globals ≡ false }
+    ensures app { IfOk result (λ with. app_of with ≡ with_printed (app_of command.entry)) }
+    ensures local { IfOk result (λ with. (out-Command with).has_globals ≡ false) }
+{
+    let report = report_arg(alloc);
+    let reported = command.arg(report)?;
+    with_extras(alloc, reported)
+}
 
 // The command `run` with its file and turns.
 fn turned_command<'a>(alloc: Global) -> Result<Command<'a>, AllocError>
@@ -39,26 +64,35 @@ fn run_command<'a>(alloc: Global) -> Result<Command<'a>, AllocError>
         "NAME",
         "Writes a schedule by which `replay` does the same to the file NAME, not FILE",
     );
-    let report = report_arg(alloc);
-    let run = turned_command(alloc)?;
-    run.arg(report)?.arg(record)
+    let turned = turned_command(alloc)?;
+    let run = with_printed(alloc, turned)?;
+    run.arg(record)
+}
+
+// The command `replay` with its file and schedule.
+fn scheduled_command<'a>(alloc: Global) -> Result<Command<'a>, AllocError>
+    ensures app { IfOk result (λ command. app_of command ≡ scheduled_app) }
+    ensures local { IfOk result (λ command. (out-Command command).has_globals ≡ false) }
+{
+    let file = file_arg(alloc);
+    let schedule = schedule_arg(alloc);
+    let replay = Command::new(alloc, "replay")
+        .about("Replays a schedule on a machine text and prints a line for each step")
+        .after_help(REPLAY_EXAMPLE);
+    replay.arg(file)?.arg(schedule)
 }
 
 fn replay_command<'a>(alloc: Global) -> Result<Command<'a>, AllocError>
     ensures app { IfOk result (λ command. app_of command ≡ replay_app) }
     ensures local { IfOk result (λ command. (out-Command command).has_globals ≡ false) }
 {
-    let file = file_arg(alloc);
-    let schedule = schedule_arg(alloc);
-    let report = report_arg(alloc);
-    let replay = Command::new(alloc, "replay")
-        .about("Replays a schedule on a machine text and prints a line for each step")
-        .after_help(REPLAY_EXAMPLE);
-    replay.arg(file)?.arg(schedule)?.arg(report)
+    let scheduled = scheduled_command(alloc)?;
+    with_printed(alloc, scheduled)
 }
 
-fn audit_command<'a>(alloc: Global) -> Result<Command<'a>, AllocError>
-    ensures app { IfOk result (λ command. app_of command ≡ audit_app) }
+// The command `audit` with its files.
+fn audited_command<'a>(alloc: Global) -> Result<Command<'a>, AllocError>
+    ensures app { IfOk result (λ command. app_of command ≡ audited_app) }
     ensures local { IfOk result (λ command. (out-Command command).has_globals ≡ false) }
 {
     let file = file_arg(alloc);
@@ -67,6 +101,33 @@ fn audit_command<'a>(alloc: Global) -> Result<Command<'a>, AllocError>
         .about("Tells whether a trace is one of a machine text")
         .after_help(AUDIT_EXAMPLE);
     audit.arg(file)?.arg(trace)
+}
+
+// With what is told of a world, and of a step that is not possible.
+fn explained_command<'a>(alloc: Global) -> Result<Command<'a>, AllocError>
+    ensures app { IfOk result (λ command. app_of command ≡ explained_app) }
+    ensures local { IfOk result (λ command. (out-Command command).has_globals ≡ false) }
+{
+    let report = flag_arg(
+        alloc,
+        "report",
+        "Prints what the threads have come to, also before a step that is refused",
+    );
+    let explain = flag_arg(
+        alloc,
+        "explain",
+        "Prints why a step is refused, and which steps are possible instead",
+    );
+    let audited = audited_command(alloc)?;
+    audited.arg(report)?.arg(explain)
+}
+
+fn audit_command<'a>(alloc: Global) -> Result<Command<'a>, AllocError>
+    ensures app { IfOk result (λ command. app_of command ≡ audit_app) }
+    ensures local { IfOk result (λ command. (out-Command command).has_globals ≡ false) }
+{
+    let explained = explained_command(alloc)?;
+    with_extras(alloc, explained)
 }
 
 // The command `chart` with its files.
@@ -197,6 +258,17 @@ fn endings_command<'a>(alloc: Global) -> Result<Command<'a>, AllocError>
     endings.arg(stuck)?.arg(none)
 }
 
+fn lint_command<'a>(alloc: Global) -> Result<Command<'a>, AllocError>
+    ensures app { IfOk result (λ command. app_of command ≡ lint_app) }
+    ensures local { IfOk result (λ command. (out-Command command).has_globals ≡ false) }
+{
+    let file = file_arg(alloc);
+    let lint = Command::new(alloc, "lint")
+        .about("Tells all that is wrong in a machine text")
+        .after_help(LINT_EXAMPLE);
+    lint.arg(file)
+}
+
 // The program with what runs a machine text.
 fn runs_command<'a>(alloc: Global) -> Result<Command<'a>, AllocError>
     ensures { IfOk result (λ command. app_of command ≡ runs_app) }
@@ -225,6 +297,7 @@ pub fn l4run_command<'a>(alloc: Global) -> Result<Command<'a>, AllocError>
     ensures { IfOk result (λ command. app_of command ≡ l4run_app) }
 {
     let endings = endings_command(alloc)?;
+    let lint = lint_command(alloc)?;
     let l4run = traces_command(alloc)?;
-    l4run.subcommand(endings)
+    l4run.subcommand(endings)?.subcommand(lint)
 }

@@ -1,5 +1,5 @@
 //! What is to be done.
-ghost use Rattle.std.specs.Prelude.{◌≡◌, MatchOption, None};
+ghost use Rattle.std.specs.Prelude.{◌≡◌, ◌||◌, MatchOption, None};
 ghost use Rattle.std.specs.Option.{option_map};
 ghost use Rattle.l4_commands.specs.Files.{file_of, job_of, list_name, on_output, record_of};
 ghost use Rattle.l4_commands.specs.Files.{second_file_of};
@@ -59,6 +59,54 @@ pub struct EndingsJob<'a> {
     pub none: bool,
 }
 
+/// What is printed last of a run, a replay or an audit.
+#[derive(Clone, Copy, Debug, PartialEq, Eq)]
+pub struct Extras {
+    /// Whether who waits for whom is told, and where threads wait in a circle.
+    pub waits: bool,
+    /// Whether what each thread did is counted.
+    pub counts: bool,
+}
+
+impl Extras {
+    /// Whether one of them is asked for.
+    pub fn any(&self) -> bool
+        ensures { result ≡ (self.now.waits || self.now.counts) }
+    {
+        self.waits || self.counts
+    }
+}
+
+/// What is printed of a run or a replay.
+#[derive(Clone, Copy, Debug, PartialEq, Eq)]
+pub struct Printed {
+    /// Whether the report is printed in place of the trace.
+    pub report: bool,
+    /// What is printed behind it.
+    pub extras: Extras,
+}
+
+/// What is printed of an audit.
+#[derive(Clone, Copy, Debug, PartialEq, Eq)]
+pub struct Judged {
+    /// Whether the report is printed behind the line that tells that the trace passed, or, where a
+    /// step is not possible, that of the world before it.
+    pub report: bool,
+    /// Whether it is told why a step is not possible, and which steps are possible instead.
+    pub explain: bool,
+    /// What is printed behind that of a trace that passes.
+    pub extras: Extras,
+}
+
+impl Judged {
+    /// Whether something is printed where a step is not possible.
+    pub fn tells_refusals(&self) -> bool
+        ensures { result ≡ (self.now.report || self.now.explain) }
+    {
+        self.report || self.explain
+    }
+}
+
 /// A run that is to be recorded.
 #[derive(Clone, Copy, Debug, PartialEq, Eq)]
 pub struct Recording<'a> {
@@ -66,8 +114,8 @@ pub struct Recording<'a> {
     pub file: &'a str,
     /// How many turns, as of `Job::Run`.
     pub turns: u64,
-    /// Whether the report is printed.
-    pub report: bool,
+    /// What is printed.
+    pub printed: Printed,
     /// The name of the file that the list is written to.
     pub name: &'a str,
 }
@@ -75,29 +123,27 @@ pub struct Recording<'a> {
 /// What is to be done.
 #[derive(Clone, Copy, Debug, PartialEq, Eq)]
 pub enum Job<'a> {
-    /// Run the machine text in a file until this many turns are taken or nothing is left to do, and
-    /// print its trace, or its report instead.
+    /// Run the machine text in a file until this many turns are taken or nothing is left to do.
     Run {
         /// The name of the file with the machine text.
         file: &'a str,
         /// How many turns, 1 to 1,000,000. Any other number is the fault `Turns`.
         turns: u64,
-        /// Whether the report is printed.
-        report: bool,
+        /// What is printed.
+        printed: Printed,
         /// The name of the file that a list is written to by which a replay is this very run. It is
         /// not that of the machine text.
         record_to: Option<&'a str>,
     },
-    /// Replay a schedule, a list of items, on the machine text in a file, and print its trace, or
-    /// its report in place of it.
+    /// Replay a schedule, a list of items, on the machine text in a file.
     Replay {
         /// The name of the file with the machine text.
         file: &'a str,
         /// The list of its items, with commas between them, or `@` and the name of the file that
         /// it is in.
         schedule: &'a str,
-        /// Whether the report is printed.
-        report: bool,
+        /// What is printed.
+        printed: Printed,
     },
     /// Audit the trace in a file against the machine text in another.
     Audit {
@@ -105,11 +151,18 @@ pub enum Job<'a> {
         file: &'a str,
         /// The name of the file with the trace.
         trace: &'a str,
+        /// What is printed.
+        judged: Judged,
     },
     /// Draw the trace in a file.
     Chart(ChartJob<'a>),
     /// Search for all endings of the machine text in a file.
     Endings(EndingsJob<'a>),
+    /// Say all that is wrong in the machine text in a file.
+    Lint {
+        /// The name of the file with the machine text.
+        file: &'a str,
+    },
 }
 
 impl<'a> Job<'a> {
@@ -121,6 +174,7 @@ impl<'a> Job<'a> {
             Job::Run { file, .. } | Job::Replay { file, .. } | Job::Audit { file, .. } => file,
             Job::Chart(chart) => chart.file,
             Job::Endings(search) => search.file,
+            Job::Lint { file } => file,
         }
     }
 
@@ -130,7 +184,7 @@ impl<'a> Job<'a> {
         ensures { option_map (λ name. name.now) result ≡ second_file_of self.now }
     {
         match *self {
-            Job::Run { .. } | Job::Endings(_) => None,
+            Job::Run { .. } | Job::Endings(_) | Job::Lint { .. } => None,
             Job::Replay { schedule, .. } => list_name(schedule),
             Job::Audit { trace, .. } => Some(trace),
             Job::Chart(chart) => Some(chart.trace),
@@ -146,12 +200,12 @@ impl<'a> Job<'a> {
             Job::Run {
                 file,
                 turns,
-                report,
+                printed,
                 record_to: Some(name),
             } => Some(Recording {
                 file,
                 turns,
-                report,
+                printed,
                 name,
             }),
             _ => None,

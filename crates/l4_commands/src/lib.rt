@@ -2,8 +2,8 @@
 //!
 //! `clap` reads the words. `commands` has the commands, and `asked` what the matches of the words
 //! ask for. Contracts see both as functions of the words: `job_of` gives the job of clap's matches,
-//! answers help only where the words ask for it, and usage only where they are wrong. Doing a job is
-//! `l4_jobs`'s.
+//! answers help only where the words ask for it, and usage only where they are wrong. Doing a job
+//! is `l4_jobs`'s.
 //!
 //! ```rust
 //! let job = job_of(alloc, &["l4run", "run", "first.l4"])?;

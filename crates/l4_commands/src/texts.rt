@@ -1,7 +1,7 @@
 //! What the program says of itself, and what the help of each command says last.
 
 /// The version of the program.
-pub const VERSION: &str = "0.22";
+pub const VERSION: &str = "0.23";
 
 pub const RUN_EXAMPLE: &str = "Example: `l4run run ping.l4`, where the file ping.l4 has the lines
 
@@ -16,6 +16,12 @@ pub const RUN_EXAMPLE: &str = "Example: `l4run run ping.l4`, where the file ping
 
 prints a line for each step: 1.1 sends the word 10 to 2.1, which waits for anybody.
 With `--report` it prints what the two threads have come to in place of it.
+
+Behind that, `--waits` tells who waits for whom, as `waits 1.1 2.1 send`, and which threads wait in a circle, as
+`circle 1.1 2.1`, or as `deadlock 1.1 2.1` where none of them can go on by any step. `--counts` tells what each thread
+did, as
+
+  counts 1.1 turns 4 sends 1 delivered 1 received 0 refused 2:0 3:0 4:0 5:0 6:0 7:0
 
 Several processors of a machine text work at the same time, each in a thread of the host. So two runs may differ:
 each is one that the machine can take. `l4run replay` takes turns in the order that you give: by
@@ -37,7 +43,13 @@ pub const AUDIT_EXAMPLE: &str =
     "Example: `l4run audit ping.l4 ping.trace`, with the machine text that `l4run help run` shows and what
 `l4run run ping.l4` printed, prints `passed 8 quiet`: these are 8 steps that the machine can take, and then nothing
 but its clock can go on; `spent` stands there where more can. A trace is refused at its first step that is not
-possible.";
+possible. Then `--explain` prints why, and which steps are possible instead, as
+
+  because the receiver is not receiving but ready
+  possible wait 2.1
+
+and `--report` what the threads have come to before that step. Behind `passed` it prints what they have come to in
+the end. `--waits` and `--counts` tell of a trace that passes what `l4run help run` says.";
 
 pub const CHART_EXAMPLE: &str =
     "Example: `l4run chart ping.l4 ping.trace`, with the machine text that `l4run help run` shows and what
@@ -59,10 +71,15 @@ On a terminal that shows them there are lines in place of these characters, unle
 drawn, and the status is 1.";
 
 pub const ENDINGS_EXAMPLE: &str =
-    "Example: `l4run endings ping.l4`, with the machine text that `l4run help run` shows, prints the ending
-that each schedule comes to, a shortest schedule of it that `l4run replay` takes, and its report. The last line says
-how many states were looked at, how long the longest schedule was, and whether that is the `whole` or was `cut`: then
-there may be more endings, and the status is 3.";
+    "Example: `l4run endings ping.l4`, with the machine text that `l4run help run` shows, prints each ending once, a
+state in which nothing is left to do: a shortest schedule that leads there, which `l4run replay` takes, and its
+report. The last line says how many states were looked at, how long the longest schedule was, and whether that is
+the `whole` or was `cut`: then there may be more endings, and the status is 3.";
+
+pub const LINT_EXAMPLE: &str =
+    "Example: `l4run lint ping.l4`, with the machine text that `l4run help run` shows but the line `set 64 10`,
+prints `line 4 column 5: BadNumber: `64`: wanted: a register, 1 to 63`. Each fault has such a line: where
+it is, its kind, what stands there, and what may. The status is 1 then, and 0 where nothing is wrong.";
 
 pub const TWO_FORMS: &str =
     "error: only one of '--ascii', '--svg', '--html' and '--mermaid' can be given

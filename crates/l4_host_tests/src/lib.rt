@@ -7,8 +7,8 @@
 //! and writes that fail, `refused` calls in which bench/refusals.sh refuses memory, `charts` what a
 //! terminal shows.
 //!
-//! No clause says that several host threads are at work, or that memory suffices: these tests show
-//! it.
+//! No clause says that several host threads are at work, that they do not wait, or that memory
+//! suffices: these tests show it. crates.txt gives them threads, and no leave to wait for one.
 //!
 //! ```text
 //! ./x try l4_host_tests
@@ -21,6 +21,8 @@ mod charts;
 mod gates;
 #[cfg(test)]
 mod gathers;
+#[cfg(test)]
+mod nowait;
 #[cfg(test)]
 mod processors;
 #[cfg(test)]

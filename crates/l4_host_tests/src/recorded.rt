@@ -1,6 +1,6 @@
 // Runs that are recorded, and their replays. Memory may be refused to the call that records: it is
 // made again then.
-use l4_jobs::job::{Job, Recording};
+use l4_jobs::job::{Extras, Job, Printed, Recording};
 use l4_jobs::perform::perform;
 use l4_jobs::recording::perform_recorded;
 use l4_jobs::streams::Sink;
@@ -9,17 +9,26 @@ use std::io;
 use std::io::Write;
 use std::thread::Threads;
 
+// The trace, and behind it who waits for whom and what each thread did.
+const ALL: Printed = Printed {
+    report: false,
+    extras: Extras {
+        waits: true,
+        counts: true,
+    },
+};
+
 const RECORDING: Recording<'static> = Recording {
     file: "m.l4",
     turns: 100,
-    report: false,
+    printed: ALL,
     name: "m.list",
 };
 
 const AGAIN: Job<'static> = Job::Replay {
     file: "m.l4",
     schedule: "@m.list",
-    report: false,
+    printed: ALL,
 };
 
 // A text that has no such line.
@@ -79,7 +88,7 @@ fn recorded<R: AllocGlobal + Threads + Sync + Print>(rt: &R) -> Option<(Vec<u8>,
     (status == 0 && faults.is_empty()).then_some((record, out))
 }
 
-// The replay of a list has the trace of the run that it was recorded of.
+// The replay of a list prints what the run printed that it was recorded of.
 #[test]
 fn a_recorded_run_is_replayed(rt: HostRuntime) {
     let (record, trace) = recorded(&rt).expect(&rt, "a record");

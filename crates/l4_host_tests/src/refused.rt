@@ -13,7 +13,8 @@ use crate::runs::{is_right, machine_of};
 use l4_audit::audit::{Audit, AuditFault, check};
 use l4_audit::auditor::Auditor;
 use l4_endings::{FoundEndings, endings};
-use l4_jobs::job::{ChartForm, ChartJob, EndingsJob, Job};
+use l4_jobs::job::{ChartForm, ChartJob, EndingsJob, Extras, Job, Judged, Printed};
+use l4_jobs::lints::perform_lint;
 use l4_jobs::perform::perform;
 use l4_jobs::words::{WordsFault, job_of};
 use l4_machine::{Entry, Outcome, RunFault, Walk, replay, run};
@@ -354,36 +355,139 @@ fn asked<'a, R: AllocGlobal + Print>(rt: &R, words: &'a [&'a str]) -> Result<Job
     }
 }
 
+const NOTHING_MORE: Extras = Extras {
+    waits: false,
+    counts: false,
+};
+
+const ALL: Extras = Extras {
+    waits: true,
+    counts: true,
+};
+
+const TRACE: Printed = Printed {
+    report: false,
+    extras: NOTHING_MORE,
+};
+
 const RUN: Job<'static> = Job::Run {
     file: "m.l4",
     turns: 100,
-    report: false,
+    printed: TRACE,
     record_to: None,
 };
 
 const REPORTED: Job<'static> = Job::Run {
     file: "m.l4",
     turns: 100,
-    report: true,
+    printed: Printed {
+        report: true,
+        extras: NOTHING_MORE,
+    },
+    record_to: None,
+};
+
+const WITH_ALL: Job<'static> = Job::Run {
+    file: "m.l4",
+    turns: 100,
+    printed: Printed {
+        report: true,
+        extras: ALL,
+    },
     record_to: None,
 };
 
 const REPLAY: Job<'static> = Job::Replay {
     file: "m.l4",
     schedule: "1,0,0,0,1,0,0,1",
-    report: false,
+    printed: TRACE,
 };
 
 const FROM_FILE: Job<'static> = Job::Replay {
     file: "m.l4",
     schedule: "@m.list",
-    report: false,
+    printed: TRACE,
 };
 
 const AUDIT: Job<'static> = Job::Audit {
     file: "m.l4",
     trace: "m.trace",
+    judged: Judged {
+        report: false,
+        explain: false,
+        extras: NOTHING_MORE,
+    },
 };
+
+const AUDIT_WITH_ALL: Job<'static> = Job::Audit {
+    file: "m.l4",
+    trace: "m.trace",
+    judged: Judged {
+        report: false,
+        explain: false,
+        extras: ALL,
+    },
+};
+
+const EXPLAINED: Job<'static> = Job::Audit {
+    file: "m.l4",
+    trace: "m.trace",
+    judged: Judged {
+        report: true,
+        explain: true,
+        extras: ALL,
+    },
+};
+
+// What stands behind the report of a run, and behind the line of the audit of its first five steps.
+const PING_REPORT_WITH_ALL: &str = "thread 1.1 ended 0 nil nil 0 a
+thread 2.1 ended 0 1.1 1.1 70001 a
+ending quiet
+counts 1.1 turns 4 sends 1 delivered 1 received 0 refused 2:0 3:0 4:0 5:0 6:0 7:0
+counts 2.1 turns 2 sends 0 delivered 0 received 1 refused 2:0 3:0 4:0 5:0 6:0 7:0
+";
+
+const PING_WAITS: &str = "passed 5 spent
+waits 1.1 2.1 send
+waits 2.1 any receive
+counts 1.1 turns 3 sends 1 delivered 0 received 0 refused 2:0 3:0 4:0 5:0 6:0 7:0
+counts 2.1 turns 1 sends 0 delivered 0 received 0 refused 2:0 3:0 4:0 5:0 6:0 7:0
+";
+
+// The same with the report behind the line.
+const PING_WORLD: &str = "passed 5 spent
+thread 1.1 sending 0 nil nil 70001 a
+thread 2.1 receiving 0 nil nil 0
+waiting 1.1#1 2.1
+ending spent
+waits 1.1 2.1 send
+waits 2.1 any receive
+counts 1.1 turns 3 sends 1 delivered 0 received 0 refused 2:0 3:0 4:0 5:0 6:0 7:0
+counts 2.1 turns 1 sends 0 delivered 0 received 0 refused 2:0 3:0 4:0 5:0 6:0 7:0
+";
+
+// A step that is not possible, and what is told of it.
+const PING_REFUSED: &str = "local 1.1
+local 1.1
+begin 1.1#1
+queue 1.1#1
+deliver 1.1#1 2.1 1.1 1.1 70001 a
+";
+
+const PING_EXPLAINED: &str = "because the receiver is not receiving but ready
+possible wait 2.1
+thread 1.1 sending 0 nil nil 70001 a
+thread 2.1 ready 0 nil nil 0
+waiting 1.1#1 2.1
+ending spent
+";
+
+const PING_BEGINNING: &str = "local 1.1
+wait 2.1
+local 1.1
+begin 1.1#1
+queue 1.1#1
+";
 
 const DRAWN: Job<'static> = Job::Chart(ChartJob {
     file: "m.l4",
@@ -440,9 +544,22 @@ fn is_told_usage<R: AllocGlobal + Print>(rt: &R, words: &[&str]) -> bool {
 
 #[test]
 fn words_are_read_and_explained(rt: HostRuntime) {
-    let words = ["l4run", "run", "m.l4", "--turns", "100", "--report"];
-    assert!(rt; is_asked(&rt, &words, &REPORTED));
+    let words = [
+        "l4run", "run", "m.l4", "--counts", "--turns", "100", "--report", "--waits",
+    ];
+    assert!(rt; is_asked(&rt, &words, &WITH_ALL));
     assert!(rt; is_asked(&rt, &["l4run", "audit", "m.l4", "m.trace"], &AUDIT));
+    let words = [
+        "l4run",
+        "audit",
+        "m.l4",
+        "m.trace",
+        "--explain",
+        "--report",
+        "--waits",
+        "--counts",
+    ];
+    assert!(rt; is_asked(&rt, &words, &EXPLAINED));
     assert!(rt; is_helped(&rt, &["l4run", "--help"]));
     assert!(rt; is_told_usage(&rt, &["l4run", "run", "m.l4", "--turns", "many"]));
 }
@@ -460,29 +577,34 @@ fn done<R: AllocGlobal + Threads + Sync>(
     perform(rt, rt.alloc(), job, &mut machine, &mut trace, out, faults)
 }
 
-// Whether a job has this output, by a second call where memory was refused: then it has said so,
-// and has written nothing else. The writers have room for all that may be written, so that they
-// need none.
+// Whether a job has this output and this fault, by a second call where memory was refused: then it
+// has said so, and has written nothing else; or all of its output, where the line of its fault was
+// refused behind it. The writers have room for all that may be written, so that they need none.
 fn is_performed<R: AllocGlobal + Threads + Sync + Print>(
     rt: &R,
     job: &Job<'_>,
     text: &str,
     told: &str,
     wanted: &str,
+    fault: &str,
 ) -> Option<bool> {
     let mut out = Vec::with_capacity(rt.alloc(), 1_000).ok()?;
     let mut faults = Vec::with_capacity(rt.alloc(), 1_000).ok()?;
     call_begins(rt, "perform");
     let mut status = done(rt, job, text, told, &mut out, &mut faults);
     call_ends(rt);
-    if status == 1 {
-        if faults.as_slice() != b"l4run: no memory\n".as_slice() || !out.is_empty() {
+    if faults.as_slice() == b"l4run: no memory\n".as_slice() {
+        let is_whole = !fault.is_empty() && out.as_slice() == wanted.as_bytes();
+        if status != 1 || !out.is_empty() && !is_whole {
             return None;
         }
+        out.clear();
         faults.clear();
         status = done(rt, job, text, told, &mut out, &mut faults);
     }
-    Some(status == 0 && faults.is_empty() && out.as_slice() == wanted.as_bytes())
+    let is_right = status == u8::from(!fault.is_empty());
+    let is_wanted = out.as_slice() == wanted.as_bytes() && faults.as_slice() == fault.as_bytes();
+    Some(is_right && is_wanted)
 }
 
 #[test]
@@ -490,6 +612,7 @@ fn jobs_are_performed(rt: HostRuntime) {
     for (job, text, told, wanted) in [
         (RUN, PING, "", PING_TRACE),
         (REPORTED, PING, "", PING_REPORT),
+        (WITH_ALL, PING, "", PING_REPORT_WITH_ALL),
         (REPLAY, ACROSS, "", ACROSS_TRACE),
         (
             FROM_FILE,
@@ -498,10 +621,49 @@ fn jobs_are_performed(rt: HostRuntime) {
             ACROSS_TRACE,
         ),
         (AUDIT, ACROSS, ACROSS_TRACE, "passed 8 quiet\n"),
+        (AUDIT_WITH_ALL, PING, PING_BEGINNING, PING_WAITS),
+        (EXPLAINED, PING, PING_BEGINNING, PING_WORLD),
         (DRAWN, PING, PING_TRACE, PING_CHART),
         (ENDINGS, PING, "", PING_ENDINGS),
     ] {
-        let is_performed = is_performed(&rt, &job, text, told, wanted);
+        let is_performed = is_performed(&rt, &job, text, told, wanted, "");
         assert!(rt; is_performed == Some(true), "{wanted}");
     }
+}
+
+#[test]
+fn refused_steps_are_explained(rt: HostRuntime) {
+    let fault = "l4run: refused at step 5\n";
+    for (job, wanted) in [(AUDIT, ""), (EXPLAINED, PING_EXPLAINED)] {
+        let is_performed = is_performed(&rt, &job, PING, PING_REFUSED, wanted, fault);
+        assert!(rt; is_performed == Some(true), "{wanted}");
+    }
+}
+
+// Whether the lint of a text has this status and output, by a second call where memory was refused:
+// then it has said so, and has written nothing else.
+fn is_linted<R: AllocGlobal + Print>(rt: &R, text: &str, status: u8, wanted: &str) -> Option<bool> {
+    let mut out = Vec::with_capacity(rt.alloc(), 1_000).ok()?;
+    let mut faults = Vec::with_capacity(rt.alloc(), 1_000).ok()?;
+    let mut machine = text.as_bytes();
+    call_begins(rt, "perform_lint");
+    let mut ended = perform_lint(rt.alloc(), "m.l4", &mut machine, &mut out, &mut faults);
+    call_ends(rt);
+    if !faults.is_empty() {
+        if faults.as_slice() != b"l4run: no memory\n".as_slice() || !out.is_empty() {
+            return None;
+        }
+        faults.clear();
+        machine = text.as_bytes();
+        ended = perform_lint(rt.alloc(), "m.l4", &mut machine, &mut out, &mut faults);
+    }
+    Some(ended == status && faults.is_empty() && out.as_slice() == wanted.as_bytes())
+}
+
+#[test]
+fn texts_are_linted(rt: HostRuntime) {
+    let faulty = "l4 1 64\ncpus 1\nthread 1.1 cpu 0 space 1\nset 64 10\nend\n";
+    let fault = "line 4 column 5: BadNumber: `64`: wanted: a register, 1 to 63\n";
+    assert!(rt; is_linted(&rt, faulty, 1, fault) == Some(true));
+    assert!(rt; is_linted(&rt, PING, 0, "") == Some(true));
 }

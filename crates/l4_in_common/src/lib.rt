@@ -1,5 +1,5 @@
-//! What core runs have in common that end at rest in alike states: what a question about endings may
-//! ask for.
+//! What core runs have in common that end at rest in alike states: what a question about endings
+//! may ask for.
 //!
 //! A search looks at one of all alike states, and reports it by one of the histories that lead
 //! there. Any other history gives the same report of each thread, but for the registers of deleted

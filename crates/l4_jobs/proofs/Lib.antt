@@ -1,7 +1,10 @@
 pub mod Charted
 pub mod Appending
 pub mod Audited
+pub mod Behind
+pub mod Judged
 pub mod Recorded
+pub mod Linted
 pub mod Listed
 pub mod Opened
 pub mod RunsShown

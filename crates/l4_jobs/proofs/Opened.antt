@@ -1,17 +1,18 @@
 -- What is done over files that were opened.
-use Rattle.std.proofs.Common.{◌≡◌, ℕ, Bool, Option, Some, None, Result, Ok, Err, List, sym, subst, inl, inr}
+use Rattle.std.proofs.Common.{◌≡◌, ℕ, Bool, true, false, Option, Some, None, Result, Ok, Err, List, sym, subst, inl, inr}
 use Rattle.std.specs.Prelude.{IfSome, IsSomeAnd}
 use Rattle.std.specs.declared.io.ErrorKind.{ErrorKind}
 use Rattle.l4_model.specs.Machine.{Machine}
 use Rattle.l4_script.specs.Texts.{machine_of_text}
 use Rattle.l4_script.specs.declared.text.fault.TextFault.{TextFault}
 use Rattle.l4_commands.specs.Files.{file_of, list_name, second_file_of}
-use Rattle.l4_jobs.specs.Jobs.{IsRead, IsScheduleFault, IsTold, IsTraceFault, IsChartFault, IsFaultOf, IsJobFault, IsFaultBehind, IsDone, IsNotDone, IsTrulyDone, IsUnread, TraceGives}
+use Rattle.l4_jobs.specs.Jobs.{IsRead, IsScheduleFault, IsTold, IsTraceFault, IsAuditFault, IsChartFault, IsFaultOf, IsJobFault, IsFaultBehind, IsDone, IsNotDone, IsTrulyDone, IsUnread, TraceGives}
+use Rattle.l4_jobs.specs.Audits.{tells_refusals}
 use Rattle.l4_jobs.specs.Streams.{FileGives}
 use Rattle.l4_jobs.specs.declared.fault.Fault.{Fault}
 use Rattle.l4_commands.specs.declared.job.ChartJob.{ChartJob}
 use Rattle.l4_commands.specs.declared.job.Job.{Job}
-use Rattle.l4_commands.specs.declared.job.Job.TheVariants.{Run, Replay, Audit, Chart, Endings}
+use Rattle.l4_commands.specs.declared.job.Job.TheVariants.{Run, Replay, Audit, Chart, Endings, Lint}
 use Rattle.l4_jobs.proofs.Shown.{true_on}
 
 -- What reading a source may come to, and what a writer takes.
@@ -44,6 +45,12 @@ chart_fault_more chart m less more f h (inl is) = inl is
 chart_fault_more chart m less more f h (inr (right, inl (kind, given, unread))) = inr (right, inl (kind, h (Err kind) given, unread))
 chart_fault_more chart m less more f h (inr (right, inr (trace, given, faulty))) = inr (right, inr (trace, h (Ok trace) given, faulty))
 
+audit_fault_more : (tells : Bool) (m : Machine) (name : List ℕ) (less more : Gives) (f : Fault) → ((given : Result (List ℕ) ErrorKind) → less given → more given) →
+    IsAuditFault tells m name less f → IsAuditFault tells m name more f
+audit_fault_more false m name less more f h is = trace_fault_more m name less more f h is
+audit_fault_more true m name less more f h (inl (kind, given, unread)) = inl (kind, h (Err kind) given, unread)
+audit_fault_more true m name less more f h (inr (trace, given, faulty)) = inr (trace, h (Ok trace) given, faulty)
+
 list_fault_more : (m : Machine) (list : List ℕ) (name : Option (List ℕ)) (less more : Gives) (f : Fault) →
     IfSome name (λ _. (given : Result (List ℕ) ErrorKind) → less given → more given) →
     IsScheduleFault m list name less f → IsScheduleFault m list name more f
@@ -53,11 +60,12 @@ list_fault_more m list (Some name) less more f h (inr (text, given, faulty)) = i
 
 fault_more : (job : Job) (m : Result Machine TextFault) (less more : Gives) (f : Fault) → IsMore job less more → IsFaultOf job m less f → IsFaultOf job m more f
 fault_more job (Err e) less more f h is = is
-fault_more (Run file turns report record_to) (Ok m) less more f h is = is
-fault_more (Replay file schedule report) (Ok m) less more f h is = list_fault_more m schedule.now (list_name schedule.now) less more f h is
-fault_more (Audit file name) (Ok m) less more f h is = trace_fault_more m name.now less more f h is
+fault_more (Run file turns printed record_to) (Ok m) less more f h is = is
+fault_more (Replay file schedule printed) (Ok m) less more f h is = list_fault_more m schedule.now (list_name schedule.now) less more f h is
+fault_more (Audit file name judged) (Ok m) less more f h is = audit_fault_more (tells_refusals judged) m name.now less more f h is
 fault_more (Chart chart) (Ok m) less more f h is = chart_fault_more chart m less more f h is
 fault_more (Endings search) (Ok m) less more f h is = is
+fault_more (Lint file) (Ok m) less more f h is = is
 
 job_fault_more : (job : Job) (machine less more : Gives) (f : Fault) → IsMore job less more → IsJobFault job machine less f → IsJobFault job machine more f
 job_fault_more job machine less more f h (inl none) = inl none

@@ -1,8 +1,8 @@
 -- What is recorded of a run, and what is shown of it.
-use Rattle.std.proofs.Common.{◌≡◌, ℕ, ◌<◌, ◌≤◌, Bool, true, false, Option, Some, None, Result, Ok, Err, List, [], refl, ap, sym, subst, inl, inr, ◌∙◌, arith}
+use Rattle.std.proofs.Common.{◌≡◌, ℕ, ◌<◌, ◌≤◌, Bool, true, false, Option, Some, None, Result, Ok, Err, List, [], ◌++◌, refl, ap, sym, subst, inl, inr, ◌∙◌, arith}
 use Rattle.std.specs.Prelude.{◌⊎◌, IfSome, IsSomeAnd, MatchResult, is_err}
 use Rattle.std.specs.declared.io.ErrorKind.{ErrorKind}
-use Rattle.l4_model.specs.History.{reached, view, waiting as undecided_sends}
+use Rattle.l4_model.specs.History.{reached}
 use Rattle.l4_model.specs.Machine.{Machine}
 use Rattle.l4_model.specs.Steps.{Step}
 use Rattle.l4_model.specs.World.{World}
@@ -14,8 +14,8 @@ use Rattle.l4_machine.specs.Outcomes.{Findings, IsFoundFor, IsOutcomeOf}
 use Rattle.l4_schedules.specs.Written.{recorded_text}
 use Rattle.l4_schedules.proofs.ReadBack.{recorded_back}
 use Rattle.l4_commands.specs.Files.{file_of, list_name, record_of, second_file_of, job_of}
-use Rattle.l4_jobs.specs.Jobs.{IsDone, IsFaultBehind, IsJobFault, IsNotDone, IsOpenedFault, IsReplayAsked, IsReport, IsRunAsked, IsRunShown, IsShown, Shows, asked_schedule, lines_of_outcome, named_schedule, status_at_rest, status_of_ending}
-use Rattle.l4_reports.specs.ReportLines.{ending_at_rest, report_text}
+use Rattle.l4_jobs.specs.Jobs.{IsDone, IsFaultBehind, IsJobFault, IsNotDone, IsOpenedFault, IsReplayAsked, IsRunAsked, IsRunShown, IsShown, IsWritten, Shows, asked_schedule, lines_of_run, named_schedule, status_at_rest, status_of_ending}
+use Rattle.l4_jobs.specs.Extras.{behind}
 use Rattle.l4_jobs.specs.Recording.{IsMade, IsNotRecorded, IsRecordDone, IsRecordFault, IsRecorded, IsUnwritten}
 use Rattle.l4_jobs.specs.Streams.{FileGives}
 use Rattle.l4_schedules.specs.InFiles.{schedule_in_file}
@@ -25,6 +25,7 @@ use Rattle.l4_jobs.specs.FaultLines.{IsReported}
 use Rattle.l4_jobs.specs.declared.fault.Fault.{Fault}
 use Rattle.l4_jobs.specs.declared.fault.Fault.TheVariants as fault
 use Rattle.l4_commands.specs.declared.job.Job.{Job}
+use Rattle.l4_commands.specs.declared.job.Printed.{Printed}
 use Rattle.l4_commands.specs.declared.job.Recording.{Recording}
 use Rattle.l4_jobs.proofs.Opened.{not_done_more}
 use Rattle.l4_jobs.proofs.RunsShown.{lawful, replay_shown, run_is_shown}
@@ -38,23 +39,24 @@ Takes = List ℕ → Bool → Type 0
 
 -- What is made of a run, and of the text that its reader gives.
 
-pub is_recorded : (report : Bool) (m : Machine) (turns : ℕ) (o : Findings) (entries : List Entry) (lines text : List ℕ) (status : ℕ) → m.cpus ≤ 16 →
+pub is_recorded : (printed : Printed) (m : Machine) (turns : ℕ) (o : Findings) (entries : List Entry) (lines text : List ℕ) (status : ℕ) → m.cpus ≤ 16 →
     ((turns ≡ 0) ⊎ (1000000 < turns) → ⊥) → IsFoundFor m turns o → IsOutcomeOf m (replay_entries m entries) o → entries_fault m entries ≡ None →
-    text ≡ recorded_text entries → lines ≡ lines_of_outcome report o → status ≡ status_of_ending o.ending → IsRecorded report m turns lines text status
-is_recorded report m turns o entries lines text status few right found replayed are written shown ended = record {
+    text ≡ recorded_text entries → IsWritten printed m o lines → status ≡ status_of_ending o.ending → IsRecorded printed m turns lines text status
+is_recorded printed m turns o entries lines text status few right found replayed are recorded written ended = record {
   lawful = lawful turns right;
   findings = o;
   of_run = found;
   entries = entries;
-  reads = ap (schedule_in_file m) written ∙ recorded_back m entries few are;
+  text_is = recorded;
+  reads = ap (schedule_in_file m) recorded ∙ recorded_back m entries few are;
   of_replay = replayed;
-  lines_are = shown;
+  written = written;
   status_is = ended;
 }
 
 pub made_given : (r : Recording) (machine : Gives) (read slice lines text : List ℕ) (status : ℕ) →
     (all : List ℕ) × machine (Ok all) × (machine_of_text read ≡ machine_of_text all) → slice ≡ read →
-    (m : Machine) × (machine_of_text slice ≡ Ok m) × IsRecorded r.report m r.turns lines text status →
+    (m : Machine) × (machine_of_text slice ≡ Ok m) × IsRecorded r.printed m r.turns lines text status →
     IsMade (job_of r) machine lines text status
 made_given r machine read slice lines text status (all, given, same) is (m, declares, recorded) = record {
   text = all;
@@ -65,50 +67,44 @@ made_given r machine read slice lines text status (all, given, same) is (m, decl
 }
 
 -- What a run that is recorded shows, a run shows.
-pub as_run : (report : Bool) (m : Machine) (turns : ℕ) (lines text : List ℕ) (status : ℕ) →
-    IsRecorded report m turns lines text status →
-    IsRunShown report m (IsRunAsked m turns) lines status
-as_run report m turns lines text status r =
-    run_is_shown report m turns r.findings lines status r.lawful r.of_run r.lines_are r.status_is
+pub as_run : (printed : Printed) (m : Machine) (turns : ℕ) (lines text : List ℕ) (status : ℕ) →
+    IsRecorded printed m turns lines text status →
+    IsRunShown printed m (IsRunAsked m turns) lines status
+as_run printed m turns lines text status r =
+    run_is_shown printed m turns r.findings lines status r.lawful r.of_run r.written r.status_is
 
 by_name : (m : Machine) (list text : List ℕ) (name : List ℕ) → list_name list ≡ Some name →
     asked_schedule m list text ≡ schedule_in_file m text
 by_name m list text name is = ap (λ o. named_schedule m o list text) is
 
 -- And so does a replay of what was recorded.
-pub as_replay : (report : Bool) (m : Machine) (turns : ℕ) (lines text : List ℕ) (status : ℕ)
+pub as_replay : (printed : Printed) (m : Machine) (turns : ℕ) (lines text : List ℕ) (status : ℕ)
     (list name : List ℕ) → list_name list ≡ Some name →
-    IsRecorded report m turns lines text status →
-    IsRunShown report m (IsReplayAsked m list text) lines status
-as_replay report m turns lines text status list name is r =
-    replay_shown report m list text r.entries r.findings lines status
-    (by_name m list text name is ∙ r.reads) r.of_replay r.lines_are r.status_is
+    IsRecorded printed m turns lines text status →
+    IsRunShown printed m (IsReplayAsked m list text) lines status
+as_replay printed m turns lines text status list name is r =
+    replay_shown printed m list text r.entries r.findings lines status
+    (by_name m list text name is ∙ r.reads) r.of_replay r.written r.status_is
 
 -- A replay has one run, and so shows one thing.
 
 one_world : (m : Machine) (steps : List Step) (w v : World) → reached m steps ≡ Some w → reached m steps ≡ Some v → w ≡ v
 one_world m steps w v is other = let same : Some w ≡ Some v = sym is ∙ other in cc
 
-report_alone : (m : Machine) (r : Run) (lines others : List ℕ) → IsReport m r lines → IsReport m r others → others ≡ lines
-report_alone m r lines others is other =
+shows_alone : (printed : Printed) (m : Machine) (r : Run) (lines others : List ℕ) → Shows printed m r lines → Shows printed m r others → others ≡ lines
+shows_alone printed m r lines others is other =
     let same = one_world m (told r.events) other.world is.world other.reaches is.reaches in
-    other.lines_are
-    ∙ ap (λ w. report_text (view m w) (undecided_sends m w (told r.events)) (ending_at_rest (at_rest m r.system))) same
-    ∙ sym is.lines_are
-
-shows_alone : (report : Bool) (m : Machine) (r : Run) (lines others : List ℕ) → Shows report m r lines → Shows report m r others → others ≡ lines
-shows_alone true m r lines others is other = report_alone m r lines others is other
-shows_alone false m r lines others is other = other ∙ sym is
+    other.lines_are ∙ ap (λ w. lines_of_run printed.report m r w ++ behind printed.extras m w (told r.events)) same ∙ sym is.lines_are
 
 one_run : (m : Machine) (list text : List ℕ) (r s : Run) → IsReplayAsked m list text r → IsReplayAsked m list text s → r ≡ s
 one_run m list text r s is other = let same : Ok r ≡ Ok s = sym is ∙ other in cc
 
-pub shown_alone : (report : Bool) (m : Machine) (list text lines others : List ℕ) (status other : ℕ) →
-    IsRunShown report m (IsReplayAsked m list text) lines status → IsRunShown report m (IsReplayAsked m list text) others other →
+pub shown_alone : (printed : Printed) (m : Machine) (list text lines others : List ℕ) (status other : ℕ) →
+    IsRunShown printed m (IsReplayAsked m list text) lines status → IsRunShown printed m (IsReplayAsked m list text) others other →
     (others ≡ lines) × (other ≡ status)
-shown_alone report m list text lines others status other a b =
+shown_alone printed m list text lines others status other a b =
     let same = one_run m list text b.run a.run b.is a.is in (
-      shows_alone report m a.run lines others a.shows (subst (λ r. Shows report m r others) same b.shows),
+      shows_alone printed m a.run lines others a.shows (subst (λ r. Shows printed m r others) same b.shows),
       b.status_is ∙ ap (λ r. status_at_rest (at_rest m r.system)) same ∙ sym a.status_is,
     )
 
@@ -144,7 +140,7 @@ shown_made : (r : Recording) (machine : Gives) (lines text told : List ℕ) (sta
 shown_made r machine lines text told status made = record {
   machine = made.on;
   declares = made.declares;
-  shown = as_run r.report made.on r.turns lines text status made.recorded;
+  shown = as_run r.printed made.on r.turns lines text status made.recorded;
 }
 
 pub record_done : (job : Job) (r : Recording) (machine trace : Gives) (keeps out : Takes) (faults : Type 0) (status : ℕ) → job ≡ job_of r →

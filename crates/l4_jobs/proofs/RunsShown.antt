@@ -1,19 +1,22 @@
 -- What is written of an outcome is what is shown of its core run.
-use Rattle.std.proofs.Common.{◌≡◌, ℕ, ◌<◌, Bool, true, false, Some, None, Ok, List, refl, ap, sym, subst, inl, inr, ◌∙◌}
+use Rattle.std.proofs.Common.{◌≡◌, ℕ, ◌<◌, Bool, true, false, Some, None, Ok, List, ◌++◌, refl, ap, sym, inl, inr, ◌∙◌}
 use Rattle.std.specs.Prelude.{◌⊎◌, ◌↔◌, ◌==◌, ◌||◌, if◌then◌else◌, nat_lt}
 use Rattle.std.proofs.lemmas.Bool.{eqb-true, ltb-true, or_cases}
 use Rattle.l4_model.specs.Machine.{Machine}
 use Rattle.l4_model.specs.History.{reached}
+use Rattle.l4_model.specs.World.{World}
 use Rattle.l4_core_model.specs.Runs.{Run}
 use Rattle.l4_choices.specs.Entries.{Entry, replay_entries}
 use Rattle.l4_machine.specs.Entries.{turns_fault}
 use Rattle.l4_machine.specs.Outcomes.{Findings, IsFoundFor, IsOutcomeOf, in_order}
 use Rattle.l4_machine.specs.declared.outcome.RunFault.TheVariants.{Turns}
 use Rattle.l4_trace.specs.Lines.{trace_of}
-use Rattle.l4_jobs.specs.Jobs.{IsReplayAsked, IsReport, IsRunAsked, IsRunShown, Shows, asked_schedule, lines_of_outcome, replayed, status_at_rest, status_of_ending}
+use Rattle.l4_jobs.specs.Jobs.{IsReplayAsked, IsRunAsked, IsRunShown, IsWritten, Shows, asked_schedule, lines_of_outcome, lines_of_run, replayed, status_at_rest, status_of_ending}
 use Rattle.l4_types.specs.declared.reports.Ending.{Ending}
 use Rattle.l4_types.specs.declared.reports.Ending.TheVariants.{Quiet, Spent}
-use Rattle.l4_reports.specs.ReportLines.{ending_at_rest, report_text}
+use Rattle.l4_jobs.specs.Extras.{behind}
+use Rattle.l4_reports.specs.ReportLines.{ending_at_rest}
+use Rattle.l4_commands.specs.declared.job.Printed.{Printed}
 
 ending_is : (rests : Bool) (ending : Ending) → (ending ≡ Quiet) ↔ (rests ≡ true) → ending ≡ ending_at_rest rests
 ending_is true ending quiet = quiet.1 refl
@@ -24,27 +27,32 @@ status_of_rest : (rests : Bool) → status_of_ending (ending_at_rest rests) ≡ 
 status_of_rest true = refl
 status_of_rest false = refl
 
-report_is : (m : Machine) (r : Run) (o : Findings) → IsOutcomeOf m r o → IsReport m r (report_text o.threads o.waiting o.ending)
-report_is m r o is =
-    let w = is.is_true.possible.0 in
-    let reaches = is.is_true.possible.1 in
+lines_of_its_run : (report : Bool) (m : Machine) (r : Run) (o : Findings) (w : World) → IsOutcomeOf m r o → reached m o.history ≡ Some w →
+    lines_of_outcome report o ≡ lines_of_run report m r w
+lines_of_its_run true m r o w is reaches =
+    rw (is.is_true.threads w reaches, is.is_true.waiting w reaches, is.history, ending_is _ o.ending is.quiet) refl
+lines_of_its_run false m r o w is reaches = ap trace_of is.history
+
+shows : (printed : Printed) (m : Machine) (r : Run) (o : Findings) (lines : List ℕ) → IsOutcomeOf m r o → IsWritten printed m o lines →
+    Shows printed m r lines
+shows printed m r o lines is written =
+    let w = written.world in
     record {
       world = w;
-      reaches = ap (reached m) (sym is.history) ∙ reaches;
-      lines_are = rw (is.is_true.threads w reaches, is.is_true.waiting w reaches, is.history, ending_is _ o.ending is.quiet) refl;
+      reaches = ap (reached m) (sym is.history) ∙ written.reaches;
+      lines_are =
+          written.lines_are
+          ∙ ap (λ text. text ++ behind printed.extras m w o.history) (lines_of_its_run printed.report m r o w is written.reaches)
+          ∙ ap (λ h. lines_of_run printed.report m r w ++ behind printed.extras m w h) is.history;
     }
 
-shows : (report : Bool) (m : Machine) (r : Run) (o : Findings) → IsOutcomeOf m r o → Shows report m r (lines_of_outcome report o)
-shows true m r o is = report_is m r o is
-shows false m r o is = ap trace_of is.history
-
-shown : (report : Bool) (m : Machine) (IsAsked : Run → Type 0) (r : Run) (o : Findings) (lines : List ℕ) (status : ℕ) → IsAsked r → IsOutcomeOf m r o →
-    lines ≡ lines_of_outcome report o → status ≡ status_of_ending o.ending → IsRunShown report m IsAsked lines status
-shown report m IsAsked r o lines status asked is written ended = record {
-  is_true = record { findings = o; is_true = is.is_true; lines_are = written; status_is = ended };
+shown : (printed : Printed) (m : Machine) (IsAsked : Run → Type 0) (r : Run) (o : Findings) (lines : List ℕ) (status : ℕ) → IsAsked r → IsOutcomeOf m r o →
+    IsWritten printed m o lines → status ≡ status_of_ending o.ending → IsRunShown printed m IsAsked lines status
+shown printed m IsAsked r o lines status asked is written ended = record {
+  is_true = record { findings = o; is_true = is.is_true; written = written; status_is = ended };
   run = r;
   is = asked;
-  shows = subst (Shows report m r) (sym written) (shows report m r o is);
+  shows = shows printed m r o lines is written;
   status_is = ended ∙ ap status_of_ending (ending_is _ o.ending is.quiet) ∙ status_of_rest _;
 }
 
@@ -60,19 +68,19 @@ lawful turns right = by (turns == 0 || nat_lt 1000000 turns) refl
     by true is = elim (refused (or_cases _ _ is)) [ ]
     by false is = refl
 
-pub run_is_shown : (report : Bool) (m : Machine) (turns : ℕ) (o : Findings) (lines : List ℕ) (status : ℕ) → turns_fault turns ≡ None → IsFoundFor m turns o →
-    lines ≡ lines_of_outcome report o → status ≡ status_of_ending o.ending → IsRunShown report m (IsRunAsked m turns) lines status
-run_is_shown report m turns o lines status right found =
+pub run_is_shown : (printed : Printed) (m : Machine) (turns : ℕ) (o : Findings) (lines : List ℕ) (status : ℕ) → turns_fault turns ≡ None → IsFoundFor m turns o →
+    IsWritten printed m o lines → status ≡ status_of_ending o.ending → IsRunShown printed m (IsRunAsked m turns) lines status
+run_is_shown printed m turns o lines status right found =
     let asked : IsRunAsked m turns (in_order found.run) = record { lawful = right; run = found.run; is = found.is; sorted = refl } in
-    shown report m (IsRunAsked m turns) (in_order found.run) o lines status asked found.outcome
+    shown printed m (IsRunAsked m turns) (in_order found.run) o lines status asked found.outcome
 
-pub run_shown : (report : Bool) (m : Machine) (turns : ℕ) (o : Findings) (lines : List ℕ) (status : ℕ) → ((turns ≡ 0) ⊎ (1000000 < turns) → ⊥) →
-    IsFoundFor m turns o → lines ≡ lines_of_outcome report o → status ≡ status_of_ending o.ending → IsRunShown report m (IsRunAsked m turns) lines status
-run_shown report m turns o lines status right = run_is_shown report m turns o lines status (lawful turns right)
+pub run_shown : (printed : Printed) (m : Machine) (turns : ℕ) (o : Findings) (lines : List ℕ) (status : ℕ) → ((turns ≡ 0) ⊎ (1000000 < turns) → ⊥) →
+    IsFoundFor m turns o → IsWritten printed m o lines → status ≡ status_of_ending o.ending → IsRunShown printed m (IsRunAsked m turns) lines status
+run_shown printed m turns o lines status right = run_is_shown printed m turns o lines status (lawful turns right)
 
-pub replay_shown : (report : Bool) (m : Machine) (list text : List ℕ) (entries : List Entry) (o : Findings) (lines : List ℕ) (status : ℕ) →
+pub replay_shown : (printed : Printed) (m : Machine) (list text : List ℕ) (entries : List Entry) (o : Findings) (lines : List ℕ) (status : ℕ) →
     asked_schedule m list text ≡ Ok entries →
-    IsOutcomeOf m (replay_entries m entries) o → lines ≡ lines_of_outcome report o → status ≡ status_of_ending o.ending →
-    IsRunShown report m (IsReplayAsked m list text) lines status
-replay_shown report m list text entries o lines status is =
-    shown report m (IsReplayAsked m list text) (replay_entries m entries) o lines status (ap (replayed m) is)
+    IsOutcomeOf m (replay_entries m entries) o → IsWritten printed m o lines → status ≡ status_of_ending o.ending →
+    IsRunShown printed m (IsReplayAsked m list text) lines status
+replay_shown printed m list text entries o lines status is =
+    shown printed m (IsReplayAsked m list text) (replay_entries m entries) o lines status (ap (replayed m) is)

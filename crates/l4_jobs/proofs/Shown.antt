@@ -1,5 +1,5 @@
 -- What is read of a text, and what is written of a run.
-use Rattle.std.proofs.Common.{◌≡◌, ℕ, ◌≤◌, Bool, true, false, Option, Some, None, Result, Ok, Err, List, [], ◌∷◌, length, take, refl, ap, sym, subst, inl, inr, ◌∙◌, arith}
+use Rattle.std.proofs.Common.{◌≡◌, ℕ, ◌+◌, ◌≤◌, Bool, true, false, Option, Some, None, Result, Ok, Err, List, [], ◌∷◌, length, take, refl, ap, sym, subst, inl, inr, ◌∙◌, arith}
 use Rattle.std.specs.Prelude.{◌⊎◌, IfErr, nat_lt}
 use Rattle.std.specs.declared.io.ErrorKind.{ErrorKind}
 use Rattle.std.specs.Option.{option_map}
@@ -12,16 +12,18 @@ use Rattle.l4_model.proofs.Faults.{tells_first_fault}
 use Rattle.l4_choices.specs.Entries.{Entry}
 use Rattle.l4_script.specs.Texts.{machine_of_text}
 use Rattle.l4_trace.specs.Reading.{steps_of}
+use Rattle.l4_jobs.specs.Audits.{IsRefused, tells_refusals}
 use Rattle.l4_jobs.specs.ChartJobs.{IsCharted, fault_of_lines, fault_of_threads, or_later, refused_of_steps, status_of_refused}
-use Rattle.l4_jobs.specs.Jobs.{IsDone, IsTold, IsTrueOn, IsTrulyDone, IsFaultOf, IsJobFault, IsPassed, IsShown, IsShownOn, IsStatusOf, IsNotDone, IsEnded, refused_in, refused_on, status_at_rest, fault_of, fault_of_job, fault_of_trace, fault_of_steps, fault_on as fault_of_judged, fault_of_result, fault_of_run}
+use Rattle.l4_jobs.specs.Jobs.{IsDone, IsTold, IsTrueOn, IsTrulyDone, IsFaultOf, IsJobFault, IsAudited, IsPassed, IsShown, IsShownOn, IsStatusOf, IsNotDone, IsEnded, refused_in, refused_of_audit, refused_on, status_at_rest, fault_of, fault_of_job, fault_of_audit, fault_of_steps, fault_on as fault_of_judged, fault_of_result, fault_of_run}
 use Rattle.l4_jobs.specs.Searches.{fault_of_question}
 use Rattle.l4_jobs.specs.declared.fault.Fault.{Fault}
 use Rattle.l4_jobs.specs.declared.fault.Fault.TheVariants as fault
 use Rattle.l4_questions.specs.Printed.{answer_status, status_of_search}
 use Rattle.l4_commands.specs.declared.job.ChartJob.{ChartJob}
 use Rattle.l4_commands.specs.declared.job.EndingsJob.{EndingsJob}
+use Rattle.l4_commands.specs.declared.job.Judged.{Judged}
 use Rattle.l4_commands.specs.declared.job.Job.{Job}
-use Rattle.l4_commands.specs.declared.job.Job.TheVariants.{Run, Replay, Audit, Chart, Endings}
+use Rattle.l4_commands.specs.declared.job.Job.TheVariants.{Run, Replay, Audit, Chart, Endings, Lint}
 
 -- What reading a source may come to.
 abbrev Gives : Type 1
@@ -71,18 +73,51 @@ err_given job machine trace read slice (Err f) (all, given, same) is (inr e) =
     inr (inr (all, given, subst (λ m. IsFaultOf job m trace f) (ap machine_of_text is ∙ same) e))
 
 -- A trace that passes has no fault.
-passed_right : (m : Machine) (trace lines : List ℕ) → IsPassed m trace lines → fault_of_trace m trace ≡ None
-passed_right m trace lines p =
-    ap (fault_of_steps m) p.reads ∙ ap (option_map fault.Refused) ((tells_first_fault m p.steps).history.1 (p.world, p.reaches))
+none_refused : (judged : Judged) (m : Machine) (trace lines : List ℕ) (p : IsPassed judged m trace lines) → refused_place m p.steps ≡ None
+none_refused judged m trace lines p = (tells_first_fault m p.steps).history.1 (p.world, p.reaches)
+
+passed_right : (judged : Judged) (m : Machine) (trace lines : List ℕ) → IsPassed judged m trace lines → (tells : Bool) → fault_of_audit tells m trace ≡ None
+passed_right judged m trace lines p true = ap fault_of_lines p.reads
+passed_right judged m trace lines p false =
+    ap (fault_of_steps m) p.reads ∙ ap (option_map fault.Refused) (none_refused judged m trace lines p)
+
+audited_right : (judged : Judged) (m : Machine) (trace lines : List ℕ) (status : ℕ) → IsAudited judged m trace lines status →
+    fault_of_audit (tells_refusals judged) m trace ≡ None
+audited_right judged m trace lines status (inl (p, zero)) = passed_right judged m trace lines p (tells_refusals judged)
+audited_right judged m trace lines status (inr (r, one)) = ap (λ tells. fault_of_audit tells m trace) r.asked ∙ ap fault_of_lines r.reads
+
+-- The first step that it tells not to be possible.
+
+passed_whole : (judged : Judged) (m : Machine) (trace lines : List ℕ) → IsPassed judged m trace lines → (tells : Bool) → refused_of_audit tells m trace ≡ None
+passed_whole judged m trace lines p true = ap (refused_of_steps m) p.reads ∙ none_refused judged m trace lines p
+passed_whole judged m trace lines p false = refl
+
+refused_cut : (judged : Judged) (m : Machine) (trace lines : List ℕ) (r : IsRefused judged m trace lines) →
+    refused_of_audit (tells_refusals judged) m trace ≡ Some (r.taken + 1)
+refused_cut judged m trace lines r =
+    ap (λ tells. refused_of_audit tells m trace) r.asked ∙ ap (refused_of_steps m) r.reads ∙ r.first
+
+audited_whole : (judged : Judged) (m : Machine) (trace lines : List ℕ) (status : ℕ) → IsAudited judged m trace lines status →
+    refused_of_audit (tells_refusals judged) m trace ≡ None → status ≡ 1 → ⊥
+audited_whole judged m trace lines status (inl (p, zero)) none one = absurd (omega (arith, zero, one))
+audited_whole judged m trace lines status (inr (r, is)) none one =
+    absurd (let bad : Some (r.taken + 1) ≡ None = sym (refused_cut judged m trace lines r) ∙ none in cc)
+
+audited_cut : (judged : Judged) (m : Machine) (trace lines : List ℕ) (status number : ℕ) → IsAudited judged m trace lines status →
+    refused_of_audit (tells_refusals judged) m trace ≡ Some number → status ≡ 1
+audited_cut judged m trace lines status number (inl (p, zero)) some =
+    absurd (let bad : None ≡ Some number = sym (passed_whole judged m trace lines p (tells_refusals judged)) ∙ some in cc)
+audited_cut judged m trace lines status number (inr (r, one)) some = one
 
 -- What is shown has no fault.
 right_on : (job : Job) (m : Machine) (trace lines : List ℕ) (status : ℕ) → IsShownOn job m trace lines status → fault_of_job job m trace ≡ None
-right_on (Run file turns report record_to) m trace lines status s = ap (option_map fault_of_run) s.is.lawful
-right_on (Replay file schedule report) m trace lines status s = ap fault_of_result s.is
-right_on (Audit file name) m trace lines status s = passed_right m trace lines s.0
+right_on (Run file turns printed record_to) m trace lines status s = ap (option_map fault_of_run) s.is.lawful
+right_on (Replay file schedule printed) m trace lines status s = ap fault_of_result s.is
+right_on (Audit file name judged) m trace lines status s = audited_right judged m trace lines status s
 right_on (Chart chart) m trace lines status s =
     ap (λ o. or_later (fault_of_threads o) (fault_of_lines (steps_of trace))) s.chosen ∙ ap fault_of_lines s.reads
 right_on (Endings search) m trace lines status s = ap (option_map fault_of_question) s.lawful
+right_on (Lint file) m trace lines status s = refl
 
 shown_right : (job : Job) (text trace lines : List ℕ) (status : ℕ) → IsShown job text trace lines status → fault_of job text trace ≡ None
 shown_right job text trace lines status s = ap (λ m. fault_of_judged job m trace) s.declares ∙ right_on job s.machine trace lines status s.shown
@@ -114,10 +149,12 @@ answered_or_cut search true (e ∷ asked) is_whole status asks is = inr (inr (in
 
 status_on : (job : Job) (m : Machine) (trace lines : List ℕ) (status : ℕ) → IsShownOn job m trace lines status →
     IsStatusOf job status
-status_on (Run file turns report record_to) m trace lines status s = at_rest_or_not (Run file turns report record_to) _ status s.status_is
-status_on (Replay file schedule report) m trace lines status s = at_rest_or_not (Replay file schedule report) _ status s.status_is
-status_on (Audit file name) m trace lines status s = inl s.1
+status_on (Run file turns printed record_to) m trace lines status s = at_rest_or_not (Run file turns printed record_to) _ status s.status_is
+status_on (Replay file schedule printed) m trace lines status s = at_rest_or_not (Replay file schedule printed) _ status s.status_is
+status_on (Audit file name judged) m trace lines status (inl (p, zero)) = inl zero
+status_on (Audit file name judged) m trace lines status (inr (r, one)) = inr (inl one)
 status_on (Chart chart) m trace lines status s = refused_or_not (Chart chart) _ status s.status_is
+status_on (Lint file) m trace lines status s = inl s.1
 status_on (Endings search) m trace lines status s = answered_or_cut search search.none _ _ status refl s.status_is
 
 pub shown_status : (job : Job) (text trace lines : List ℕ) (status : ℕ) → IsShown job text trace lines status → IsStatusOf job status
@@ -143,9 +180,10 @@ refused_here chart m trace lines status c = ap (refused_of_steps m) c.reads
 
 whole_on : (job : Job) (m : Machine) (trace lines : List ℕ) (status : ℕ) → IsShownOn job m trace lines status → refused_on job m trace ≡ None →
     status ≡ 1 → ⊥
-whole_on (Run file turns report record_to) m trace lines status s none one = not_1 _ status s.status_is one
-whole_on (Replay file schedule report) m trace lines status s none one = not_1 _ status s.status_is one
-whole_on (Audit file name) m trace lines status s none one = absurd (omega (arith, s.1, one))
+whole_on (Run file turns printed record_to) m trace lines status s none one = not_1 _ status s.status_is one
+whole_on (Replay file schedule printed) m trace lines status s none one = not_1 _ status s.status_is one
+whole_on (Audit file name judged) m trace lines status s none one = audited_whole judged m trace lines status s none one
+whole_on (Lint file) m trace lines status s none one = absurd (omega (arith, s.1, one))
 whole_on (Endings search) m trace lines status s none one = answered_not_1 search.none _ _ status s.status_is one
 whole_on (Chart chart) m trace lines status s none one =
     let zero : status ≡ 0 = s.status_is ∙ ap status_of_refused (sym (refused_here chart m trace lines status s) ∙ none) in
@@ -153,9 +191,10 @@ whole_on (Chart chart) m trace lines status s none one =
 
 cut_on : (job : Job) (m : Machine) (trace lines : List ℕ) (status number : ℕ) → IsShownOn job m trace lines status → refused_on job m trace ≡ Some number →
     status ≡ 1
-cut_on (Run file turns report record_to) m trace lines status number s is = absurd (let none : None ≡ Some number = is in cc)
-cut_on (Replay file schedule report) m trace lines status number s is = absurd (let none : None ≡ Some number = is in cc)
-cut_on (Audit file name) m trace lines status number s is = absurd (let none : None ≡ Some number = is in cc)
+cut_on (Run file turns printed record_to) m trace lines status number s is = absurd (let none : None ≡ Some number = is in cc)
+cut_on (Replay file schedule printed) m trace lines status number s is = absurd (let none : None ≡ Some number = is in cc)
+cut_on (Audit file name judged) m trace lines status number s is = audited_cut judged m trace lines status number s is
+cut_on (Lint file) m trace lines status number s is = absurd (let none : None ≡ Some number = is in cc)
 cut_on (Endings search) m trace lines status number s is = absurd (let none : None ≡ Some number = is in cc)
 cut_on (Chart chart) m trace lines status number s is =
     s.status_is ∙ ap status_of_refused (sym (refused_here chart m trace lines status s) ∙ is)
@@ -192,11 +231,12 @@ end_status job text told lines status result (Some number) keeps faults s (is, r
 -- What is shown is true of the machine.
 pub true_on : (job : Job) (m : Machine) (trace lines : List ℕ) (status : ℕ) → IsShownOn job m trace lines status →
     IsTrueOn job m trace lines status
-true_on (Run file turns report record_to) m trace lines status s = s.is_true
-true_on (Replay file schedule report) m trace lines status s = s.is_true
-true_on (Audit file name) m trace lines status s = s
+true_on (Run file turns printed record_to) m trace lines status s = s.is_true
+true_on (Replay file schedule printed) m trace lines status s = s.is_true
+true_on (Audit file name judged) m trace lines status s = s
 true_on (Chart chart) m trace lines status s = s
 true_on (Endings search) m trace lines status s = s
+true_on (Lint file) m trace lines status s = s
 
 -- The status of a run that was recorded.
 pub recorded_status : (job : Job) (status : ℕ) → (status ≡ 0) ⊎ (status ≡ 1) ⊎ (status ≡ 3) → IsStatusOf job status

@@ -1,14 +1,18 @@
 -- The audit of the text of a trace, its line and its fault.
-use Rattle.std.specs.Prelude.{◌≡◌, ◌↔◌, ◌+◌, ℕ, true, Some, Result, Ok, Err, List, [], ◌∷◌, length, codes, decimal}
+use Rattle.std.specs.Prelude.{◌≡◌, ◌↔◌, ◌+◌, ◌||◌, ℕ, Bool, true, if◌then◌else◌, Some, Result, Ok, Err, List, [], ◌∷◌, ◌++◌, length, slice_get, take, codes, decimal}
 use Rattle.l4_model.specs.Machine.{Machine}
 use Rattle.l4_model.specs.Steps.{Step}
 use Rattle.l4_model.specs.World.{World}
-use Rattle.l4_model.specs.History.{reached}
+use Rattle.l4_model.specs.History.{reached, refused_place, view, waiting as undecided_sends}
 use Rattle.l4_model.specs.Still.{IsStill}
 use Rattle.l4_audit.specs.Audits.{is_quiet}
 use Rattle.l4_audit.specs.declared.reasons.StepFault.{StepFault}
 use Rattle.l4_audit.specs.declared.reasons.StepFault.TheVariants.{NoMemory, Refused}
-use Rattle.l4_reports.specs.ReportLines.{ending_word}
+use Rattle.l4_audit.specs.Reasons.{reason}
+use Rattle.l4_audit.specs.declared.reasons.Reason.{Reason}
+use Rattle.l4_commands.specs.declared.job.Judged.{Judged}
+use Rattle.l4_explain.specs.Worlds.{explanation}
+use Rattle.l4_reports.specs.ReportLines.{ending_word, report_text}
 use Rattle.l4_trace.specs.Forward.{Ahead}
 use Rattle.l4_trace.specs.Lines.{line_of_words}
 use Rattle.l4_trace.specs.Reading.{steps_of}
@@ -39,3 +43,39 @@ fault_behind ahead (Refused reason) = fault_of_rest ahead.read (steps_of ahead.r
 -- A trace of so many steps has passed its audit.
 abbrev pub passed_line : (steps : ℕ) → Ending → List ℕ
 passed_line steps ending = line_of_words (codes "passed" ∷ decimal steps ∷ ending_word ending ∷ [])
+
+-- Where a step is not possible
+
+-- It is told of where one of both is asked for.
+abbrev pub tells_refusals : Judged → Bool
+tells_refusals judged = judged.report || judged.explain
+
+-- The report of a world that these steps lead to, and why a step is not possible there, where they
+-- are asked for.
+
+abbrev pub report_where : (asked : Bool) → Machine → World → List Step → Ending → List ℕ
+report_where asked m w h ending =
+    if asked then report_text (view m w) (undecided_sends m w h) ending else []
+
+abbrev pub explanation_where : (asked : Bool) → Machine → World → Reason → List ℕ
+explanation_where asked m w r = if asked then explanation m w r else []
+
+-- Each line is that of a step. The first `taken` lead to this world, and the one behind them is not
+-- possible there, for this reason. These are the lines that tell of it.
+pub record IsRefused (judged : Judged) (m : Machine) (trace lines : List ℕ) : Type 0 where
+  pub asked : tells_refusals judged ≡ true
+  pub steps : List Step
+  pub reads : steps_of trace ≡ Ok steps
+  pub taken : ℕ
+  pub first : refused_place m steps ≡ Some (taken + 1)
+  pub world : World
+  pub reaches : reached m (take taken steps) ≡ Some world
+  pub step : Step
+  pub stands : slice_get steps taken ≡ Some step
+  pub because : Reason
+  pub why : reason m world step ≡ Some because
+  pub ending : Ending
+  pub quiet : (is_quiet ending ≡ true) ↔ IsStill m world
+  pub lines_are : lines ≡
+      explanation_where judged.explain m world because
+      ++ report_where judged.report m world (take taken steps) ending

@@ -1,5 +1,5 @@
 -- What a job asks for, and what is shown for it.
-use Rattle.std.specs.Prelude.{◌≡◌, ◌↔◌, ◌⊎◌, ℕ, Bool, true, false, Option, Some, None, IsSomeAnd, Result, Ok, Err, List, length}
+use Rattle.std.specs.Prelude.{◌≡◌, ◌↔◌, ◌⊎◌, ℕ, Bool, true, false, Option, Some, None, IsSomeAnd, Result, Ok, Err, List, [], ◌++◌, length}
 use Rattle.std.specs.Option.{option_map}
 use Rattle.std.specs.declared.io.ErrorKind.{ErrorKind}
 use Rattle.std.specs.declared.io.ErrorKind.TheVariants.{OutOfMemory}
@@ -30,16 +30,19 @@ use Rattle.l4_trace.specs.Reading.{steps_of}
 use Rattle.l4_trace.specs.declared.fault.TraceFault.{TraceFault}
 use Rattle.l4_trace.specs.declared.fault.TraceFault.TheVariants as trace_fault
 use Rattle.l4_commands.specs.Files.{file_of, list_name, second_file_of}
-use Rattle.l4_jobs.specs.Audits.{passed_line}
+use Rattle.l4_jobs.specs.Audits.{IsRefused, passed_line, report_where, tells_refusals}
 use Rattle.l4_jobs.specs.ChartJobs.{IsCharted, chosen_by, fault_of_chart, fault_of_lines, fault_of_threads, refused_of_steps}
+use Rattle.l4_jobs.specs.Extras.{behind}
 use Rattle.l4_jobs.specs.FaultLines.{IsReported}
 use Rattle.l4_jobs.specs.Searches.{fault_of_search, question_of}
 use Rattle.l4_jobs.specs.Streams.{FileGives}
 use Rattle.l4_jobs.specs.declared.fault.Fault.{Fault}
 use Rattle.l4_jobs.specs.declared.fault.Fault.TheVariants as fault
 use Rattle.l4_commands.specs.declared.job.ChartJob.{ChartJob}
+use Rattle.l4_commands.specs.declared.job.Judged.{Judged}
+use Rattle.l4_commands.specs.declared.job.Printed.{Printed}
 use Rattle.l4_commands.specs.declared.job.Job.{Job}
-use Rattle.l4_commands.specs.declared.job.Job.TheVariants.{Run, Replay, Audit, Chart, Endings}
+use Rattle.l4_commands.specs.declared.job.Job.TheVariants.{Run, Replay, Audit, Chart, Endings, Lint}
 
 -- The text that is read of a file of this name is what its reader gives. Where there is none,
 -- nothing is read.
@@ -120,12 +123,18 @@ fault_of_steps m (Ok steps) = option_map fault.Refused (refused_place m steps)
 abbrev pub fault_of_trace : Machine → (trace : List ℕ) → Option Fault
 fault_of_trace m trace = fault_of_steps m (steps_of trace)
 
+-- The same of an audit. A refused step that it tells of is none.
+abbrev pub fault_of_audit : (tells : Bool) → Machine → (trace : List ℕ) → Option Fault
+fault_of_audit true m trace = fault_of_lines (steps_of trace)
+fault_of_audit false m trace = fault_of_trace m trace
+
 abbrev pub fault_of_job : Job → Machine → (trace : List ℕ) → Option Fault
-fault_of_job (Run file turns report record_to) m trace = fault_of_turns turns
-fault_of_job (Replay file schedule report) m text = fault_of_result (run_by_list m schedule.now text)
-fault_of_job (Audit file name) m trace = fault_of_trace m trace
+fault_of_job (Run file turns printed record_to) m trace = fault_of_turns turns
+fault_of_job (Replay file schedule printed) m text = fault_of_result (run_by_list m schedule.now text)
+fault_of_job (Audit file name judged) m trace = fault_of_audit (tells_refusals judged) m trace
 fault_of_job (Chart chart) m trace = fault_of_chart chart m trace
 fault_of_job (Endings search) m trace = fault_of_search search
+fault_of_job (Lint file) m trace = None
 
 abbrev pub fault_on : Job → Result Machine TextFault → (trace : List ℕ) → Option Fault
 fault_on job (Err f) trace = Some (text_fault f.line f.kind)
@@ -140,11 +149,16 @@ abbrev pub IsTraceFault : Machine → (name : List ℕ) → (gives : Result (Lis
 IsTraceFault m name gives f =
     ((kind : ErrorKind) × gives (Err kind) × IsUnread name kind f) ⊎ ((trace : List ℕ) × gives (Ok trace) × (fault_of_trace m trace ≡ Some f))
 
--- The same of a chart, whose list of threads is right.
+-- The same where a refused step is told of, and of a chart, whose list of threads is right.
 abbrev pub IsLinesFault : (name : List ℕ) → (gives : Result (List ℕ) ErrorKind → Type 0) → Fault → Type 0
 IsLinesFault name gives f =
     ((kind : ErrorKind) × gives (Err kind) × IsUnread name kind f)
     ⊎ ((trace : List ℕ) × gives (Ok trace) × (fault_of_lines (steps_of trace) ≡ Some f))
+
+abbrev pub IsAuditFault : (tells : Bool) → Machine → (name : List ℕ) →
+    (gives : Result (List ℕ) ErrorKind → Type 0) → Fault → Type 0
+IsAuditFault true m name gives f = IsLinesFault name gives f
+IsAuditFault false m name gives f = IsTraceFault m name gives f
 
 abbrev pub IsChartFault : ChartJob → Machine → (gives : Result (List ℕ) ErrorKind → Type 0) → Fault → Type 0
 IsChartFault chart m gives f =
@@ -167,12 +181,14 @@ IsScheduleFault m list None gives f = fault_of_result (replayed m (schedule_of m
 IsScheduleFault m list (Some name) gives f = IsListFault m name gives f
 
 abbrev pub IsFaultOn : Job → Machine → (trace : Result (List ℕ) ErrorKind → Type 0) → Fault → Type 0
-IsFaultOn (Run file turns report record_to) m trace f = fault_of_turns turns ≡ Some f
-IsFaultOn (Replay file schedule report) m list f =
+IsFaultOn (Run file turns printed record_to) m trace f = fault_of_turns turns ≡ Some f
+IsFaultOn (Replay file schedule printed) m list f =
     IsScheduleFault m schedule.now (list_name schedule.now) list f
-IsFaultOn (Audit file name) m trace f = IsTraceFault m name.now trace f
+IsFaultOn (Audit file name judged) m trace f =
+    IsAuditFault (tells_refusals judged) m name.now trace f
 IsFaultOn (Chart chart) m trace f = IsChartFault chart m trace f
 IsFaultOn (Endings search) m trace f = fault_of_search search ≡ Some f
+IsFaultOn (Lint file) m trace f = ⊥
 
 abbrev pub IsFaultOf : Job → Result Machine TextFault → (trace : Result (List ℕ) ErrorKind → Type 0) → Fault → Type 0
 IsFaultOf job (Err e) trace f = f ≡ text_fault e.line e.kind
@@ -210,69 +226,92 @@ abbrev pub status_at_rest : Bool → ℕ
 status_at_rest true = 0
 status_at_rest false = 3
 
--- The report of a core run: the threads and the undecided sends of the world that its history reaches, and its ending.
-pub record IsReport (m : Machine) (r : CoreRun) (lines : List ℕ) : Type 0 where
+-- The report of a core run: the threads and the undecided sends of this world, and its ending. Or
+-- its trace.
+abbrev pub lines_of_run : (report : Bool) → Machine → CoreRun → World → List ℕ
+lines_of_run true m r w =
+    report_text (view m w) (undecided_sends m w (told r.events))
+    (ending_at_rest (at_rest m r.system))
+lines_of_run false m r w = trace_of (told r.events)
+
+-- These lines are printed of a core run, by the world that its history reaches.
+pub record Shows (printed : Printed) (m : Machine) (r : CoreRun) (lines : List ℕ) : Type 0 where
   pub world : World
   pub reaches : reached m (told r.events) ≡ Some world
-  pub lines_are : lines ≡ report_text (view m world) (undecided_sends m world (told r.events)) (ending_at_rest (at_rest m r.system))
+  pub lines_are : lines ≡
+      lines_of_run printed.report m r world ++ behind printed.extras m world (told r.events)
 
--- The lines are the run's report, or its trace.
-abbrev pub Shows : (report : Bool) → Machine → CoreRun → (lines : List ℕ) → Type 0
-Shows true m r lines = IsReport m r lines
-Shows false m r lines = lines ≡ trace_of (told r.events)
-
--- What is written of an outcome, and the exit status.
+-- The report of an outcome, or its trace.
 abbrev pub lines_of_outcome : (report : Bool) → Findings → List ℕ
 lines_of_outcome true o = report_text o.threads o.waiting o.ending
 lines_of_outcome false o = trace_of o.history
 
+-- These lines are printed of an outcome, by the world that its history reaches.
+pub record IsWritten (printed : Printed) (m : Machine) (o : Findings) (lines : List ℕ) : Type 0 where
+  pub world : World
+  pub reaches : reached m o.history ≡ Some world
+  pub lines_are : lines ≡
+      lines_of_outcome printed.report o ++ behind printed.extras m world o.history
+
+-- Its exit status.
 abbrev pub status_of_ending : Ending → ℕ
 status_of_ending Quiet = 0
 status_of_ending Spent = 3
 
 -- These lines and this status are of findings that are true of the machine. Nothing here names a
 -- run of processors.
-pub record IsTrueShown (report : Bool) (m : Machine) (lines : List ℕ) (status : ℕ) : Type 0 where
+pub record IsTrueShown (printed : Printed) (m : Machine) (lines : List ℕ) (status : ℕ) : Type 0 where
   pub findings : Findings
   pub is_true : IsTrueOf m findings
-  pub lines_are : lines ≡ lines_of_outcome report findings
+  pub written : IsWritten printed m findings lines
   pub status_is : status ≡ status_of_ending findings.ending
 
 -- These are what is shown of a core run on a machine that is asked for, and the exit status.
-pub record IsRunShown (report : Bool) (machine : Machine) (IsAsked : CoreRun → Type 0) (lines : List ℕ) (status : ℕ) : Type 0 where
-  pub is_true : IsTrueShown report machine lines status
+pub record IsRunShown (printed : Printed) (machine : Machine) (IsAsked : CoreRun → Type 0)
+    (lines : List ℕ) (status : ℕ) : Type 0 where
+  pub is_true : IsTrueShown printed machine lines status
   pub run : CoreRun
   pub is : IsAsked run
-  pub shows : Shows report machine run lines
+  pub shows : Shows printed machine run lines
   pub status_is : status ≡ status_at_rest (at_rest machine run.system)
 
--- This is what is shown of a trace that is a history: how many steps it has, and whether nothing but clocks can go on behind them.
-pub record IsPassed (machine : Machine) (trace lines : List ℕ) : Type 0 where
+-- This is what is shown of a trace that is a history: how many steps it has, whether nothing but
+-- clocks can go on behind them, and what is asked for behind that.
+pub record IsPassed (judged : Judged) (machine : Machine) (trace lines : List ℕ) : Type 0 where
   pub steps : List Step
   pub reads : steps_of trace ≡ Ok steps
   pub world : World
   pub reaches : reached machine steps ≡ Some world
   pub ending : Ending
   pub quiet : (is_quiet ending ≡ true) ↔ IsStill machine world
-  pub lines_are : lines ≡ passed_line (length steps) ending
+  pub lines_are : lines ≡
+      passed_line (length steps) ending ++ report_where judged.report machine world steps ending
+      ++ behind judged.extras machine world steps
+
+-- The trace is a history, or what is told of its first step that is not possible is shown.
+abbrev pub IsAudited : Judged → Machine → (trace lines : List ℕ) → (status : ℕ) → Type 0
+IsAudited judged m trace lines status =
+    (IsPassed judged m trace lines × (status ≡ 0)) ⊎ (IsRefused judged m trace lines × (status ≡ 1))
 
 -- These are what a job shows on a machine, and the exit status.
 abbrev pub IsShownOn : Job → Machine → (trace lines : List ℕ) → (status : ℕ) → Type 0
-IsShownOn (Run file turns report record_to) m trace lines status =
-    IsRunShown report m (IsRunAsked m turns) lines status
-IsShownOn (Replay file schedule report) m text lines status =
-    IsRunShown report m (IsReplayAsked m schedule.now text) lines status
-IsShownOn (Audit file name) m trace lines status = IsPassed m trace lines × (status ≡ 0)
+IsShownOn (Run file turns printed record_to) m trace lines status =
+    IsRunShown printed m (IsRunAsked m turns) lines status
+IsShownOn (Replay file schedule printed) m text lines status =
+    IsRunShown printed m (IsReplayAsked m schedule.now text) lines status
+IsShownOn (Audit file name judged) m trace lines status = IsAudited judged m trace lines status
 IsShownOn (Chart chart) m trace lines status = IsCharted chart m trace lines status
 IsShownOn (Endings search) m trace lines status = IsAnswered m (question_of search) lines status
+IsShownOn (Lint file) m trace lines status = (lines ≡ []) × (status ≡ 0)
 
 -- They are true of the machine.
 abbrev pub IsTrueOn : Job → Machine → (trace lines : List ℕ) → (status : ℕ) → Type 0
-IsTrueOn (Run file turns report record_to) m trace lines status = IsTrueShown report m lines status
-IsTrueOn (Replay file schedule report) m trace lines status = IsTrueShown report m lines status
-IsTrueOn (Audit file name) m trace lines status = IsPassed m trace lines × (status ≡ 0)
+IsTrueOn (Run file turns printed record_to) m trace lines status = IsTrueShown printed m lines status
+IsTrueOn (Replay file schedule printed) m trace lines status = IsTrueShown printed m lines status
+IsTrueOn (Audit file name judged) m trace lines status = IsAudited judged m trace lines status
 IsTrueOn (Chart chart) m trace lines status = IsCharted chart m trace lines status
 IsTrueOn (Endings search) m trace lines status = IsAnswered m (question_of search) lines status
+IsTrueOn (Lint file) m trace lines status = (lines ≡ []) × (status ≡ 0)
 
 -- An exit status. Only a search that is to find nothing may have status 4.
 abbrev pub IsNoneAsked : Job → Type 0
@@ -304,13 +343,19 @@ IsTrulyDone job machine trace out status =
     (text : List ℕ) × (read : List ℕ) × (lines : List ℕ) × (m : Machine) × machine (Ok text)
     × (machine_of_text text ≡ Ok m) × IsTold job trace read × IsTrueOn job m read lines status × out lines true
 
--- The first step that is not possible, of a trace that is drawn. No other job shows what comes before one.
+-- The first step that is not possible, of a trace that is drawn, or audited where such a step is
+-- told of. No other job shows anything of one.
+abbrev pub refused_of_audit : (tells : Bool) → Machine → (trace : List ℕ) → Option ℕ
+refused_of_audit true m trace = refused_of_steps m (steps_of trace)
+refused_of_audit false m trace = None
+
 abbrev pub refused_on : Job → Machine → (trace : List ℕ) → Option ℕ
-refused_on (Run file turns report record_to) m trace = None
-refused_on (Replay file schedule report) m trace = None
-refused_on (Audit file name) m trace = None
+refused_on (Run file turns printed record_to) m trace = None
+refused_on (Replay file schedule printed) m trace = None
+refused_on (Audit file name judged) m trace = refused_of_audit (tells_refusals judged) m trace
 refused_on (Chart chart) m trace = refused_of_steps m (steps_of trace)
 refused_on (Endings search) m trace = None
+refused_on (Lint file) m trace = None
 
 abbrev pub refused_in : Job → Result Machine TextFault → (trace : List ℕ) → Option ℕ
 refused_in job (Err f) trace = None

@@ -1,7 +1,9 @@
 pub mod Audits
 pub mod ChartJobs
+pub mod Extras
 pub mod FaultLines
 pub mod Jobs
+pub mod Lints
 pub mod Recording
 pub mod Refusals
 pub mod Searches

@@ -7,31 +7,34 @@ use Rattle.l4_script.specs.Texts.{machine_of_text}
 use Rattle.l4_machine.specs.Entries.{turns_fault}
 use Rattle.l4_machine.specs.Outcomes.{Findings, IsFoundFor, IsOutcomeOf}
 use Rattle.l4_schedules.specs.InFiles.{schedule_in_file}
+use Rattle.l4_schedules.specs.Written.{recorded_text}
 use Rattle.l4_jobs.specs.FaultLines.{IsReported}
 use Rattle.l4_commands.specs.Files.{record_of}
-use Rattle.l4_jobs.specs.Jobs.{IsJobFault, lines_of_outcome, status_of_ending}
+use Rattle.l4_jobs.specs.Jobs.{IsJobFault, IsWritten, status_of_ending}
 use Rattle.l4_jobs.specs.declared.fault.Fault.{Fault}
 use Rattle.l4_jobs.specs.declared.fault.Fault.TheVariants as fault
 use Rattle.l4_commands.specs.declared.job.Job.{Job}
+use Rattle.l4_commands.specs.declared.job.Printed.{Printed}
 use Rattle.l4_commands.specs.declared.job.Job.TheVariants.{Run}
 
--- These are the lines and the status that are shown of a run, and this text is recorded of it: by
--- the schedule in it a replay has the very findings that are shown.
-pub record IsRecorded (report : Bool) (m : Machine) (turns : ℕ) (lines text : List ℕ) (status : ℕ)
-    : Type 0 where
+-- These are the lines and the status that are shown of a run, and this text is recorded of it: that
+-- of entries which are read back, and by which a replay has the very findings that are shown.
+pub record IsRecorded (printed : Printed) (m : Machine) (turns : ℕ) (lines text : List ℕ)
+    (status : ℕ) : Type 0 where
   pub lawful : turns_fault turns ≡ None
   pub findings : Findings
   pub of_run : IsFoundFor m turns findings
   pub entries : List Entry
+  pub text_is : text ≡ recorded_text entries
   pub reads : schedule_in_file m text ≡ Ok entries
   pub of_replay : IsOutcomeOf m (replay_entries m entries) findings
-  pub lines_are : lines ≡ lines_of_outcome report findings
+  pub written : IsWritten printed m findings lines
   pub status_is : status ≡ status_of_ending findings.ending
 
 -- The same of what a job asks for. No other job records.
 abbrev pub IsRecordedBy : Job → Machine → (lines text : List ℕ) → (status : ℕ) → Type 0
-IsRecordedBy (Run file turns report record_to) m lines text status =
-    IsRecorded report m turns lines text status
+IsRecordedBy (Run file turns printed record_to) m lines text status =
+    IsRecorded printed m turns lines text status
 IsRecordedBy _ m lines text status = ⊥
 
 -- The reader of its machine text gave one that declares a machine, and this is shown and recorded

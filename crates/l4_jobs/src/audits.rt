@@ -1,15 +1,26 @@
 //! The audit of the text of a trace, and its line.
-ghost use Rattle.std.specs.Prelude.{◌≡◌, ◌⊎◌, IfOk, IfErr, Some};
-ghost use Rattle.l4_jobs.specs.Audits.{HasPassed, fault_behind, passed_line};
-ghost use Rattle.l4_jobs.specs.Jobs.{IsPassed, fault_of_trace};
+ghost use Rattle.std.specs.Prelude.{◌≡◌, ◌⊎◌, ◌++◌, ℕ, List, false, true, length, IfOk, IfErr, Ok, Some};
+ghost use Rattle.l4_jobs.specs.Audits.{HasPassed, fault_behind, passed_line, tells_refusals};
+ghost use Rattle.l4_jobs.specs.ChartJobs.{fault_of_lines, refused_of_steps};
+ghost use Rattle.l4_jobs.specs.Extras.{behind};
+ghost use Rattle.l4_jobs.specs.Jobs.{IsAudited, IsPassed, fault_of_trace};
 ghost use Rattle.l4_jobs.specs.declared.fault.Fault.TheVariants.{NoMemory as OutOfMemory};
+ghost use Rattle.l4_model.specs.History.{IsHistory, reached, refused_place};
+ghost use Rattle.l4_model.specs.World.{World};
+ghost use Rattle.l4_trace.specs.Reading.{steps_of};
 
+use crate::extras::write_extras;
 use crate::fault::Fault;
+use crate::job::{Extras, Judged};
+use crate::perform::Output;
 use l4_audit::auditor::Auditor;
 use l4_audit::reasons::StepFault;
+use l4_explain::accounts::{Account, Shown, account_of};
+use l4_history::history::History;
 use l4_reports::report_lines::spelled_ending;
 use l4_script::machine::Machine;
 use l4_trace::reader::{ReadWords, Reader};
+use l4_trace::reading::read_history;
 use l4_types::errors::NoMemory;
 use l4_types::reports::Ending;
 use std::alloc::Global;
@@ -69,18 +80,100 @@ fn fault_behind<'a>(reader: Reader<'_>, refused: StepFault) -> Fault<'a>
     }
 }
 
-// The line of the audit of a trace that passes.
+// What is printed of the audit of a trace that passes, where no refused step is told of. Its steps
+// are kept only where something is asked for behind its line.
 pub(crate) fn audited<'a>(
     alloc: Global,
     machine: &Machine,
     trace: &[u8],
+    judged: Judged,
 ) -> Result<Vec<u8>, Fault<'a>>
-    ensures ok { IfOk result (λ line. IsPassed machine.now trace.now line.items) }
+    requires { tells_refusals judged ≡ false }
+    ensures ok { IfOk result (λ lines. IsPassed judged machine.now trace.now lines.items) }
     ensures err { IfErr result (λ fault. (fault ≡ OutOfMemory) ⊎
         (fault_of_trace machine.now trace.now ≡ Some fault)) }
 {
     let passed = audit_text(alloc, machine, trace)?;
-    Ok(passed_line(alloc, passed.steps, passed.ending)?)
+    let mut lines = passed_line(alloc, passed.steps, passed.ending)?;
+    if !judged.extras.any() {
+        return Ok(lines);
+    }
+    let history = read_history(alloc, trace)?;
+    write_extras(alloc, judged.extras, machine, &history, &mut lines)?;
+    Ok(lines)
+}
+
+// What is printed of steps that are all possible: the line of the audit, what was told of them, and
+// what is asked for behind that.
+fn passed_lines(
+    alloc: Global,
+    machine: &Machine,
+    history: &History,
+    account: &Account,
+    extras: Extras,
+) -> Result<Vec<u8>, NoMemory>
+    requires { IsHistory machine.now history.now.steps }
+    ensures { IfOk result (λ lines.
+        (w : World) → reached machine.now history.now.steps ≡ Some w →
+        lines.items ≡ passed_line (length history.now.steps) account.now.ending ++
+        account.now.lines.items ++ behind extras machine.now w history.now.steps) }
+{
+    let mut lines = passed_line(alloc, history.len(), account.ending)?;
+    lines.extend_from_slice(account.lines.as_slice())?;
+    write_extras(alloc, extras, machine, history, &mut lines)?;
+    Ok(lines)
+}
+
+// What the audit of a history prints, where a refused step is told of.
+fn told(
+    alloc: Global,
+    machine: &Machine,
+    history: &History,
+    judged: Judged,
+) -> Result<Output, NoMemory>
+    requires { tells_refusals judged ≡ true }
+    ensures lines { IfOk result (λ output.
+        (trace : List ℕ) → steps_of trace ≡ Ok history.now.steps →
+        IsAudited judged machine.now trace output.lines.items output.status) }
+    ensures refused { IfOk result (λ output.
+        output.refused ≡ refused_place machine.now history.now.steps) }
+{
+    let shown = Shown {
+        explain: judged.explain,
+        report: judged.report,
+    };
+    let account = account_of(alloc, machine, history, shown)?;
+    match account.refused {
+        None => Ok(Output {
+            lines: passed_lines(alloc, machine, history, &account, judged.extras)?,
+            status: 0,
+            refused: None,
+        }),
+        Some(number) => Ok(Output {
+            lines: account.lines,
+            status: 1,
+            refused: Some(number),
+        }),
+    }
+}
+
+// What the audit of a trace prints, where a refused step is told of. Its steps are kept.
+pub(crate) fn told_output<'a>(
+    alloc: Global,
+    machine: &Machine,
+    trace: &[u8],
+    judged: Judged,
+) -> Result<Output, Fault<'a>>
+    requires { tells_refusals judged ≡ true }
+    ensures lines { IfOk result (λ output.
+        IsAudited judged machine.now trace.now output.lines.items output.status) }
+    ensures refused { IfOk result (λ output.
+        output.refused ≡ refused_of_steps machine.now (steps_of trace.now)) }
+    ensures err { IfErr result (λ fault. (fault ≡ OutOfMemory) ⊎
+        (fault_of_lines (steps_of trace.now) ≡ Some fault)) }
+{
+    let history = read_history(alloc, trace)?;
+    Ok(told(alloc, machine, &history, judged)?)
 }
 
 fn passed_line(alloc: Global, steps: usize, ending: Ending) -> Result<Vec<u8>, NoMemory>

@@ -5,8 +5,8 @@ ghost use Rattle.l4_model.specs.History.{refused_place};
 ghost use Rattle.l4_chart.specs.Charts.{columns_of, row_of, rows_of};
 ghost use Rattle.l4_chart.specs.Drawings.{IsDrawing};
 ghost use Rattle.l4_chart.specs.Windows.{until_refused};
-ghost use Rattle.l4_jobs.specs.ChartJobs.{IsCharted, chosen_by, drawing_form, fault_of_threads, part_of};
-ghost use Rattle.l4_jobs.specs.ChartJobs.{refused_of_steps, status_of_refused, width_of};
+ghost use Rattle.l4_jobs.specs.ChartJobs.{IsCharted, chosen_by, drawing_form, fault_of_threads};
+ghost use Rattle.l4_jobs.specs.ChartJobs.{part_of, refused_of_steps, status_of_refused, width_of};
 ghost use Rattle.l4_jobs.specs.Jobs.{IsChartFault};
 ghost use Rattle.l4_jobs.specs.declared.fault.Fault.TheVariants.{NoMemory as OutOfMemory};
 ghost use Rattle.l4_trace.specs.Reading.{steps_of};
@@ -111,7 +111,8 @@ fn drawn(
         output.refused ≡ refused_place machine.now history.now.steps) }
     ensures status { IfOk result (λ output.
         output.status ≡ status_of_refused (refused_place machine.now history.now.steps)) }
-    ensures lines { IfOk result (λ output. IsDrawing (drawing_form chart.now.form) (width_of chart.now)
+    ensures lines { IfOk result (λ output.
+        IsDrawing (drawing_form chart.now.form) (width_of chart.now)
         (columns_of machine.now (option_copied threads.entry))
         (rows_of machine.now
         (until_refused (refused_place machine.now history.now.steps)

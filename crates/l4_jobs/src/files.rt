@@ -1,5 +1,6 @@
 //! Doing a job over the files that it names.
 ghost use Rattle.std.specs.Prelude.{◌≡◌, ◌≢◌, ◌⊎◌, IfSome};
+ghost use Rattle.l4_jobs.specs.Lints.{IsLintEnded};
 ghost use Rattle.l4_jobs.specs.Recording.{IsRecordDone, IsRecordFault};
 ghost use Rattle.l4_jobs.specs.Streams.{FileGives, IsCreated};
 ghost use Rattle.l4_jobs.specs.Jobs.{IsDone, IsFaultBehind, IsNotDone, IsOpenedFault, TraceGives};
@@ -8,6 +9,7 @@ ghost use Rattle.l4_jobs.specs.Jobs.{IsStatusOf, IsTrulyDone};
 
 use crate::fault::{report, unread};
 use crate::job::Job;
+use crate::lints::perform_lint;
 use crate::perform::perform;
 use crate::recording::perform_recorded;
 use crate::streams::{Folder, NewFile, Sink, Source};
@@ -83,6 +85,41 @@ fn on_machine<R: Threads + Sync, F: Folder, M: Source, W: Sink, E: Sink>(
     }
 }
 
+// Does a job whose machine text was opened, or says what is wrong there.
+fn on_opened<R: Threads + Sync, F: Folder, M: Source, W: Sink, E: Sink>(
+    rt: &R,
+    alloc: Global,
+    folder: &F,
+    job: &Job<'_>,
+    machine: &mut M,
+    out: &mut W,
+    faults: &mut E,
+) -> u8
+    ensures shown { result ≢ 1 →
+        IsDone job.now (M.gives machine.old) (TraceGives (F.opens folder.now) F.File.gives job.now)
+        (W.takes out.old out.new) (faults.new ≡ faults.old) result }
+    ensures recorded { result ≢ 1 → IfSome (record_of job.now) (λ name.
+        IsRecordDone job.now (M.gives machine.old)
+        (IsCreated (F.creates folder.now) F.Made.takes name)
+        (W.takes out.old out.new) (faults.new ≡ faults.old) result) }
+    ensures whole { result ≡ 1 →
+        IsNotDone job.now (M.gives machine.old)
+        (TraceGives (F.opens folder.now) F.File.gives job.now)
+        (λ f. IsFaultBehind (F.opens folder.now) F.File.gives (second_file_of job.now) job.now
+        (M.gives machine.old) f ⊎
+        IsRecordFault job.now (M.gives machine.old) (IsCreated (F.creates folder.now) F.Made.takes)
+        f)
+        (W.takes out.old out.new) (out.new ≡ out.old) (E.takes faults.old faults.new) ⊎
+        IsLintEnded job.now (M.gives machine.old) (W.takes out.old out.new)
+        (faults.new ≡ faults.old) (E.takes faults.old faults.new) }
+    ensures statuses { IsStatusOf job.now result }
+{
+    match *job {
+        Job::Lint { file } => perform_lint(alloc, file, machine, out, faults),
+        _ => on_machine(rt, alloc, folder, job, machine, out, faults),
+    }
+}
+
 /// Opens the files of a job, FILE before the trace or the list of a schedule, and both before it
 /// reads anything. Then it does the job. A run is recorded where the job asks for it: what is
 /// printed and what is recorded are made whole, then the file is created and written, and then the
@@ -113,12 +150,14 @@ pub fn perform_on_files<R: Threads + Sync, F: Folder, W: Sink, E: Sink>(
         (λ f. IsOpenedFault (F.opens folder.now) F.File.gives job.now f ⊎
         IsRecordFault job.now (FileGives (F.opens folder.now) F.File.gives (file_of job.now))
         (IsCreated (F.creates folder.now) F.Made.takes) f)
-        (W.takes out.old out.new) (out.new ≡ out.old) (E.takes faults.old faults.new) }
+        (W.takes out.old out.new) (out.new ≡ out.old) (E.takes faults.old faults.new) ⊎
+        IsLintEnded job.now (FileGives (F.opens folder.now) F.File.gives (file_of job.now))
+        (W.takes out.old out.new) (faults.new ≡ faults.old) (E.takes faults.old faults.new) }
     ensures statuses { IsStatusOf job.now result }
 {
     let file = job.file();
     match folder.open(file) {
-        Ok(mut machine) => on_machine(rt, alloc, folder, job, &mut machine, out, faults),
+        Ok(mut machine) => on_opened(rt, alloc, folder, job, &mut machine, out, faults),
         Err(kind) => report(alloc, faults, &unread(file, kind)),
     }
 }

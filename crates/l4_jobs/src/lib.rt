@@ -3,9 +3,10 @@
 //!
 //! `job_of` reads words, `perform` does a job over two sources and two sinks, `perform_recorded` a
 //! run that is recorded in a third sink, `perform_on_files` opens its files first. Contracts see
-//! bytes: the lines written once are exactly the trace, report or verdict that the job asks for;
-//! else one fault line is written, and the status is 1. By what is recorded a replay is that run.
-//! They also say which file is which, and which fault comes first.
+//! bytes: the lines written once are exactly the trace, report or verdict that the job asks for,
+//! with who waits for whom and what each thread did behind it where that is asked for, or what is
+//! told of a step that is not possible; else one fault line is written, and the status is 1. By what
+//! is recorded a replay is that run. They also say which file is which, and which fault comes first.
 //!
 //! What the system's files and streams do is believed in `streams` and tried by
 //! `.ci/command-lines`. `l4_host_tests` has streams that fail and refused memory, `l4_cases` what
@@ -19,8 +20,10 @@
 
 pub mod audits;
 mod charts;
+mod extras;
 pub mod fault;
 pub mod files;
+pub mod lints;
 pub mod perform;
 pub mod recording;
 pub mod refusal;

@@ -2,25 +2,28 @@
 ghost use Rattle.std.specs.Prelude.{◌≡◌, ◌≢◌, ◌⊎◌, ℕ, List, IfOk, IfErr, Ok, Err, None, Some};
 ghost use Rattle.std.specs.Prelude.{◌+◌, map, take};
 ghost use Rattle.std.specs.declared.io.ErrorKind.{ErrorKind as Kind};
-ghost use Rattle.l4_machine.specs.Outcomes.{IsCompactReplay, compact_findings_of};
+ghost use Rattle.l4_machine.specs.Outcomes.{IsCompactReplay, compact_findings_of, steps_of};
 ghost use Rattle.l4_machine.specs.Entries.{entries_fault, entry_from};
+ghost use Rattle.l4_model.specs.History.{IsHistory};
 ghost use Rattle.l4_script.specs.Texts.{machine_of_text};
 ghost use Rattle.l4_schedules.specs.InFiles.{most_bytes, schedule_in_file};
 ghost use Rattle.l4_commands.specs.Files.{file_of, second_file_of, list_name};
 ghost use Rattle.l4_jobs.specs.Jobs.{IsUnread, IsTold, IsShown, IsShownOn};
-ghost use Rattle.l4_jobs.specs.Jobs.{IsRunShown, IsPassed, IsTraceFault, IsFaultOn, IsFaultOf};
+ghost use Rattle.l4_jobs.specs.Audits.{tells_refusals};
+ghost use Rattle.l4_jobs.specs.Jobs.{IsRunShown, IsAudited, IsAuditFault, IsFaultOn, IsFaultOf};
 ghost use Rattle.l4_jobs.specs.Jobs.{IsJobFault, IsDone, IsNotDone, IsRunAsked, IsReplayAsked};
 ghost use Rattle.l4_jobs.specs.Jobs.{IsEnded, IsListFault, IsRead, IsScheduleFault, IsStatusOf};
-ghost use Rattle.l4_jobs.specs.Jobs.{IsTrulyDone};
+ghost use Rattle.l4_jobs.specs.Jobs.{IsTrulyDone, IsWritten};
 ghost use Rattle.l4_jobs.specs.Jobs.{asked_schedule, fault_of, fault_of_turns};
-ghost use Rattle.l4_jobs.specs.Jobs.{refused_in, refused_on};
+ghost use Rattle.l4_jobs.specs.Jobs.{refused_in, refused_of_audit, refused_on};
 ghost use Rattle.l4_jobs.specs.Jobs.{lines_of_outcome, status_of_ending};
 ghost use Rattle.l4_jobs.specs.declared.fault.Fault.TheVariants.{NoMemory as OutOfMemory};
 
-use crate::audits::audited;
+use crate::audits::{audited, told_output};
 use crate::charts::chart_output;
+use crate::extras::write_extras;
 use crate::fault::{Fault, report, unread};
-use crate::job::{Job, list_name};
+use crate::job::{Job, Judged, Printed, list_name};
 use crate::searches::search_output;
 use crate::streams::{Sink, Source};
 use crate::trace_lines::trace_of;
@@ -37,7 +40,7 @@ use std::alloc::Global;
 use std::thread::Threads;
 
 /// What a job prints, its exit status, and the first step of a trace that is not possible, where
-/// what comes before it is printed.
+/// something is printed of it.
 #[derive(Drop)]
 pub(crate) struct Output {
     pub(crate) lines: Vec<u8>,
@@ -140,10 +143,10 @@ fn replayed<'m>(
     }
 }
 
-// What is written of an outcome: its report, or its trace.
-fn lines_of(alloc: Global, report: bool, outcome: CompactOutcome<'_>) -> Result<Vec<u8>, NoMemory>
+// The report of an outcome, or its trace.
+fn lines_of(alloc: Global, report: bool, outcome: &CompactOutcome<'_>) -> Result<Vec<u8>, NoMemory>
     ensures { IfOk result (λ lines.
-        lines.items ≡ lines_of_outcome report (compact_findings_of outcome.entry)) }
+        lines.items ≡ lines_of_outcome report (compact_findings_of outcome.now)) }
 {
     if !report {
         return trace_of(alloc, &outcome.history);
@@ -158,6 +161,27 @@ fn lines_of(alloc: Global, report: bool, outcome: CompactOutcome<'_>) -> Result<
     Ok(lines)
 }
 
+// What is printed of an outcome. Where nothing is asked for behind its lines, its history stays as
+// it is kept.
+fn printed_lines(
+    alloc: Global,
+    printed: Printed,
+    machine: &Machine,
+    outcome: CompactOutcome<'_>,
+) -> Result<Vec<u8>, NoMemory>
+    requires { IsHistory machine.now (steps_of outcome.history) }
+    ensures { IfOk result (λ lines.
+        IsWritten printed machine.now (compact_findings_of outcome.entry) lines.items) }
+{
+    let mut lines = lines_of(alloc, printed.report, &outcome)?;
+    if !printed.extras.any() {
+        return Ok(lines);
+    }
+    let history = outcome.history.into_history(alloc)?;
+    write_extras(alloc, printed.extras, machine, &history, &mut lines)?;
+    Ok(lines)
+}
+
 fn status(ending: Ending) -> u8
     ensures { result ≡ status_of_ending ending }
 {
@@ -167,20 +191,22 @@ fn status(ending: Ending) -> u8
     }
 }
 
-// What is printed of an outcome.
+// What is printed of an outcome, with its status.
 pub(crate) fn output_of_run(
     alloc: Global,
-    report: bool,
+    printed: Printed,
+    machine: &Machine,
     outcome: CompactOutcome<'_>,
 ) -> Result<Output, NoMemory>
+    requires { IsHistory machine.now (steps_of outcome.history) }
     ensures lines { IfOk result (λ output.
-        output.lines.items ≡ lines_of_outcome report (compact_findings_of outcome.entry)) }
+        IsWritten printed machine.now (compact_findings_of outcome.entry) output.lines.items) }
     ensures status { IfOk result (λ output. output.status ≡ status_of_ending outcome.entry.ending) }
     ensures whole { IfOk result (λ output. output.refused ≡ None) }
 {
     let status = status(outcome.ending);
     Ok(Output {
-        lines: lines_of(alloc, report, outcome)?,
+        lines: printed_lines(alloc, printed, machine, outcome)?,
         status,
         refused: None,
     })
@@ -192,17 +218,17 @@ fn run_output<'a, R: Threads + Sync>(
     alloc: Global,
     machine: &Machine,
     turns: u64,
-    report: bool,
+    printed: Printed,
 ) -> Result<Output, Fault<'a>>
     ensures ok { IfOk result (λ output.
-        IsRunShown report machine.now (IsRunAsked machine.now turns) output.lines.items
+        IsRunShown printed machine.now (IsRunAsked machine.now turns) output.lines.items
         output.status) }
     ensures whole { IfOk result (λ output. output.refused ≡ None) }
     ensures err { IfErr result (λ fault. (fault ≡ OutOfMemory) ⊎
         (fault_of_turns turns ≡ Some fault)) }
 {
     let outcome = run_compact(rt, alloc, machine, turns, &Open)?;
-    Ok(output_of_run(alloc, report, outcome)?)
+    Ok(output_of_run(alloc, printed, machine, outcome)?)
 }
 
 // What a replay prints.
@@ -210,12 +236,12 @@ fn replay_output<'a, L: Source>(
     alloc: Global,
     machine: &Machine,
     schedule: &'a str,
-    report: bool,
+    printed: Printed,
     list: &mut L,
 ) -> Result<Output, Fault<'a>>
     ensures ok { IfOk result (λ output. (text : List ℕ) ×
         IsRead (list_name schedule.now) (L.gives list.old) text ×
-        IsRunShown report machine.now (IsReplayAsked machine.now schedule.now text)
+        IsRunShown printed machine.now (IsReplayAsked machine.now schedule.now text)
         output.lines.items output.status) }
     ensures whole { IfOk result (λ output. output.refused ≡ None) }
     ensures err { IfErr result (λ fault. (fault ≡ OutOfMemory) ⊎
@@ -225,7 +251,7 @@ fn replay_output<'a, L: Source>(
 {
     let entries = asked_entries(alloc, machine, schedule, list)?;
     let outcome = replayed(alloc, machine, entries.as_slice())?;
-    Ok(output_of_run(alloc, report, outcome)?)
+    Ok(output_of_run(alloc, printed, machine, outcome)?)
 }
 
 // What the audit of the trace in the file of this name prints.
@@ -233,19 +259,23 @@ fn audit_output<'a, T: Source>(
     alloc: Global,
     machine: &Machine,
     name: &'a str,
+    judged: Judged,
     trace: &mut T,
 ) -> Result<Output, Fault<'a>>
     ensures ok { IfOk result (λ output. (told : List ℕ) × T.gives trace.old (Ok told) ×
-        IsPassed machine.now told output.lines.items × (output.status ≡ 0)) }
-    ensures whole { IfOk result (λ output. output.refused ≡ None) }
+        IsAudited judged machine.now told output.lines.items output.status ×
+        (output.refused ≡ refused_of_audit (tells_refusals judged) machine.now told)) }
     ensures err { IfErr result (λ fault. (fault ≡ OutOfMemory) ⊎
-        IsTraceFault machine.now name.now (T.gives trace.old) fault) }
+        IsAuditFault (tells_refusals judged) machine.now name.now (T.gives trace.old) fault) }
 {
     let told = match trace.read_whole(alloc) {
         Ok(told) => told,
         Err(kind) => return Err(unread(name, kind)),
     };
-    let lines = audited(alloc, machine, told.as_slice())?;
+    if judged.tells_refusals() {
+        return told_output(alloc, machine, told.as_slice(), judged);
+    }
+    let lines = audited(alloc, machine, told.as_slice(), judged)?;
     Ok(Output {
         lines,
         status: 0,
@@ -270,15 +300,25 @@ fn output_on<'a, R: Threads + Sync, T: Source>(
     ensures unread { second_file_of job.now ≡ None → trace.new ≡ trace.old }
 {
     match *job {
-        Job::Run { turns, report, .. } => run_output(rt, alloc, machine, turns, report),
+        Job::Run { turns, printed, .. } => run_output(rt, alloc, machine, turns, printed),
         Job::Replay {
             schedule,
-            report,
+            printed,
             ..
-        } => replay_output(alloc, machine, schedule, report, trace),
-        Job::Audit { trace: name, .. } => audit_output(alloc, machine, name, trace),
+        } => replay_output(alloc, machine, schedule, printed, trace),
+        Job::Audit {
+            trace: name,
+            judged,
+            ..
+        } => audit_output(alloc, machine, name, judged, trace),
         Job::Chart(chart) => chart_output(alloc, machine, &chart, trace),
         Job::Endings(search) => search_output(alloc, machine, &search),
+        // A text with a fault did not come so far.
+        Job::Lint { .. } => Ok(Output {
+            lines: Vec::new(alloc),
+            status: 0,
+            refused: None,
+        }),
     }
 }
 
@@ -333,17 +373,18 @@ fn ended<E: Sink>(alloc: Global, faults: &mut E, output: &Output) -> u8
 }
 
 /// Does a job, and returns the exit status: 0 where a run came to rest, a trace passed or all of it
-/// was drawn, 3 where a run did not come to rest or a search was cut, 4 where a search found what it
-/// should not, 1 where a fault was reported instead. Where a step of a trace that is drawn is not possible, the steps before it are, and then the fault is
-/// reported. The machine text is judged before anything is read of the trace. An audit and a chart
-/// read a trace, and a replay whose list is in a file reads that list in its place. The output is
-/// made whole before any of it is written, and it is written once. A fault is reported by its one
-/// line. Nothing is recorded: `perform_recorded` does that.
+/// was drawn, 3 where a run did not come to rest or a search was cut, 4 where a search found what
+/// it should not, 1 where a fault was reported instead. Where a step of a trace that is drawn is
+/// not possible, the steps before it are, and then the fault is reported. So it is where an audit
+/// is to tell of such a step: what it tells comes first. The machine text is judged before anything
+/// is read of the trace. An audit and a chart read a trace, and a replay whose list is in a file
+/// reads that list in its place. The output is made whole before any of it is written, and it is
+/// written once. A fault is reported by its one line. Nothing is recorded: `perform_recorded` does
+/// that. A text is only judged where all that is wrong in it is asked for: `perform_lint` tells it.
 ///
 /// In a run several processors may work at the same time, each in a host thread. So two runs of
 /// several processors may differ, and each is lawful. A replay does what the items of its schedule
 /// ask for, in their order. Each history that a run may have is that of some items.
-#[tactic(auto, using(crate::proofs::Shown::truly_done))]
 pub fn perform<R: Threads + Sync, M: Source, T: Source, W: Sink, E: Sink>(
     rt: &R,
     alloc: Global,

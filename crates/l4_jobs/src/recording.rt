@@ -1,9 +1,10 @@
 //! Recording a run: what it prints, and the list by which a replay is that very run.
-ghost use Rattle.std.specs.Prelude.{◌≡◌, ◌≢◌, ◌⊎◌, ℕ, Bool, List, IfOk, IfErr, Ok, Some};
+ghost use Rattle.std.specs.Prelude.{◌≡◌, ◌≢◌, ◌⊎◌, ℕ, List, IfOk, IfErr, Ok, Some};
 ghost use Rattle.l4_model.specs.Machine.{Machine as ModelMachine};
 ghost use Rattle.l4_script.specs.Texts.{machine_of_text};
 ghost use Rattle.l4_jobs.specs.Jobs.{IsFaultOf, IsJobFault, IsReplayAsked, IsRunShown};
 ghost use Rattle.l4_commands.specs.Files.{list_name, job_of};
+ghost use Rattle.l4_commands.specs.declared.job.Printed.{Printed};
 ghost use Rattle.l4_jobs.specs.Jobs.{fault_of_turns};
 ghost use Rattle.l4_jobs.specs.Recording.{IsMade, IsNotRecorded, IsRecordDone, IsRecorded};
 ghost use Rattle.l4_jobs.specs.declared.fault.Fault.TheVariants.{NoMemory as OutOfMemory};
@@ -33,7 +34,7 @@ fn made_on<'a, R: Threads + Sync>(
     recording: &Recording<'_>,
     machine: &Machine,
 ) -> Result<Made, Fault<'a>>
-    ensures ok { IfOk result (λ made. IsRecorded recording.now.report machine.now
+    ensures ok { IfOk result (λ made. IsRecorded recording.now.printed machine.now
         recording.now.turns made.output.lines.items made.list.items made.output.status) }
     ensures err { IfErr result (λ fault. (fault ≡ OutOfMemory) ⊎
         (fault_of_turns recording.now.turns ≡ Some fault)) }
@@ -42,7 +43,7 @@ fn made_on<'a, R: Threads + Sync>(
     let (outcome, entries) = run_recorded(rt, alloc, machine, recording.turns, &Open)?;
     Ok(Made {
         list: recorded_text(alloc, entries.as_slice())?,
-        output: output_of_run(alloc, recording.report, outcome)?,
+        output: output_of_run(alloc, recording.printed, machine, outcome)?,
     })
 }
 
@@ -55,7 +56,7 @@ fn made_of<'a, R: Threads + Sync>(
 ) -> Result<Made, Fault<'a>>
     ensures ok { IfOk result (λ made. (machine : ModelMachine) ×
         (machine_of_text text.now ≡ Ok machine) ×
-        IsRecorded recording.now.report machine recording.now.turns made.output.lines.items
+        IsRecorded recording.now.printed machine recording.now.turns made.output.lines.items
         made.list.items made.output.status) }
     ensures err { IfErr result (λ fault. (fault ≡ OutOfMemory) ⊎
         IsFaultOf (job_of recording.now) (machine_of_text text.now) (λ given. ⊥) fault) }
@@ -119,10 +120,10 @@ pub fn perform_recorded<R: Threads + Sync, M: Source, L: Sink, W: Sink, E: Sink>
 /// On the machine of a run that was recorded, a replay of the record prints the lines that the run
 /// printed, and no others, and has its status.
 pub fn law_recorded()
-    ensures { (report : Bool) (m : ModelMachine) (turns : ℕ) (lines text others : List ℕ)
+    ensures { (printed : Printed) (m : ModelMachine) (turns : ℕ) (lines text others : List ℕ)
         (status other : ℕ) (list name : List ℕ) → list_name list ≡ Some name →
-        IsRecorded report m turns lines text status →
-        IsRunShown report m (IsReplayAsked m list text) lines status ×
-        (IsRunShown report m (IsReplayAsked m list text) others other →
+        IsRecorded printed m turns lines text status →
+        IsRunShown printed m (IsReplayAsked m list text) lines status ×
+        (IsRunShown printed m (IsReplayAsked m list text) others other →
         (others ≡ lines) × (other ≡ status)) }
 {}

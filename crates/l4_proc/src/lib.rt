@@ -7,7 +7,7 @@
 //! stopped. A `Gate` is asked before each turn, and may hold a processor back.
 //!
 //! That several host threads are at work, and which processor goes first, is up to the host: tested
-//! in `l4_host_tests`, in no clause. `l4_nowait` calls `work` where no thread may wait.
+//! in `l4_host_tests`, in no clause. `work` is called there in threads that may not wait.
 //!
 //! ```rust
 //! let mut processors = assemble(alloc, &machine, 64)?;

@@ -13,8 +13,12 @@ mod statements;
 
 use crate::machine::Machine;
 pub use fault::{TextFault, TextFaultKind};
+pub use ids::{id, thread_in};
 use l4_words::lines::split_line;
-use reading::Stage;
+pub use lines::{has_empty_word, words_of};
+pub use numbers::{number, number_from, time, word_from};
+pub use reading::{Reading, Stage, Target};
+pub use statements::{Heading, bits, destination, instruction, processor};
 use std::alloc::Global;
 
 /// How many bytes a text has at most.

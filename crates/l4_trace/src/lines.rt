@@ -57,7 +57,9 @@ pub fn write_step(step: &StepRef<'_>, out: &mut Vec<u8>) -> Result<(), NoMemory>
 }
 
 /// Appends the line of a step. It is written into `line` first, since its length is known only
-/// then. One buffer serves many lines.
+/// then. One buffer serves many lines. Inlined, since a step that is looked at costs less than one
+/// that is made to be passed on.
+#[inline(always)]
 pub(crate) fn append_line(
     step: &StepRef<'_>,
     line: &mut [u8],
@@ -74,6 +76,7 @@ pub(crate) fn append_line(
 }
 
 // Writes the line of a step at the end of the room for a line. Returns where it starts.
+#[inline(always)]
 fn write_line(step: &StepRef<'_>, line: &mut [u8]) -> usize
     requires { LONGEST_LINE ≤ length line.old }
     ensures within { result ≤ length line.new }

@@ -38,7 +38,7 @@ fn raw_id(format: Format, digits: &[u8]) -> Option<ThreadId>
 
 /// The thread of a word `N.V`. None where the format has no word for it.
 #[tactic(auto, unfolding(crate::specs::Ids::thread_in))]
-pub(super) fn thread_in(format: Format, word: &[u8]) -> Option<GlobalId>
+pub fn thread_in(format: Format, word: &[u8]) -> Option<GlobalId>
     ensures { result ≡ thread_in (format_of format) word.now }
 {
     let thread = thread(word)?;
@@ -60,9 +60,10 @@ fn spelled_id(format: Format, word: &[u8]) -> Option<ThreadId>
     }
 }
 
-/// An id: `nil`, `any`, `anylocal`, or spelled by numbers.
+/// An id: `nil`, `any`, `anylocal`, or spelled by numbers. None where the word spells none of the
+/// format.
 #[tactic(auto, unfolding(crate::specs::Ids::id_of))]
-pub(super) fn id(format: Format, word: &[u8]) -> Option<ThreadId>
+pub fn id(format: Format, word: &[u8]) -> Option<ThreadId>
     ensures { result ≡ id_of (format_of format) word.now }
 {
     if word == NIL {

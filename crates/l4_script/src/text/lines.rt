@@ -5,9 +5,10 @@ ghost use Rattle.l4_script.specs.Lines.{has_empty_word, is_printable, is_skipped
 use super::fault::TextFaultKind;
 use l4_words::words::Words;
 
-/// What a line says: its words, or nothing where it is empty or a comment.
+/// What a line says: its words, or nothing where it is empty or a comment. `BadLine` where a byte
+/// is not printable, or a word is empty.
 #[tactic(auto, unfolding(crate::specs::Lines::line_of))]
-pub(super) fn words_of(line: &[u8]) -> Result<Option<Words<'_>>, TextFaultKind>
+pub fn words_of(line: &[u8]) -> Result<Option<Words<'_>>, TextFaultKind>
     ensures { result ≡ line_of line.now }
 {
     if !is_printable(line) {
@@ -34,7 +35,9 @@ fn is_skipped(line: &[u8]) -> bool
     line.is_empty() || line[0] == b';'
 }
 
-fn has_empty_word(line: &[u8]) -> bool
+/// Whether a space stands in front of the first word of a line, behind the last one, or behind
+/// another space.
+pub fn has_empty_word(line: &[u8]) -> bool
     ensures { result ≡ has_empty_word line.now }
 {
     line.split(|byte| *byte == b' ').any(|word| word.is_empty())

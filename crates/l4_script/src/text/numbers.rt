@@ -10,8 +10,8 @@ use l4_types::formats::Format;
 use l4_types::times::{Period, time_of};
 use l4_words::numbers::{decimal, padded_hexadecimal};
 
-/// A number in either spelling.
-pub(super) fn number(word: &[u8]) -> Option<u64>
+/// The number of a word, in decimal or hexadecimal digits. None where it spells no number.
+pub fn number(word: &[u8]) -> Option<u64>
     ensures { result ≡ number_of word.now }
 {
     match word.strip_prefix(b"0x") {
@@ -20,9 +20,9 @@ pub(super) fn number(word: &[u8]) -> Option<u64>
     }
 }
 
-/// A number in a range.
+/// A number from `low` to `high`, else `BadNumber`.
 #[tactic(auto, unfolding(crate::specs::Numbers::number_from))]
-pub(super) fn number_from(low: u64, high: u64, word: &[u8]) -> Result<u64, TextFaultKind>
+pub fn number_from(low: u64, high: u64, word: &[u8]) -> Result<u64, TextFaultKind>
     ensures value { result ≡ number_from low high word.now }
     ensures range { IfOk result (λ value. (low ≤ value) × (value ≤ high)) }
 {
@@ -34,9 +34,9 @@ pub(super) fn number_from(low: u64, high: u64, word: &[u8]) -> Result<u64, TextF
     }
 }
 
-/// A word of a format.
+/// A word of a format, else `BadNumber`.
 #[tactic(auto, unfolding(crate::specs::Numbers::word_from))]
-pub(super) fn word_from(format: Format, word: &[u8]) -> Result<u64, TextFaultKind>
+pub fn word_from(format: Format, word: &[u8]) -> Result<u64, TextFaultKind>
     ensures { result ≡ word_from (format_of format) word.now }
 {
     let value = number(word).ok_or(TextFaultKind::BadNumber)?;
@@ -57,9 +57,9 @@ fn period_number(word: &[u8]) -> Result<Period, TextFaultKind>
     time_of(time as u16).ok_or(TextFaultKind::BadNumber)
 }
 
-/// The period of a time: `never`, `zero`, or a number of 15 bits.
+/// The period of a time: `never`, `zero`, or a number of 15 bits. Else `BadNumber`.
 #[tactic(auto, unfolding(crate::specs::Numbers::time_from))]
-pub(super) fn time(word: &[u8]) -> Result<Period, TextFaultKind>
+pub fn time(word: &[u8]) -> Result<Period, TextFaultKind>
     ensures value { Returns period_of result (time_from word.now) }
     ensures timely { IfOk result (λ period. IsTimely period) }
 {

@@ -1,5 +1,6 @@
 //! How far a text has been read.
-ghost use Rattle.std.specs.Prelude.{◌≡◌, ◌<◌, ◌≤◌, ◌∷◌, [], ◌++◌, find, length, MatchOption, OnErr, OnOk};
+ghost use Rattle.std.specs.Prelude.{◌≡◌, ◌≢◌, ◌<◌, ◌≤◌, ◌∷◌, [], ◌++◌, find, length, IfErr, MatchOption, OnErr, OnOk};
+ghost use Rattle.l4_script.specs.declared.text.fault.TextFaultKind.TheVariants.{NoMemory as OutOfMemory};
 ghost use Rattle.std.specs.Option.{option_copied};
 ghost use Rattle.l4_model.specs.Machine.{most_processors};
 ghost use Rattle.l4_types.specs.FormatView.{format_of};
@@ -26,7 +27,7 @@ const THREAD: &[u8] = b"thread";
 /// A `jump` or `onerr`: the number of its line, the place of its thread, and the instruction that
 /// it names.
 #[derive(Clone, Copy, Debug)]
-struct Target {
+pub struct Target {
     line: usize,
     thread: usize,
     place: u64,
@@ -44,7 +45,7 @@ impl Model for Target {
 
 /// The format of the text, the machine of the lines so far, and the places that they name.
 #[derive(Debug, Drop)]
-pub(super) struct Reading {
+pub struct Reading {
     format: Format,
     machine: Machine,
     targets: Vec<Target>,
@@ -65,7 +66,7 @@ impl Model for Reading {
 
 /// What comes next in a text.
 #[derive(Debug, Drop)]
-pub(super) enum Stage {
+pub enum Stage {
     /// The `l4` line.
     Start,
     /// The `cpus` line, after such a first line.
@@ -129,22 +130,31 @@ fn keep(targets: &mut Vec<Target>, target: Target) -> Result<(), NoMemory>
     Ok(())
 }
 
-/// Whether a script is too short for the instruction that a line names.
-fn is_missed(machine: &Machine, target: &Target) -> bool
-    ensures { result ≡ is_missed machine.now target.now }
-{
-    let instructions = match machine.threads().get(target.thread) {
-        Some(thread) => thread.script().len(),
-        None => 0,
-    };
-    (instructions as u64) < target.place
+impl Target {
+    /// The number of its line, counted from 1.
+    pub fn line(&self) -> usize
+        ensures { result ≡ self.now.line }
+    {
+        self.line
+    }
+
+    /// Whether its script is too short for the instruction that it names.
+    pub fn is_missed(&self, machine: &Machine) -> bool
+        ensures { result ≡ is_missed machine.now self.now }
+    {
+        let instructions = match machine.threads().get(self.thread) {
+            Some(thread) => thread.script().len(),
+            None => 0,
+        };
+        (instructions as u64) < self.place
+    }
 }
 
 /// The first named place that its script does not have.
 fn first_missed<'a>(machine: &Machine, targets: &'a [Target]) -> Option<&'a Target>
     ensures { option_copied result ≡ find (is_missed machine.now) targets.now }
 {
-    targets.iter().find(|target| is_missed(machine, target))
+    targets.iter().find(|target| target.is_missed(machine))
 }
 
 impl Reading {
@@ -161,10 +171,32 @@ impl Reading {
         }
     }
 
+    /// The format of the text's words.
+    pub fn format(&self) -> Format
+        ensures { format_of result ≡ self.now.format }
+    {
+        self.format
+    }
+
+    /// The machine of the lines so far.
+    pub fn machine(&self) -> &Machine
+        ensures { result.now ≡ self.now.machine }
+    {
+        &self.machine
+    }
+
+    /// The `jump` and `onerr` lines so far, in order.
+    pub fn targets(&self) -> &[Target]
+        ensures { result.now ≡ self.now.targets }
+    {
+        self.targets.as_slice()
+    }
+
     /// Appends an instruction to the last thread, by the line of this number.
     fn extend(&mut self, line: usize, instr: &Instr) -> Result<(), TextFaultKind>
         requires { 0 < length self.old.machine.threads }
-        ensures { Leads result self.new (extended_at line self.old (instr_of instr.now)) }
+        ensures kept { IfErr result (λ kind. kind ≢ OutOfMemory → self.new ≡ self.old) }
+        ensures leads { Leads result self.new (extended_at line self.old (instr_of instr.now)) }
     {
         let target = named_place(line, self.machine.threads().len() - 1, instr);
         extend(instr, &mut self.machine)?;
@@ -182,7 +214,8 @@ impl Reading {
         alloc: Global,
         mut words: Words<'_>,
     ) -> Result<(), TextFaultKind>
-        ensures { Leads result self.new (thread_line line self.old words.entry) }
+        ensures kept { IfErr result (λ kind. kind ≢ OutOfMemory → self.new ≡ self.old) }
+        ensures leads { Leads result self.new (thread_line line self.old words.entry) }
     {
         let name = words.next().ok_or(TextFaultKind::BadLine)?;
         if name == THREAD {
@@ -218,7 +251,9 @@ impl Stage {
         alloc: Global,
         words: Words<'_>,
     ) -> Result<(), TextFaultKind>
-        ensures { Leads result (stage_of self.new)
+        ensures kept { IfErr result
+            (λ kind. kind ≢ OutOfMemory → stage_of self.new ≡ stage_of self.old) }
+        ensures leads { Leads result (stage_of self.new)
             (after_words line (stage_of self.old) words.entry) }
     {
         match self {
@@ -236,10 +271,19 @@ impl Stage {
         }
     }
 
-    /// Reads a line of this number.
+    /// Reads the line of this number, or returns what is wrong with it. It is unchanged by a line
+    /// that has a fault, but not where memory is refused.
     #[tactic(auto, unfolding(crate::specs::Texts::after_line))]
-    fn read_line(&mut self, line: usize, alloc: Global, text: &[u8]) -> Result<(), TextFaultKind>
-        ensures { Leads result (stage_of self.new) (after_line line (stage_of self.old) text.now) }
+    pub fn read_line(
+        &mut self,
+        line: usize,
+        alloc: Global,
+        text: &[u8],
+    ) -> Result<(), TextFaultKind>
+        ensures kept { IfErr result
+            (λ kind. kind ≢ OutOfMemory → stage_of self.new ≡ stage_of self.old) }
+        ensures leads { Leads result (stage_of self.new)
+            (after_line line (stage_of self.old) text.now) }
     {
         match words_of(text)? {
             None => Ok(()),

@@ -65,11 +65,20 @@ fn only<'a>(words: Words<'a>) -> Result<&'a [u8], TextFaultKind>
 
 /// What a first line says.
 #[derive(Clone, Copy, Debug)]
-pub(super) struct Heading {
+pub struct Heading {
     /// Whether the machine retargets.
     pub(super) retargeting: bool,
     /// The format of its words.
     pub(super) format: Format,
+}
+
+impl Heading {
+    /// The format of the words.
+    pub fn format(&self) -> Format
+        ensures { result ≡ self.now.format }
+    {
+        self.format
+    }
 }
 
 /// What a profile and the number of bits of a word say. None where there is no such first line.
@@ -112,9 +121,10 @@ pub(super) fn processors_line(words: Words<'_>) -> Result<u8, TextFaultKind>
     Ok(cpus as u8)
 }
 
-/// A processor below their number.
+/// A processor below their number: `BadNumber` where the word is no number, `BadCpu` where it is
+/// not below.
 #[tactic(auto, unfolding(crate::specs::Statements::processor_of))]
-fn processor(cpus: u8, word: &[u8]) -> Result<u8, TextFaultKind>
+pub fn processor(cpus: u8, word: &[u8]) -> Result<u8, TextFaultKind>
     ensures value { result ≡ processor_of cpus word.now }
     ensures below { IfOk result (λ cpu. cpu < cpus) }
 {
@@ -231,9 +241,9 @@ fn vs(format: Format, operands: Words<'_>) -> Result<Instr, TextFaultKind>
     Ok(Instr::Vs(thread_id(format, only(operands)?)?))
 }
 
-/// Where an ipc sends to: an id, or `last`.
+/// Where an ipc sends to: an id, or `last`. Else `BadId`.
 #[tactic(auto, unfolding(crate::specs::Statements::destination_of))]
-fn destination(format: Format, word: &[u8]) -> Result<To, TextFaultKind>
+pub fn destination(format: Format, word: &[u8]) -> Result<To, TextFaultKind>
     ensures { Returns to_of result (destination_of (format_of format) word.now) }
 {
     match word {
@@ -256,9 +266,9 @@ fn ipc(format: Format, operands: Words<'_>) -> Result<Instr, TextFaultKind>
     Ok(Instr::Ipc(Ipc::new(to, from, send, receive)))
 }
 
-/// The bits `S`, `R` or `SR` (manual: ExchangeRegisters).
+/// The bits `S`, `R` or `SR` (manual: ExchangeRegisters). None for any other word.
 #[tactic(auto, unfolding(crate::specs::Statements::bits_of))]
-fn bits(word: &[u8]) -> Option<What>
+pub fn bits(word: &[u8]) -> Option<What>
     ensures { option_map what_of result ≡ bits_of word.now }
 {
     match word {
@@ -308,13 +318,10 @@ fn end(mut operands: Words<'_>) -> Result<Instr, TextFaultKind>
     }
 }
 
-/// An instruction of this name.
+/// An instruction of this name, or the first fault of its line: `BadLine`, `BadNumber`, `BadId` or
+/// `TypedItems`.
 #[tactic(auto, unfolding(crate::specs::Statements::instruction_of))]
-pub(super) fn instruction(
-    format: Format,
-    name: &[u8],
-    operands: Words<'_>,
-) -> Result<Instr, TextFaultKind>
+pub fn instruction(format: Format, name: &[u8], operands: Words<'_>) -> Result<Instr, TextFaultKind>
     ensures { Returns instr_of result (instruction_of (format_of format) name.now operands.entry) }
 {
     if name == SET {

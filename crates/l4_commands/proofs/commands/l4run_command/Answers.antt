@@ -6,5 +6,5 @@ use Rattle.l4_commands.proofs.commands.l4run_command.Goals as goal
 pub returns : goal.returns
 unfolding l4run_app
 returns c =
-    IfOk-weaker c.subcommand.result _ _
-    (λ r h. gains_below c.in_ok-l4run.ensures c.in_ok-endings.ensures.app c.in_ok-endings.ensures.local h) c.subcommand.ensures
+    let endings = gains_below c.in_ok-l4run.ensures c.in_ok-endings.ensures.app c.in_ok-endings.ensures.local c.in_ok-subcommand.ensures in
+    IfOk-weaker c.subcommand-2.result _ _ (λ r h. gains_below endings c.in_ok-lint.ensures.app c.in_ok-lint.ensures.local h) c.subcommand-2.ensures

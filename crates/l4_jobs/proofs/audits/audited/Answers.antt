@@ -1,16 +1,18 @@
-use Rattle.std.proofs.Common.{ℕ, ap, ◌∙◌}
-use Rattle.l4_jobs.specs.Audits.{passed_line}
+use Rattle.std.proofs.Common.{◌≡◌, false, rules}
+use Rattle.std.specs.Prelude.{◌||◌}
+use Rattle.l4_jobs.proofs.Behind.{passed_alone, passed_behind, passed_history}
 use Rattle.l4_jobs.proofs.audits.audited.Goals as goal
+
+pub returns-then-not-any-clause-ok : goal.returns-then-not-any-clause-ok
+returns-then-not-any-clause-ok c =
+    let none : (c.args.judged.extras.waits || c.args.judged.extras.counts) ≡ false = search rules in
+    passed_alone c.args.judged c.args.machine.now c.args.trace.now _ c.in_ok-passed.passed c.requires c.in_ok-passed.ensures.ok c.in_ok-lines.ensures none
+
+pub write_extras-requires : goal.write_extras-requires
+write_extras-requires c =
+    passed_history c.args.machine.now c.args.trace.now c.in_ok-passed.passed _ c.in_ok-passed.ensures.ok c.in_ok-history.ensures
 
 pub returns-clause-ok : goal.returns-clause-ok
 returns-clause-ok c =
-    let passed = c.in_ok-passed.ensures.ok in
-    record {
-      steps = passed.steps;
-      reads = passed.reads;
-      world = passed.world;
-      reaches = passed.reaches;
-      ending = c.in_ok-passed.passed.ending;
-      quiet = passed.quiet;
-      lines_are = c.in_ok-passed_line.ensures ∙ ap (λ (steps : ℕ). passed_line steps c.in_ok-passed.passed.ending) passed.counted;
-    }
+    passed_behind c.args.judged c.args.machine.now c.args.trace.now _ _ c.in_ok-passed.passed _ c.requires c.in_ok-passed.ensures.ok c.in_ok-lines.ensures
+    c.in_ok-history.ensures c.in_ok-write_extras.ensures

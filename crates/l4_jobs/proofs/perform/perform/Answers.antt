@@ -1,6 +1,6 @@
 use Rattle.std.proofs.Common.{subst, true}
 use Rattle.l4_jobs.specs.Jobs.{IsJobFault}
-use Rattle.l4_jobs.proofs.Shown.{done_at_end, end_status, not_done_at_end, right_given}
+use Rattle.l4_jobs.proofs.Shown.{done_at_end, end_status, not_done_at_end, right_given, truly_done}
 use Rattle.l4_jobs.proofs.perform.perform.Goals as goal
 
 pub returns-in-Ok-put-clause-shown : goal.returns-in-Ok-put-clause-shown
@@ -9,6 +9,11 @@ returns-in-Ok-put-clause-shown g c = λ right.
     done_at_end c.args.job.now (g.M.Source.gives c.args.machine.now) (g.T.Source.gives c.args.trace.now)
     (g.W.Sink.takes c.args.out.now c.put.new.self) _ (g.E.Sink.takes c.args.faults.now c.ended.new.faults) _ _ _ _ _ _ s.2 s.3 s.4
     (subst (λ lines. g.W.Sink.takes c.args.out.now c.put.new.self lines true) c.as_slice.ensures.value c.in-Ok-put.ensures) c.ended.ensures right
+
+pub returns-in-Ok-put-clause-headline : goal.returns-in-Ok-put-clause-headline
+returns-in-Ok-put-clause-headline g c = λ right.
+    truly_done c.args.job.now (g.M.Source.gives c.args.machine.now) (g.T.Source.gives c.args.trace.now)
+    (g.W.Sink.takes c.args.out.now c.put.new.self) _ c.ended.result (returns-in-Ok-put-clause-shown g c right)
 
 pub returns-in-Ok-put-clause-whole : goal.returns-in-Ok-put-clause-whole
 returns-in-Ok-put-clause-whole g c = λ failed.

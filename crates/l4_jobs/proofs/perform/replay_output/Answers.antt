@@ -11,6 +11,9 @@ returns-clause-ok g c =
     let output = c.in_ok-output_of_run.ensures in (
       asked.0,
       asked.1,
-      replay_shown c.args.report c.args.machine.now c.args.schedule.now asked.0 _ _ _ _
+      replay_shown c.args.printed c.args.machine.now c.args.schedule.now asked.0 _ _ _ _
           (asked.2 ∙ ap (λ (es : List Entry). Ok (map entry_from es)) (sym entries)) c.in_ok-outcome.ensures output.lines output.status,
     )
+
+pub output_of_run-requires : goal.output_of_run-requires
+output_of_run-requires g c = c.in_ok-outcome.ensures.is_true.possible

@@ -1,0 +1,7 @@
+// Two locks that two threads take in one order.
+// --stuck
+#include "locks.inc"
+
+init {
+    atomic { start_locks(); run Taker(0, ONE, OTHER); run Taker(1, ONE, OTHER) }
+}

@@ -1,0 +1,4 @@
+pub mod Counting
+pub mod Each
+pub mod Joined
+pub mod Told

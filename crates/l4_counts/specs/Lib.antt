@@ -1,0 +1,4 @@
+pub mod Counts
+pub mod Few
+pub mod Lines
+pub mod Threads

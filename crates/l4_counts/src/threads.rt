@@ -1,0 +1,77 @@
+//! What a history has of each thread of a machine.
+ghost use Rattle.std.specs.Prelude.{◌≡◌, All, IfOk, IfSome, length, slice_get};
+ghost use Rattle.l4_model.specs.Machine.{place_of};
+ghost use Rattle.l4_core_model.specs.Runs.{IsMachine};
+ghost use Rattle.l4_types.specs.StepView.{seen};
+ghost use Rattle.l4_counts.specs.Few.{AreFew};
+ghost use Rattle.l4_counts.specs.Threads.{counts_of_each, each_with_step, with_step_at};
+
+use crate::counts::Counts;
+use l4_history::history::History;
+use l4_script::machine::Machine;
+use l4_types::errors::NoMemory;
+use l4_types::ids::GlobalId;
+use l4_types::step_ref::StepRef;
+use std::alloc::Global;
+
+/// What a history has of each thread of a machine, in order of declaration. It goes over the
+/// history once.
+pub fn counts_of_each(
+    alloc: Global,
+    machine: &Machine,
+    history: &History,
+) -> Result<Vec<Counts>, NoMemory>
+    ensures { IfOk result (λ counts. counts.items ≡
+        counts_of_each machine.now.threads history.now.steps) }
+{
+    let mut counts = Vec::from_elem(alloc, Counts::none(), machine.threads().len())?;
+    for place in 0..history.len() {
+        count_step(&mut counts, machine, &history.step(place));
+    }
+    Ok(counts)
+}
+
+// Counts one step more, at the threads that it tells of.
+fn count_step(counts: &mut [Counts], machine: &Machine, step: &StepRef<'_>)
+    requires lawful { IsMachine machine.now }
+    requires each { length counts.old ≡ length machine.now.threads }
+    requires few { All AreFew counts.old }
+    ensures { counts.new ≡ each_with_step (seen step.now) machine.now.threads counts.old }
+{
+    match step {
+        StepRef::Local(thread)
+        | StepRef::Wait(thread)
+        | StepRef::ReceiveTimeout(thread)
+        | StepRef::ReceiveNobody(thread)
+        | StepRef::ReceiveCancel(thread)
+        | StepRef::Order { caller: thread, .. } => count_at(counts, machine, *thread, step),
+        StepRef::Begin(name)
+        | StepRef::SendTimeout(name)
+        | StepRef::SendNobody(name)
+        | StepRef::SendCancel(name) => count_at(counts, machine, name.thread(), step),
+        StepRef::Deliver(delivery) => {
+            let sender = delivery.name.thread();
+            count_at(counts, machine, sender, step);
+            if delivery.receiver != sender {
+                count_at(counts, machine, delivery.receiver, step);
+            }
+        }
+        StepRef::Queue(_)
+        | StepRef::Drop(_)
+        | StepRef::Obey(_)
+        | StepRef::Tick(_)
+        | StepRef::Retarget(_) => {}
+    }
+}
+
+// Counts one step more, at this thread. An id that is not declared has no counts.
+fn count_at(counts: &mut [Counts], machine: &Machine, id: GlobalId, step: &StepRef<'_>)
+    requires each { length counts.old ≡ length machine.now.threads }
+    requires few { IfSome (place_of machine.now id) (λ place.
+        IfSome (slice_get counts.old place) AreFew) }
+    ensures { counts.new ≡ with_step_at (place_of machine.now id) id (seen step.now) counts.old }
+{
+    if let Some(place) = machine.place_of(id) {
+        counts[place].add(id, step);
+    }
+}

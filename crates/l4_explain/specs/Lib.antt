@@ -1,0 +1,3 @@
+pub mod Accounts
+pub mod Reasons
+pub mod Worlds

@@ -1,0 +1,36 @@
+-- What is told of the world that an audit has come to.
+use Rattle.std.specs.Prelude.{ℕ, ◌≡◌, ◌↔◌, true, List, ◌++◌, flat_map, filter_map, codes}
+use Rattle.l4_model.specs.Machine.{Machine}
+use Rattle.l4_model.specs.World.{World}
+use Rattle.l4_model.specs.Steps.{Step}
+use Rattle.l4_model.specs.History.{view}
+use Rattle.l4_model.specs.Still.{IsStill}
+use Rattle.l4_types.specs.declared.reports.Ending.{Ending}
+use Rattle.l4_audit.specs.Audits.{is_quiet}
+use Rattle.l4_audit.specs.Auditing.{Auditing, waiting_send}
+use Rattle.l4_audit.specs.Possible.{possible}
+use Rattle.l4_audit.specs.declared.reasons.Reason.{Reason}
+use Rattle.l4_reports.specs.ReportLines.{report_text}
+use Rattle.l4_trace.specs.Lines.{line_of}
+use Rattle.l4_explain.specs.Reasons.{reason_text}
+
+-- Each step but ticks that is possible, as a trace spells it.
+abbrev pub possible_line : Step → List ℕ
+possible_line step = codes "possible " ++ line_of step
+
+abbrev pub possible_text : Machine → World → List ℕ
+possible_text m w = flat_map possible_line (possible m w)
+
+-- Why a step is not possible there, and which steps are.
+abbrev pub explanation : Machine → World → Reason → List ℕ
+explanation m w r = reason_text r ++ possible_text m w
+
+-- The report of the world, with this ending.
+abbrev pub world_report : Auditing → Ending → List ℕ
+world_report a ending =
+    report_text (view a.at.machine a.at.world)
+    (filter_map (waiting_send a.at.machine a.at.world) a.begun) ending
+
+-- It ends quiet where no step but a tick is possible there, now or after any ticks.
+abbrev pub Ends : Auditing → Ending → Type 0
+Ends a ending = (is_quiet ending ≡ true) ↔ IsStill a.at.machine a.at.world

@@ -1,0 +1,201 @@
+//! The line of a reason.
+ghost use Rattle.std.specs.Prelude.{◌≡◌, ◌++◌, true, codes, OnOk, OnErr};
+ghost use Rattle.std.specs.String.{string_bytes};
+ghost use Rattle.l4_audit.specs.declared.reasons.Reason.{Reason as Told};
+ghost use Rattle.l4_explain.specs.Reasons.{has_word, reason_text, sentence, value_text};
+ghost use Rattle.l4_explain.specs.declared.reasons.Value.TheVariants.{Order};
+ghost use Rattle.l4_reports.specs.ReportLines.{id_word, state_word};
+ghost use Rattle.l4_trace.specs.Lines.{what_word};
+ghost use Rattle.l4_types.specs.ReportView.{state_of_view};
+ghost use Rattle.l4_types.specs.StepView.{what_of};
+
+use l4_audit::reasons::Reason;
+use l4_thread::orders::Asked;
+use l4_types::errors::NoMemory;
+use l4_types::ids::{GlobalId, Kind, ThreadId};
+use l4_types::reports::State;
+use l4_types::steps::What;
+use l4_words::spelling::{push_numbers, push_thread, push_word};
+use std::alloc::AllocError;
+
+/// What stands behind the words of a reason.
+#[derive(Clone, Copy, PartialEq, Eq, Debug)]
+pub(crate) enum Value {
+    Nothing,
+    State(State),
+    Thread(GlobalId),
+    Id(ThreadId),
+    Number(u64),
+    Word(u64),
+    Order(Asked),
+}
+
+/// Appends the line of a reason. Where memory is refused, nothing is appended.
+pub fn write_reason(reason: &Reason, out: &mut Vec<u8>) -> Result<(), NoMemory>
+    ensures ok { OnOk result (out.new.items ≡ out.old.items ++ reason_text reason.now) }
+    ensures err { OnErr result (out.new.items ≡ out.old.items) }
+{
+    let mut text = String::new(*out.allocator());
+    push_reason(&mut text, reason)?;
+    out.extend_from_slice(text.as_bytes())?;
+    Ok(())
+}
+
+fn push_reason(text: &mut String, reason: &Reason) -> Result<(), AllocError>
+    ensures { OnOk result (string_bytes text.new ≡
+        string_bytes text.old ++ reason_text reason.now) }
+{
+    let (words, value) = sentence(reason);
+    text.push_str("because ")?;
+    text.push_str(words)?;
+    push_value(text, &value)?;
+    text.push('\n')?;
+    Ok(())
+}
+
+// The words of a reason, and its value.
+fn sentence(reason: &Reason) -> (&'static str, Value)
+    ensures words { result.0.now ≡ (sentence reason.now).0 }
+    ensures value { result.1 ≡ (sentence reason.now).1 }
+{
+    match reason {
+        Reason::Undeclared => ("the thread is not declared", Value::Nothing),
+        Reason::NotReady(state) => ("the thread is not ready but", Value::State(*state)),
+        Reason::NotLocal => (
+            "the instruction is an ipc with a phase or an order",
+            Value::Nothing,
+        ),
+        Reason::NotNext(begun) => (
+            "the send is not the next after number",
+            Value::Number(*begun),
+        ),
+        Reason::NoSendPhase => ("the instruction has no send phase", Value::Nothing),
+        Reason::NoReceivePhase => (
+            "the instruction does not begin with a receive phase",
+            Value::Nothing,
+        ),
+        Reason::NoOrder => ("the instruction gives no order", Value::Nothing),
+        Reason::OtherOrder(asked) => ("the instruction gives the order", Value::Order(*asked)),
+        Reason::NotUndecided => ("no send of this name is undecided", Value::Nothing),
+        Reason::NoReceiver(to) => ("the destination is no declared thread but", Value::Id(*to)),
+        Reason::ReceiverDeleted(receiver) => (
+            "the destination is the deleted thread",
+            Value::Thread(*receiver),
+        ),
+        Reason::Waiting => ("the send waits in a list already", Value::Nothing),
+        Reason::NotWaiting => ("the send waits in no list", Value::Nothing),
+        Reason::MustWait(to) => ("the send must wait for a retarget of", Value::Id(*to)),
+        Reason::NotReceiving(state) => ("the receiver is not receiving but", Value::State(*state)),
+        Reason::AcceptsNone => ("the receiver accepts no send in its list", Value::Nothing),
+        Reason::NotFirst(sender) => (
+            "the receiver accepts first the send of",
+            Value::Thread(*sender),
+        ),
+        Reason::OtherReceiver(receiver) => ("the send goes to", Value::Thread(*receiver)),
+        Reason::OtherShown(sender) => ("the shown sender is", Value::Thread(*sender)),
+        Reason::OtherSender(sender) => ("the actual sender is", Value::Thread(*sender)),
+        Reason::OtherTag(tag) => ("the received tag is", Value::Word(*tag)),
+        Reason::OtherWords => ("the message has other words", Value::Nothing),
+        Reason::NotTimedOut(clock) => (
+            "the send does not time out at clock",
+            Value::Number(*clock),
+        ),
+        Reason::HasDestination(to) => ("the destination is the living thread", Value::Id(*to)),
+        Reason::SendNotCancelled => ("no cancellation of the send is asked for", Value::Nothing),
+        Reason::SenderNotDeleted(state) => ("the sender is not deleted but", Value::State(*state)),
+        Reason::ReceiveNotPassed(clock) => (
+            "the receive does not time out at clock",
+            Value::Number(*clock),
+        ),
+        Reason::HasPartner(from) => ("the receive is not from nobody but from", Value::Id(*from)),
+        Reason::AcceptsFirst(sender) => (
+            "the receiver accepts the waiting send of",
+            Value::Thread(*sender),
+        ),
+        Reason::ReceiveNotCancelled => (
+            "no cancellation of the receive is asked for",
+            Value::Nothing,
+        ),
+        Reason::AskedNothing => ("the thread has no undone order", Value::Nothing),
+        Reason::TargetUndeclared(target) => (
+            "the order is for the undeclared thread",
+            Value::Thread(*target),
+        ),
+        Reason::NoProcessor => ("the machine has no such processor", Value::Nothing),
+        Reason::ClockAt(clock) => ("the clock is already at", Value::Number(*clock)),
+        Reason::PastClocks => ("the clock stays below 4611686018427387904", Value::Nothing),
+        Reason::NotOwed => ("no retarget of this name is owed", Value::Nothing),
+        Reason::OriginatorUndeclared(originator) => (
+            "the retarget is of the undeclared thread",
+            Value::Thread(*originator),
+        ),
+    }
+}
+
+fn push_value(text: &mut String, value: &Value) -> Result<(), AllocError>
+    ensures { OnOk result (string_bytes text.new ≡
+        string_bytes text.old ++ value_text value.now) }
+{
+    match value {
+        Value::Nothing => Ok(()),
+        Value::State(state) => push_state(text, *state),
+        Value::Thread(thread) => push_thread(text, *thread),
+        Value::Id(id) => push_id(text, *id),
+        Value::Number(number) => write!(text, " {number}"),
+        Value::Word(word) => push_word(text, *word),
+        Value::Order(asked) => push_order(text, asked),
+    }
+}
+
+fn push_state(text: &mut String, state: State) -> Result<(), AllocError>
+    ensures { OnOk result (string_bytes text.new ≡
+        string_bytes text.old ++ codes " " ++ state_word (state_of_view state)) }
+{
+    match state {
+        State::Ready => text.push_str(" ready"),
+        State::Sending => text.push_str(" sending"),
+        State::Receiving => text.push_str(" receiving"),
+        State::Ordering => text.push_str(" ordering"),
+        State::Ended => text.push_str(" ended"),
+        State::Deleted => text.push_str(" deleted"),
+    }
+}
+
+fn push_id(text: &mut String, id: ThreadId) -> Result<(), AllocError>
+    ensures { OnOk result (string_bytes text.new ≡
+        string_bytes text.old ++ codes " " ++ id_word id) }
+{
+    match id.kind() {
+        Kind::Nil => text.push_str(" nil"),
+        Kind::Any => text.push_str(" any"),
+        Kind::AnyLocal => text.push_str(" anylocal"),
+        Kind::Local => write!(text, " #{:x}", id.raw()),
+        Kind::Global { number, version } => push_numbers(text, number, version),
+    }
+}
+
+fn push_order(text: &mut String, asked: &Asked) -> Result<(), AllocError>
+    ensures { OnOk result (string_bytes text.new ≡
+        string_bytes text.old ++ value_text (Order asked.now)) }
+{
+    push_thread(text, asked.target())?;
+    push_what(text, asked.what())
+}
+
+fn push_what(text: &mut String, what: What) -> Result<(), AllocError>
+    ensures { OnOk result (string_bytes text.new ≡
+        string_bytes text.old ++ codes " " ++ what_word (what_of what)) }
+{
+    match what {
+        What::CancelSend => text.push_str(" S"),
+        What::CancelReceive => text.push_str(" R"),
+        What::CancelBoth => text.push_str(" SR"),
+        What::Delete => text.push_str(" delete"),
+    }
+}
+
+/// No two reasons have one line, where their values are words and ids.
+pub fn law_one_reason()
+    ensures { (r s : Told) → has_word r ≡ true → has_word s ≡ true →
+        reason_text r ≡ reason_text s → r ≡ s }
+{}

@@ -1,0 +1,14 @@
+-- What is printed behind a trace, a report or the line of an audit.
+use Rattle.std.specs.Prelude.{ℕ, if◌then◌else◌, List, [], ◌++◌}
+use Rattle.l4_model.specs.Machine.{Machine}
+use Rattle.l4_model.specs.World.{World}
+use Rattle.l4_model.specs.Steps.{Step}
+use Rattle.l4_counts.specs.Lines.{counts_text}
+use Rattle.l4_waits.specs.Lines.{waits_text}
+use Rattle.l4_commands.specs.declared.job.Extras.{Extras}
+
+-- Of a world and the steps that lead there: who waits for whom, and what each thread did, where
+-- they are asked for.
+abbrev pub behind : Extras → Machine → World → (history : List Step) → List ℕ
+behind e m w h =
+    (if e.waits then waits_text m w else []) ++ (if e.counts then counts_text m h else [])

@@ -1,0 +1,35 @@
+//! What is printed behind a trace, a report or the line of an audit.
+ghost use Rattle.std.specs.Prelude.{◌≡◌, ◌++◌, Some, OnOk};
+ghost use Rattle.l4_jobs.specs.Extras.{behind};
+ghost use Rattle.l4_model.specs.History.{IsHistory, reached};
+ghost use Rattle.l4_model.specs.World.{World};
+
+use crate::job::Extras;
+use l4_counts::lines::write_counts;
+use l4_history::history::History;
+use l4_script::machine::Machine;
+use l4_types::errors::NoMemory;
+use l4_waits::lines::write_waits_after;
+use std::alloc::Global;
+
+/// Appends what is asked for of the steps of a history: who waits for whom once they are done, and
+/// then what each thread did.
+pub(crate) fn write_extras(
+    alloc: Global,
+    extras: Extras,
+    machine: &Machine,
+    history: &History,
+    out: &mut Vec<u8>,
+) -> Result<(), NoMemory>
+    requires { IsHistory machine.now history.now.steps }
+    ensures { OnOk result ((w : World) → reached machine.now history.now.steps ≡ Some w →
+        out.new.items ≡ out.old.items ++ behind extras machine.now w history.now.steps) }
+{
+    if extras.waits {
+        write_waits_after(alloc, machine, history, out)?;
+    }
+    if extras.counts {
+        write_counts(alloc, machine, history, out)?;
+    }
+    Ok(())
+}

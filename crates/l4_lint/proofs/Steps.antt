@@ -1,0 +1,49 @@
+-- Reading a text line by line.
+use Rattle.std.proofs.Common.{◌≡◌, ℕ, ◌+◌, Bool, true, false, cond, List, [], ◌∷◌, ◌++◌, length, Result, Err, refl, sym, ap, ◌∙◌, append-nil}
+use Rattle.std.specs.Prelude.{◌==◌, ◌≢◌}
+use Rattle.l4_words.specs.Lines.{parts_of}
+use Rattle.l4_words.proofs.Parts.{has_part}
+use Rattle.l4_script.specs.declared.text.fault.TextFaultKind.{TextFaultKind}
+use Rattle.l4_script.specs.declared.text.fault.TextFaultKind.TheVariants.{NoMemory}
+use Rattle.l4_script.specs.Judged.{Judged, Fails}
+use Rattle.l4_lint.specs.Reading.{Reader}
+use Rattle.l4_lint.specs.Faults.{Fault, ended, unended, step, followed, faults_from}
+
+-- A kind that is not want of memory is the text's.
+pub is_the_texts : {Y : Type 0} (kind : TextFaultKind) (part : Judged Y) → kind ≢ NoMemory → Fails kind part → part ≡ Err kind
+is_the_texts NoMemory part other h = absurd (other refl)
+is_the_texts kind part other h = h
+
+faults_first : (whole : List (List ℕ)) (line : List ℕ) (parts : List (List ℕ)) (next : List ℕ) (others : List (List ℕ)) (r : Reader) (number : ℕ) → parts ≡ next ∷ others
+    → faults_from whole (line ∷ parts) r number ≡ followed (step number r line) (λ after. faults_from whole parts after (number + 1))
+faults_first whole line parts next others r number e =
+    ap (λ (ps : List (List ℕ)). faults_from whole (line ∷ ps) r number) e
+    ∙ ap (λ (ps : List (List ℕ)). followed (step number r line) (λ after. faults_from whole ps after (number + 1))) (sym e)
+
+pub faults_next : (whole : List (List ℕ)) (line rest : List ℕ) (parts : List (List ℕ)) (r : Reader) (number : ℕ) → parts ≡ line ∷ parts_of rest
+    → faults_from whole parts r number ≡ followed (step number r line) (λ after. faults_from whole (parts_of rest) after (number + 1))
+faults_next whole line rest parts r number e =
+    let more = has_part rest in
+    ap (λ (ps : List (List ℕ)). faults_from whole ps r number) e ∙ faults_first whole line (parts_of rest) more.0 more.1 r number more.2
+
+pub faults_last : (whole : List (List ℕ)) (rest : List ℕ) (r : Reader) (number : ℕ) → parts_of rest ≡ rest ∷ []
+    → faults_from whole (parts_of rest) r number ≡ cond (length rest == 0) (ended whole r.stage r.faulty number) (unended number rest ∷ [])
+faults_last whole rest r number e = ap (λ (ps : List (List ℕ)). faults_from whole ps r number) e
+
+-- What is found and what follows, behind one line more.
+pub going : (whole : List (List ℕ)) (line rest : List ℕ) (parts : List (List ℕ)) (r r' : Reader) (number : ℕ) (found found' total : List Fault) (on : Bool)
+    → parts ≡ line ∷ parts_of rest → found ++ faults_from whole parts r number ≡ total
+    → ((follow : Reader → List Fault) → found' ++ cond on (follow r') [] ≡ found ++ followed (step number r line) follow)
+    → found' ++ cond on (faults_from whole (parts_of rest) r' (number + 1)) [] ≡ total
+going whole line rest parts r r' number found found' total on cut so_far said =
+    said (λ after. faults_from whole (parts_of rest) after (number + 1))
+    ∙ ap (λ (fs : List Fault). found ++ fs) (sym (faults_next whole line rest parts r number cut))
+    ∙ so_far
+
+pub goes_on : (on : Bool) (found follow total : List Fault) → on ≡ true → found ++ cond on follow [] ≡ total → found ++ follow ≡ total
+goes_on true found follow total e h = h
+goes_on false found follow total e h = absurd cc
+
+pub stops : (on : Bool) (found follow total : List Fault) → on ≡ false → found ++ cond on follow [] ≡ total → found ≡ total
+stops true found follow total e h = absurd cc
+stops false found follow total e h = sym (append-nil found) ∙ h

@@ -1,0 +1,11 @@
+pub mod Bytes
+pub mod Commands
+pub mod Contexts
+pub mod Faults
+pub mod Forms
+pub mod Judging
+pub mod Places
+pub mod Reading
+pub mod Spelling
+pub mod Views
+pub mod Walks

@@ -1,0 +1,135 @@
+//! What may stand behind the first word of a line.
+ghost use Rattle.std.specs.Prelude.{◌≡◌};
+ghost use Rattle.std.specs.Option.{option_copied};
+ghost use Rattle.l4_lint.specs.Commands.{instruction_operands, operands_behind, operands_of};
+
+use crate::hints::{Lines, Operand};
+
+const FORMAT: &[u8] = b"l4";
+
+const PROCESSORS: &[u8] = b"cpus";
+
+pub(crate) const THREAD: &[u8] = b"thread";
+
+const SET: &[u8] = b"set";
+
+const COPY: &[u8] = b"copy";
+
+const ADD: &[u8] = b"add";
+
+const TAG: &[u8] = b"tag";
+
+const VIRTUAL_SENDER: &[u8] = b"vs";
+
+const IPC: &[u8] = b"ipc";
+
+const EXCHANGE_REGISTERS: &[u8] = b"exregs";
+
+const DELETE: &[u8] = b"delete";
+
+const JUMP: &[u8] = b"jump";
+
+const ON_ERROR: &[u8] = b"onerr";
+
+const END: &[u8] = b"end";
+
+const FORMAT_OPERANDS: &[Operand] = &[Operand::Profile, Operand::Width];
+
+const PROCESSORS_OPERANDS: &[Operand] = &[Operand::Processors];
+
+const THREAD_OPERANDS: &[Operand] = &[
+    Operand::Thread,
+    Operand::CpuKeyword,
+    Operand::Processor,
+    Operand::SpaceKeyword,
+    Operand::Space,
+];
+
+const REGISTER_AND_WORD: &[Operand] = &[Operand::Register, Operand::Word];
+
+const TWO_REGISTERS: &[Operand] = &[Operand::Register, Operand::Source];
+
+const ONE_TAG: &[Operand] = &[Operand::Tag];
+
+const ONE_ID: &[Operand] = &[Operand::Id];
+
+const IPC_OPERANDS: &[Operand] = &[
+    Operand::Destination,
+    Operand::Id,
+    Operand::Time,
+    Operand::Time,
+];
+
+const ID_AND_BITS: &[Operand] = &[Operand::Id, Operand::Bits];
+
+const ONE_PLACE: &[Operand] = &[Operand::Place];
+
+const NOTHING: &[Operand] = &[];
+
+/// The operands of the instruction of this name. None where no instruction has it.
+#[tactic(auto, unfolding(crate::specs::Commands::instruction_operands))]
+fn instruction_operands(name: &[u8]) -> Option<&'static [Operand]>
+    ensures { option_copied result ≡ instruction_operands name.now }
+{
+    if name == SET {
+        return Some(REGISTER_AND_WORD);
+    }
+    if name == COPY {
+        return Some(TWO_REGISTERS);
+    }
+    if name == ADD {
+        return Some(REGISTER_AND_WORD);
+    }
+    if name == TAG {
+        return Some(ONE_TAG);
+    }
+    if name == VIRTUAL_SENDER {
+        return Some(ONE_ID);
+    }
+    if name == IPC {
+        return Some(IPC_OPERANDS);
+    }
+    if name == EXCHANGE_REGISTERS {
+        return Some(ID_AND_BITS);
+    }
+    if name == DELETE {
+        return Some(ONE_ID);
+    }
+    if name == JUMP {
+        return Some(ONE_PLACE);
+    }
+    if name == ON_ERROR {
+        return Some(ONE_PLACE);
+    }
+    if name == END {
+        return Some(NOTHING);
+    }
+    None
+}
+
+fn operands_behind(
+    name: &[u8],
+    keyword: &[u8],
+    operands: &'static [Operand],
+) -> Option<&'static [Operand]>
+    ensures { option_copied result ≡ operands_behind name.now keyword.now operands.now }
+{
+    if name == keyword {
+        Some(operands)
+    } else {
+        None
+    }
+}
+
+/// The operands of such a line of this name. None where no line of these begins with it.
+pub(crate) fn operands_of(lines: Lines, name: &[u8]) -> Option<&'static [Operand]>
+    ensures { option_copied result ≡ operands_of lines name.now }
+{
+    match lines {
+        Lines::Format => operands_behind(name, FORMAT, FORMAT_OPERANDS),
+        Lines::Processors => operands_behind(name, PROCESSORS, PROCESSORS_OPERANDS),
+        Lines::Thread => operands_behind(name, THREAD, THREAD_OPERANDS),
+        Lines::Script if name == THREAD => Some(THREAD_OPERANDS),
+        Lines::Script => instruction_operands(name),
+    }
+}

@@ -1,0 +1,23 @@
+//! All that is said of a text.
+ghost use Rattle.std.specs.Prelude.{◌≡◌, IfOk};
+ghost use Rattle.l4_lint.specs.Faults.{faults_of};
+ghost use Rattle.l4_lint.specs.Spelling.{faults_text, status_of};
+
+use crate::faults::faults;
+use crate::printed::Lint;
+use crate::spelling::push_faults;
+use l4_types::errors::NoMemory;
+use std::alloc::Global;
+
+/// The lines and the status of a text: nothing and 0 where it declares a machine. `NoMemory` only
+/// where memory was refused.
+pub fn lint(alloc: Global, text: &[u8]) -> Result<Lint, NoMemory>
+    ensures lines { IfOk result (λ lint. lint.lines.items ≡ faults_text (faults_of text.now)) }
+    ensures status { IfOk result (λ lint. lint.status ≡ status_of (faults_of text.now)) }
+{
+    let found = faults(alloc, text)?;
+    let mut lines = Vec::new(alloc);
+    push_faults(found.as_slice(), &mut lines)?;
+    let status = if found.is_empty() { 0 } else { 1 };
+    Ok(Lint { lines, status })
+}

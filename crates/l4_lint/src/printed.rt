@@ -1,0 +1,10 @@
+//! What is printed of a text.
+
+/// What is printed of a text, and the status with which a program ends.
+#[derive(Drop)]
+pub struct Lint {
+    /// A line for each fault, in the order of the text.
+    pub lines: Vec<u8>,
+    /// 1 where the text has a fault, else 0.
+    pub status: u8,
+}

@@ -1,0 +1,158 @@
+//! The lines that say what was found.
+ghost use Rattle.std.specs.Prelude.{◌≡◌, ◌++◌, codes, decimal, flat_map, map, OnOk};
+ghost use Rattle.std.specs.Char.Escape.{escape_ascii};
+ghost use Rattle.l4_lint.specs.Spelling.{kind_word, operand_text, lines_text, hint_text, shown_word, place_text, fault_line, faults_text};
+ghost use Rattle.l4_lint.specs.Views.{fault_of};
+
+use crate::faults::Fault;
+use crate::hints::{Hint, Lines, Operand};
+use l4_script::text::TextFaultKind;
+use l4_types::errors::NoMemory;
+
+fn kind_word(kind: TextFaultKind) -> &'static str
+    ensures { result.now ≡ kind_word kind }
+{
+    match kind {
+        TextFaultKind::TooLong => "TooLong",
+        TextFaultKind::NoMemory => "NoMemory",
+        TextFaultKind::BadLine => "BadLine",
+        TextFaultKind::BadNumber => "BadNumber",
+        TextFaultKind::BadId => "BadId",
+        TextFaultKind::BadCpu => "BadCpu",
+        TextFaultKind::TypedItems => "TypedItems",
+        TextFaultKind::DoubleId => "DoubleId",
+        TextFaultKind::TooManyThreads => "TooManyThreads",
+        TextFaultKind::TooManyInstructions => "TooManyInstructions",
+        TextFaultKind::BadTarget => "BadTarget",
+    }
+}
+
+fn operand_text(operand: Operand) -> &'static str
+    ensures { result.now ≡ operand_text operand }
+{
+    match operand {
+        Operand::Profile => "wanted: a profile, 1 or 2",
+        Operand::Width => "wanted: the bits of a word, 64 or 32",
+        Operand::Processors => "wanted: a number of processors, 1 to 16",
+        Operand::Thread => "wanted: a thread N.V",
+        Operand::CpuKeyword => "wanted: cpu",
+        Operand::Processor => "wanted: a processor, below the number of the cpus line",
+        Operand::SpaceKeyword => "wanted: space",
+        Operand::Space => "wanted: an address space, 0 to 4294967295",
+        Operand::Register => "wanted: a register, 1 to 63",
+        Operand::Source => "wanted: a register, 0 to 63",
+        Operand::Word => "wanted: a word of the format of line 1",
+        Operand::Tag => "wanted: a tag, a word of the format of line 1",
+        Operand::Id => "wanted: nil, any, anylocal, a thread N.V, or # and all digits of a word",
+        Operand::Destination => {
+            "wanted: last, nil, any, anylocal, a thread N.V, or # and all digits of a word"
+        }
+        Operand::Time => "wanted: never, zero, or a time, 0 to 0x7fff",
+        Operand::Bits => "wanted: S, R or SR",
+        Operand::Place => "wanted: a place of the script, 0 to its number of instructions",
+    }
+}
+
+fn lines_text(lines: Lines) -> &'static str
+    ensures { result.now ≡ lines_text lines }
+{
+    match lines {
+        Lines::Format => "wanted: the first line, l4 P B",
+        Lines::Processors => "wanted: the second line, cpus N",
+        Lines::Thread => "wanted: a line thread N.V cpu P space S",
+        Lines::Script => "wanted: an instruction, or a line thread N.V cpu P space S",
+    }
+}
+
+fn hint_text(hint: Hint) -> &'static str
+    ensures { result.now ≡ hint_text hint }
+{
+    match hint {
+        Hint::LongText => "a text has at most 1048576 bytes",
+        Hint::NoLineEnd => "the last line has no line end",
+        Hint::ByteOrderMark => "a byte order mark; a text begins with its first line",
+        Hint::CarriageReturn => "a carriage return; a line ends with the byte 0x0a alone",
+        Hint::Tab => "a tab; one space stands between two words",
+        Hint::Unprintable => "no printable ASCII",
+        Hint::Space => "a space too many; one stands between two words and none elsewhere",
+        Hint::Begins(lines) => lines_text(lines),
+        Hint::OtherComment => "a comment begins with ;",
+        Hint::CommentBehind => "a comment stands on a line of its own",
+        Hint::Surplus => "a word too many",
+        Hint::Wanted(operand) => operand_text(operand),
+        Hint::Last => "last stands only where an ipc sends to",
+        Hint::Version => "no thread has this version; its low six bits are not all zero",
+        Hint::TypedItems => "t, bits 6 to 11 of a tag, is not zero",
+        Hint::DoubleNumber => "a thread before has this number",
+        Hint::ManyThreads => "a machine has at most 1024 threads",
+        Hint::ManyInstructions => "a script has at most 1024 instructions",
+    }
+}
+
+/// Appends a byte, escaped where it is not printable.
+fn push_escaped(byte: u8, out: &mut Vec<u8>) -> Result<(), NoMemory>
+    ensures { OnOk result (out.new.items ≡ out.old.items ++ escape_ascii byte) }
+{
+    let mut pieces = byte.escape_ascii();
+    'pieces: while let Some(piece) = pieces.next() {
+        out.push(piece)?;
+    }
+    Ok(())
+}
+
+/// Appends bytes, escaped where they are not printable.
+fn push_word(word: &[u8], out: &mut Vec<u8>) -> Result<(), NoMemory>
+    ensures { OnOk result (out.new.items ≡ out.old.items ++ flat_map escape_ascii word.now) }
+{
+    for byte in word {
+        push_escaped(*byte, out)?;
+    }
+    Ok(())
+}
+
+/// Appends what stands in a place, if anything does.
+fn push_shown(word: &[u8], out: &mut Vec<u8>) -> Result<(), NoMemory>
+    ensures { OnOk result (out.new.items ≡ out.old.items ++ shown_word word.now) }
+{
+    if word.is_empty() {
+        return Ok(());
+    }
+    out.extend_from_slice(b"`")?;
+    push_word(word, out)?;
+    out.extend_from_slice(b"`: ")?;
+    Ok(())
+}
+
+/// Appends the numbers of a line and a column.
+fn push_place(line: usize, column: usize, out: &mut Vec<u8>) -> Result<(), NoMemory>
+    ensures { OnOk result (out.new.items ≡ out.old.items ++ place_text line column) }
+{
+    let mut place = String::new(*out.allocator());
+    write!(place, "line {line} column {column}: ")?;
+    out.extend_from_slice(place.as_bytes())?;
+    Ok(())
+}
+
+/// Appends the line of a fault.
+fn push_fault(fault: &Fault<'_>, out: &mut Vec<u8>) -> Result<(), NoMemory>
+    ensures { OnOk result (out.new.items ≡ out.old.items ++ fault_line (fault_of fault.now)) }
+{
+    push_place(fault.line, fault.place.column, out)?;
+    out.extend_from_slice(kind_word(fault.kind).as_bytes())?;
+    out.extend_from_slice(b": ")?;
+    push_shown(fault.place.word, out)?;
+    out.extend_from_slice(hint_text(fault.place.hint).as_bytes())?;
+    out.extend_from_slice(b"\n")?;
+    Ok(())
+}
+
+/// Appends a line for each fault.
+pub(crate) fn push_faults(found: &[Fault<'_>], out: &mut Vec<u8>) -> Result<(), NoMemory>
+    ensures { OnOk result
+        (out.new.items ≡ out.old.items ++ faults_text (map fault_of found.now)) }
+{
+    for fault in found {
+        push_fault(fault, out)?;
+    }
+    Ok(())
+}

@@ -1,0 +1,62 @@
+//! The operands of a line from left to right.
+ghost use Rattle.std.specs.Prelude.{◌≡◌, ◌≤◌, length};
+ghost use Rattle.l4_lint.specs.Walks.{passes, walk};
+ghost use Rattle.l4_lint.specs.Views.{context_of, walked_of};
+
+use crate::bytes::split_word;
+use crate::contexts::Context;
+use crate::hints::Operand;
+use crate::judging::{is_keyword, is_right};
+
+/// What is asked of each operand.
+#[derive(Clone, Copy)]
+pub(crate) enum Test {
+    /// That a word is there.
+    Present,
+    /// That it is right where a keyword is wanted.
+    Keyword,
+    /// That it is right.
+    Right,
+}
+
+/// The first operand that does not pass and the rest of the line from there, or what stands behind
+/// all of them.
+#[derive(Clone, Copy)]
+pub(crate) struct Walked<'a> {
+    pub(crate) rest: &'a [u8],
+    pub(crate) failed: Option<Operand>,
+}
+
+fn passes(test: Test, context: Context, operand: Operand, word: &[u8]) -> bool
+    ensures { result ≡ passes test (context_of context) operand word.now }
+{
+    match test {
+        Test::Present => !word.is_empty(),
+        Test::Keyword => !is_keyword(operand) || is_right(context, operand, word),
+        Test::Right => is_right(context, operand, word),
+    }
+}
+
+/// Asks this of the operands one after another, until one does not pass.
+pub(crate) fn walk<'a>(
+    test: Test,
+    context: Context,
+    operands: &[Operand],
+    words: &'a [u8],
+) -> Walked<'a>
+    ensures value { walked_of result ≡ walk test (context_of context) operands.now words.now }
+    ensures within { length result.rest.now ≤ length words.now }
+{
+    let mut rest = words;
+    for operand in operands {
+        let (word, others) = split_word(rest);
+        if !passes(test, context, *operand, word) {
+            return Walked {
+                rest,
+                failed: Some(*operand),
+            };
+        }
+        rest = others;
+    }
+    Walked { rest, failed: None }
+}

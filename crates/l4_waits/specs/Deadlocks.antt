@@ -1,0 +1,47 @@
+-- Threads that can't go on.
+use Rattle.std.specs.Prelude.{◌≡◌, Bool, true, false, not, ◌||◌, None, Some, List}
+use Rattle.std.specs.List.{list_all, AllByRecursion}
+use Rattle.l4_model.specs.Words.{GlobalId, same_id}
+use Rattle.l4_model.specs.Machine.{Machine}
+use Rattle.l4_model.specs.World.{World}
+use Rattle.l4_model.specs.Steps.{Step, Local, Begin, Queue, Deliver, Wait, SendTimeout, ReceiveTimeout, SendNobody, ReceiveNobody, SendCancel, ReceiveCancel, Drop, Order, Obey, Tick, Retarget, next}
+use Rattle.l4_model.specs.History.{run}
+use Rattle.l4_model.specs.Still.{is_tick}
+use Rattle.l4_audit.specs.Possible.{has_number}
+
+-- A step by which this thread goes on. What is asked for and not done yet, and what is owed, may be of any thread, so it counts for each.
+abbrev pub is_of : GlobalId → Step → Bool
+is_of id (Local t) = same_id t id
+is_of id (Begin s) = same_id s.thread id
+is_of id (Queue s) = same_id s.thread id
+is_of id (Deliver s receiver shown actual tag words) = same_id s.thread id || same_id receiver id
+is_of id (Wait t) = same_id t id
+is_of id (SendTimeout s) = same_id s.thread id
+is_of id (ReceiveTimeout t) = same_id t id
+is_of id (SendNobody s) = same_id s.thread id
+is_of id (ReceiveNobody t) = same_id t id
+is_of id (SendCancel s) = same_id s.thread id
+is_of id (ReceiveCancel t) = same_id t id
+is_of id (Drop s) = same_id s.thread id
+is_of id (Order caller target what) = same_id caller id
+is_of id (Obey caller) = true
+is_of id (Tick cpu clock) = false
+is_of id (Retarget s) = true
+
+-- By no step that a trace can tell does it go on, here or after any ticks.
+abbrev pub IsStuck : Machine → World → GlobalId → Type 0
+IsStuck m w id =
+    (ticks : List Step) (later : World) (step : Step) →
+    AllByRecursion (λ tick. is_tick tick ≡ true) ticks → run m w ticks ≡ Some later → is_of id step ≡ true → has_number step ≡ true →
+    next m later step ≡ None
+
+-- None of these threads does.
+abbrev pub IsDeadlock : Machine → World → List GlobalId → Type 0
+IsDeadlock m w ids = AllByRecursion (IsStuck m w) ids
+
+-- A test of both: none of these steps, which are possible with late clocks, is one of them.
+abbrev pub is_stuck : List Step → GlobalId → Bool
+is_stuck steps id = list_all (λ step. not (is_of id step)) steps
+
+abbrev pub are_stuck : List Step → List GlobalId → Bool
+are_stuck steps ids = list_all (is_stuck steps) ids

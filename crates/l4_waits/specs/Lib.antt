@@ -1,0 +1,3 @@
+pub mod Circles
+pub mod Deadlocks
+pub mod Lines

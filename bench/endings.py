@@ -9,6 +9,7 @@ more. Faults are not told as the program tells them.
 
 import argparse
 import pathlib
+import re
 import sys
 
 from second import machines, model, searches, words
@@ -18,8 +19,10 @@ DEPTH, STATES = 1_000, 100_000
 LEAST, MOST = 1, 1_000_000
 WHOLE, USAGE, CUT, FOUND = 0, 2, 3, 4
 ANY_WORD, ANY_WORDS = "*", ".."
+ANY_SEND = "#*"
 OPEN = (words.ANY, words.ANY_LOCAL)
 BEGINNINGS = ("thread", "waiting", "ending", ANY_WORD)
+SEND = re.compile(r"\d+\.\d+#\d+")
 
 
 class Ending:
@@ -56,13 +59,21 @@ def fits(asked, line):
         return True
     if not asked or not line:
         return asked == line
-    return asked[0] in (ANY_WORD, line[0]) and fits(asked[1:], line[1:])
+    return fits_word(asked[0], line[0]) and fits(asked[1:], line[1:])
+
+
+def fits_word(asked, word):
+    """Whether a word is the one that is asked for, or a send of the thread of which any send is."""
+    thread, _, number = word.partition("#")
+    return asked in (ANY_WORD, word) or bool(number) and asked == thread + ANY_SEND
 
 
 def may_be_asked(line):
-    """Whether a report may have such a line, and it asks for no register of a deleted thread."""
+    """Whether a report may have such a line, and it asks for no register of a deleted thread and for no number of a send."""
     first, *others = line.split(" ")
     if first not in BEGINNINGS:
+        return False
+    if first in ("waiting", ANY_WORD) and others and SEND.fullmatch(others[0]):
         return False
     may_be_deleted = first in ("thread", ANY_WORD) and len(others) > 1 and others[1] in ("deleted", ANY_WORD)
     return not may_be_deleted or others[2:] == [ANY_WORDS]

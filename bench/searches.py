@@ -18,7 +18,7 @@ SEED = 20_261_127
 KINDS = (randoms.General, randoms.HandingOn, randoms.Conflicts, randoms.HandingOn)
 DEPTH = 40
 MOST_STATES = 2_000
-LINES = ("waiting ..", "thread 1.1 ended ..", "thread * receiving ..", "thread 2.1 sending 0 * * *", "thread 1.1 * ..", "ending quiet")
+LINES = ("waiting ..", "waiting 1.1#* *", "thread 1.1 ended ..", "thread * receiving ..", "thread 2.1 sending 0 * * *", "thread 1.1 * ..", "ending quiet")
 
 
 def question(dice):

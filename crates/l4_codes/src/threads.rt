@@ -88,7 +88,7 @@ fn put_state(code: &mut Code, state: State) -> Result<(), AllocError>
     }
 }
 
-// Registers, place in the script, number of sends.
+// Registers and place in the script.
 fn put_context(code: &mut Code, thread: &Thread) -> Result<(), AllocError>
     ensures { OnOk result (Writes (context_code thread.now.context) code.old code.new) }
 {
@@ -99,8 +99,7 @@ fn put_context(code: &mut Code, thread: &Thread) -> Result<(), AllocError>
     code.put(regs.error)?;
     put_id(code, regs.from)?;
     put_id(code, regs.actual)?;
-    code.put(thread.place() as u64)?;
-    code.put(thread.begun())
+    code.put(thread.place() as u64)
 }
 
 /// A thread.

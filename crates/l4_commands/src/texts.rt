@@ -99,6 +99,12 @@ pub const UNKNOWN_LINE: &str =
 For more information, try '--help'.
 ";
 
+pub const NUMBER_LINE: &str =
+    "no number of a send may be asked for, but any send of a thread, as waiting 1.1#* 2.1
+
+For more information, try '--help'.
+";
+
 pub const DELETED_LINE: &str =
     "of a deleted thread no more may be asked for than its state, as thread 1.1 deleted ..
 

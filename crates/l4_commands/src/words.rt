@@ -10,7 +10,7 @@ ghost use Rattle.l4_commands.specs.declared.words.WordsFault.TheVariants.{NoMemo
 use crate::asked::{Conflict, excluded, job_of_matches};
 use crate::commands::l4run_command;
 use crate::job::Job;
-use crate::texts::{DELETED_LINE, OVER_ITS_FILE, TWO_FORMS, UNKNOWN_LINE};
+use crate::texts::{DELETED_LINE, NUMBER_LINE, OVER_ITS_FILE, TWO_FORMS, UNKNOWN_LINE};
 use clap::error::ErrorKind;
 use clap::{ArgMatches, Error};
 use l4_lines::lines::LineFault;
@@ -73,6 +73,9 @@ fn conflict_text(alloc: Global, conflict: Conflict<'_>) -> Result<String, AllocE
         }
         Conflict::Line(line, LineFault::Deleted) => {
             format!(in alloc; "error: invalid line '{line}': {DELETED_LINE}")
+        }
+        Conflict::Line(line, LineFault::Number) => {
+            format!(in alloc; "error: invalid line '{line}': {NUMBER_LINE}")
         }
     }
 }

@@ -2,7 +2,8 @@
 use Rattle.std.specs.Prelude.{ℕ, ◌+◌, Bool, true, false, List, [], ◌∷◌}
 use Rattle.l4_model.specs.Words.{GlobalId, same_id}
 use Rattle.l4_model.specs.Rules.{bit}
-use Rattle.l4_model.specs.Steps.{Step, Local, Begin, Deliver, Wait, SendTimeout, ReceiveTimeout, SendNobody, ReceiveNobody, SendCancel, ReceiveCancel, Order}
+use Rattle.l4_model.specs.Steps.{Step, Local, Begin, Deliver, Wait, SendTimeout, ReceiveTimeout}
+use Rattle.l4_model.specs.Steps.{SendNobody, ReceiveNobody, SendCancel, ReceiveCancel, Order}
 use Rattle.l4_counts.specs.declared.counts.Counts.{Counts}
 
 -- Steps of this thread

@@ -11,5 +11,6 @@
 #![tactic(auto)]
 
 pub mod found;
+pub mod progress;
 pub mod search;
 pub mod tries;

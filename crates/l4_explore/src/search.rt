@@ -4,6 +4,7 @@ ghost use Rattle.l4_explore.specs.Search.{depth_of, met, seen_at, AreWithin, IsC
 ghost use Rattle.l4_explore.specs.Views.{next_from};
 
 use crate::found::Found;
+use crate::progress::{Progress, Unheard};
 use crate::tries::{Choice, Tries};
 use std::alloc::{AllocError, Global};
 
@@ -39,6 +40,51 @@ pub fn explore<T: Tries>(
     ensures cut { IfOk result (λ r.
         r.is_whole ≡ false → IsCut (T.state_of tries.now) r.found depth most r.depth) }
 {
+    explore_heard(alloc, tries, depth, most, &mut Unheard)
+}
+
+/// The states that `explore` finds. The listener hears how far it has come: once for each state
+/// that it goes on from, and last that it has ended.
+///
+/// `AllocError`: memory was refused.
+pub fn explore_heard<T: Tries, P: Progress>(
+    alloc: Global,
+    tries: &T,
+    depth: u32,
+    most: u32,
+    progress: &mut P,
+) -> Result<Explored, AllocError>
+    requires { 0 < most }
+    ensures explored { IfOk result (λ r.
+        IsExplored (T.state_of tries.now) r.found r.depth r.is_whole) }
+    ensures few { IfOk result (λ r. length r.found ≤ most) }
+    ensures whole { IfOk result (λ r.
+        r.is_whole ≡ true → (r.depth ≡ depth_of r.found) × (r.depth < depth)) }
+    ensures cut { IfOk result (λ r.
+        r.is_whole ≡ false → IsCut (T.state_of tries.now) r.found depth most r.depth) }
+{
+    let explored = explore_on(alloc, tries, depth, most, progress);
+    progress.ended();
+    explored
+}
+
+// Goes on from one state after the other.
+fn explore_on<T: Tries, P: Progress>(
+    alloc: Global,
+    tries: &T,
+    depth: u32,
+    most: u32,
+    progress: &mut P,
+) -> Result<Explored, AllocError>
+    requires { 0 < most }
+    ensures explored { IfOk result (λ r.
+        IsExplored (T.state_of tries.now) r.found r.depth r.is_whole) }
+    ensures few { IfOk result (λ r. length r.found ≤ most) }
+    ensures whole { IfOk result (λ r.
+        r.is_whole ≡ true → (r.depth ≡ depth_of r.found) × (r.depth < depth)) }
+    ensures cut { IfOk result (λ r.
+        r.is_whole ≡ false → IsCut (T.state_of tries.now) r.found depth most r.depth) }
+{
     let mut found = Found::new(alloc, tries.opening(alloc)?)?;
     let mut next = 0;
     while next < found.len() {
@@ -50,6 +96,7 @@ pub fn explore<T: Tries>(
                 is_whole: false,
             });
         }
+        progress.looked_at(found.len(), schedule.len());
         if !expand(alloc, tries, &mut found, next, &schedule, most)? {
             return Ok(Explored {
                 found,

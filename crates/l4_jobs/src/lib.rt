@@ -6,7 +6,8 @@
 //! bytes: the lines written once are exactly the trace, report or verdict that the job asks for,
 //! with who waits for whom and what each thread did behind it where that is asked for, or what is
 //! told of a step that is not possible; else one fault line is written, and the status is 1. By what
-//! is recorded a replay is that run. They also say which file is which, and which fault comes first.
+//! is recorded a replay is that run. They also say which file is which, and which fault comes first. What the
+//! `.._heard` of these tell their listener of a search, none says.
 //!
 //! What the system's files and streams do is believed in `streams` and tried by
 //! `.ci/command-lines`. `l4_host_tests` has streams that fail and refused memory, `l4_cases` what

@@ -27,6 +27,7 @@ use crate::job::{Job, Judged, Printed, list_name};
 use crate::searches::search_output;
 use crate::streams::{Sink, Source};
 use crate::trace_lines::trace_of;
+use l4_explore::progress::{Progress, Unheard};
 use l4_machine::{CompactOutcome, Entry, replay_compact, run_compact};
 use l4_proc::gate::Open;
 use l4_reports::report_lines::write_report;
@@ -285,12 +286,13 @@ fn audit_output<'a, T: Source>(
 
 // What a job prints for a machine. Only an audit and a chart read a trace, and only a replay may
 // read a list in its place.
-fn output_on<'a, R: Threads + Sync, T: Source>(
+fn output_on<'a, R: Threads + Sync, T: Source, P: Progress>(
     rt: &R,
     alloc: Global,
     job: &Job<'a>,
     machine: &Machine,
     trace: &mut T,
+    progress: &mut P,
 ) -> Result<Output, Fault<'a>>
     ensures ok { IfOk result (λ output. (told : List ℕ) × IsTold job.now (T.gives trace.old) told ×
         IsShownOn job.now machine.now told output.lines.items output.status ×
@@ -312,7 +314,7 @@ fn output_on<'a, R: Threads + Sync, T: Source>(
             ..
         } => audit_output(alloc, machine, name, judged, trace),
         Job::Chart(chart) => chart_output(alloc, machine, &chart, trace),
-        Job::Endings(search) => search_output(alloc, machine, &search),
+        Job::Endings(search) => search_output(alloc, machine, &search, progress),
         // A text with a fault did not come so far.
         Job::Lint { .. } => Ok(Output {
             lines: Vec::new(alloc),
@@ -323,12 +325,13 @@ fn output_on<'a, R: Threads + Sync, T: Source>(
 }
 
 // What a job prints for a text. The text is judged before the trace is read.
-fn output_of<'a, R: Threads + Sync, T: Source>(
+fn output_of<'a, R: Threads + Sync, T: Source, P: Progress>(
     rt: &R,
     alloc: Global,
     job: &Job<'a>,
     text: &[u8],
     trace: &mut T,
+    progress: &mut P,
 ) -> Result<Output, Fault<'a>>
     ensures ok { IfOk result (λ output. (told : List ℕ) × IsTold job.now (T.gives trace.old) told ×
         IsShown job.now text.now told output.lines.items output.status ×
@@ -338,16 +341,17 @@ fn output_of<'a, R: Threads + Sync, T: Source>(
     ensures unread { second_file_of job.now ≡ None → trace.new ≡ trace.old }
 {
     let machine = Machine::parse(alloc, text)?;
-    output_on(rt, alloc, job, &machine, trace)
+    output_on(rt, alloc, job, &machine, trace, progress)
 }
 
 // What a job prints for what its readers give.
-fn job_output<'a, R: Threads + Sync, M: Source, T: Source>(
+fn job_output<'a, R: Threads + Sync, M: Source, T: Source, P: Progress>(
     rt: &R,
     alloc: Global,
     job: &Job<'a>,
     machine: &mut M,
     trace: &mut T,
+    progress: &mut P,
 ) -> Result<Output, Fault<'a>>
     ensures shown { IfOk result (λ output.
         (text : List ℕ) × (told : List ℕ) × M.gives machine.old (Ok text) ×
@@ -358,7 +362,7 @@ fn job_output<'a, R: Threads + Sync, M: Source, T: Source>(
     ensures unread { second_file_of job.now ≡ None → trace.new ≡ trace.old }
 {
     let text = read_text(alloc, job.file(), machine)?;
-    output_of(rt, alloc, job, text.as_slice(), trace)
+    output_of(rt, alloc, job, text.as_slice(), trace, progress)
 }
 
 // What is answered once the lines are written. A step that is not possible is reported then.
@@ -410,7 +414,39 @@ pub fn perform<R: Threads + Sync, M: Source, T: Source, W: Sink, E: Sink>(
     ensures statuses { IsStatusOf job.now result }
     ensures unread { second_file_of job.now ≡ None → trace.new ≡ trace.old }
 {
-    let output = match job_output(rt, alloc, job, machine, trace) {
+    perform_heard(rt, alloc, job, machine, trace, out, faults, &mut Unheard)
+}
+
+/// Does a job as `perform` does it. Where it is a search for endings, the listener hears how far it
+/// has come, and that it has ended before anything is written.
+#[tactic(auto, using(crate::proofs::Shown::truly_done))]
+pub fn perform_heard<R: Threads + Sync, M: Source, T: Source, W: Sink, E: Sink, P: Progress>(
+    rt: &R,
+    alloc: Global,
+    job: &Job<'_>,
+    machine: &mut M,
+    trace: &mut T,
+    out: &mut W,
+    faults: &mut E,
+    progress: &mut P,
+) -> u8
+    ensures shown { result ≢ 1 →
+        IsDone job.now (M.gives machine.old) (T.gives trace.old) (W.takes out.old out.new)
+        (faults.new ≡ faults.old) result }
+    ensures headline { result ≢ 1 →
+        IsTrulyDone job.now (M.gives machine.old) (T.gives trace.old) (W.takes out.old out.new)
+        result }
+    ensures whole { result ≡ 1 →
+        IsNotDone job.now (M.gives machine.old) (T.gives trace.old)
+        (IsJobFault job.now (M.gives machine.old) (T.gives trace.old))
+        (W.takes out.old out.new) (out.new ≡ out.old) (E.takes faults.old faults.new) }
+    ensures faulty { ((text told : List ℕ) → M.gives machine.old (Ok text) →
+        IsTold job.now (T.gives trace.old) told →
+        fault_of job.now text told ≢ None) → (result ≡ 1) × (out.new ≡ out.old) }
+    ensures statuses { IsStatusOf job.now result }
+    ensures unread { second_file_of job.now ≡ None → trace.new ≡ trace.old }
+{
+    let output = match job_output(rt, alloc, job, machine, trace, progress) {
         Ok(output) => output,
         Err(fault) => return report(alloc, faults, &fault),
     };

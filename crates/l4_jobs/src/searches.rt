@@ -7,7 +7,8 @@ ghost use Rattle.l4_jobs.specs.declared.fault.Fault.TheVariants.{NoMemory as Out
 use crate::fault::Fault;
 use crate::job::EndingsJob;
 use crate::perform::Output;
-use l4_questions::answers;
+use l4_explore::progress::Progress;
+use l4_questions::answers_heard;
 use l4_questions::question::Question;
 use l4_script::machine::Machine;
 use std::alloc::Global;
@@ -25,11 +26,12 @@ fn question_of<'a>(search: &EndingsJob<'a>) -> Question<'a>
     }
 }
 
-// What a search for the endings of a machine prints.
-pub(crate) fn search_output<'a>(
+// What a search for the endings of a machine prints. The listener hears how far it has come.
+pub(crate) fn search_output<'a, P: Progress>(
     alloc: Global,
     machine: &Machine,
     search: &EndingsJob<'_>,
+    progress: &mut P,
 ) -> Result<Output, Fault<'a>>
     ensures ok { IfOk result (λ output. IsAnswered machine.now (question_of search.now)
         output.lines.items output.status) }
@@ -38,7 +40,7 @@ pub(crate) fn search_output<'a>(
         (fault_of_search search.now ≡ Some fault)) }
 {
     let question = question_of(search);
-    let answer = answers(alloc, machine, &question)?;
+    let answer = answers_heard(alloc, machine, &question, progress)?;
     Ok(Output {
         lines: answer.lines,
         status: answer.status,

@@ -11,7 +11,8 @@ ghost use Rattle.l4_questions.specs.declared.question.QuestionFault.TheVariants.
 use crate::asked::Shown;
 use crate::printed::{write_head, write_last};
 use crate::question::{Question, QuestionFault};
-use l4_endings::endings;
+use l4_endings::endings_heard;
+use l4_explore::progress::{Progress, Unheard};
 use l4_machine::Entry;
 use l4_script::machine::Machine;
 use l4_types::errors::NoMemory;
@@ -110,8 +111,25 @@ pub fn answers(
     ensures err { IfErr result (λ fault. (fault ≡ OutOfMemory) ⊎
         (question_fault question.now ≡ Some fault)) }
 {
+    answers_heard(alloc, machine, question, &mut Unheard)
+}
+
+/// The answer that `answers` gives. The listener hears how far the search has come.
+///
+/// `Depth`, `States` and `NoMemory` as of `answers`.
+pub fn answers_heard<P: Progress>(
+    alloc: Global,
+    machine: &Machine,
+    question: &Question<'_>,
+    progress: &mut P,
+) -> Result<Answer, QuestionFault>
+    ensures ok { IfOk result (λ answer.
+        IsAnswered machine.now question.now answer.lines.items answer.status) }
+    ensures err { IfErr result (λ fault. (fault ≡ OutOfMemory) ⊎
+        (question_fault question.now ≡ Some fault)) }
+{
     let (depth, most) = question.limits()?;
-    let found = endings(alloc, machine, depth, most)?;
+    let found = endings_heard(alloc, machine, depth, most, progress)?;
     let mut lines = Vec::new(alloc);
     let count = write_endings(
         alloc,

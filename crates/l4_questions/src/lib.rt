@@ -17,4 +17,4 @@ mod closed;
 mod printed;
 pub mod question;
 
-pub use answering::{Answer, answers};
+pub use answering::{Answer, answers, answers_heard};

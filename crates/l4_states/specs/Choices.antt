@@ -5,7 +5,7 @@ use Rattle.l4_model.specs.Machine.{Machine}
 use Rattle.l4_model.specs.Conditions.{◌>>=◌}
 use Rattle.l4_core_model.specs.Runs.{System, Happening, Handles, Turns, Ticks, Happened, happens, Run, core_run, opening_run, opening_system, then_event, at_rest}
 use Rattle.l4_core_model.specs.Schedules.{least_deadline}
-use Rattle.l4_choices.specs.Alike.{IsAlike}
+use Rattle.l4_similar.specs.Similar.{IsSimilar}
 use Rattle.l4_choices.specs.Entries.{Entry, TickOf, LetterOf, CoreOf, entry_event}
 use Rattle.l4_explore.specs.Tries.{State}
 use Rattle.l4_states.specs.Codes.{code_of}
@@ -48,10 +48,11 @@ pub record IsReached (m : Machine) (g : System) : Type 0 where
   pub is : core_run m (opening_run m) happenings ≡ Some run
   pub system : run.system ≡ g
 
--- Of the states that core runs lead to those of one code are alike, and alike ones have one code.
+-- Of the states that core runs lead to those of one code are similar, and similar ones have one
+-- code.
 abbrev pub IsCoded : Machine → Type 0
 IsCoded m = (g h : System) → IsReached m g → IsReached m h →
-    (code_of m g ≡ code_of m h) ↔ IsAlike g h
+    (code_of m g ≡ code_of m h) ↔ IsSimilar g h
 
 -- The clock of a processor goes on to its least deadline.
 abbrev pub IsLeastTick : System → Happening → Type 0

@@ -1,5 +1,5 @@
--- The code of a state of a core run, all of it but stamps and the order of letters of different
--- pairs.
+-- The code of a state of a core run, all of it but stamps, numbers of sends and the order of
+-- letters of different pairs.
 use Rattle.std.specs.Prelude.{ℕ, ◌+◌, ◌==◌, Bool, if◌then◌else◌, Option, None, Some, List, [], ◌∷◌, length}
 use Rattle.l4_model.specs.Words.{GlobalId, Id, NilThread, AnyThread, AnyLocalThread, LocalThread, GlobalThread, register_count}
 use Rattle.l4_model.specs.Machine.{Machine}
@@ -82,7 +82,7 @@ phase_code Deleted rest = 5 ∷ rest
 abbrev pub context_code : Context → List ℕ → List ℕ
 context_code c rest =
     sized register_count number_code c.words
-    (c.error ∷ id_code c.from (id_code c.actual (c.place ∷ c.begun ∷ rest)))
+    (c.error ∷ id_code c.from (id_code c.actual (c.place ∷ rest)))
 
 abbrev pub thread_code : Thread → List ℕ → List ℕ
 thread_code t rest =
@@ -104,7 +104,7 @@ lists_code threads s rest =
     (chained number_code s.ready (chained armed_code s.armed rest))
 
 abbrev pub name_code : Name → List ℕ → List ℕ
-name_code s rest = global_code s.thread (s.k ∷ rest)
+name_code s rest = global_code s.thread rest
 
 abbrev pub owed_code : Owed → List ℕ → List ℕ
 owed_code o rest = name_code o.send

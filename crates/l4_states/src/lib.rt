@@ -1,9 +1,9 @@
 //! The states of core runs: the code of a state, the choices that lead on from it, and what a
 //! search of all of them has found.
 //!
-//! A code is all of a state but stamps, and the order of letters of different pairs of processors:
-//! of the states that core runs lead to, those of one code are alike. Alike states have the same
-//! futures, so a search may keep one of them.
+//! A code is all of a state but stamps, numbers of sends, and the order of letters of different
+//! pairs of processors: of the states that core runs lead to, those of one code are similar. Similar
+//! states have the same futures, so a search may keep one of them.
 //!
 //! All of it is definitions and proofs; the functions have an empty body.
 //!
@@ -28,7 +28,8 @@ pub fn law_bytes()
     ensures { (ns ms : List ℕ) → bytes_of ns ≡ bytes_of ms → ns ≡ ms }
 {}
 
-/// Of the states that core runs lead to, those of one code are alike, and alike ones have one code.
+/// Of the states that core runs lead to, those of one code are similar, and similar ones have one
+/// code.
 pub fn law_coded()
     ensures { (m : Machine) → IsMachine m → IsCoded m }
 {}
@@ -46,7 +47,7 @@ pub fn law_listed()
 {}
 
 /// Where it is cut off, so many events as it was to go deep lead to a state, and no fewer to one
-/// that is alike; or it has found as many states as it was to find, and there is one more.
+/// that is similar; or it has found as many states as it was to find, and there is one more.
 pub fn law_cut_off()
     ensures { (m : Machine) (found : List Seen) (asked most depth : ℕ) (is_whole : Bool) →
         IsMachine m → IsExplored (state_after m) found depth is_whole →

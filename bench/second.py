@@ -9,7 +9,7 @@ import random
 import subprocess
 import sys
 
-from second import explained, machines, model, randoms, traces, waits
+from second import explained, machines, model, processors, randoms, traces, waits
 
 SEED = 20_261_125
 QUIET, FAULT, SPENT = 0, 1, 3
@@ -88,6 +88,23 @@ def waits_and_counts(machine, history, counts):
     return told + waits.counts_text(machine, history)
 
 
+def rested(case, dice, machine, entries, counts):
+    """Compares what becomes of a replay that goes on by itself after a beginning of its schedule."""
+    beginning, turns = entries[: dice.randint(0, len(entries))], dice.choice([1, 2, dice.randint(3, 40), 4000])
+    replay = processors.Replay(machine)
+    for entry in beginning:
+        replay.take(entry)
+    before = len(replay.history)
+    replay.go_on(turns)
+    case.take(case.text, ",".join(map(str, beginning)))
+    at_rest = replay.is_at_rest()
+    flags = ["--then-rest", "--turns", str(turns)]
+    case.replay("rest", traces.text(replay.history), at_rest, *flags)
+    case.replay("report of the rest", model.world_of(machine, replay.history).report(at_rest), at_rest, *flags, "--report")
+    counts["steps of rests"] += len(replay.history) - before
+    counts["rests that are quiet" if at_rest else "rests that are spent"] += 1
+
+
 def tried(case, dice, kind, counts):
     """Compares the replay of a random machine of this kind by a random schedule, and the audit of its trace."""
     text = kind(dice).text()
@@ -105,6 +122,7 @@ def tried(case, dice, kind, counts):
             counts[f"audits of {what}"] += 1
             counts[f"audits of {what}: {ending}"] += 1
     waited(case, dice, machine, replay, counts)
+    rested(case, dice, machine, entries, counts)
     counts["machines"] += 1
     counts[f"machines of profile {machine.profile}"] += 1
     counts[f"machines of {machine.format.bits} bits"] += 1

@@ -9,7 +9,7 @@ use Rattle.clap.specs.declared.error.kind.ErrorKind.{ErrorKind}
 use Rattle.clap.specs.declared.error.kind.ErrorKind.TheVariants.{OutOfMemory}
 use Rattle.clap.specs.declared.parser.matches.Found.{Found}
 use Rattle.clap.proofs.WalkLemmas.{first_value-rows, one_text-rows}
-use Rattle.l4_commands.specs.Asked.{ToRun, ToReplay, ToAudit, ToChart, ToSearch, ToLint, number_of, number_in, flag_of, flag_in, extras_in, judged_in, printed_in, flags_in, form_of, has_wrong_line, is_over_file, is_same, is_wrong_line, run_in, replay_in, audit_in, chart_in, endings_in, lint_in, IsRefusal}
+use Rattle.l4_commands.specs.Asked.{ToRun, ToReplay, ToAudit, ToChart, ToSearch, ToLint, number_of, number_in, flag_of, flag_in, extras_in, judged_in, printed_in, flags_in, form_of, has_turns_alone, has_wrong_line, is_over_file, is_same, is_wrong_line, run_in, rest_in, rest_turns, replay_in, audit_in, chart_in, endings_in, lint_in, IsRefusal}
 use Rattle.l4_commands.specs.declared.asked.Flags.{Flags}
 use Rattle.l4_commands.specs.declared.job.ChartForm.{ChartForm}
 use Rattle.l4_commands.specs.declared.job.Extras.{Extras}
@@ -61,10 +61,21 @@ run_is f file turns printed record_to p q r apart to =
     ap (λ o. is_same o (first_of (codes "record") (rows_of f))) (sym here) ∙ apart in
     rw (here, q, r, other, text_is f (codes "record") _ to) refl
 
-pub replay_is : (f : Found) (file schedule : Text) (printed : Printed) → first_value f (codes "file") ≡ Some file →
-    first_value f (codes "schedule") ≡ Some schedule → printed_in (rows_of f) ≡ Some printed →
-    replay_in (rows_of f) ≡ Some (ToReplay file schedule printed)
-replay_is f file schedule printed p q r = rw (text_is f (codes "file") _ p, text_is f (codes "schedule") _ q, r) refl
+-- For how many turns a replay goes on
+pub rest_is : (f : Found) (goes_on : Bool) (given : Option Text) (rest : Option ℕ) → flag_in (codes "then-rest") (rows_of f) ≡ Some goes_on →
+    first_value f (codes "turns") ≡ given → rest_turns goes_on given (number_in (codes "turns") (rows_of f)) ≡ Some rest →
+    rest_in (rows_of f) ≡ Some rest
+rest_is f goes_on given rest p q r = rw (p, text_is f (codes "turns") _ q) r
+
+pub turns_alone : (f : Found) (given : Text) → flag_in (codes "then-rest") (rows_of f) ≡ Some false → first_value f (codes "turns") ≡ Some given →
+    has_turns_alone (rows_of f) ≡ true
+turns_alone f given p q = rw (p, text_is f (codes "turns") _ q) refl
+
+pub replay_is : (f : Found) (file schedule : Text) (rest : Option ℕ) (printed : Printed) → first_value f (codes "file") ≡ Some file →
+    first_value f (codes "schedule") ≡ Some schedule → rest_in (rows_of f) ≡ Some rest → printed_in (rows_of f) ≡ Some printed →
+    replay_in (rows_of f) ≡ Some (ToReplay file schedule rest printed)
+replay_is f file schedule rest printed p q s r =
+    rw (text_is f (codes "file") _ p, text_is f (codes "schedule") _ q, s, r) refl
 
 pub judged_is : (f : Found) (report explain : Bool) (extras : Extras) → flag_in (codes "report") (rows_of f) ≡ Some report →
     flag_in (codes "explain") (rows_of f) ≡ Some explain → extras_in (rows_of f) ≡ Some extras →

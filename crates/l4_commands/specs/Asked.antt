@@ -24,7 +24,7 @@ use Rattle.l4_commands.specs.declared.words.WordsFault.TheVariants.{Help, Usage,
 -- A job by its texts.
 pub data Asked : Type 0 where
   ToRun : (file : Text) (turns : ℕ) (printed : Printed) (record_to : Option Text) → Asked
-  ToReplay : (file schedule : Text) (printed : Printed) → Asked
+  ToReplay : (file schedule : Text) (rest : Option ℕ) (printed : Printed) → Asked
   ToAudit : (file trace : Text) (judged : Judged) → Asked
   ToChart : (file trace : Text) (first last : ℕ) (threads : Option Text) (form : ChartForm) (width : ℕ) → Asked
   ToSearch : (file : Text) (depth states : ℕ) (stuck : Bool) (with_line never : Option Text) (none : Bool) → Asked
@@ -32,7 +32,7 @@ pub data Asked : Type 0 where
 
 abbrev pub asked_by : Job → Asked
 asked_by (Run file turns printed record_to) = ToRun file.now turns printed (option_copied record_to)
-asked_by (Replay file schedule printed) = ToReplay file.now schedule.now printed
+asked_by (Replay file schedule rest printed) = ToReplay file.now schedule.now rest printed
 asked_by (Audit file trace judged) = ToAudit file.now trace.now judged
 asked_by (Chart c) = ToChart c.file.now c.trace.now c.first c.last (option_copied c.threads) c.form c.width
 asked_by (Endings e) = ToSearch e.file.now e.depth e.states e.stuck (option_copied e.with_line) (option_copied e.never) e.none
@@ -89,12 +89,33 @@ run_in rows = do
   printed ← printed_in rows
   if is_over_file rows then None else Some (ToRun file turns printed (first_of (codes "record") rows))
 
+-- For how many turns a replay goes on, if it does. Without --then-rest no turns may be given.
+abbrev pub rest_turns : (goes_on : Bool) → (given : Option Text) → (turns : Option ℕ) → Option (Option ℕ)
+rest_turns false None turns = Some None
+rest_turns false (Some given) turns = None
+rest_turns true None turns = Some (Some 100000)
+rest_turns true (Some given) turns = option_map Some turns
+
+abbrev pub rest_in : List Row → Option (Option ℕ)
+rest_in rows = do
+  goes_on ← flag_in (codes "then-rest") rows
+  rest_turns goes_on (first_of (codes "turns") rows) (number_in (codes "turns") rows)
+
 abbrev pub replay_in : List Row → Option Asked
 replay_in rows = do
   file ← first_of (codes "file") rows
   schedule ← first_of (codes "schedule") rows
+  rest ← rest_in rows
   printed ← printed_in rows
-  Some (ToReplay file schedule printed)
+  Some (ToReplay file schedule rest printed)
+
+-- Turns are given of a replay that does not go on.
+abbrev pub are_turns_alone : (goes_on : Option Bool) → (given : Option Text) → Bool
+are_turns_alone (Some false) (Some given) = true
+are_turns_alone goes_on given = false
+
+abbrev pub has_turns_alone : List Row → Bool
+has_turns_alone rows = are_turns_alone (flag_in (codes "then-rest") rows) (first_of (codes "turns") rows)
 
 abbrev pub audit_in : List Row → Option Asked
 audit_in rows = do
@@ -169,7 +190,7 @@ asked_in p =
 abbrev pub asked_of : (words : List Text) → Option Asked
 asked_of words = option_and_then asked_in (subcommand_of l4run_app words)
 
--- Words that exclude each other: of a run, a schedule that is kept in the file of its machine text; of a chart, two forms; of a search, a line that may
+-- Words that exclude each other: of a run, a schedule that is kept in the file of its machine text; of a replay, turns but no rest; of a chart, two forms; of a search, a line that may
 -- not be asked for.
 abbrev pub excludes : Option Flags → Bool
 excludes None = false
@@ -178,9 +199,10 @@ excludes (Some flags) = is_none (form_of flags)
 abbrev pub excluding : Text × List Row → Bool
 excluding p =
     if bytes_eq p.0 (codes "run") then is_over_file p.1
+    else (if bytes_eq p.0 (codes "replay") then has_turns_alone p.1
     else (if bytes_eq p.0 (codes "chart") then excludes (flags_in p.1)
     else (if bytes_eq p.0 (codes "endings") then has_wrong_line p.1
-    else false))
+    else false)))
 
 abbrev pub excluded_in : Option (Text × List Row) → Kinds
 excluded_in None = []

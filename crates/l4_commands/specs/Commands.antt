@@ -17,6 +17,10 @@ trace_rule = record (new_rule (codes "trace")) { value_names = 1; required = tru
 abbrev pub turns_rule : Rule
 turns_rule = record (new_rule (codes "turns")) { long = Some (codes "turns"); value_names = 1; parser = Some (Unsigned 0 18446744073709551615); defaults = codes "100000" ∷ [] }
 
+-- The same of a replay that goes on, where it stands for no number if it is not given.
+abbrev pub rest_turns_rule : Rule
+rest_turns_rule = record (new_rule (codes "turns")) { long = Some (codes "turns"); value_names = 1; parser = Some (Unsigned 0 18446744073709551615) }
+
 -- --schedule LIST
 abbrev pub schedule_rule : Rule
 schedule_rule = record (new_rule (codes "schedule")) { long = Some (codes "schedule"); value_names = 1; required = true }
@@ -77,8 +81,12 @@ run_app = with_rule (with_printed turned_app) (text_rule (codes "record"))
 abbrev pub scheduled_app : App
 scheduled_app = with_rule (with_rule (new_app (codes "replay")) file_rule) schedule_rule
 
+-- And with --then-rest, and --turns N for it.
+abbrev pub rested_app : App
+rested_app = with_rule (with_rule scheduled_app (flag_rule (codes "then-rest"))) rest_turns_rule
+
 abbrev pub replay_app : App
-replay_app = with_printed scheduled_app
+replay_app = with_printed rested_app
 
 -- The command `audit`, with its files, what is told of a world and of a step that is not possible, and what is printed last.
 abbrev pub audited_app : App

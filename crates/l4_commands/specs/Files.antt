@@ -18,7 +18,7 @@ list_name (first ∷ name) = if first == 64 then Some name else None
 
 abbrev pub file_of : Job → List ℕ
 file_of (Run file turns printed record_to) = file.now
-file_of (Replay file schedule printed) = file.now
+file_of (Replay file schedule rest printed) = file.now
 file_of (Audit file trace judged) = file.now
 file_of (Chart chart) = chart.file.now
 file_of (Endings search) = search.file.now
@@ -26,7 +26,7 @@ file_of (Lint file) = file.now
 
 abbrev pub second_file_of : Job → Option (List ℕ)
 second_file_of (Run file turns printed record_to) = None
-second_file_of (Replay file schedule printed) = list_name schedule.now
+second_file_of (Replay file schedule rest printed) = list_name schedule.now
 second_file_of (Audit file trace judged) = Some trace.now
 second_file_of (Chart chart) = Some chart.trace.now
 second_file_of (Endings search) = None

@@ -8,8 +8,10 @@ ghost use Rattle.l4_commands.specs.Asked.{asked_by, asked_in, flag_in, number_in
 ghost use Rattle.l4_commands.specs.Asked.{extras_in, judged_in, printed_in, is_over_file, is_same};
 ghost use Rattle.l4_commands.specs.Asked.{run_in, replay_in, audit_in, flags_in};
 ghost use Rattle.l4_commands.specs.Asked.{form_of, chart_in, endings_in, lint_in, excludes};
+ghost use Rattle.l4_commands.specs.Asked.{has_turns_alone, rest_in};
 ghost use Rattle.l4_commands.specs.Asked.{excluded_in, is_wrong_line, has_wrong_line};
 
+use crate::args::DEFAULT_TURNS;
 use crate::job::{ChartForm, ChartJob, EndingsJob, Extras, Job, Judged, Printed};
 use clap::ArgMatches;
 use l4_lines::lines::{LineFault, line_fault};
@@ -95,6 +97,29 @@ fn run_job<'a>(matches: &ArgMatches<'a>) -> Option<Job<'a>>
     })
 }
 
+// For how many turns the replay of the matches goes on, if it does. None where turns are given and
+// it does not.
+fn rest(matches: &ArgMatches<'_>) -> Option<Option<u64>>
+    ensures { IfSome result (λ rest. rest_in (rows_of (found_of matches.now)) ≡ Some rest) }
+{
+    match (flag(matches, "then-rest")?, matches.get_str("turns")) {
+        (false, None) => Some(None),
+        (false, Some(_)) => None,
+        (true, None) => Some(Some(DEFAULT_TURNS)),
+        (true, Some(_)) => Some(Some(number(matches, "turns")?)),
+    }
+}
+
+// Whether the matches of `replay` have turns and no rest.
+fn has_turns_alone(matches: &ArgMatches<'_>) -> bool
+    ensures { IsTrue result → has_turns_alone (rows_of (found_of matches.now)) ≡ true }
+{
+    match (flag(matches, "then-rest"), matches.get_str("turns")) {
+        (Some(false), Some(_)) => true,
+        _ => false,
+    }
+}
+
 // The job of the matches of `replay`.
 fn replay_job<'a>(matches: &ArgMatches<'a>) -> Option<Job<'a>>
     ensures { IfSome result (λ job.
@@ -103,6 +128,7 @@ fn replay_job<'a>(matches: &ArgMatches<'a>) -> Option<Job<'a>>
     Some(Job::Replay {
         file: matches.get_str("file")?,
         schedule: matches.get_str("schedule")?,
+        then_rest: rest(matches)?,
         printed: printed(matches)?,
     })
 }
@@ -173,6 +199,8 @@ fn chart_job<'a>(matches: &ArgMatches<'a>) -> Option<Job<'a>>
 /// What is wrong with words that `clap` lets pass.
 #[derive(Clone, Copy, Debug)]
 pub enum Conflict<'a> {
+    /// A replay that does not go on has no turns.
+    TurnsAlone,
     /// A schedule would be written over the machine text.
     OverItsFile,
     /// A chart can't have two forms.
@@ -261,6 +289,7 @@ pub fn excluded<'a>(matches: &ArgMatches<'a>) -> Option<Conflict<'a>>
 {
     match matches.subcommand() {
         Some(("run", run)) if is_over_file(run) => Some(Conflict::OverItsFile),
+        Some(("replay", replay)) if has_turns_alone(replay) => Some(Conflict::TurnsAlone),
         Some(("chart", chart)) if has_two_forms(chart) => Some(Conflict::TwoForms),
         Some(("endings", endings)) => wrong_line(endings),
         _ => None,

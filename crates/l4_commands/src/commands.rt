@@ -3,13 +3,14 @@ ghost use Rattle.std.specs.Prelude.{◌≡◌, false, IfOk};
 ghost use Rattle.clap.specs.Words.{app_of};
 ghost use Rattle.clap.specs.declared.builder.command.Command.TheViews.{out-Command};
 ghost use Rattle.l4_commands.specs.Commands.{with_extras, with_printed, turned_app, run_app};
+ghost use Rattle.l4_commands.specs.Commands.{rested_app};
 ghost use Rattle.l4_commands.specs.Commands.{scheduled_app, replay_app, audited_app, explained_app};
 ghost use Rattle.l4_commands.specs.Commands.{audit_app, traced_app, steps_app, part_app, forms_app, chart_app};
 ghost use Rattle.l4_commands.specs.Commands.{searched_app, lines_app, endings_app, lint_app};
 ghost use Rattle.l4_commands.specs.Commands.{runs_app, traces_app, l4run_app};
 
 use crate::args::{
-    counts_arg, file_arg, flag_arg, number_arg, report_arg, schedule_arg, text_arg, trace_arg,
+    counts_arg, file_arg, flag_arg, number_arg, report_arg, rest_turns_arg, schedule_arg, text_arg, trace_arg,
     turns_arg, waits_arg,
 };
 use crate::texts::{
@@ -82,12 +83,27 @@ fn scheduled_command<'a>(alloc: Global) -> Result<Command<'a>, AllocError>
     replay.arg(file)?.arg(schedule)
 }
 
+// With how it goes on.
+fn rested_command<'a>(alloc: Global) -> Result<Command<'a>, AllocError>
+    ensures app { IfOk result (λ command. app_of command ≡ rested_app) }
+    ensures local { IfOk result (λ command. (out-Command command).has_globals ≡ false) }
+{
+    let rest = flag_arg(
+        alloc,
+        "then-rest",
+        "Goes on where the list ends, in rounds of a turn of each processor",
+    );
+    let turns = rest_turns_arg(alloc);
+    let scheduled = scheduled_command(alloc)?;
+    scheduled.arg(rest)?.arg(turns)
+}
+
 fn replay_command<'a>(alloc: Global) -> Result<Command<'a>, AllocError>
     ensures app { IfOk result (λ command. app_of command ≡ replay_app) }
     ensures local { IfOk result (λ command. (out-Command command).has_globals ≡ false) }
 {
-    let scheduled = scheduled_command(alloc)?;
-    with_printed(alloc, scheduled)
+    let rested = rested_command(alloc)?;
+    with_printed(alloc, rested)
 }
 
 // The command `audit` with its files.

@@ -135,13 +135,16 @@ pub enum Job<'a> {
         /// not that of the machine text.
         record_to: Option<&'a str>,
     },
-    /// Replay a schedule, a list of items, on the machine text in a file.
+    /// Replay a schedule, a list of items, on the machine text in a file, and maybe go on.
     Replay {
         /// The name of the file with the machine text.
         file: &'a str,
         /// The list of its items, with commas between them, or `@` and the name of the file that
         /// it is in.
         schedule: &'a str,
+        /// For how many turns it goes on in rounds, where it does: 1 to 1,000,000 less the number of
+        /// items. Any other number is the fault `Turns`.
+        then_rest: Option<u64>,
         /// What is printed.
         printed: Printed,
     },

@@ -37,7 +37,11 @@ An item 0 to 15 is one turn of that processor, t0 to t15 one tick of its clock t
 handles a letter first, if one has come. Three items name what else may happen: by 1:0 processor 1
 handles the first letter from processor 0, by c1 it takes a turn of its own though letters may be
 there, by t0:24 the clock of processor 0 goes on to 24. Where there is nothing to do, there is no
-step.";
+step.
+
+With `--then-rest` it goes on where the list ends, so that the boring end need not be written: in rounds of one turn of
+each processor, the lowest first, and where a round does nothing, to the next deadline of all. It ends where nothing is
+left to do, or where the turns are used up.";
 
 pub const AUDIT_EXAMPLE: &str =
     "Example: `l4run audit ping.l4 ping.trace`, with the machine text that `l4run help run` shows and what
@@ -83,6 +87,12 @@ it is, its kind, what stands there, and what may. The status is 1 then, and 0 wh
 
 pub const TWO_FORMS: &str =
     "error: only one of '--ascii', '--svg', '--html' and '--mermaid' can be given
+
+For more information, try '--help'.
+";
+
+pub const TURNS_ALONE: &str =
+    "error: '--turns' of 'replay' wants '--then-rest', without which a replay ends with its list
 
 For more information, try '--help'.
 ";

@@ -28,6 +28,7 @@ const RECORDING: Recording<'static> = Recording {
 const AGAIN: Job<'static> = Job::Replay {
     file: "m.l4",
     schedule: "@m.list",
+    then_rest: None,
     printed: ALL,
 };
 

@@ -400,12 +400,14 @@ const WITH_ALL: Job<'static> = Job::Run {
 const REPLAY: Job<'static> = Job::Replay {
     file: "m.l4",
     schedule: "1,0,0,0,1,0,0,1",
+    then_rest: None,
     printed: TRACE,
 };
 
 const FROM_FILE: Job<'static> = Job::Replay {
     file: "m.l4",
     schedule: "@m.list",
+    then_rest: None,
     printed: TRACE,
 };
 

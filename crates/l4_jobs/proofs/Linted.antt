@@ -138,7 +138,7 @@ pub lint_more : (job : Job) (machine wider : Gives) (out : Takes) (keeps : Type 
     ((text : List ℕ) → machine (Ok text) → wider (Ok text)) → IsLintEnded job machine out keeps faults → IsLintEnded job wider out keeps faults
 lint_more (Lint file) machine wider out keeps faults more (text, lines, said, given, is, ended) = (text, lines, said, more text given, is, ended)
 lint_more (Run file turns printed record_to) machine wider out keeps faults more h = h
-lint_more (Replay file schedule printed) machine wider out keeps faults more h = h
+lint_more (Replay file schedule rest printed) machine wider out keeps faults more h = h
 lint_more (Audit file trace judged) machine wider out keeps faults more h = h
 lint_more (Chart chart) machine wider out keeps faults more h = h
 lint_more (Endings search) machine wider out keeps faults more h = h

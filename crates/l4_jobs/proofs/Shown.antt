@@ -112,7 +112,7 @@ audited_cut judged m trace lines status number (inr (r, one)) some = one
 -- What is shown has no fault.
 right_on : (job : Job) (m : Machine) (trace lines : List ℕ) (status : ℕ) → IsShownOn job m trace lines status → fault_of_job job m trace ≡ None
 right_on (Run file turns printed record_to) m trace lines status s = ap (option_map fault_of_run) s.is.lawful
-right_on (Replay file schedule printed) m trace lines status s = ap fault_of_result s.is
+right_on (Replay file schedule rest printed) m trace lines status s = ap fault_of_result s.is
 right_on (Audit file name judged) m trace lines status s = audited_right judged m trace lines status s
 right_on (Chart chart) m trace lines status s =
     ap (λ o. or_later (fault_of_threads o) (fault_of_lines (steps_of trace))) s.chosen ∙ ap fault_of_lines s.reads
@@ -150,7 +150,7 @@ answered_or_cut search true (e ∷ asked) is_whole status asks is = inr (inr (in
 status_on : (job : Job) (m : Machine) (trace lines : List ℕ) (status : ℕ) → IsShownOn job m trace lines status →
     IsStatusOf job status
 status_on (Run file turns printed record_to) m trace lines status s = at_rest_or_not (Run file turns printed record_to) _ status s.status_is
-status_on (Replay file schedule printed) m trace lines status s = at_rest_or_not (Replay file schedule printed) _ status s.status_is
+status_on (Replay file schedule rest printed) m trace lines status s = at_rest_or_not (Replay file schedule rest printed) _ status s.status_is
 status_on (Audit file name judged) m trace lines status (inl (p, zero)) = inl zero
 status_on (Audit file name judged) m trace lines status (inr (r, one)) = inr (inl one)
 status_on (Chart chart) m trace lines status s = refused_or_not (Chart chart) _ status s.status_is
@@ -181,7 +181,7 @@ refused_here chart m trace lines status c = ap (refused_of_steps m) c.reads
 whole_on : (job : Job) (m : Machine) (trace lines : List ℕ) (status : ℕ) → IsShownOn job m trace lines status → refused_on job m trace ≡ None →
     status ≡ 1 → ⊥
 whole_on (Run file turns printed record_to) m trace lines status s none one = not_1 _ status s.status_is one
-whole_on (Replay file schedule printed) m trace lines status s none one = not_1 _ status s.status_is one
+whole_on (Replay file schedule rest printed) m trace lines status s none one = not_1 _ status s.status_is one
 whole_on (Audit file name judged) m trace lines status s none one = audited_whole judged m trace lines status s none one
 whole_on (Lint file) m trace lines status s none one = absurd (omega (arith, s.1, one))
 whole_on (Endings search) m trace lines status s none one = answered_not_1 search.none _ _ status s.status_is one
@@ -192,7 +192,7 @@ whole_on (Chart chart) m trace lines status s none one =
 cut_on : (job : Job) (m : Machine) (trace lines : List ℕ) (status number : ℕ) → IsShownOn job m trace lines status → refused_on job m trace ≡ Some number →
     status ≡ 1
 cut_on (Run file turns printed record_to) m trace lines status number s is = absurd (let none : None ≡ Some number = is in cc)
-cut_on (Replay file schedule printed) m trace lines status number s is = absurd (let none : None ≡ Some number = is in cc)
+cut_on (Replay file schedule rest printed) m trace lines status number s is = absurd (let none : None ≡ Some number = is in cc)
 cut_on (Audit file name judged) m trace lines status number s is = audited_cut judged m trace lines status number s is
 cut_on (Lint file) m trace lines status number s is = absurd (let none : None ≡ Some number = is in cc)
 cut_on (Endings search) m trace lines status number s is = absurd (let none : None ≡ Some number = is in cc)
@@ -232,7 +232,7 @@ end_status job text told lines status result (Some number) keeps faults s (is, r
 pub true_on : (job : Job) (m : Machine) (trace lines : List ℕ) (status : ℕ) → IsShownOn job m trace lines status →
     IsTrueOn job m trace lines status
 true_on (Run file turns printed record_to) m trace lines status s = s.is_true
-true_on (Replay file schedule printed) m trace lines status s = s.is_true
+true_on (Replay file schedule rest printed) m trace lines status s = s.is_true
 true_on (Audit file name judged) m trace lines status s = s
 true_on (Chart chart) m trace lines status s = s
 true_on (Endings search) m trace lines status s = s

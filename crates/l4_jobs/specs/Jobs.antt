@@ -17,12 +17,13 @@ use Rattle.l4_script.specs.declared.text.fault.TextFaultKind.TheVariants.{NoMemo
 use Rattle.l4_types.specs.declared.reports.Ending.{Ending}
 use Rattle.l4_types.specs.declared.reports.Ending.TheVariants.{Quiet, Spent}
 use Rattle.l4_audit.specs.Audits.{is_quiet}
-use Rattle.l4_machine.specs.Outcomes.{Findings, IsRunFor, IsTrueOf, in_order}
+use Rattle.l4_machine.specs.Outcomes.{Findings, IsOutcomeOf, IsRunFor, IsTrueOf, in_order}
 use Rattle.l4_machine.specs.Entries.{turns_fault}
 use Rattle.l4_machine.specs.declared.outcome.RunFault.{RunFault}
 use Rattle.l4_machine.specs.declared.outcome.RunFault.TheVariants as run_fault
 use Rattle.l4_questions.specs.Answers.{IsAnswered}
 use Rattle.l4_reports.specs.ReportLines.{ending_at_rest, report_text}
+use Rattle.l4_rounds.specs.ThenRest.{rest_fault, then_rest}
 use Rattle.l4_schedules.specs.InFiles.{schedule_in_file}
 use Rattle.l4_schedules.specs.Items.{schedule_of}
 use Rattle.l4_trace.specs.Lines.{trace_of}
@@ -81,16 +82,33 @@ named_schedule m (Some name) list text = schedule_in_file m text
 abbrev pub asked_schedule : Machine → (list text : List ℕ) → Result (List Entry) RunFault
 asked_schedule m list text = named_schedule m (list_name list) list text
 
--- The core run of a machine by it, or why there is none.
-abbrev pub replayed : Machine → Result (List Entry) RunFault → Result CoreRun RunFault
-replayed m (Ok entries) = Ok (replay_entries m entries)
-replayed m (Err fault) = Err fault
+-- The core run of a machine by entries, and where it goes on for so many turns, with the rest; or
+-- why there is none.
+abbrev pub unless_fault : Option RunFault → CoreRun → Result CoreRun RunFault
+unless_fault None r = Ok r
+unless_fault (Some fault) r = Err fault
 
-abbrev pub run_by_list : Machine → (list text : List ℕ) → Result CoreRun RunFault
-run_by_list m list text = replayed m (asked_schedule m list text)
+abbrev pub gone_on : Machine → (rest : Option ℕ) → List Entry → Result CoreRun RunFault
+gone_on m None entries = Ok (replay_entries m entries)
+gone_on m (Some turns) entries =
+    unless_fault (rest_fault m entries turns) (then_rest m entries turns)
 
-abbrev pub IsReplayAsked : Machine → (list text : List ℕ) → CoreRun → Type 0
-IsReplayAsked m list text r = run_by_list m list text ≡ Ok r
+abbrev pub replayed : Machine → (rest : Option ℕ) → Result (List Entry) RunFault →
+    Result CoreRun RunFault
+replayed m rest (Ok entries) = gone_on m rest entries
+replayed m rest (Err fault) = Err fault
+
+-- These are the findings of that core run.
+abbrev pub IsOutcomeOfAny : Machine → Result CoreRun RunFault → Findings → Type 0
+IsOutcomeOfAny m (Ok r) o = IsOutcomeOf m r o
+IsOutcomeOfAny m (Err fault) o = ⊥
+
+abbrev pub run_by_list : Machine → (rest : Option ℕ) → (list text : List ℕ) →
+    Result CoreRun RunFault
+run_by_list m rest list text = replayed m rest (asked_schedule m list text)
+
+abbrev pub IsReplayAsked : Machine → (rest : Option ℕ) → (list text : List ℕ) → CoreRun → Type 0
+IsReplayAsked m rest list text r = run_by_list m rest list text ≡ Ok r
 
 -- Its fault on a text. The text is judged first.
 abbrev pub text_fault : (line : ℕ) → TextFaultKind → Fault
@@ -130,7 +148,8 @@ fault_of_audit false m trace = fault_of_trace m trace
 
 abbrev pub fault_of_job : Job → Machine → (trace : List ℕ) → Option Fault
 fault_of_job (Run file turns printed record_to) m trace = fault_of_turns turns
-fault_of_job (Replay file schedule printed) m text = fault_of_result (run_by_list m schedule.now text)
+fault_of_job (Replay file schedule rest printed) m text =
+    fault_of_result (run_by_list m rest schedule.now text)
 fault_of_job (Audit file name judged) m trace = fault_of_audit (tells_refusals judged) m trace
 fault_of_job (Chart chart) m trace = fault_of_chart chart m trace
 fault_of_job (Endings search) m trace = fault_of_search search
@@ -173,17 +192,29 @@ abbrev pub IsListFault : Machine → (name : List ℕ) →
 IsListFault m name gives f =
     ((kind : ErrorKind) × gives (Err kind) × IsUnread name kind f)
     ⊎ ((text : List ℕ) × gives (Ok text)
-    × (fault_of_result (replayed m (schedule_in_file m text)) ≡ Some f))
+    × (fault_of_result (replayed m None (schedule_in_file m text)) ≡ Some f))
 
 abbrev pub IsScheduleFault : Machine → (list : List ℕ) → (name : Option (List ℕ)) →
     (gives : Result (List ℕ) ErrorKind → Type 0) → Fault → Type 0
-IsScheduleFault m list None gives f = fault_of_result (replayed m (schedule_of m list)) ≡ Some f
+IsScheduleFault m list None gives f = fault_of_result (replayed m None (schedule_of m list)) ≡ Some f
 IsScheduleFault m list (Some name) gives f = IsListFault m name gives f
+
+-- The same of a rest, where the schedule is right.
+pub record IsRestFault (m : Machine) (rest : Option ℕ) (list : List ℕ)
+    (gives : Result (List ℕ) ErrorKind → Type 0) (f : Fault) : Type 0 where
+  pub text : List ℕ
+  pub read : IsRead (list_name list) gives text
+  pub faulty : fault_of_result (run_by_list m rest list text) ≡ Some f
+
+abbrev pub IsReplayFault : Machine → (rest : Option ℕ) → (list : List ℕ) →
+    (gives : Result (List ℕ) ErrorKind → Type 0) → Fault → Type 0
+IsReplayFault m rest list gives f =
+    IsScheduleFault m list (list_name list) gives f ⊎ IsRestFault m rest list gives f
 
 abbrev pub IsFaultOn : Job → Machine → (trace : Result (List ℕ) ErrorKind → Type 0) → Fault → Type 0
 IsFaultOn (Run file turns printed record_to) m trace f = fault_of_turns turns ≡ Some f
-IsFaultOn (Replay file schedule printed) m list f =
-    IsScheduleFault m schedule.now (list_name schedule.now) list f
+IsFaultOn (Replay file schedule rest printed) m list f =
+    IsReplayFault m rest schedule.now list f
 IsFaultOn (Audit file name judged) m trace f =
     IsAuditFault (tells_refusals judged) m name.now trace f
 IsFaultOn (Chart chart) m trace f = IsChartFault chart m trace f
@@ -297,8 +328,8 @@ IsAudited judged m trace lines status =
 abbrev pub IsShownOn : Job → Machine → (trace lines : List ℕ) → (status : ℕ) → Type 0
 IsShownOn (Run file turns printed record_to) m trace lines status =
     IsRunShown printed m (IsRunAsked m turns) lines status
-IsShownOn (Replay file schedule printed) m text lines status =
-    IsRunShown printed m (IsReplayAsked m schedule.now text) lines status
+IsShownOn (Replay file schedule rest printed) m text lines status =
+    IsRunShown printed m (IsReplayAsked m rest schedule.now text) lines status
 IsShownOn (Audit file name judged) m trace lines status = IsAudited judged m trace lines status
 IsShownOn (Chart chart) m trace lines status = IsCharted chart m trace lines status
 IsShownOn (Endings search) m trace lines status = IsAnswered m (question_of search) lines status
@@ -307,7 +338,7 @@ IsShownOn (Lint file) m trace lines status = (lines ≡ []) × (status ≡ 0)
 -- They are true of the machine.
 abbrev pub IsTrueOn : Job → Machine → (trace lines : List ℕ) → (status : ℕ) → Type 0
 IsTrueOn (Run file turns printed record_to) m trace lines status = IsTrueShown printed m lines status
-IsTrueOn (Replay file schedule printed) m trace lines status = IsTrueShown printed m lines status
+IsTrueOn (Replay file schedule rest printed) m trace lines status = IsTrueShown printed m lines status
 IsTrueOn (Audit file name judged) m trace lines status = IsAudited judged m trace lines status
 IsTrueOn (Chart chart) m trace lines status = IsCharted chart m trace lines status
 IsTrueOn (Endings search) m trace lines status = IsAnswered m (question_of search) lines status
@@ -351,7 +382,7 @@ refused_of_audit false m trace = None
 
 abbrev pub refused_on : Job → Machine → (trace : List ℕ) → Option ℕ
 refused_on (Run file turns printed record_to) m trace = None
-refused_on (Replay file schedule printed) m trace = None
+refused_on (Replay file schedule rest printed) m trace = None
 refused_on (Audit file name judged) m trace = refused_of_audit (tells_refusals judged) m trace
 refused_on (Chart chart) m trace = refused_of_steps m (steps_of trace)
 refused_on (Endings search) m trace = None

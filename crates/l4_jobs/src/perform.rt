@@ -13,7 +13,7 @@ ghost use Rattle.l4_jobs.specs.Audits.{tells_refusals};
 ghost use Rattle.l4_jobs.specs.Jobs.{IsRunShown, IsAudited, IsAuditFault, IsFaultOn, IsFaultOf};
 ghost use Rattle.l4_jobs.specs.Jobs.{IsJobFault, IsDone, IsNotDone, IsRunAsked, IsReplayAsked};
 ghost use Rattle.l4_jobs.specs.Jobs.{IsEnded, IsListFault, IsRead, IsScheduleFault, IsStatusOf};
-ghost use Rattle.l4_jobs.specs.Jobs.{IsTrulyDone, IsWritten};
+ghost use Rattle.l4_jobs.specs.Jobs.{IsOutcomeOfAny, IsReplayFault, IsTrulyDone, IsWritten, gone_on};
 ghost use Rattle.l4_jobs.specs.Jobs.{asked_schedule, fault_of, fault_of_turns};
 ghost use Rattle.l4_jobs.specs.Jobs.{refused_in, refused_of_audit, refused_on};
 ghost use Rattle.l4_jobs.specs.Jobs.{lines_of_outcome, status_of_ending};
@@ -27,9 +27,10 @@ use crate::job::{Job, Judged, Printed, list_name};
 use crate::searches::search_output;
 use crate::streams::{Sink, Source};
 use crate::trace_lines::trace_of;
-use l4_machine::{CompactOutcome, Entry, replay_compact, run_compact};
+use l4_machine::{CompactOutcome, Entry, RunFault, replay_compact, run_compact};
 use l4_proc::gate::Open;
 use l4_reports::report_lines::write_report;
+use l4_rounds::replay_then_rest;
 use l4_schedules::files::{MOST_FILE_BYTES, schedule_in_file};
 use l4_schedules::items::schedule_of;
 use l4_script::machine::Machine;
@@ -231,26 +232,46 @@ fn run_output<'a, R: Threads + Sync>(
     Ok(output_of_run(alloc, printed, machine, outcome)?)
 }
 
+// The outcome of the replay of entries of the machine, with the rest where it goes on.
+fn gone_on<'m>(
+    alloc: Global,
+    machine: &'m Machine,
+    entries: &[Entry],
+    rest: Option<u64>,
+) -> Result<CompactOutcome<'m>, RunFault>
+    requires { entries_fault machine.now (map entry_from entries.now) ≡ None }
+    ensures ok { IfOk result (λ o.
+        IsOutcomeOfAny machine.now (gone_on machine.now rest (map entry_from entries.now))
+        (compact_findings_of o)) }
+    ensures err { IfErr result (λ fault. (fault ≡ RunFault.NoMemory) ⊎
+        (gone_on machine.now rest (map entry_from entries.now) ≡ Err fault)) }
+{
+    match rest {
+        None => Ok(replayed(alloc, machine, entries)?),
+        Some(turns) => replay_then_rest(alloc, machine, entries, turns),
+    }
+}
+
 // What a replay prints.
 fn replay_output<'a, L: Source>(
     alloc: Global,
     machine: &Machine,
     schedule: &'a str,
+    rest: Option<u64>,
     printed: Printed,
     list: &mut L,
 ) -> Result<Output, Fault<'a>>
     ensures ok { IfOk result (λ output. (text : List ℕ) ×
         IsRead (list_name schedule.now) (L.gives list.old) text ×
-        IsRunShown printed machine.now (IsReplayAsked machine.now schedule.now text)
+        IsRunShown printed machine.now (IsReplayAsked machine.now rest schedule.now text)
         output.lines.items output.status) }
     ensures whole { IfOk result (λ output. output.refused ≡ None) }
     ensures err { IfErr result (λ fault. (fault ≡ OutOfMemory) ⊎
-        IsScheduleFault machine.now schedule.now (list_name schedule.now) (L.gives list.old)
-        fault) }
+        IsReplayFault machine.now rest schedule.now (L.gives list.old) fault) }
     ensures unread { list_name schedule.now ≡ None → list.new ≡ list.old }
 {
     let entries = asked_entries(alloc, machine, schedule, list)?;
-    let outcome = replayed(alloc, machine, entries.as_slice())?;
+    let outcome = gone_on(alloc, machine, entries.as_slice(), rest)?;
     Ok(output_of_run(alloc, printed, machine, outcome)?)
 }
 
@@ -303,9 +324,10 @@ fn output_on<'a, R: Threads + Sync, T: Source>(
         Job::Run { turns, printed, .. } => run_output(rt, alloc, machine, turns, printed),
         Job::Replay {
             schedule,
+            then_rest,
             printed,
             ..
-        } => replay_output(alloc, machine, schedule, printed, trace),
+        } => replay_output(alloc, machine, schedule, then_rest, printed, trace),
         Job::Audit {
             trace: name,
             judged,

@@ -123,7 +123,7 @@ pub fn law_recorded()
     ensures { (printed : Printed) (m : ModelMachine) (turns : ℕ) (lines text others : List ℕ)
         (status other : ℕ) (list name : List ℕ) → list_name list ≡ Some name →
         IsRecorded printed m turns lines text status →
-        IsRunShown printed m (IsReplayAsked m list text) lines status ×
-        (IsRunShown printed m (IsReplayAsked m list text) others other →
+        IsRunShown printed m (IsReplayAsked m None list text) lines status ×
+        (IsRunShown printed m (IsReplayAsked m None list text) others other →
         (others ≡ lines) × (other ≡ status)) }
 {}

@@ -1,25 +1,29 @@
 """Prints what `l4run endings` says of a machine, as a second emulator finds it, and ends with the same status.
 
-    python3 -B bench/endings.py FILE [--depth N] [--states N] [--stuck] [--with LINE] [--never LINE] [--none]
+    python3 -B bench/endings.py FILE [--depth N] [--states N] [--stuck] [--with LINE] [--never LINE] [--none] [--waits] [--expect NAME]
 
 A core run has at most so many events, and its ticks go to the least deadline of their processor. Each ending, a state at rest that core runs lead to, is printed
 once, with the first schedule that leads there and its report; the last line says how many states there are, how deep all were found, and whether there are no
-more. Faults are not told as the program tells them.
+more. With --waits who waits for whom stands behind each report. What of NAME an ending does not meet is told on standard error. Faults are not told as the
+program tells them.
 """
 
 import argparse
 import pathlib
+import re
 import sys
 
-from second import machines, model, searches, words
+from second import expectations, machines, model, searches, waits, words
 from second.threads import Phase
 
 DEPTH, STATES = 1_000, 100_000
 LEAST, MOST = 1, 1_000_000
-WHOLE, USAGE, CUT, FOUND = 0, 2, 3, 4
+WHOLE, USAGE, CUT, FOUND, UNMET = 0, 2, 3, 4, 4
 ANY_WORD, ANY_WORDS = "*", ".."
+ANY_SEND = "#*"
 OPEN = (words.ANY, words.ANY_LOCAL)
 BEGINNINGS = ("thread", "waiting", "ending", ANY_WORD)
+SEND = re.compile(r"\d+\.\d+#\d+")
 
 
 class Ending:
@@ -31,9 +35,18 @@ class Ending:
         self.world = model.world_of(machine, self.end.history)
         self.report = self.world.report(at_rest=True)
 
-    def text(self, number):
+    def head(self, number):
         items = ",".join(map(str, self.choices))
-        return f"ending {number} {items}".rstrip(" ") + f"\n{self.report}"
+        return f"ending {number} {items}".rstrip(" ") + "\n"
+
+    def text(self, number, with_waits=False):
+        behind = waits.waits_text(self.world) if with_waits else ""
+        return self.head(number) + self.report + behind
+
+    def unmet(self, number, expected):
+        """What of a text of expectations it does not meet, behind its first line."""
+        told = expectations.unmet_text(expected, self.report)
+        return told and self.head(number) + told
 
     def is_stuck(self):
         return bool(self.world.sends) or any(map(is_closed, self.blocks()))
@@ -56,13 +69,21 @@ def fits(asked, line):
         return True
     if not asked or not line:
         return asked == line
-    return asked[0] in (ANY_WORD, line[0]) and fits(asked[1:], line[1:])
+    return fits_word(asked[0], line[0]) and fits(asked[1:], line[1:])
+
+
+def fits_word(asked, word):
+    """Whether a word is the one that is asked for, or a send of the thread of which any send is."""
+    thread, _, number = word.partition("#")
+    return asked in (ANY_WORD, word) or bool(number) and asked == thread + ANY_SEND
 
 
 def may_be_asked(line):
-    """Whether a report may have such a line, and it asks for no register of a deleted thread."""
+    """Whether a report may have such a line, and it asks for no register of a deleted thread and for no number of a send."""
     first, *others = line.split(" ")
     if first not in BEGINNINGS:
+        return False
+    if first in ("waiting", ANY_WORD) and others and SEND.fullmatch(others[0]):
         return False
     may_be_deleted = first in ("thread", ANY_WORD) and len(others) > 1 and others[1] in ("deleted", ANY_WORD)
     return not may_be_deleted or others[2:] == [ANY_WORDS]
@@ -82,12 +103,19 @@ def last_line(found):
 
 def answer(text, asked):
     """The lines that answer a question, and the exit status."""
+    lines, _, status = full_answer(text, asked, [])
+    return lines, status
+
+
+def full_answer(text, asked, expected):
+    """The lines that answer a question, what the endings do not meet, and the exit status."""
     machine = machines.read(text)
     found = searches.search(machine, asked.depth, asked.states)
     endings = [ending for state in found.endings() if is_asked(asked, ending := Ending(machine, state.choices))]
-    lines = [ending.text(number) for number, ending in enumerate(endings, 1)]
-    status = FOUND if asked.none and endings else WHOLE if found.is_whole else CUT
-    return "".join(lines) + last_line(found), status
+    lines = "".join(ending.text(number, asked.waits) for number, ending in enumerate(endings, 1))
+    unmet = "".join(ending.unmet(number, expected) for number, ending in enumerate(endings, 1))
+    status = UNMET if unmet else FOUND if asked.none and endings else WHOLE if found.is_whole else CUT
+    return lines + last_line(found), unmet, status
 
 
 def number(word):
@@ -112,18 +140,23 @@ def question(arguments):
     reader.add_argument("--with", type=line, dest="with_line")
     reader.add_argument("--never", type=line)
     reader.add_argument("--none", action="store_true")
+    reader.add_argument("--waits", action="store_true")
+    reader.add_argument("--expect", type=pathlib.Path)
     return reader.parse_args(arguments)
 
 
 def endings(text, depth, most):
     """All endings of a machine, by a search as deep as this among as many states."""
-    return answer(text, argparse.Namespace(depth=depth, states=most, stuck=False, with_line=None, never=None, none=False))[0]
+    return answer(text, argparse.Namespace(depth=depth, states=most, stuck=False, with_line=None, never=None, none=False, waits=False))[0]
 
 
 def main(arguments):
     asked = question(arguments)
-    lines, status = answer(asked.file.read_text(), asked)
+    expected = expectations.read(asked.expect.read_bytes(), of_endings=True) if asked.expect else []
+    lines, unmet, status = full_answer(asked.file.read_text(), asked, expected)
     sys.stdout.write(lines)
+    sys.stdout.flush()
+    sys.stderr.write(unmet)
     return status
 
 

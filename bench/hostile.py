@@ -1,5 +1,5 @@
-"""Gives the program machine texts, traces and schedules that somebody spoilt, has spoilt texts linted and spoilt traces drawn, records runs and asks for
-endings, and judges its status and its lines."""
+"""Gives the program machine texts, traces, schedules and expectations that somebody spoilt, has spoilt texts and lists linted and spoilt traces drawn,
+records runs, goes on behind schedules and asks for endings, and judges its status and its lines."""
 
 import collections
 import os
@@ -13,12 +13,16 @@ TURNS = "300"
 # How far it is is told after so many of each.
 PROGRESS = 5_000
 KINDS = "BadLine|BadNumber|BadId|BadCpu|TypedItems|DoubleId|TooManyThreads|TooManyInstructions|BadTarget|TooLong"
-FAULTS = re.compile(rf"l4run: (line \d+: (?:{KINDS})|schedule item \d+|(?:turns|depth|states) out of range|trace line \d+|threads item \d+|refused at step \d+)\n")
-# A line for each fault of a text, and one for each thread that waits, each circle and each thread's counts.
+FAULTS = re.compile(rf"l4run: (line \d+: (?:{KINDS})|schedule item \d+|(?:turns|depth|states) out of range|expectation line \d+: (?:BadLine|Unknown|BadWord|Deleted|Number)|trace line \d+|threads item \d+|refused at step \d+)\n")
+# A line for each fault of a text, or for each doubt, and one for each thread that waits, each circle and each thread's counts.
 LINT = re.compile(rf"line (\d+) column \d+: ({KINDS})(?:: `[ -~]*`)?: [ -~]+".encode())
+DOUBT = re.compile(rb"line \d+ column \d+: perhaps: `[ -~]*`: [ -~]+")
 BEHIND = rb"(?:waits \S+ \S+ (?:send|receive)\n)*(?:(?:circle|deadlock)(?: \S+)+\n)*(?:counts \S+ turns \d+ sends \d+ delivered \d+ received \d+ refused(?: [2-7]:\d+){6}\n)*"
 PASSED = re.compile(rb"passed \d+ (?:quiet|spent)\n" + BEHIND)
 ENDINGS = re.compile(rb"(^|\n)states \d+ depth \d+ (whole|cut)\n$")
+ITEM = re.compile(rb"schedule item (\d+): (?:`[ -~]*`: )?[ -~]+")
+# What a report does not meet, and which ending that is of.
+UNMET = re.compile(r"(?:(?:ending \d+ \S*|line \d+: (?:wanted|never): [ -~]+; found: [ -~]+)\n)+")
 QUIET, FAULT, USAGE, SPENT, FOUND = 0, 1, 2, 3, 4
 
 NUMBERS = ["0", "1", "63", "64", "15", "16", "17", "0x3f", "18446744073709551615", "18446744073709551616", "4294967296", "-1", "0x", "00", "1.", ""]
@@ -119,21 +123,47 @@ def question(dice):
 
 
 def is_linted(out, fault):
-    """Whether these are lines of faults, of which the first is what `run` said of the text."""
-    lines = out.split(b"\n")
-    found = [LINT.fullmatch(line) for line in lines[:-1]]
-    if lines[-1] or not all(found):
+    """Whether these are lines of faults, of which the first is what `run` said of the text; or of doubts, where it said nothing."""
+    *lines, last = out.split(b"\n")
+    if last:
         return False
-    return fault == (b"l4run: line %s: %s\n" % found[0].groups() if found else b"")
+    if not fault:
+        return all(DOUBT.fullmatch(line) for line in lines)
+    found = [LINT.fullmatch(line) for line in lines]
+    return bool(found) and all(found) and fault == b"l4run: line %s: %s\n" % found[0].groups()
 
 
 def linted(program, name, seen):
-    """Lints a text, and ends where the lines are none, or the first fault is another than that of `run`."""
+    """Lints a text, and ends where the lines are none of `lint`, or the first fault is another than that of `run`."""
     fault = subprocess.run([program, "run", name, "--turns", "1"], stdout=subprocess.DEVNULL, stderr=subprocess.PIPE).stderr
     told = subprocess.run([program, "lint", name], stdout=subprocess.PIPE, stderr=subprocess.PIPE)
     if told.stderr or told.returncode != (FAULT if fault else QUIET) or not is_linted(told.stdout, fault):
         sys.exit(f"lint {name}: status {told.returncode}: {told.stderr or told.stdout[:200]}, but run says {fault}")
     seen[f"{min(told.stdout.count(10), 3)} lines"] += 1
+
+
+def expected(dice, report):
+    """Lines of a report and others, some behind `never`, some with a star for a word, and what was spoilt of them."""
+    lines = []
+    for line in dice.sample(report.decode().splitlines(), k=min(3, report.count(b"\n"))) + ["waiting ..", "thread 1.1 ended .."]:
+        words = line.split()
+        words[dice.randrange(len(words))] = dice.choice(["*", words[-1], "1.1"])
+        lines.append(dice.choice(["", "never ", "; "]) + " ".join(words) + "\n")
+    told = "".join(lines).encode()
+    return spoilt(dice, told) if dice.random() < 0.5 else told
+
+
+def items_linted(program, name, items, seen):
+    """Lints a list of a machine text without fault, and ends where the lines are none of `lint`, or the first faulty item is another than `replay` says."""
+    fault = subprocess.run([program, "replay", name, "--schedule=" + items], stdout=subprocess.DEVNULL, stderr=subprocess.PIPE).stderr
+    told = subprocess.run([program, "lint", name, "--schedule=" + items], stdout=subprocess.PIPE, stderr=subprocess.PIPE)
+    found = [line for line in told.stdout.split(b"\n")[:-1] if not DOUBT.fullmatch(line)]
+    numbers = [ITEM.fullmatch(line) for line in found]
+    first = re.fullmatch(rb"l4run: schedule item (\d+)\n", fault)
+    right = all(numbers) and (numbers[0][1] == first[1] if numbers and first else not numbers and not first)
+    if told.stderr or told.returncode != (FAULT if found else QUIET) or not right:
+        sys.exit(f"lint {name} --schedule={items}: status {told.returncode}: {told.stderr or told.stdout[:200]}, but replay says {fault}")
+    seen[f"{min(len(found), 3)} lines"] += 1
 
 
 def chart(dice):
@@ -163,7 +193,8 @@ def judged(words, seen, lines, beside="", others=()):
         right = faults.startswith("error: ") and not out
         kind = "status 2"
     else:
-        right = told.returncode in (QUIET, SPENT, *others) and not faults and lines(out)
+        unmet = told.returncode == FOUND and any(word.startswith("--expect") for word in words) and UNMET.fullmatch(faults)
+        right = told.returncode in (QUIET, SPENT, *others) and (unmet or not faults) and lines(out)
         kind = f"status {told.returncode}"
     if not right:
         sys.exit(f"{words}: status {told.returncode}: {faults or out[:200]}")
@@ -177,8 +208,9 @@ def write(name, told):
 
 
 def main(program, folder, count, part):
-    name, trace, listed = (f"{folder}/hostile-{part}.{kind}" for kind in ("l4", "trace", "list"))
-    seen = {about: collections.Counter() for about in ("texts", "lint", "traces", "schedules", "lists", "charts", "endings")}
+    name, trace, listed, wanted = (f"{folder}/hostile-{part}.{kind}" for kind in ("l4", "trace", "list", "expected"))
+    abouts = ("texts", "lint", "traces", "schedules", "rests", "items", "lists", "charts", "endings", "expectations")
+    seen = {about: collections.Counter() for about in abouts}
     dice = random.Random(SEED + part)
     for done in range(count):
         if done and done % PROGRESS == 0:
@@ -189,9 +221,17 @@ def main(program, folder, count, part):
         linted(program, name, seen["lint"])
         write(name, text)
         judged([program, "replay", name, "--schedule=" + schedule(dice)], seen["schedules"], lambda out: True)
+        rest = ["--then-rest", *dice.choice([[], ["--turns", dice.choice(["0", "7", "300", "1000001"])]])]
+        judged([program, "replay", name, "--schedule=" + schedule(dice), *rest], seen["rests"], lambda out: True)
+        items_linted(program, name, schedule(dice), seen["items"])
         write(listed, list_file(dice))
         judged([program, "replay", name, "--schedule=@" + listed], seen["lists"], lambda out: True)
-        judged([program, "endings", name, *question(dice)], seen["endings"], ENDINGS.search, others=(USAGE, FOUND))
+        waits = ["--waits"] if dice.random() < 0.3 else []
+        judged([program, "endings", name, *question(dice), *waits], seen["endings"], ENDINGS.search, others=(USAGE, FOUND))
+        report = subprocess.run([program, "run", name, "--turns", TURNS, "--report"], stdout=subprocess.PIPE).stdout
+        write(wanted, expected(dice, report))
+        of = dice.choice([["run", name, "--turns", TURNS], ["replay", name, "--schedule=0,1,0"], ["endings", name, "--depth=6", "--states=50"]])
+        judged([program, *of, "--expect=" + wanted], seen["expectations"], lambda out: True, others=(FOUND,))
         told = judged([program, "run", name, "--turns", TURNS, "--record", listed], collections.Counter(), lambda out: True)
         if told != judged([program, "replay", name, "--schedule=@" + listed], collections.Counter(), lambda out: True):
             sys.exit(f"{name}: the replay of {listed} is another run")

@@ -18,7 +18,7 @@ SEED = 20_261_127
 KINDS = (randoms.General, randoms.HandingOn, randoms.Conflicts, randoms.HandingOn)
 DEPTH = 40
 MOST_STATES = 2_000
-LINES = ("waiting ..", "thread 1.1 ended ..", "thread * receiving ..", "thread 2.1 sending 0 * * *", "thread 1.1 * ..", "ending quiet")
+LINES = ("waiting ..", "waiting 1.1#* *", "thread 1.1 ended ..", "thread * receiving ..", "thread 2.1 sending 0 * * *", "thread 1.1 * ..", "ending quiet")
 
 
 def question(dice):
@@ -26,7 +26,7 @@ def question(dice):
     words = [f"--depth={DEPTH}", f"--states={MOST_STATES}"]
     if dice.random() < 0.5:
         return words
-    words += [name for name in ("--stuck", "--none") if dice.random() < 0.5]
+    words += [name for name in ("--stuck", "--none", "--waits") if dice.random() < 0.5]
     return words + [f"{name}={dice.choice(LINES)}" for name in ("--with", "--never") if dice.random() < 0.3]
 
 

@@ -9,10 +9,10 @@ import random
 import subprocess
 import sys
 
-from second import explained, machines, model, randoms, traces, waits
+from second import expectations, explained, machines, model, processors, randoms, traces, waits
 
 SEED = 20_261_125
-QUIET, FAULT, SPENT = 0, 1, 3
+QUIET, FAULT, SPENT, UNMET = 0, 1, 3, 4
 FAULTS = "l4run: "
 # Half of all machines are of profile 2, and hand messages on.
 KINDS = (randoms.General, randoms.HandingOn, randoms.Conflicts, randoms.HandingOn)
@@ -24,6 +24,7 @@ class Case:
     def __init__(self, program, folder, part):
         self.program = program
         self.machine_file, self.trace_file = f"{folder}/second-{part}.l4", f"{folder}/second-{part}.trace"
+        self.expectations_file = f"{folder}/second-{part}.expected"
         self.text = self.schedule = ""
 
     def take(self, text, schedule):
@@ -88,6 +89,52 @@ def waits_and_counts(machine, history, counts):
     return told + waits.counts_text(machine, history)
 
 
+# Words that stand in the place of those of a report: some leave a line open, and some make it another.
+OTHER_WORDS = ("*", "0", "sending", "ended", "deleted", "1.1", "quiet", "nil")
+
+
+def expectation(dice, report):
+    """A line of a report, or one like it: words left open or changed, and half of them behind `never`."""
+    words = dice.choice(report.splitlines()).split(" ")
+    for _ in range(dice.randint(0, 2)):
+        words[dice.randrange(len(words))] = dice.choice(OTHER_WORDS)
+    if dice.random() < 0.4:
+        words = [*words[: dice.randint(1, len(words))], ".."]
+    return dice.choice(("", "never ")) + " ".join(words) + "\n"
+
+
+def expected(case, dice, replay, report, counts):
+    """Compares what is said of a random text of expectations, which may have a fault."""
+    text = "".join(expectation(dice, report) for _ in range(dice.randint(0, 5)))
+    write(case.expectations_file, text)
+    try:
+        told = expectations.unmet_text(expectations.read(text.encode()), report)
+        status = UNMET if told else QUIET if replay.is_at_rest() else SPENT
+        said = (report, told, status)
+    except expectations.Fault as fault:
+        said = ("", f"{FAULTS}{fault}\n", FAULT)
+    flags = ["--report", "--expect", case.expectations_file]
+    case.compare("what is expected of a replay", ["replay", case.machine_file, "--schedule", case.schedule, *flags], *said)
+    counts[f"expectations with status {said[2]}"] += 1
+
+
+def rested(case, dice, machine, entries, counts):
+    """Compares what becomes of a replay that goes on by itself after a beginning of its schedule."""
+    beginning, turns = entries[: dice.randint(0, len(entries))], dice.choice([1, 2, dice.randint(3, 40), 4000])
+    replay = processors.Replay(machine)
+    for entry in beginning:
+        replay.take(entry)
+    before = len(replay.history)
+    replay.go_on(turns)
+    case.take(case.text, ",".join(map(str, beginning)))
+    at_rest = replay.is_at_rest()
+    flags = ["--then-rest", "--turns", str(turns)]
+    case.replay("rest", traces.text(replay.history), at_rest, *flags)
+    case.replay("report of the rest", model.world_of(machine, replay.history).report(at_rest), at_rest, *flags, "--report")
+    counts["steps of rests"] += len(replay.history) - before
+    counts["rests that are quiet" if at_rest else "rests that are spent"] += 1
+
+
 def tried(case, dice, kind, counts):
     """Compares the replay of a random machine of this kind by a random schedule, and the audit of its trace."""
     text = kind(dice).text()
@@ -97,7 +144,9 @@ def tried(case, dice, kind, counts):
     at_rest, trace = replay.is_at_rest(), traces.text(replay.history)
     case.replay("trace", trace, at_rest)
     case.audit(machine, trace)
-    case.replay("report", model.world_of(machine, replay.history).report(at_rest), at_rest, "--report")
+    report = model.world_of(machine, replay.history).report(at_rest)
+    case.replay("report", report, at_rest, "--report")
+    expected(case, dice, replay, report, counts)
     for what, other in [("spoilt traces", trace and randoms.spoilt(dice, machine, trace)), ("late retargets", randoms.retargeted_late(dice, trace))]:
         if other:
             ending = case.audit(machine, other)
@@ -105,6 +154,7 @@ def tried(case, dice, kind, counts):
             counts[f"audits of {what}"] += 1
             counts[f"audits of {what}: {ending}"] += 1
     waited(case, dice, machine, replay, counts)
+    rested(case, dice, machine, entries, counts)
     counts["machines"] += 1
     counts[f"machines of profile {machine.profile}"] += 1
     counts[f"machines of {machine.format.bits} bits"] += 1

@@ -529,6 +529,31 @@ class Replay:
             case TickTo(_, clock) if processor.clock < clock <= LAST_CLOCK:
                 self.tick(processor, clock)
 
+    def go_on(self, turns):
+        """Goes on in rounds of a turn of each processor, rising, until so many turns are used up or nothing goes on. A tick is a turn."""
+        while turns > 0:
+            done = self.round() or self.all_ticks()
+            if not done:
+                return
+            turns -= done
+
+    def round(self):
+        """A turn of each processor, by the letters that are there when it comes to it. Answers how many had something to do."""
+        done = 0
+        for processor in self.processors:
+            if self.is_busy(processor.cpu):
+                self.turn(processor)
+                done += 1
+        return done
+
+    def all_ticks(self):
+        """Each clock below the least deadline of all goes on to it. Answers how many did."""
+        least = min((processor.least_deadline() for processor in self.processors if processor.deadlines), default=0)
+        late = [processor for processor in self.processors if processor.clock < least <= LAST_CLOCK]
+        for processor in late:
+            self.tick(processor, least)
+        return len(late)
+
     def tick(self, processor, clock):
         processor.clock = clock
         self.history.append(("tick", processor.cpu, clock))

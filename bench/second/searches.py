@@ -1,5 +1,6 @@
 """A search in breadth of all core runs of a machine whose ticks go to least deadlines: the states that they lead to, each once, with the first schedule that
-leads there. States are told apart by all that processors know and by the letters under way, but by no stamp."""
+leads there. States are told apart by all that processors know and by the letters under way, but by no stamp and
+by no number of a send. Of a deadline they tell how far it is ahead, and else not how late it is."""
 
 import dataclasses
 
@@ -13,20 +14,8 @@ class Watched(Processor):
 
     def __init__(self, machine, cpu):
         super().__init__(machine, cpu)
-        # The clocks at which receive phases began, of other processors' threads the numbers of their last sends that came here, and the threads whose send was to
-        # be cancelled while it was at another processor: it is asked back, and its thread hears of it in any case.
-        self.since = {}
-        self.numbers = {}
+        # The threads whose send was to be cancelled while it was at another processor: it is asked back, and its thread hears of it in any case.
         self.asked_back = set()
-
-    def begin_receive(self, block, source, period):
-        super().begin_receive(block, source, period)
-        self.since[block.thread] = self.clock
-
-    def handle(self, letter):
-        if isinstance(letter, Posted):
-            self.numbers[letter.send.actual] = letter.send.name.number
-        super().handle(letter)
 
     def cancel(self, block, bits):
         if "S" in bits and block.away:
@@ -42,29 +31,31 @@ class Watched(Processor):
             tuple(map(self.block_code, self.own.values())),
             tuple(tuple(map(waiting_code, waiting)) for waiting in self.waiting.values()),
             tuple(self.ready),
-            tuple(self.deadlines),
-            self.clock,
+            tuple((max(deadline - self.clock, 0), *armed) for deadline, *armed in self.deadlines),
             tuple(sorted(self.gone)),
-            tuple(sorted(self.numbers.items())),
             tuple(sorted(self.asked_back)),
         )
 
     def block_code(self, block):
         context = block.context
-        registers = (tuple(context.registers), int(context.error), context.last, context.actual, context.place, context.begun)
-        return registers, self.phase_code(block), send_code(block.send), block.send_wish, block.receive_wish, block.untold, block.owed
+        registers = (tuple(context.registers), int(context.error), context.last, context.actual, context.place)
+        return registers, self.phase_code(block), send_code(block.send), block.send_wish, block.receive_wish, block.untold, owed_code(block.owed)
 
     def phase_code(self, block):
         """A deleted thread has no phase any more."""
         if block.deleted:
             return machines.DELETE
         if block.phase is Phase.RECEIVING:
-            return block.phase.value, block.source, self.since[block.thread]
+            return block.phase.value, block.source
         return block.phase.value
 
 
+def owed_code(owed):
+    return owed and owed._replace(name=owed.name.thread)
+
+
 def message_code(send):
-    return send.name, send.destination, send.label, send.message, send.propagated, send.shown
+    return send.name.thread, send.destination, send.label, send.message, send.propagated, send.shown
 
 
 def waiting_code(send):
@@ -74,7 +65,7 @@ def waiting_code(send):
 
 def send_code(send):
     """A send as its own processor knows it."""
-    return send and (message_code(send), send.period, send.begun, send.source, send.receive_period)
+    return send and (message_code(send), send.period, send.source, send.receive_period)
 
 
 def letter_code(letter):
@@ -82,9 +73,9 @@ def letter_code(letter):
         case Posted(send):
             return "send", waiting_code(send)
         case Done(name, decision):
-            return "done", name, decision.value
+            return "done", name.thread, decision.value
         case Withdraw(name, receiver, why):
-            return "withdraw", name, receiver, why.value
+            return "withdraw", name.thread, receiver, why.value
         case Gone(thread):
             return "gone", thread
         case Ordered(caller, target, what):
@@ -92,7 +83,7 @@ def letter_code(letter):
         case OrderDone(caller):
             return "order done", caller
         case Retarget(owed):
-            return "retarget", owed
+            return "retarget", owed_code(owed)
     raise ValueError(letter)
 
 

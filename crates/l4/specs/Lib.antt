@@ -1,4 +1,4 @@
--- What the clauses of the calls cite that this crate passes on.
+-- What the clauses cite of the calls that this crate re-exports.
 pub use Rattle.l4_model.specs.History
 pub use Rattle.l4_model.specs.Machine
 pub use Rattle.l4_model.specs.Steps

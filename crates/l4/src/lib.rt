@@ -7,11 +7,11 @@
 //! left to do. `replay_compact` takes entries that name each choice. `trace` and `read_events`
 //! write a history and read it, `check` judges whether steps are a history at all.
 //!
-//! Contracts see the definitions of the model (docs/MODEL.md). An outcome's history is one of the
-//! machine, with the laws that hold of all, and `check` is Ok for histories alone. Which history a
-//! run of several processors takes is up to the host. The crate has no code of its own; its `specs`
-//! re-export what these contracts cite. This tests a server (all of it is in
-//! `crates/l4_host_tests/src/server.rt`):
+//! Contracts see the definitions of the model (docs/MODEL.md). The history of an outcome is one of
+//! the machine, and the laws of all histories hold for it. `check` is Ok for histories alone. The
+//! host decides which history a run of several processors takes. The crate has no code of its own;
+//! its `specs` re-export what these contracts cite. The lines below test a server (the whole test
+//! is in `crates/l4_host_tests/src/server.rt`):
 //!
 //! ```rust
 //! let machine = Machine::parse(alloc, text)?;

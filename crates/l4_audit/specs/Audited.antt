@@ -25,10 +25,12 @@ pub record IsOf (m : Machine) (blocks : List Block) (lists : List (List Waiting)
 -- A thread that waits until what it asked for is done stands at an instruction of its script.
 abbrev pub IsPlaced : Audited → Type 0
 IsPlaced a =
-    (i : ℕ) (d : Declaration) (t : Thread) → slice_get a.machine.threads i ≡ Some d → slice_get a.world.threads i ≡ Some t →
+    (i : ℕ) (d : Declaration) (t : Thread) → slice_get a.machine.threads i ≡ Some d →
+    slice_get a.world.threads i ≡ Some t →
     is_some t.order ≡ true → t.context.place < length d.script
 
--- A thread asked for this of the thread at a place, and it stands at an instruction of a script.
+-- A thread has an undone order that asks this of the thread at a place. Its script is within the
+-- limit.
 pub record IsAsked (m : Machine) (t : Found) (target : ℕ) (what : What) : Type 0 where
   pub order : Asked
   pub asked : t.now.order ≡ Some order

@@ -25,7 +25,7 @@ pub record IsUnderWay (a : Audited) (begun : List Name) : Type 0 where
 abbrev pub begins : Machine → Auditing
 begins m = record { at = record { machine = m; world = opening m }; begun = [] }
 
--- The step was possible, and the audit is behind it.
+-- The step was possible, and the audit has taken it.
 pub record IsPassed (a : Auditing) (step : Step) (b : Auditing) : Type 0 where
   pub taken : IsTaken a.at step b.at
   pub begun : b.begun ≡ a.begun ++ option_to_list (begun_name step)
@@ -35,7 +35,7 @@ abbrev pub Judges : {A : Type 0} → Auditing → Step → Result A StepFault �
 Judges a step (Ok done) b = IsPassed a step b
 Judges a step (Err fault) b = Explains a.at step fault × (b ≡ a)
 
--- A send with its destination, where it is undecided.
+-- A send with its destination, if it is undecided.
 abbrev pub waiting_send : Machine → World → Name → Option (Name × Id)
 waiting_send m w s = do
   p ← undecided m w s

@@ -32,7 +32,7 @@ abbrev pub Blames : Machine → List Step → AuditFault → Type 0
 Blames m h NoMemory = Unit {0}
 Blames m h (Refused place) = IsFirstFault m h place
 
--- The fault of a step, the one after so many.
+-- The fault of the step that comes after `taken` others.
 abbrev pub fault_at : (taken : ℕ) → StepFault → AuditFault
 fault_at taken Wanting = NoMemory
 fault_at taken (Refuses reason) = Refused (taken + 1)

@@ -14,11 +14,14 @@ use Rattle.l4_types.specs.declared.step_ref.DeliveryRef.{DeliveryRef}
 abbrev pub IsFound : Machine → Found → Type 0
 IsFound m t = declaration_of m t.declared.id ≡ Some t.declared
 
--- The conditions that it tells this send to this receiver: its senders, its tag and its words.
+-- The conditions that a delivery tells this send to this receiver: its senders, its tag and its
+-- words.
 abbrev pub of_telling : Machine → DeliveryRef → Pending → Found → List Condition
 of_telling m d p r =
-    of_message m p r d.receiver d.message.shown d.message.actual (received_tag d.cross d.message) d.message.words
+    of_message m p r d.receiver d.message.shown d.message.actual (received_tag d.cross d.message)
+    d.message.words
 
 -- The message goes over from its sender to its receiver.
 abbrev pub taken_over : (sender receiver : ℕ) → DeliveryRef → (now : ℕ) → World → World
-taken_over s r d now w = change (change (unqueued w s) r (receives d.message (received_tag d.cross d.message))) s (after_decision Delivered now)
+taken_over s r d now w = change (change (unqueued w s) r
+    (receives d.message (received_tag d.cross d.message))) s (after_decision Delivered now)

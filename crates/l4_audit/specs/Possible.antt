@@ -54,7 +54,7 @@ coming_name t = name_of t.declared.id (t.now.context.begun + 1)
 abbrev pub last_name : Found → Option Name
 last_name t = name_of t.declared.id t.now.context.begun
 
--- The steps that a thread may be in for but retargets, in the order of the table of steps.
+-- The steps that a thread may be in for, retargets aside, in the order of the table of steps.
 abbrev pub in_order :
     Machine → World → Found → GlobalId → (coming last : Option Name) → List (Option Step)
 in_order m w t id coming last =
@@ -78,7 +78,7 @@ abbrev pub candidates : Machine → World → Found → List (Option Step)
 candidates m w t =
     in_order m w t t.declared.id (coming_name t) (last_name t) ++ map (turn t.declared.id) w.owed
 
--- A step, where it is possible.
+-- A step, if it is possible.
 abbrev pub where_possible : Machine → World → Option Step → Option Step
 where_possible m w candidate = do
   step ← candidate
@@ -92,7 +92,7 @@ possible_of m w (Some t) = filter_map (where_possible m w) (candidates m w t)
 abbrev pub possible : Machine → World → List Step
 possible m w = flat_map (λ d. possible_of m w (found m w d.id)) m.threads
 
--- These steps stand behind those that stood there, or this one where it is possible.
+-- These steps were appended to a list, or this one if it is possible.
 
 abbrev pub Appends : (old new : List (types.Step Delivery)) → List Step → Type 0
 Appends old new steps = map step_of new ≡ map step_of old ++ steps

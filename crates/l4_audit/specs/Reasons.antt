@@ -15,7 +15,7 @@ use Rattle.l4_audit.specs.declared.reasons.Reason.{Reason}
 use Rattle.l4_audit.specs.declared.reasons.Reason.TheVariants.{Undeclared, NotReady, NotLocal, NotNext, NoSendPhase, NoReceivePhase, NoOrder, OtherOrder, NotUndecided, NoReceiver, ReceiverDeleted, Waiting, NotWaiting, MustWait, NotReceiving, AcceptsNone, NotFirst, OtherReceiver, OtherShown, OtherSender, OtherTag, OtherWords, NotTimedOut, HasDestination, SendNotCancelled, SenderNotDeleted, ReceiveNotPassed, HasPartner, AcceptsFirst, ReceiveNotCancelled, AskedNothing, TargetUndeclared, NoProcessor, ClockAt, PastClocks, NotOwed, OriginatorUndeclared}
 use Rattle.l4_audit.specs.Starting.{id_at}
 
--- A condition of a rule, and the reason that is told where it is false.
+-- A condition of a rule, and the reason that is told if the condition is false.
 pub record Condition : Type 0 where
   pub reason : Reason
   pub holds : Bool
@@ -23,7 +23,8 @@ pub record Condition : Type 0 where
 abbrev pub test : Bool → Reason → Condition
 test b r = record { reason = r; holds = b }
 
--- In a `do` block each line is a condition: a line `need o r as x` goes on where o has a value, a line `test b r` goes on.
+-- In a `do` block each line is a condition: `need o r as x` goes on if o has a value, `test b r`
+-- always goes on.
 pub record Needed (A : Type 0) : Type 0 where
   pub value : Option A
   pub reason : Reason
@@ -77,16 +78,19 @@ of_queue m w s = do
   []
 
 -- What a delivery tells is the message of this send to this receiver.
-abbrev pub of_message : Machine → Pending → Found → (receiver shown actual : GlobalId) → (tag : ℕ) → (words : List ℕ) → List Condition
+abbrev pub of_message : Machine → Pending → Found → (receiver shown actual : GlobalId) → (tag : ℕ) →
+    (words : List ℕ) → List Condition
 of_message m p r receiver shown actual tag words = do
   test (same_id receiver r.declared.id) (OtherReceiver r.declared.id)
   test (same_id shown p.send.message.shown) (OtherShown p.send.message.shown)
   test (same_id actual p.send.message.actual) (OtherSender p.send.message.actual)
-  test (tag == received_tag (is_cross m receiver p.send.message) p.send.message) (OtherTag (received_tag (is_cross m receiver p.send.message) p.send.message))
+  test (tag == received_tag (is_cross m receiver p.send.message) p.send.message)
+      (OtherTag (received_tag (is_cross m receiver p.send.message) p.send.message))
   test (bytes_eq words p.send.message.words) OtherWords
   []
 
-abbrev pub of_deliver : Machine → World → Name → (receiver shown actual : GlobalId) → (tag : ℕ) → (words : List ℕ) → List Condition
+abbrev pub of_deliver : Machine → World → Name → (receiver shown actual : GlobalId) → (tag : ℕ) →
+    (words : List ℕ) → List Condition
 of_deliver m w s receiver shown actual tag words = do
   p ← need (undecided m w s) NotUndecided
   r ← need (receiver_of m w p) (NoReceiver p.send.to)
@@ -186,12 +190,14 @@ of_retarget m w s = do
   test (is_some (found m w o.originator)) (OriginatorUndeclared o.originator)
   []
 
--- The conditions of a step's rule, each where those before it that give it a value are true.
+-- The conditions of a step's rule. One that needs a value stands there only if the condition that
+-- gives this value is true.
 abbrev pub conditions : Machine → World → Step → List Condition
 conditions m w (Local t) = of_local m w t
 conditions m w (Begin s) = of_begin m w s
 conditions m w (Queue s) = of_queue m w s
-conditions m w (Deliver s receiver shown actual tag words) = of_deliver m w s receiver shown actual tag words
+conditions m w (Deliver s receiver shown actual tag words) =
+    of_deliver m w s receiver shown actual tag words
 conditions m w (Wait t) = of_wait m w t
 conditions m w (SendTimeout s) = of_send_timeout m w s
 conditions m w (ReceiveTimeout t) = of_receive_timeout m w t
@@ -205,16 +211,16 @@ conditions m w (Obey caller) = of_obey m w caller
 conditions m w (Tick cpu clock) = of_tick w cpu clock
 conditions m w (Retarget s) = of_retarget m w s
 
--- The first that is false.
+-- The first condition that is false.
 abbrev pub first_false : List Condition → Option Reason
 first_false [] = None
 first_false (c ∷ cs) = if c.holds then first_false cs else Some c.reason
 
--- Why a step is not possible. None exactly where it is.
+-- Why a step is not possible. None exactly if it is possible.
 abbrev pub reason : Machine → World → Step → Option Reason
 reason m w step = first_false (conditions m w step)
 
--- It is one of the conditions, false, and those before it are true.
+-- The reason is that of a condition that is false, and the conditions before it are true.
 pub record IsFirstFalse (r : Reason) (cs : List Condition) : Type 0 where
   pub before : List Condition
   pub later : List Condition

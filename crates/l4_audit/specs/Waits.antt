@@ -17,9 +17,11 @@ abbrev pub send_wait : (expected : Bool) → Id → Wait
 send_wait true to = Arrival to
 send_wait false to = Send to
 
--- A thread waits while it has an undecided send, also once it is deleted, and while it is in a receive phase.
+-- A thread waits while it has an undecided send, also once it is deleted, and while it is in a
+-- receive phase.
 abbrev pub wait_in : Machine → World → Option Sent → Option Receiving → Option Wait
-wait_in m w (Some send) receive = Some (send_wait (is_expected m send.message.shown (found_by m w send.to)) send.to)
+wait_in m w (Some send) receive = Some (send_wait
+    (is_expected m send.message.shown (found_by m w send.to)) send.to)
 wait_in m w None (Some receive) = Some (Receive receive.from)
 wait_in m w None None = None
 
@@ -31,4 +33,5 @@ waiting_thread m w id t = option_map (λ wait. (id, wait)) (wait_of m w t)
 
 -- Each thread that waits, in order of declaration, with what it waits for.
 abbrev pub waits_in : Machine → World → List (GlobalId × Wait)
-waits_in m w = filter_map (λ p. waiting_thread m w p.0 p.1) (zip (map (λ (d : Declaration). d.id) m.threads) w.threads)
+waits_in m w = filter_map (λ p. waiting_thread m w p.0 p.1)
+    (zip (map (λ (d : Declaration). d.id) m.threads) w.threads)

@@ -94,8 +94,8 @@ pub fn check_history(
     })
 }
 
-/// The audit after all steps of a history. `Refused` exactly where they are none of the machine,
-/// unless memory is refused.
+/// The audit after all steps of a history. `Refused` exactly where the steps are no history of the
+/// machine, unless memory is refused.
 pub fn audited<'m>(
     alloc: Global,
     machine: &'m Machine,

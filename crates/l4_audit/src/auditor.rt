@@ -53,8 +53,8 @@ impl<'m> Auditor<'m> {
         Ok(Auditor { world, begun })
     }
 
-    /// Judges the next step. Where it is not possible, or memory is refused, nothing changes: all
-    /// calls then answer for the world before it.
+    /// Judges the next step. If the step is not possible, or memory is refused, nothing changes:
+    /// all calls then answer for the world before the step.
     pub fn step(&mut self, step: &StepRef<'_>) -> Result<(), StepFault>
         ensures { Judges self.old (seen step.now) result self.new }
     {
@@ -80,8 +80,8 @@ impl<'m> Auditor<'m> {
         }
     }
 
-    /// Why a step is not possible here: the first condition of its rule that is false. None where
-    /// it is possible.
+    /// Why a step is not possible here: the first condition of its rule that is false. None if the
+    /// step is possible.
     pub fn reason(&self, step: &StepRef<'_>) -> Option<Reason>
         ensures { result ≡ reason self.now.at.machine self.now.at.world (seen step.now) }
     {
@@ -123,7 +123,7 @@ impl<'m> Auditor<'m> {
     }
 
     /// Every step but ticks that is possible once all clocks have their last value, in the order of
-    /// `possible`. No step but a tick is possible after any ticks that is not among them.
+    /// `possible`. Each step, ticks aside, that is possible after any ticks is among them.
     pub fn possible_late(self, alloc: Global) -> Result<Vec<Step>, NoMemory>
         ensures { IfOk result (λ steps. map step_of steps.items
             ≡ possible self.entry.at.machine (late self.entry.at.world)) }

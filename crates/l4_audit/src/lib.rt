@@ -7,8 +7,8 @@
 //! `Auditor::reason` is the first condition of the step's rule that is false, and
 //! `Auditor::possible` lists the steps that are possible there.
 //!
-//! It shares no choice with a processor: each step is written in the lines of its rule. A step
-//! takes memory only where it begins a send or leaves a retarget owed.
+//! The audit shares no choice with a processor: each step is written in the lines of its rule. A
+//! step takes memory only if it begins a send or leaves a retarget owed.
 //!
 //! ```rust
 //! match check(alloc, &machine, steps) {

@@ -94,7 +94,7 @@ pub enum Reason {
 pub enum StepFault {
     /// Memory was refused.
     NoMemory,
-    /// It is not possible.
+    /// The step is not possible.
     Refused(Reason),
 }
 

@@ -6,8 +6,8 @@ use l4_types::ids::ThreadId;
 pub enum Wait {
     /// That its undecided send, which has this destination, is decided.
     Send(ThreadId),
-    /// The same of a send that its destination is receiving: it accepts it, once it has come to the
-    /// head of those that it accepts.
+    /// That its undecided send is decided. This destination is in a receive phase that accepts the
+    /// send, once it is the first acceptable one.
     Arrival(ThreadId),
     /// That it receives a message. This is whom its receive phase accepts.
     Receive(ThreadId),

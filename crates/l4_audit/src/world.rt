@@ -85,7 +85,7 @@ impl<'m> World<'m> {
         self.found_at(self.machine.place_of(id)?)
     }
 
-    /// The thread that an id names, where it names a declared one.
+    /// The thread that an id names, if it names a declared one.
     pub fn found_by(&self, id: ThreadId) -> Option<Found<'_>>
         ensures { result ≡ found_by self.now.machine self.now.world id }
     {

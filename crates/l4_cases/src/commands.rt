@@ -3,11 +3,15 @@
 use crate::audits::audit;
 use crate::case::Case;
 use crate::outcome::Outcome;
+use l4_explore::progress::Unheard;
+use l4_jobs::expecting_files::perform_expected_on_files;
 use l4_jobs::files::perform_on_files;
 use l4_jobs::job::Job;
 use l4_jobs::lints::perform_lint;
+use l4_jobs::list_lints::perform_list_lint_on_files;
 use l4_jobs::perform::perform;
 use l4_jobs::refusal::refuse;
+use l4_jobs::streams::WithInput;
 use l4_jobs::words::job_of;
 use std::alloc::{AllocError, Global};
 use std::io;
@@ -46,11 +50,30 @@ fn do_job<R: Files + AllocGlobal + Threads + Sync>(
 ) -> u8 {
     let output = &mut done.output;
     let faults = &mut done.faults;
-    if !case.is_apart && job.second_file() != Some("-") {
-        return perform_on_files(rt, rt.alloc(), rt, job, output, faults);
+    if !case.is_apart {
+        let folder = WithInput {
+            folder: rt,
+            input: trace,
+        };
+        if let Some(expecting) = job.expecting() {
+            let alloc = rt.alloc();
+            return perform_expected_on_files(
+                rt,
+                alloc,
+                &folder,
+                &expecting,
+                output,
+                faults,
+                &mut Unheard,
+            );
+        }
+        if let Some(lint) = job.list_lint() {
+            return perform_list_lint_on_files(rt.alloc(), &folder, &lint, output, faults);
+        }
+        return perform_on_files(rt, rt.alloc(), &folder, job, output, faults);
     }
     let mut text = case.text;
-    if let Job::Lint { file } = *job {
+    if let Job::Lint { file, .. } = *job {
         return perform_lint(rt.alloc(), file, &mut text, output, faults);
     }
     let mut trace = trace;

@@ -1,4 +1,4 @@
--- What stands at each thread in a row, and in front of it.
+-- What a row shows at each thread, and in front of its line.
 use Rattle.std.specs.Prelude.{ℕ, ◌+◌, Bool, ◌==◌, ◌&&◌, nat_lt, nat_le, if◌then◌else◌, false, Option, Some, None, List, position}
 use Rattle.l4_model.specs.Words.{GlobalId, same_id}
 use Rattle.l4_chart.specs.declared.cells.Cell.{Cell}
@@ -29,10 +29,11 @@ place_in columns t = position (λ (c : Column). same_id c.id t) columns
 
 abbrev pub stroke_of : List Column → Mark → Stroke
 stroke_of columns (Point t kind) = Dot (place_in columns t) kind
-stroke_of columns (Arrow sender receiver) = Shaft (place_in columns sender) (place_in columns receiver)
+stroke_of columns (Arrow sender receiver) = Shaft (place_in columns sender)
+    (place_in columns receiver)
 stroke_of columns (Clock cpu clock) = Ticks cpu clock
 
--- In front of a line: a space is the character 32.
+-- A gap that one character fills. A space is the character 32.
 abbrev pub filled : ℕ → Gap
 filled c = record { first = c; between = c; last = c }
 
@@ -41,10 +42,19 @@ blank = filled 32
 
 -- An arrow goes over the gaps between its two lines. Its head is next to the line of the receiver.
 abbrev pub right_gap : Glyphs → (ends : Bool) → Gap
-right_gap g ends = record { first = g.shaft; between = g.shaft; last = if ends then g.right_head else g.shaft }
+right_gap g ends = record {
+  first = g.shaft;
+  between = g.shaft;
+  last = if ends then g.right_head
+      else g.shaft;
+}
 
 abbrev pub left_gap : Glyphs → (ends : Bool) → Gap
-left_gap g ends = record { first = if ends then g.left_head else g.shaft; between = g.shaft; last = g.shaft }
+left_gap g ends = record {
+  first = if ends then g.left_head else g.shaft;
+  between = g.shaft;
+  last = g.shaft;
+}
 
 abbrev pub is_between : (from to place : ℕ) → Bool
 is_between from to place = nat_lt from place && nat_le place to
@@ -66,13 +76,20 @@ crossed_line g from to place =
     else g.line))
 
 abbrev pub arrow_line : Glyphs → (from to place : ℕ) → ℕ
-arrow_line g from to place = if place == from then start_of g from to else crossed_line g from to place
+arrow_line g from to place = if place == from then start_of g from to
+    else crossed_line g from to place
 
--- Of an arrow with one end that is not shown, the head stands at the left of the other one.
+-- If one end of an arrow is not shown, the head stands at the left of the other end.
 abbrev pub arrow_cell : Glyphs → (from to : Option ℕ) → (place : ℕ) → Cell
-arrow_cell g (Some from) (Some to) place = record { gap = arrow_gap g from to place; line = arrow_line g from to place }
+arrow_cell g (Some from) (Some to) place = record {
+  gap = arrow_gap g from to place;
+  line = arrow_line g from to place;
+}
 arrow_cell g None (Some to) place =
-    record { gap = if place == to then (record blank { last = g.right_head }) else blank; line = g.line }
+    record {
+      gap = if place == to then (record blank { last = g.right_head }) else blank;
+      line = g.line;
+    }
 arrow_cell g (Some from) None place =
     record {
       gap = if place == from then (record blank { last = g.left_head }) else blank;
@@ -85,6 +102,14 @@ is_at None place = false
 is_at (Some at) place = at == place
 
 abbrev pub cell_of : Glyphs → Stroke → (place : ℕ) → Column → Cell
-cell_of g (Dot at kind) place column = record { gap = blank; line = if is_at at place then glyph_of g kind else g.line }
+cell_of g (Dot at kind) place column = record {
+  gap = blank;
+  line = if is_at at place
+      then glyph_of g kind else g.line;
+}
 cell_of g (Shaft from to) place column = arrow_cell g from to place
-cell_of g (Ticks cpu clock) place column = record { gap = blank; line = if column.cpu == cpu then g.clock else g.line }
+cell_of g (Ticks cpu clock) place column = record {
+  gap = blank;
+  line = if column.cpu == cpu
+      then g.clock else g.line;
+}

@@ -28,18 +28,21 @@ columns_on m threads cpu = filter_map (column_on threads cpu) m.threads
 abbrev pub columns_of : Machine → Option (List GlobalId) → List Column
 columns_of m threads = flat_map (columns_on m threads) (range_with_len 0 m.cpus)
 
--- A mark stands at a chosen thread. A clock does where its processor has one, or none was chosen.
+-- Whether a mark stands at a chosen thread. A clock does if its processor has such a thread, or if
+-- all threads are shown.
 abbrev pub concerns : Option (List GlobalId) → List Column → Mark → Bool
 concerns threads columns (Point t kind) = is_chosen threads t
-concerns threads columns (Arrow sender receiver) = is_chosen threads sender || is_chosen threads receiver
-concerns threads columns (Clock cpu clock) = is_none threads || list_any (λ (c : Column). c.cpu == cpu) columns
+concerns threads columns (Arrow sender receiver) = is_chosen threads sender ||
+    is_chosen threads receiver
+concerns threads columns (Clock cpu clock) = is_none threads ||
+    list_any (λ (c : Column). c.cpu == cpu) columns
 
 -- An order concerns its target too.
 abbrev pub is_of_target : Option (List GlobalId) → Step → Bool
 is_of_target threads (Order caller target what) = is_chosen threads target
 is_of_target threads _ = false
 
--- A step with its number, as a row of this part of a chart.
+-- Whether a step with its number is a row of this part of a chart.
 abbrev pub is_in : Part → List Column → ℕ × Step → Bool
 is_in part columns row =
     nat_le part.first row.0 && nat_le row.0 part.last
@@ -49,7 +52,7 @@ is_in part columns row =
 abbrev pub numbered : List Step → List (ℕ × Step)
 numbered h = enumerate_from 1 h
 
--- Those of a part.
+-- The rows of a part of a history.
 abbrev pub rows_of : Machine → Part → List Step → List (ℕ × Step)
 rows_of m part h = filter (is_in part (columns_of m part.threads)) (numbered h)
 

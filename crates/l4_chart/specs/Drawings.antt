@@ -8,7 +8,8 @@ use Rattle.l4_chart.specs.declared.drawing.Form.TheVariants.{Lines, Ascii, Svg, 
 use Rattle.l4_chart.specs.declared.glyphs.TheConstants.{LINES, ASCII}
 
 -- The texts are said byte for byte, the pictures by no definition.
-abbrev pub IsDrawing : Form → (width : ℕ) → List Column → List (ℕ × Step) → (drawing : List ℕ) → Type 0
+abbrev pub IsDrawing : Form → (width : ℕ) → List Column → List (ℕ × Step) →
+    (drawing : List ℕ) → Type 0
 IsDrawing Lines width columns rows drawing = drawing ≡ text_of LINES width columns rows
 IsDrawing Ascii width columns rows drawing = drawing ≡ text_of ASCII width columns rows
 IsDrawing Svg width columns rows drawing = Unit {0}

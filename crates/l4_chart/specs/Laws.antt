@@ -11,7 +11,7 @@ use Rattle.l4_chart.specs.Windows.{Part}
 use Rattle.l4_chart.specs.declared.columns.Column.{Column}
 use Rattle.l4_chart.specs.declared.marks.Mark.TheVariants.{Arrow}
 
--- The step delivers a send of this thread to that one.
+-- The step delivers a send of `sender` to `receiver`.
 pub record IsDelivery (step : Step) (sender receiver : GlobalId) : Type 0 where
   pub send : Name
   pub shown : GlobalId
@@ -24,7 +24,8 @@ pub record IsDelivery (step : Step) (sender receiver : GlobalId) : Type 0 where
 -- The arrows are exactly the deliveries, each from its sender to its receiver.
 abbrev pub ArrowsAreDeliveries : Type 0
 ArrowsAreDeliveries =
-    (step : Step) (sender receiver : GlobalId) → (mark_of step ≡ Arrow sender receiver) ↔ IsDelivery step sender receiver
+    (step : Step) (sender receiver : GlobalId) →
+    (mark_of step ≡ Arrow sender receiver) ↔ IsDelivery step sender receiver
 
 -- All of a history.
 abbrev pub whole : List Step → Part
@@ -37,7 +38,8 @@ RowsAreSteps = (m : Machine) (h : List Step) → rows_of m (whole h) h ≡ numbe
 abbrev pub column_of : Declaration → Column
 column_of d = record { id = d.id; cpu = d.cpu }
 
--- Under each processor stand exactly those of its threads that are chosen, each once, in order of declaration.
+-- Under each processor stand exactly those of its threads that are chosen, each once, in order
+-- of declaration.
 abbrev pub ColumnsAreThreads : Type 0
 ColumnsAreThreads =
     (m : Machine) (threads : Option (List GlobalId)) (cpu : ℕ) → IsMachine m →

@@ -5,7 +5,7 @@ use Rattle.l4_words.specs.Threads.{thread_word}
 use Rattle.l4_chart.specs.declared.columns.Column.{Column}
 use Rattle.l4_chart.specs.declared.layout.Layout.{Layout}
 
--- The longest id of a thread.
+-- The number of characters of the longest id.
 abbrev pub widest : List Column → ℕ
 widest columns = fold (λ most (c : Column). max most (length (thread_word c.id))) 0 columns
 
@@ -16,12 +16,17 @@ number_in (Some row) = row.0
 abbrev pub last_number : List (ℕ × Step) → ℕ
 last_number rows = number_in (slice_get rows (length rows - 1))
 
--- A thread takes its id and two spaces, or up to 10 columns where that leaves 34 for the lines of steps.
+-- A thread takes two columns more than the longest id, or up to 10 if that leaves 34 for the lines
+-- of steps.
 abbrev pub cell_width : (room count longest : ℕ) → ℕ
 cell_width room count longest = max (longest + 2) (min ((room - 34) / max count 1) 10)
 
 abbrev pub layout_with : (number room cell count : ℕ) → Layout
-layout_with number room cell count = record { number = number; cell = cell; line = room - cell * count - 2 }
+layout_with number room cell count = record {
+  number = number;
+  cell = cell;
+  line = room - cell * count - 2;
+}
 
 abbrev pub layout_in : (number room count longest : ℕ) → Layout
 layout_in number room count longest = layout_with number room (cell_width room count longest) count

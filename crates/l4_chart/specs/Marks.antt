@@ -4,7 +4,8 @@ use Rattle.l4_chart.specs.declared.marks.Kind.TheVariants as kind
 use Rattle.l4_chart.specs.declared.marks.Mark.{Mark}
 use Rattle.l4_chart.specs.declared.marks.Mark.TheVariants.{Point, Arrow, Clock}
 
--- A delivery is an arrow from its sender to its receiver, and nothing else is an arrow. A send stands at its thread.
+-- A delivery is an arrow from its sender to its receiver, and nothing else is an arrow. A send
+-- stands at its thread.
 abbrev pub mark_of : steps.Step → Mark
 mark_of (steps.Local t) = Point t kind.Local
 mark_of (steps.Begin s) = Point s.thread kind.Begin

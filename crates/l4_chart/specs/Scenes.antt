@@ -4,14 +4,20 @@ use Rattle.l4_chart.specs.Layouts.{widest}
 use Rattle.l4_chart.specs.declared.columns.Column.{Column}
 use Rattle.l4_chart.specs.declared.scene.Scene.{Scene}
 
--- 72 pixels from one thread to the next, or more where ids are long: 8 for each character, and for two spaces.
+-- From one thread to the next there are 72 pixels, or more if ids are long: 8 for each character,
+-- and 16 besides.
 abbrev pub column_step : (longest : ℕ) → ℕ
 column_step longest = max (longest * 8 + 16) 72
 
 abbrev pub scene_of : List Column → (rows : ℕ) → Scene
-scene_of columns rows = record { step = column_step (widest columns); columns = length columns; rows = rows }
+scene_of columns rows = record {
+  step = column_step (widest columns);
+  columns = length columns;
+  rows = rows;
+}
 
--- So many steps from a start on. Pixels are counted by words.
+-- The pixel that is `count` steps behind a start. What does not fit into 64 bits stands at the last
+-- pixel.
 abbrev pub at : (start step count : ℕ) → ℕ
 at start step count = min (step * count + start) (2 ^ 64 - 1)
 
@@ -23,7 +29,7 @@ column_x s place = at (min (64 + s.step / 2) (2 ^ 64 - 1)) s.step place
 abbrev pub row_y : (row : ℕ) → ℕ
 row_y row = at 68 24 row
 
--- An arrow ends at the line of a thread, or at the edge where the thread is not shown.
+-- An arrow ends at the line of a thread, or at the edge if the thread is not shown.
 abbrev pub end_x : Scene → Option ℕ → ℕ
 end_x s (Some place) = column_x s place
 end_x s None = 52

@@ -14,38 +14,46 @@ use Rattle.l4_chart.specs.declared.columns.Column.{Column}
 use Rattle.l4_chart.specs.declared.glyphs.Glyphs.{Glyphs}
 use Rattle.l4_chart.specs.declared.layout.Layout.{Layout}
 
--- A word that ends so many columns on. The byte of a space is 32.
+-- A word at the right of `width` columns. The byte of a space is 32.
 abbrev pub right : (width : ℕ) → List ℕ → List ℕ
 right width word = replicate (width - length word) 32 ++ word
 
 abbrev pub cell_text : (width : ℕ) → Cell → List ℕ
 cell_text width cell =
-    encode_utf8 cell.gap.first ++ repeat (width - 3) (encode_utf8 cell.gap.between) ++ encode_utf8 cell.gap.last
+    encode_utf8 cell.gap.first ++ repeat (width - 3) (encode_utf8 cell.gap.between) ++
+    encode_utf8 cell.gap.last
     ++ encode_utf8 cell.line
 
 abbrev pub cells_text : Glyphs → (width : ℕ) → Stroke → List (ℕ × Column) → List ℕ
-cells_text g width stroke places = flat_map (λ (p : ℕ × Column). cell_text width (cell_of g stroke p.0 p.1)) places
+cells_text g width stroke places = flat_map (λ (p : ℕ × Column).
+    cell_text width (cell_of g stroke p.0 p.1)) places
 
--- The line of a step without its end, cut off where there is less room.
+-- The line of a step without its end, cut off if there is less room.
 abbrev pub cut : Glyphs → (room : ℕ) → List ℕ → List ℕ
-cut g room line = if nat_le (length line) room then line else take (room - 1) line ++ encode_utf8 g.cut
+cut g room line = if nat_le (length line) room then line
+    else take (room - 1) line ++ encode_utf8 g.cut
 
 abbrev pub line_text : Glyphs → (room : ℕ) → Step → List ℕ
-line_text g room step = if room == 0 then [] else codes "  " ++ cut g room (join_with_byte 32 (words_of step))
+line_text g room step = if room == 0 then [] else codes "  " ++
+    cut g room (join_with_byte 32 (words_of step))
 
 abbrev pub row_text : Glyphs → Layout → List Column → ℕ × Step → List ℕ
 row_text g l columns row =
-    right l.number (decimal row.0) ++ cells_text g l.cell (stroke_of columns (mark_of row.1)) (enumerate_from 0 columns)
+    right l.number (decimal row.0) ++ cells_text g l.cell (stroke_of columns (mark_of row.1))
+    (enumerate_from 0 columns)
     ++ line_text g l.line row.1 ++ codes "\n"
 
--- Above a thread stands the number of its processor, or where the thread before it has the same, a bracket.
+-- Above a thread stands the number of its processor, or a bracket if the thread before it has the
+-- same processor.
 abbrev pub head_text : Glyphs → (width : ℕ) → (before : Option ℕ) → (cpu : ℕ) → List ℕ
 head_text g width before cpu =
-    if is_at before cpu then codes " " ++ repeat (width - 1) (encode_utf8 g.bracket) else right width (decimal cpu)
+    if is_at before cpu then codes " " ++ repeat (width - 1) (encode_utf8 g.bracket)
+    else right width (decimal cpu)
 
 abbrev pub heads_text : Glyphs → (width : ℕ) → (before : Option ℕ) → List Column → List ℕ
 heads_text g width before [] = []
-heads_text g width before (c ∷ cs) = head_text g width before c.cpu ++ heads_text g width (Some c.cpu) cs
+heads_text g width before (c ∷ cs) = head_text g width before c.cpu ++
+    heads_text g width (Some c.cpu) cs
 
 abbrev pub ids_text : (width : ℕ) → List Column → List ℕ
 ids_text width columns = flat_map (λ (c : Column). right width (thread_word c.id)) columns
@@ -58,6 +66,6 @@ heading g l columns =
 abbrev pub text_in : Glyphs → Layout → List Column → List (ℕ × Step) → List ℕ
 text_in g l columns rows = heading g l columns ++ flat_map (row_text g l columns) rows
 
--- The text of a chart on a terminal of so many columns.
+-- The text of a chart on a terminal of `width` columns.
 abbrev pub text_of : Glyphs → (width : ℕ) → List Column → List (ℕ × Step) → List ℕ
 text_of g width columns rows = text_in g (layout_of width columns rows) columns rows

@@ -4,7 +4,7 @@ use Rattle.l4_model.specs.Words.{GlobalId}
 use Rattle.l4_chart.specs.declared.threads.ThreadsFault.{ThreadsFault}
 use Rattle.l4_chart.specs.declared.threads.ThreadsFault.TheVariants.{NoMemory, Item}
 
--- Its first item that names none, unless memory ran out.
+-- The fault is the first item that names no thread, unless memory ran out.
 abbrev pub IsThreadsFault : Result (List GlobalId) ℕ → ThreadsFault → Type 0
 IsThreadsFault named NoMemory = ⊤
 IsThreadsFault named (Item number) = named ≡ Err number

@@ -1,4 +1,5 @@
--- A part of a history: the steps from one number to another, counted from 1, and the threads that are chosen, or all.
+-- A part of a history: the steps from one number to another, counted from 1, and the threads that
+-- are chosen, or all.
 use Rattle.std.specs.Prelude.{ℕ, ◌-◌, min, Option, Some, None, List}
 use Rattle.l4_model.specs.Words.{GlobalId}
 
@@ -7,7 +8,7 @@ pub record Part : Type 0 where
   pub last : ℕ
   pub threads : Option (List GlobalId)
 
--- What of it stands before the first step that is not possible.
+-- The steps of a part that stand before the first step that is not possible.
 abbrev pub until_refused : (refused : Option ℕ) → Part → Part
 until_refused None part = part
 until_refused (Some number) part = record part { last = min part.last (number - 1) }

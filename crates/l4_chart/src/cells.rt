@@ -1,4 +1,4 @@
-//! What stands at each thread in a row, and in front of it.
+//! What a row shows at each thread, and in front of its line.
 ghost use Rattle.std.specs.Prelude.{◌≡◌, ◌+◌};
 ghost use Rattle.l4_chart.specs.Cells.{place_in, stroke_of, blank, filled, right_gap, left_gap};
 ghost use Rattle.l4_chart.specs.Cells.{is_between, arrow_gap, start_of, crossed_line, arrow_line};
@@ -9,8 +9,8 @@ use crate::glyphs::Glyphs;
 use crate::marks::{Kind, Mark};
 use l4_types::ids::GlobalId;
 
-/// What a row shows, by the places of its threads among the columns, counted from 0. None is a
-/// thread that is not shown.
+/// What a row shows, by the places of its threads among the columns, counted from 0. A place is
+/// None if its thread is not shown.
 #[derive(Clone, Copy, Debug, PartialEq, Eq)]
 pub enum Stroke {
     /// A step of one thread.
@@ -50,9 +50,9 @@ pub struct Gap {
 /// What stands at a thread.
 #[derive(Clone, Copy, Debug, PartialEq, Eq)]
 pub struct Cell {
-    /// In front of its line.
+    /// What stands in front of its line.
     pub gap: Gap,
-    /// At its line.
+    /// What stands at its line.
     pub line: char,
 }
 
@@ -116,7 +116,7 @@ fn left_gap(glyphs: &Glyphs, ends: bool) -> Gap
     }
 }
 
-// In front of the line at a place, where an arrow goes from one line to another.
+// What stands in front of the line at a place, if an arrow goes from one line to another.
 fn arrow_gap(glyphs: &Glyphs, from: usize, to: usize, place: usize) -> Gap
     ensures { result ≡ arrow_gap glyphs.now from to place }
 {
@@ -139,7 +139,7 @@ fn start_of(glyphs: &Glyphs, from: usize, to: usize) -> char
     }
 }
 
-// The line at a place that is not the sender's.
+// The character at the line of a place that is not the sender's.
 fn crossed_line(glyphs: &Glyphs, from: usize, to: usize, place: usize) -> char
     ensures { result ≡ crossed_line glyphs.now from to place }
 {
@@ -152,7 +152,7 @@ fn crossed_line(glyphs: &Glyphs, from: usize, to: usize, place: usize) -> char
     }
 }
 
-// The line at a place.
+// The character at the line of a place.
 fn arrow_line(glyphs: &Glyphs, from: usize, to: usize, place: usize) -> char
     ensures { result ≡ arrow_line glyphs.now from to place }
 {
@@ -163,7 +163,7 @@ fn arrow_line(glyphs: &Glyphs, from: usize, to: usize, place: usize) -> char
     }
 }
 
-// The cell of a place where nothing but a line may stand.
+// The cell of a place at which nothing but a line may stand.
 fn lined(line: char) -> Cell
     ensures { result ≡ record { gap = blank; line = line } }
 {

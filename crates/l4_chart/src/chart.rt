@@ -27,7 +27,7 @@ pub struct Row<'h> {
 }
 
 impl Row<'_> {
-    /// What it shows.
+    /// What the row shows.
     pub fn mark(&self) -> Mark
         ensures { result ≡ mark_of (seen self.now.step) }
     {
@@ -51,8 +51,8 @@ fn has_cpu(columns: &[Column], cpu: u8) -> bool
     columns.iter().any(|column| column.cpu == cpu)
 }
 
-// Whether a mark stands at a thread that is shown. A clock does where its processor has one, or
-// all threads are shown.
+// Whether a mark stands at a thread that is shown. A clock does if its processor has such a thread,
+// or if all threads are shown.
 fn concerns(window: &Window<'_>, columns: &[Column], mark: &Mark) -> bool
     ensures { result ≡ concerns window.now.threads columns.now mark.now }
 {

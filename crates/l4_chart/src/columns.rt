@@ -17,7 +17,7 @@ pub struct Column {
     pub cpu: u8,
 }
 
-// The column of a thread, where it is of this processor and is shown.
+// The column of a thread, if the thread is on this processor and is shown.
 fn column_on(declared: &Declaration, window: &Window<'_>, cpu: u8) -> Option<Column>
     ensures { result ≡ column_on window.now.threads cpu declared.now }
 {

@@ -27,7 +27,7 @@ pub enum Form {
     Mermaid,
 }
 
-/// A chart in a form. A text is laid out for a terminal of so many columns.
+/// Draws a chart in a form. A text is laid out for a terminal of `width` columns.
 pub fn drawing_of(
     alloc: Global,
     chart: &Chart<'_>,

@@ -27,7 +27,7 @@ pub struct Glyphs {
     pub bracket: char,
     /// In place of what is cut off a line.
     pub cut: char,
-    /// The step of the first kind.
+    /// A thread runs an instruction that concerns nobody else, or ends.
     pub local: char,
     /// A send begins.
     pub begin: char,
@@ -41,7 +41,7 @@ pub struct Glyphs {
     pub receive_failure: char,
     /// A cancellation or a deletion is asked for.
     pub order: char,
-    /// It is done.
+    /// A cancellation or a deletion is done.
     pub obey: char,
     /// An originator turns.
     pub retarget: char,

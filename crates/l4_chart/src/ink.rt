@@ -23,7 +23,7 @@ pub(crate) fn push_char(out: &mut Vec<u8>, character: char) -> Result<(), NoMemo
     push_text(out, character.encode_utf8(&mut buffer))
 }
 
-// Appends a character so often.
+// Appends a character `count` times.
 #[tactic(auto, using(crate::proofs::Repeated::repeat_more))]
 pub(crate) fn push_chars(out: &mut Vec<u8>, character: char, count: usize) -> Result<(), NoMemory>
     ensures { OnOk result (out.new.items ≡ out.old.items ++ repeat count (encode_utf8 character)) }
@@ -67,7 +67,7 @@ pub(crate) fn number_width(number: u64) -> usize
     buffer.format(number).len()
 }
 
-/// How many characters a thread takes.
+/// How many characters the id of a thread takes.
 pub(crate) fn thread_width(thread: GlobalId) -> usize
     ensures value { result ≡ length (thread_word thread) }
     ensures few { result ≤ 81 }
@@ -75,7 +75,7 @@ pub(crate) fn thread_width(thread: GlobalId) -> usize
     number_width(u64::from(thread.number())) + 1 + number_width(u64::from(thread.version()))
 }
 
-// Appends a text so that it ends so many columns on. It takes more where it is longer.
+// Appends a text at the right of `width` columns. A longer text takes more columns.
 pub(crate) fn push_right_text(out: &mut Vec<u8>, width: usize, text: &str) -> Result<(), NoMemory>
     ensures { OnOk result (out.new.items ≡ out.old.items ++ right width text.now) }
 {

@@ -14,15 +14,15 @@ pub struct Layout {
     pub number: usize,
     /// A thread: its line, and what stands in front of it.
     pub cell: usize,
-    /// At most, the line of the step.
+    /// The line of the step, at most.
     pub line: usize,
 }
 
-// The word above the numbers.
+// How many columns the word above the numbers takes.
 const NUMBER_COLUMNS: usize = 4;
 
-// How much room is kept for the lines of steps before the threads take more than they need, and
-// how much a thread takes then.
+// How many columns are kept for the lines of steps before threads take more than they need. Below
+// it, how many a thread then takes.
 const LINE_COLUMNS: usize = 34;
 
 const CELL_COLUMNS: usize = 10;
@@ -48,8 +48,8 @@ fn last_number(rows: &[Row<'_>]) -> usize
     }
 }
 
-// How many columns each of so many threads takes, where there is this room for them and the lines
-// of steps.
+// How many columns each of `count` threads takes, if threads and the lines of steps have this room
+// together.
 fn cell_width(room: usize, count: usize, widest: usize) -> usize
     requires { widest ≤ 81 }
     ensures { result ≡ cell_width room count widest }
@@ -58,7 +58,7 @@ fn cell_width(room: usize, count: usize, widest: usize) -> usize
     (widest + 2).max(spare.min(CELL_COLUMNS))
 }
 
-/// The layout of a chart on a terminal of so many columns. Where the threads don't fit, rows are
+/// The layout of a chart on a terminal of `width` columns. If the threads do not fit, rows are
 /// longer.
 pub fn layout_of(width: usize, chart: &Chart<'_>) -> Layout
     ensures { result ≡ layout_of width chart.now.columns.items (map row_of chart.now.rows.items) }

@@ -1,9 +1,9 @@
 //! Charts of histories: columns are threads under their processors, rows are steps, and arrows are
 //! deliveries.
 //!
-//! `Chart::new` says what stands in a chart of a part of a history. Contracts see its columns and
-//! rows as lists: each step of the part is a row, and the arrows are exactly the deliveries, each
-//! from its sender to its receiver.
+//! `Chart::new` says what stands in a chart of a part of a history. Contracts see the columns and
+//! rows of a chart as lists. Each step of the part is a row. The arrows are exactly the deliveries,
+//! each from its sender to its receiver.
 #![tactic(auto)]
 
 pub mod cells;

@@ -8,7 +8,7 @@ use l4_types::errors::NoMemory;
 use l4_types::ids::GlobalId;
 use std::alloc::{AllocError, Global};
 
-// The name of a thread. A dot may not stand in it.
+// Appends the name of a thread, in which no dot may stand.
 fn push_name(out: &mut String, thread: GlobalId) -> Result<(), AllocError> {
     let number = thread.number();
     let version = thread.version();
@@ -23,7 +23,7 @@ fn push_participant(out: &mut String, column: &Column) -> Result<(), AllocError>
     writeln!(out, " as {number}.{version}")
 }
 
-// The threads, those of a processor in a box.
+// Appends the threads, those of each processor in a box.
 fn push_participants(out: &mut String, columns: &[Column]) -> Result<(), AllocError> {
     let mut before = None;
     for column in columns {
@@ -43,7 +43,7 @@ fn push_participants(out: &mut String, columns: &[Column]) -> Result<(), AllocEr
     Ok(())
 }
 
-// A line, where a `#` would begin a comment.
+// Appends a line. A `#` in it is escaped, since it would begin a comment.
 fn push_line(out: &mut String, line: &str) -> Result<(), AllocError> {
     for character in line.chars() {
         if character == '#' {
@@ -55,7 +55,7 @@ fn push_line(out: &mut String, line: &str) -> Result<(), AllocError> {
     out.push('\n')
 }
 
-// A note over the threads of a processor. Where none of them is shown, it is a comment.
+// Appends a note over the threads of a processor, or a comment if none of them is shown.
 fn push_clock(out: &mut String, columns: &[Column], cpu: u8) -> Result<(), AllocError> {
     let first = columns.iter().find(|column| column.cpu == cpu);
     let last = columns.iter().rfind(|column| column.cpu == cpu);

@@ -8,7 +8,7 @@ use l4_script::machine::Machine;
 use l4_types::errors::NoMemory;
 use std::alloc::Global;
 
-/// The number of the first step that is not possible, counted from 1. None where each is.
+/// The number of the first step that is not possible, counted from 1. None if each is possible.
 pub fn refused_step(
     alloc: Global,
     machine: &Machine,

@@ -19,7 +19,7 @@ pub(crate) const HEADING: u64 = 56;
 /// The height of a row.
 pub(crate) const ROW: u64 = 24;
 
-/// Where an arrow begins or ends whose other end is not shown.
+/// Where the end of an arrow stands whose thread is not shown.
 const EDGE: u64 = 52;
 
 /// How wide the lines of steps are.
@@ -36,7 +36,7 @@ pub struct Scene {
     pub rows: u64,
 }
 
-// So far from a place, so many steps.
+// The pixel that is `count` steps behind a start.
 fn at(start: u64, step: u64, count: u64) -> u64
     ensures { result ≡ at start step count }
 {
@@ -76,7 +76,7 @@ impl Scene {
         at(HEADING + ROW / 2, ROW, row as u64)
     }
 
-    /// Where an arrow begins or ends: at the line of a thread, or at the edge where that is not
+    /// Where an arrow begins or ends: at the line of a thread, or at the edge if that thread is not
     /// shown.
     pub fn end_x(&self, place: Option<usize>) -> u64
         ensures { result ≡ end_x self.now place }
@@ -97,7 +97,7 @@ impl Scene {
         self.right().saturating_add(LINES)
     }
 
-    /// Its height.
+    /// The height of the picture.
     pub fn height(&self) -> u64 {
         at(HEADING, ROW, self.rows)
     }

@@ -54,10 +54,10 @@ text.time{fill:#d29922}
 }
 ";
 
-// How many characters of a line are shown. Its title has all of them.
+// How many characters of a line are shown. The title has all of them.
 const SHOWN_CHARACTERS: usize = 60;
 
-// The processor of the threads that follow one another.
+// Appends the band of a processor, behind its threads.
 fn push_band(
     svg: &mut String,
     scene: &Scene,
@@ -80,7 +80,7 @@ fn push_band(
     )
 }
 
-// How many of these columns, from the first on, are of its processor.
+// How many columns, from the first on, are of this processor.
 fn count_of_cpu(columns: &[Column], cpu: u8) -> usize {
     columns
         .iter()
@@ -117,7 +117,7 @@ fn push_thread(
     )
 }
 
-/// The processors and the threads of a chart.
+/// Appends the processors and the threads of a chart.
 pub(crate) fn push_columns(
     svg: &mut String,
     scene: &Scene,
@@ -150,7 +150,7 @@ fn push_arrow(svg: &mut String, from: u64, to: u64, y: u64) -> Result<(), AllocE
     )
 }
 
-// A line over the threads of a processor, and what its clock has become.
+// Appends a line over the threads of a processor, and what its clock has become.
 fn push_clock(
     svg: &mut String,
     scene: &Scene,
@@ -204,8 +204,8 @@ fn shown(line: &[u8]) -> &[u8] {
     line.get(..SHOWN_CHARACTERS).unwrap_or(line)
 }
 
-// A row, its mark and its line, which is its title too. Lines have no character that would have to
-// be escaped.
+// Appends a row: its mark, and its line, which is the title too. Lines have no character that needs
+// escaping.
 fn push_row(
     svg: &mut String,
     scene: &Scene,
@@ -237,7 +237,7 @@ fn push_row(
     Ok(())
 }
 
-/// The rows of a chart.
+/// Appends the rows of a chart.
 pub(crate) fn push_rows(
     svg: &mut String,
     scene: &Scene,

@@ -56,7 +56,7 @@ fn push_cells(
     Ok(())
 }
 
-// Appends a line, cut off where there is less room.
+// Appends a line, cut off if there is less room.
 fn push_cut(out: &mut Vec<u8>, glyphs: &Glyphs, room: usize, line: &[u8]) -> Result<(), NoMemory>
     requires { 0 < room }
     ensures { OnOk result (out.new.items ≡ out.old.items ++ cut glyphs.now room line.now) }
@@ -119,7 +119,8 @@ fn push_rows(
     Ok(())
 }
 
-// What stands above a thread of a processor, behind one of the processor before it.
+// Appends what stands above a thread of processor `cpu`. The thread before it is on processor
+// `before`.
 fn push_head(
     out: &mut Vec<u8>,
     glyphs: &Glyphs,
@@ -179,9 +180,9 @@ fn push_heading(
     push_text(out, "\n")
 }
 
-/// A chart as text on a terminal of so many columns: two lines of heading, and a line for each row.
-/// Where the threads take more columns than there are, lines are longer, and the lines of steps are
-/// left out. Those that don't fit are cut off.
+/// Draws a chart as text on a terminal of `width` columns: two lines of heading, and a line for
+/// each row. If the threads take more columns than there are, lines are longer, and the lines of
+/// steps are left out. Lines of steps that do not fit are cut off.
 pub fn text_of(
     alloc: Global,
     chart: &Chart<'_>,

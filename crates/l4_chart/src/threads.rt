@@ -40,7 +40,7 @@ fn first_item(list: &[u8]) -> (&[u8], Option<&[u8]>)
     }
 }
 
-// The thread of an item, where it is declared.
+// The thread of an item, if it is declared.
 fn named_thread(machine: &Machine, item: &[u8]) -> Option<GlobalId>
     ensures { result ≡ named_thread machine.now item.now }
 {
@@ -58,7 +58,7 @@ fn push(threads: &mut Vec<GlobalId>, id: GlobalId) -> Result<(), NoMemory>
 
 /// The threads of a list, `N.V` with commas between them, in its order. Each has to be declared.
 ///
-/// `NoMemory` comes only where memory was refused, and then whatever the list says.
+/// `NoMemory`: memory was refused, whatever the list says.
 pub fn threads_of(
     alloc: Global,
     machine: &Machine,

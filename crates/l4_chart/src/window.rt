@@ -53,7 +53,7 @@ impl<'a> Window<'a> {
         }
     }
 
-    /// What of it stands before the first step that is not possible.
+    /// The window up to the first step that is not possible, without that step.
     pub fn until_refused(&self, refused: Option<usize>) -> Window<'a>
         ensures { result ≡ until_refused refused self.now }
     {

@@ -14,7 +14,7 @@ use Rattle.l4_core_model.specs.Local.{Local}
 use Rattle.l4_core_model.specs.Acts.{Work}
 use Rattle.l4_core_model.specs.Turns.{turn, advance}
 use Rattle.l4_core_model.specs.Mail.{handle}
-use Rattle.l4_core_model.specs.Runs.{System, Posted, letters, without_first, posted, taken, done, Happening, Handles, Turns, Ticks, Happened, happens}
+use Rattle.l4_core_model.specs.Runs.{System, Posted, letters, without_first, posted, taken, done, Action, Handles, Turns, Ticks, Happened, happens}
 use Rattle.l4_choices.specs.Alike.{unstamped, contents, IsAlike, HappenAlike, AreAlike}
 use Rattle.l4_choices.proofs.OfActs.{bare, bare_letter}
 use Rattle.l4_choices.proofs.OfTurns.{bare_turn, turn_bare, bare_advance, advance_bare}
@@ -138,7 +138,7 @@ handles m g h cpu from alike l n e =
     by [] (b ∷ ys) s t c = cc
     by (a ∷ xs) [] s t c = cc
 
-pub happen_alike : (m : Machine) (g h : System) (e : Happening) → IsAlike g h →
+pub happen_alike : (m : Machine) (g h : System) (e : Action) → IsAlike g h →
     AreAlike (happens m g e) (happens m h e)
 happen_alike m g h (Handles cpu from) alike =
     with_local (slice_get g.locals cpu) (slice_get h.locals cpu) _ _ (same_local g h cpu alike)

@@ -3,17 +3,17 @@ use Rattle.std.proofs.Common.{◌≡◌, Option, Some, None, List, [], ◌∷◌
 use Rattle.l4_model.specs.Machine.{Machine}
 use Rattle.l4_model.specs.Conditions.{◌>>=◌}
 use Rattle.l4_model.proofs.Chains.{some_is}
-use Rattle.l4_core_model.specs.Runs.{Happening, Handles, Turns, Ticks, Happened, happens, Run, core_run, then_event}
+use Rattle.l4_core_model.specs.Runs.{Action, Handles, Turns, Ticks, Happened, happens, Run, core_run, then_event}
 use Rattle.l4_core_model.specs.Schedules.{or_stays}
 use Rattle.l4_choices.specs.Entries.{entry_event, entry_of, replays}
 
-same_event : (m : Machine) (r : Run) (e : Happening) →
+same_event : (m : Machine) (r : Run) (e : Action) →
     (entry_event m r.system (entry_of e) >>= happens m r.system) ≡ happens m r.system e
 same_event m r (Handles cpu from) = refl
 same_event m r (Turns cpu) = refl
 same_event m r (Ticks cpu clock) = refl
 
-pub replayed : (m : Machine) (es : List Happening) (r t : Run) → core_run m r es ≡ Some t →
+pub replayed : (m : Machine) (es : List Action) (r t : Run) → core_run m r es ≡ Some t →
     replays m r (map entry_of es) ≡ t
 replayed m [] r t h = some_is r t h
 replayed m (e ∷ es) r t h =

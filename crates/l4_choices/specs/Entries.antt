@@ -3,13 +3,14 @@ use Rattle.std.specs.Prelude.{ℕ, ◌≡◌, Option, Some, List, [], ◌∷◌,
 use Rattle.std.specs.Option.{option_map}
 use Rattle.l4_model.specs.Machine.{Machine}
 use Rattle.l4_model.specs.Conditions.{◌>>=◌}
-use Rattle.l4_core_model.specs.Runs.{System, Happening, Handles, Turns, Ticks, happens, Run, core_run, opening_run}
+use Rattle.l4_core_model.specs.Runs.{System, Action, Handles, Turns, Ticks, happens, Run, core_run, opening_run}
 use Rattle.l4_core_model.specs.Schedules.{next_turn, least_deadline, or_stays}
 use Rattle.l4_core_model.specs.Schedules as plain
 
--- An entry of a schedule: a turn of a processor, where mail comes first, and of it that of the
--- lowest poster; a tick of its clock to its least deadline; the first letter under way from one
--- poster; the turn of its core, though mail may be there; a tick of its clock to a value.
+-- An entry of a schedule. `TurnOf`: a turn of a processor, where mail comes first, and of it that
+-- of the lowest poster. `TickOf`: a tick of its clock to its least deadline. `LetterOf`: the first
+-- letter under way from one poster. `CoreOf`: the turn of its core, though mail may be there.
+-- `TickTo`: a tick of its clock to a value.
 pub data Entry : Type 0 where
   TurnOf : (cpu : ℕ) → Entry
   TickOf : (cpu : ℕ) → Entry
@@ -19,7 +20,7 @@ pub data Entry : Type 0 where
 
 -- Replay: where there is nothing to do, an entry leaves the run as it is.
 
-abbrev pub entry_event : Machine → System → Entry → Option Happening
+abbrev pub entry_event : Machine → System → Entry → Option Action
 entry_event m g (TurnOf cpu) = Some (next_turn m g cpu)
 entry_event m g (TickOf cpu) = option_map (Ticks cpu) (least_deadline g cpu)
 entry_event m g (LetterOf cpu from) = Some (Handles cpu from)
@@ -34,13 +35,13 @@ replays m r (entry ∷ entries) =
 abbrev pub replay_entries : Machine → List Entry → Run
 replay_entries m entries = replays m (opening_run m) entries
 
--- The entries that numbers stand for are among them.
+-- An entry of `l4_core_model`, which has turns and ticks alone, as an entry here.
 abbrev pub widened : plain.Entry → Entry
 widened (plain.TurnOf cpu) = TurnOf cpu
 widened (plain.TickOf cpu) = TickOf cpu
 
 -- The entry that names what happened.
-abbrev pub entry_of : Happening → Entry
+abbrev pub entry_of : Action → Entry
 entry_of (Handles cpu from) = LetterOf cpu from
 entry_of (Turns cpu) = CoreOf cpu
 entry_of (Ticks cpu clock) = TickTo cpu clock
@@ -48,5 +49,5 @@ entry_of (Ticks cpu clock) = TickTo cpu clock
 -- Every core run is the replay of what happened in it.
 abbrev pub AreReplayed : Machine → Type 0
 AreReplayed m =
-    (happenings : List Happening) (r : Run) → core_run m (opening_run m) happenings ≡ Some r →
-    replay_entries m (map entry_of happenings) ≡ r
+    (actions : List Action) (r : Run) → core_run m (opening_run m) actions ≡ Some r →
+    replay_entries m (map entry_of actions) ≡ r

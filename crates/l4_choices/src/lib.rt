@@ -16,7 +16,7 @@
 
 ghost use Rattle.std.specs.Prelude.{◌≡◌, List, map};
 ghost use Rattle.l4_model.specs.Machine.{Machine};
-ghost use Rattle.l4_core_model.specs.Runs.{Happening, Run, System, happens};
+ghost use Rattle.l4_core_model.specs.Runs.{Action, Run, System, happens};
 ghost use Rattle.l4_core_model.specs.Schedules.{Entry as PlainEntry, replays as plain_replays};
 ghost use Rattle.l4_choices.specs.Alike.{AreAlike, IsAlike};
 ghost use Rattle.l4_choices.specs.Entries.{AreReplayed, replays, widened};
@@ -27,7 +27,8 @@ pub fn law_replayed()
     ensures { (m : Machine) → AreReplayed m }
 {}
 
-/// A schedule of turns and ticks alone is replayed as it is where there are no other entries.
+/// A schedule of turns and ticks alone has the same replay here as in `l4_core_model`, where there
+/// are no other entries.
 pub fn law_widened()
     ensures { (m : Machine) (r : Run) (entries : List PlainEntry) →
         replays m r (map widened entries) ≡ plain_replays m r entries }
@@ -36,6 +37,6 @@ pub fn law_widened()
 /// Whatever can happen in one of two alike states can happen in the other one, is told by the same
 /// steps, and leads to alike states.
 pub fn law_alike()
-    ensures { (m : Machine) (g h : System) (e : Happening) →
+    ensures { (m : Machine) (g h : System) (e : Action) →
         IsAlike g h → AreAlike (happens m g e) (happens m h e) }
 {}

@@ -1,5 +1,5 @@
 -- What an id is, by its kind.
-use Rattle.std.proofs.Common.{◌≡◌, ℕ, List, ◌∷◌, refl, sym, ap, ◌∙◌}
+use Rattle.std.proofs.Common.{◌≡◌, ℕ, List, ◌∷◌, sym, ap}
 use Rattle.l4_model.specs.Words.{Id, NilThread, AnyThread, AnyLocalThread, LocalThread, GlobalThread, word_of}
 use Rattle.l4_types.specs.Ids.{kind_of}
 use Rattle.l4_types.specs.declared.ids.Kind.TheVariants.{Local, Global}

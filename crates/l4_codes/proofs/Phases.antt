@@ -1,33 +1,23 @@
 -- The code of a phase, by what is read of it.
-use Rattle.std.proofs.Common.{◌≡◌, ℕ, List, ◌∷◌, Option, Some, None, IsSome, refl, sym, ap, ◌∙◌, arith}
+use Rattle.std.proofs.Common.{◌≡◌, ℕ, List, ◌∷◌, Some, None, refl}
 use Rattle.l4_model.specs.World.{Phase, Ready, Sending, Receiving, Ordering, Ended, Deleted, Receive, receive_now}
 use Rattle.l4_model.specs.History.{state_of}
 use Rattle.l4_types.specs.ReportView.{state_of_view}
 use Rattle.l4_types.specs.declared.reports.State as code
 use Rattle.l4_types.specs.declared.reports.State.TheVariants as codes
-use Rattle.l4_thread.specs.PhaseView.{since_of}
 use Rattle.l4_states.specs.Codes.{phase_code, receive_code}
 use Rattle.l4_codes.specs.States.{state_number}
 
-pub has_since : (p : Phase) (r : Receive) (since : Option ℕ) → receive_now p ≡ Some r → since ≡ since_of p → IsSome since
-has_since Ready r since is of = cc
-has_since Sending r since is of = cc
-has_since (Receiving s began) r since is of = rw of refl
-has_since Ordering r since is of = cc
-has_since Ended r since is of = cc
-has_since Deleted r since is of = cc
-
-pub receiving_code : (p : Phase) (r : Receive) (since : ℕ) → receive_now p ≡ Some r → Some since ≡ since_of p → (rest : List ℕ) →
-    2 ∷ receive_code r (since ∷ rest) ≡ phase_code p rest
-receiving_code Ready r since is of rest = cc
-receiving_code Sending r since is of rest = cc
-receiving_code (Receiving s began) r since is of rest =
-    let a : r ≡ s = cc in
-    let b : since ≡ began = cc in
-    λ i. 2 ∷ receive_code (a i) (b i ∷ rest)
-receiving_code Ordering r since is of rest = cc
-receiving_code Ended r since is of rest = cc
-receiving_code Deleted r since is of rest = cc
+pub receiving_code : (p : Phase) (r : Receive) → receive_now p ≡ Some r → (rest : List ℕ) →
+    2 ∷ receive_code r rest ≡ phase_code p rest
+receiving_code Ready r is rest = cc
+receiving_code Sending r is rest = cc
+receiving_code (Receiving s began) r is rest =
+    let same : r ≡ s = cc in
+    λ i. 2 ∷ receive_code (same i) rest
+receiving_code Ordering r is rest = cc
+receiving_code Ended r is rest = cc
+receiving_code Deleted r is rest = cc
 
 -- which number stands for what a report says
 number_of : (s : code.State) (p : Phase) → receive_now p ≡ None → state_of_view s ≡ state_of p → (rest : List ℕ) → state_number s ∷ rest ≡ phase_code p rest

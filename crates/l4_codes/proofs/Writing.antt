@@ -1,9 +1,9 @@
 -- What is written one after the other.
-use Rattle.std.proofs.Common.{◌≡◌, ℕ, zero, suc, ◌+◌, ◌*◌, ◌/◌, ◌%◌, ◌<◌, ◌≤◌, Bool, true, false, cond, ◌==◌, nat_lt, List, [], ◌∷◌, ◌++◌, length, get_or, drop, Result, Ok, Err, OnOk, refl, sym, ap, ◌∙◌, subst, arith, append_assoc}
+use Rattle.std.proofs.Common.{◌≡◌, ℕ, zero, suc, ◌+◌, ◌/◌, ◌%◌, ◌<◌, ◌≤◌, Bool, true, false, cond, ◌==◌, List, [], ◌∷◌, ◌++◌, length, get_or, drop, Result, Ok, Err, OnOk, refl, sym, ap, ◌∙◌, subst, arith, append_assoc}
 use Rattle.std.proofs.Math.Seq.{drop-cons}
 use Rattle.std.proofs.lemmas.List.{append-nil, drop_all}
 use Rattle.std.proofs.lemmas.Bool.{lt-ltb, le-ltb, eqb-true, eq-eqb}
-use Rattle.l4_states.specs.Bytes.{bytes_from, put_by, put_number, longest_run, ended, tokens_from, put_tokens, Above, Zeros}
+use Rattle.l4_states.specs.Bytes.{bytes_from, put_by, put_number, longest_run, tokens_from, put_tokens, Zeros}
 use Rattle.l4_states.specs.Codes.{chained, each, length_code, number_code, sized}
 use Rattle.l4_codes.specs.Written.{Written, with_numbers, Writes, zero_bytes, zeros_told, room, IsLeft}
 

@@ -40,12 +40,11 @@ pub fn put_id(code: &mut Code, id: ThreadId) -> Result<(), AllocError>
     }
 }
 
-/// The name of a send.
+/// Whose a send is, without its number.
 ///
 /// `AllocError`: memory was refused.
 pub fn put_name(code: &mut Code, name: Name) -> Result<(), AllocError>
     ensures { OnOk result (Writes (name_code name) code.old code.new) }
 {
-    put_global(code, name.thread())?;
-    code.put(name.k())
+    put_global(code, name.thread())
 }

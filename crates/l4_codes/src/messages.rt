@@ -75,7 +75,7 @@ pub fn put_message(code: &mut Code, message: &MessageRef<'_>) -> Result<(), Allo
     put_global(code, message.actual())
 }
 
-/// An undecided send.
+/// An undecided send, but for when it began.
 ///
 /// `AllocError`: memory was refused.
 pub fn put_send(code: &mut Code, send: &SendRef<'_>) -> Result<(), AllocError>
@@ -84,6 +84,5 @@ pub fn put_send(code: &mut Code, send: &SendRef<'_>) -> Result<(), AllocError>
     put_id(code, send.to())?;
     put_message(code, &send.message())?;
     put_period(code, send.period())?;
-    code.put(send.since())?;
     put_receive_of(code, send.receive())
 }

@@ -17,7 +17,7 @@ use l4_types::owed::Owed;
 use std::alloc::AllocError;
 use tcb_arena::{Arena, Waiting};
 
-/// All that a processor knows, but for its last stamp.
+/// All that a processor knows, but for its last stamp and how late it is.
 ///
 /// `AllocError`: memory was refused.
 pub fn put_core(code: &mut Code, core: &Core<'_>) -> Result<(), AllocError>
@@ -27,8 +27,7 @@ pub fn put_core(code: &mut Code, core: &Core<'_>) -> Result<(), AllocError>
     put_threads(code, core)?;
     put_lists(code, core)?;
     put_told(code, core)?;
-    put_all_owed(code, core)?;
-    code.put(core.clock())
+    put_all_owed(code, core)
 }
 
 // The threads, in order of declaration.
@@ -90,18 +89,19 @@ fn put_owed_beside(code: &mut Code, owed: Option<Owed>) -> Result<(), AllocError
 // Who waits, who is ready, who is armed.
 fn put_lists(code: &mut Code, core: &Core<'_>) -> Result<(), AllocError>
     ensures { OnOk result (Writes
-        (lists_code (length core.now.machine.threads) core.now.local.lists)
+        (lists_code (length core.now.machine.threads) core.now.local.clock core.now.local.lists)
         code.old code.new) }
 {
     put_waiting(code, core)?;
     put_ready(code, core.lists())?;
-    put_armed(code, core.lists())
+    put_armed(code, core.lists(), core.clock())
 }
 
 // The sends that wait at each thread.
 fn put_waiting(code: &mut Code, core: &Core<'_>) -> Result<(), AllocError>
     ensures { OnOk result (Writes
-        (sized (length core.now.machine.threads) (chained waiting_code) core.now.local.lists.waiting)
+        (sized (length core.now.machine.threads) (chained waiting_code)
+        core.now.local.lists.waiting)
         code.old code.new) }
 {
     let count = core.thread_count();
@@ -145,13 +145,13 @@ fn put_ready(code: &mut Code, lists: &Arena) -> Result<(), AllocError>
     code.put(0)
 }
 
-// The armed threads, with their deadlines.
-fn put_armed(code: &mut Code, lists: &Arena) -> Result<(), AllocError>
-    ensures { OnOk result (Writes (chained armed_code lists.now.armed) code.old code.new) }
+// The armed threads, with how far ahead of the clock their deadlines are.
+fn put_armed(code: &mut Code, lists: &Arena, clock: u64) -> Result<(), AllocError>
+    ensures { OnOk result (Writes (chained (armed_code clock) lists.now.armed) code.old code.new) }
 {
     for (deadline, block) in lists.armed_blocks() {
         code.put(1)?;
-        code.put(deadline)?;
+        code.put(deadline.saturating_sub(clock))?;
         code.put(block as u64)?;
     }
     code.put(0)

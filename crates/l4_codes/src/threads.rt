@@ -61,17 +61,15 @@ fn put_order_of(code: &mut Code, order: Option<Asked>) -> Result<(), AllocError>
     }
 }
 
-// The phase of a thread.
+// The phase of a thread, but for when it began.
 fn put_phase(code: &mut Code, block: &Tcb) -> Result<(), AllocError>
     ensures { OnOk result (Writes (phase_code block.now.thread.phase) code.old code.new) }
 {
     let Some(receive) = block.receiving() else {
         return put_state(code, block.state());
     };
-    let since = block.receiving_since().unwrap();
     code.put(2)?;
-    put_receive(code, *receive)?;
-    code.put(since)
+    put_receive(code, *receive)
 }
 
 // Which phase a thread is in.
@@ -88,7 +86,7 @@ fn put_state(code: &mut Code, state: State) -> Result<(), AllocError>
     }
 }
 
-// Registers, place in the script, number of sends.
+// Registers and place in the script.
 fn put_context(code: &mut Code, thread: &Thread) -> Result<(), AllocError>
     ensures { OnOk result (Writes (context_code thread.now.context) code.old code.new) }
 {
@@ -99,8 +97,7 @@ fn put_context(code: &mut Code, thread: &Thread) -> Result<(), AllocError>
     code.put(regs.error)?;
     put_id(code, regs.from)?;
     put_id(code, regs.actual)?;
-    code.put(thread.place() as u64)?;
-    code.put(thread.begun())
+    code.put(thread.place() as u64)
 }
 
 /// A thread.

@@ -1,7 +1,7 @@
 -- Clap tells exactly what it makes of the program's words.
 use Rattle.std.proofs.Common.{◌≡◌, true, codes, refl}
 use Rattle.clap.specs.Words.{App, Text, is_simple, is_simple_and_free}
-use Rattle.l4_commands.specs.Commands.{file_rule, trace_rule, turns_rule, schedule_rule, number_rule, text_rule, flag_rule, with_extras, with_printed, run_app, replay_app, audit_app, steps_app, part_app, forms_app, chart_app, searched_app, lines_app, endings_app, lint_app, top_app, l4run_app}
+use Rattle.l4_commands.specs.Commands.{file_rule, trace_rule, turns_rule, rest_turns_rule, schedule_rule, number_rule, text_rule, flag_rule, with_extras, with_printed, run_app, replay_app, audit_app, steps_app, part_app, forms_app, chart_app, searched_app, lines_app, endings_app, lint_app, top_app, l4run_app}
 use Rattle.l4_commands.proofs.Simple.{IsSingle, IsCommand, IsProgram, named, more, below, reads_exactly, simple_of_free}
 
 file_is : IsSingle file_rule
@@ -12,6 +12,9 @@ trace_is = record { simple = refl; free = refl; single = refl }
 
 turns_is : IsSingle turns_rule
 turns_is = record { simple = refl; free = refl; single = refl }
+
+rest_turns_is : IsSingle rest_turns_rule
+rest_turns_is = record { simple = refl; free = refl; single = refl }
 
 schedule_is : IsSingle schedule_rule
 schedule_is = record { simple = refl; free = refl; single = refl }
@@ -32,10 +35,10 @@ printed_is : {a : App} → IsCommand a → IsCommand (with_printed a)
 printed_is command = extras_are (more command (flag_is _))
 
 run_is : IsCommand run_app
-run_is = more (printed_is (more (more (named (codes "run")) file_is) turns_is)) (text_is _)
+run_is = more (more (more (printed_is (more (more (named (codes "run")) file_is) turns_is)) (text_is _)) (text_is _)) (text_is _)
 
 replay_is : IsCommand replay_app
-replay_is = printed_is (more (more (named (codes "replay")) file_is) schedule_is)
+replay_is = more (printed_is (more (more (more (more (named (codes "replay")) file_is) schedule_is) (flag_is _)) rest_turns_is)) (text_is _)
 
 audit_is : IsCommand audit_app
 audit_is = extras_are (more (more (more (more (named (codes "audit")) file_is) trace_is) (flag_is _)) (flag_is _))
@@ -59,10 +62,10 @@ lines_is : IsCommand lines_app
 lines_is = more (more searched_is (text_is _)) (text_is _)
 
 endings_is : IsCommand endings_app
-endings_is = more (more lines_is (flag_is _)) (flag_is _)
+endings_is = more (more (more (more lines_is (flag_is _)) (flag_is _)) (flag_is _)) (text_is _)
 
 lint_is : IsCommand lint_app
-lint_is = more (named (codes "lint")) file_is
+lint_is = more (more (named (codes "lint")) file_is) (text_is _)
 
 top_is : IsProgram top_app
 top_is = record { top = record { plain = refl; fresh = refl; rules = tt }; subs = tt }

@@ -1,7 +1,8 @@
 -- From the getters of the matches to the job that they have.
 use Rattle.std.proofs.Common.{◌≡◌, ℕ, Bool, true, false, Option, Some, None, [], ◌∷◌, ◌++◌, codes, refl, sym, ap, ap₂, subst, inl, inr, ◌∙◌}
-use Rattle.std.specs.Prelude.{◌⊎◌, ◌||◌, IfSome, MatchBool, option_map, option_and_then}
+use Rattle.std.specs.Prelude.{◌⊎◌, ◌||◌, if◌then◌else◌, is_some, IfSome, MatchBool, option_map, option_and_then}
 use Rattle.std.specs.Str.Parse.{ParsesBool}
+use Rattle.l4_model.specs.Conditions.{◌>>=◌}
 use Rattle.clap.specs.Matches.{ReadsOne}
 use Rattle.clap.specs.Words.{Text, first_of, first_value, one_text, rows_of}
 use Rattle.clap.specs.Kinds.{Kinds, IsAmong}
@@ -9,7 +10,8 @@ use Rattle.clap.specs.declared.error.kind.ErrorKind.{ErrorKind}
 use Rattle.clap.specs.declared.error.kind.ErrorKind.TheVariants.{OutOfMemory}
 use Rattle.clap.specs.declared.parser.matches.Found.{Found}
 use Rattle.clap.proofs.WalkLemmas.{first_value-rows, one_text-rows}
-use Rattle.l4_commands.specs.Asked.{ToRun, ToReplay, ToAudit, ToChart, ToSearch, ToLint, number_of, number_in, flag_of, flag_in, extras_in, judged_in, printed_in, flags_in, form_of, has_wrong_line, is_over_file, is_same, is_wrong_line, run_in, replay_in, audit_in, chart_in, endings_in, lint_in, IsRefusal}
+use Rattle.l4_commands.specs.Asked.{ToRun, ToReplay, ToAudit, ToChart, ToSearch, ToLint, number_of, number_in, flag_of, flag_in, extras_in, judged_in, printed_in, are_both, flags_in, form_of, has_turns_alone, has_wrong_line, is_input_of, is_over_file, is_run_wrong, is_same, is_wrong_line, lists_input, names_input, run_in, rest_in, rest_turns, replay_in, audit_in, chart_in, endings_in, lint_in, IsRefusal}
+use Rattle.l4_commands.specs.Files.{list_name}
 use Rattle.l4_commands.specs.declared.asked.Flags.{Flags}
 use Rattle.l4_commands.specs.declared.job.ChartForm.{ChartForm}
 use Rattle.l4_commands.specs.declared.job.Extras.{Extras}
@@ -52,19 +54,52 @@ pub printed_is : (f : Found) (report : Bool) (extras : Extras) → flag_in (code
     printed_in (rows_of f) ≡ Some (record { report = report; extras = extras })
 printed_is f report extras p q = rw (p, q) refl
 
-pub run_is : (f : Found) (file : Text) (turns : ℕ) (printed : Printed) (record_to : Option Text) → first_value f (codes "file") ≡ Some file →
-    number_in (codes "turns") (rows_of f) ≡ Some turns → printed_in (rows_of f) ≡ Some printed → is_over_file (rows_of f) ≡ false →
-    first_value f (codes "record") ≡ record_to → run_in (rows_of f) ≡ Some (ToRun file turns printed record_to)
-run_is f file turns printed record_to p q r apart to =
-    let here = text_is f (codes "file") _ p in
-    let other : is_same (Some file) (first_of (codes "record") (rows_of f)) ≡ false =
-    ap (λ o. is_same o (first_of (codes "record") (rows_of f))) (sym here) ∙ apart in
-    rw (here, q, r, other, text_is f (codes "record") _ to) refl
+pub run_is : (f : Found) (file : Text) (turns : ℕ) (printed : Printed) (record_to expected : Option Text) → first_value f (codes "file") ≡ Some file →
+    number_in (codes "turns") (rows_of f) ≡ Some turns → printed_in (rows_of f) ≡ Some printed → is_run_wrong (rows_of f) ≡ false →
+    first_value f (codes "record") ≡ record_to → first_value f (codes "expect") ≡ expected →
+    run_in (rows_of f) ≡ Some (ToRun file turns printed record_to expected)
+run_is f file turns printed record_to expected p q r right to wants =
+    unless (is_run_wrong (rows_of f)) right (text_is f (codes "file") _ p) q r (text_is f (codes "record") _ to) (text_is f (codes "expect") _ wants)
+  where
+    unless : (wrong : Bool) → wrong ≡ false → {o name wanted : Option Text} {n : Option ℕ} {print : Option Printed} → o ≡ Some file → n ≡ Some turns →
+        print ≡ Some printed → name ≡ record_to → wanted ≡ expected →
+        (o >>= λ f. n >>= λ t. print >>= λ p. if wrong then None else Some (ToRun f t p name wanted)) ≡ Some (ToRun file turns printed record_to expected)
+    unless wrong right a b c d e = rw (a, b, c, d, e, right) refl
 
-pub replay_is : (f : Found) (file schedule : Text) (printed : Printed) → first_value f (codes "file") ≡ Some file →
-    first_value f (codes "schedule") ≡ Some schedule → printed_in (rows_of f) ≡ Some printed →
-    replay_in (rows_of f) ≡ Some (ToReplay file schedule printed)
-replay_is f file schedule printed p q r = rw (text_is f (codes "file") _ p, text_is f (codes "schedule") _ q, r) refl
+-- Whether a run has a schedule, and whether it is recorded and something is expected of it
+pub given_is : (f : Found) (name : Text) (o : Option Text) → first_value f name ≡ o → is_some o ≡ is_some (first_of name (rows_of f))
+given_is f name o p = ap is_some (sym (text_is f name _ p))
+
+pub both_are : (f : Found) (record_to expected : Option Text) (is : Bool) → first_value f (codes "record") ≡ record_to →
+    first_value f (codes "expect") ≡ expected → is ≡ are_both record_to expected →
+    is ≡ are_both (first_of (codes "record") (rows_of f)) (first_of (codes "expect") (rows_of f))
+both_are f record_to expected is p q same =
+    same ∙ ap₂ are_both (sym (text_is f (codes "record") _ p)) (sym (text_is f (codes "expect") _ q))
+
+-- Whether a name is that of the standard input
+pub input_is : (f : Found) (name : Text) (o : Option Text) (is : Bool) → first_value f name ≡ o → is ≡ is_input_of o → is ≡ names_input name (rows_of f)
+input_is f name o is p same = same ∙ ap is_input_of (sym (text_is f name _ p))
+
+pub list_is : (f : Found) (o : Option Text) (is : Bool) → first_value f (codes "schedule") ≡ o → is ≡ is_input_of (option_and_then list_name o) →
+    is ≡ lists_input (rows_of f)
+list_is f o is p same = same ∙ ap (λ o. is_input_of (option_and_then list_name o)) (sym (text_is f (codes "schedule") _ p))
+
+-- For how many turns a replay goes on
+pub rest_is : (f : Found) (goes_on : Bool) (given : Option Text) (rest : Option ℕ) → flag_in (codes "then-rest") (rows_of f) ≡ Some goes_on →
+    first_value f (codes "turns") ≡ given → rest_turns goes_on given (number_in (codes "turns") (rows_of f)) ≡ Some rest →
+    rest_in (rows_of f) ≡ Some rest
+rest_is f goes_on given rest p q r = rw (p, text_is f (codes "turns") _ q) r
+
+pub turns_alone : (f : Found) (given : Text) → flag_in (codes "then-rest") (rows_of f) ≡ Some false → first_value f (codes "turns") ≡ Some given →
+    has_turns_alone (rows_of f) ≡ true
+turns_alone f given p q = rw (p, text_is f (codes "turns") _ q) refl
+
+pub replay_is : (f : Found) (file schedule : Text) (rest : Option ℕ) (printed : Printed) (expected : Option Text) →
+    first_value f (codes "file") ≡ Some file → first_value f (codes "schedule") ≡ Some schedule → rest_in (rows_of f) ≡ Some rest →
+    printed_in (rows_of f) ≡ Some printed → first_value f (codes "expect") ≡ expected →
+    replay_in (rows_of f) ≡ Some (ToReplay file schedule rest printed expected)
+replay_is f file schedule rest printed expected p q s r wants =
+    rw (text_is f (codes "file") _ p, text_is f (codes "schedule") _ q, s, r, text_is f (codes "expect") _ wants) refl
 
 pub judged_is : (f : Found) (report explain : Bool) (extras : Extras) → flag_in (codes "report") (rows_of f) ≡ Some report →
     flag_in (codes "explain") (rows_of f) ≡ Some explain → extras_in (rows_of f) ≡ Some extras →
@@ -83,16 +118,25 @@ pub chart_is : (f : Found) (file trace : Text) (first last : ℕ) (threads : Opt
 chart_is f file trace first last threads flags form width p q from to listed flagged formed wide =
     rw (text_is f (codes "file") _ p, text_is f (codes "trace") _ q, from, to, flagged, formed, wide, text_is f (codes "threads") _ listed) refl
 
-pub endings_is : (f : Found) (file : Text) (depth states : ℕ) (stuck : Bool) (with_line never : Option Text) (none : Bool) →
+pub endings_is : (f : Found) (file : Text) (depth states : ℕ) (stuck : Bool) (with_line never : Option Text) (none waits : Bool) (expected : Option Text) →
     first_value f (codes "file") ≡ Some file → number_in (codes "depth") (rows_of f) ≡ Some depth →
     number_in (codes "states") (rows_of f) ≡ Some states → flag_in (codes "stuck") (rows_of f) ≡ Some stuck → first_value f (codes "with") ≡ with_line →
-    first_value f (codes "never") ≡ never → flag_in (codes "none") (rows_of f) ≡ Some none → has_wrong_line (rows_of f) ≡ false →
-    endings_in (rows_of f) ≡ Some (ToSearch file depth states stuck with_line never none)
-endings_is f file depth states stuck with_line never none p deep wide waits has lacks found right =
-    rw (text_is f (codes "file") _ p, deep, wide, waits, found, right, text_is f (codes "with") _ has, text_is f (codes "never") _ lacks) refl
+    first_value f (codes "never") ≡ never → flag_in (codes "none") (rows_of f) ≡ Some none → flag_in (codes "waits") (rows_of f) ≡ Some waits →
+    first_value f (codes "expect") ≡ expected → has_wrong_line (rows_of f) ≡ false →
+    endings_in (rows_of f) ≡ Some (ToSearch file depth states stuck with_line never none waits expected)
+endings_is f file depth states stuck with_line never none waits expected p deep wide ends has lacks found told wants right =
+    unless (has_wrong_line (rows_of f)) right (text_is f (codes "file") _ p) deep wide ends found told (text_is f (codes "with") _ has)
+    (text_is f (codes "never") _ lacks) (text_is f (codes "expect") _ wants)
+  where
+    unless : (wrong : Bool) → wrong ≡ false → {o line other wanted : Option Text} {n k : Option ℕ} {a b c : Option Bool} → o ≡ Some file → n ≡ Some depth →
+        k ≡ Some states → a ≡ Some stuck → b ≡ Some none → c ≡ Some waits → line ≡ with_line → other ≡ never → wanted ≡ expected →
+        (o >>= λ f. n >>= λ d. k >>= λ s. a >>= λ u. b >>= λ e. c >>= λ w. if wrong then None else Some (ToSearch f d s u line other e w wanted))
+        ≡ Some (ToSearch file depth states stuck with_line never none waits expected)
+    unless wrong right p q r s t u v w x = rw (p, q, r, s, t, u, v, w, x, right) refl
 
-pub lint_is : (f : Found) (file : Text) → first_value f (codes "file") ≡ Some file → lint_in (rows_of f) ≡ Some (ToLint file)
-lint_is f file p = rw (text_is f (codes "file") _ p) refl
+pub lint_is : (f : Found) (file : Text) (schedule : Option Text) → first_value f (codes "file") ≡ Some file → first_value f (codes "schedule") ≡ schedule →
+    lint_in (rows_of f) ≡ Some (ToLint file schedule)
+lint_is f file schedule p q = rw (text_is f (codes "file") _ p, text_is f (codes "schedule") _ q) refl
 
 pub over_is : (f : Found) (file name : Option Text) (is : Bool) → first_value f (codes "file") ≡ file → first_value f (codes "record") ≡ name →
     is ≡ is_same file name → is ≡ is_over_file (rows_of f)

@@ -1,5 +1,5 @@
 -- What the words of the command line ask for.
-use Rattle.std.specs.Prelude.{◌≡◌, ◌≢◌, ◌⊎◌, ◌||◌, ℕ, Bool, true, false, ⊤, if◌then◌else◌, Option, Some, None, is_none, is_some, List, [], ◌∷◌, ◌++◌, codes, option_map, option_and_then}
+use Rattle.std.specs.Prelude.{◌≡◌, ◌≢◌, ◌⊎◌, ◌&&◌, ◌||◌, ℕ, Bool, true, false, ⊤, if◌then◌else◌, Option, Some, None, is_none, is_some, List, [], ◌∷◌, ◌++◌, codes, option_map, option_and_then}
 use Rattle.std.specs.Option.{option_copied}
 use Rattle.std.specs.Str.{bytes_eq}
 use Rattle.std.specs.Str.Parse.{digits_value, without_leading_plus}
@@ -10,6 +10,7 @@ use Rattle.clap.specs.declared.error.kind.ErrorKind.{ErrorKind}
 use Rattle.clap.specs.declared.error.kind.ErrorKind.TheVariants.{DisplayHelp, DisplayVersion, ArgumentConflict}
 use Rattle.l4_lines.specs.Lines.{line_fault}
 use Rattle.l4_commands.specs.Commands.{faults_of, l4run_app}
+use Rattle.l4_commands.specs.Files.{is_input, list_name}
 use Rattle.l4_commands.specs.declared.asked.Flags.{Flags}
 use Rattle.l4_commands.specs.declared.job.ChartForm.{ChartForm}
 use Rattle.l4_commands.specs.declared.job.ChartForm.TheVariants.{Lines, Ascii, Svg, Html, Mermaid}
@@ -23,29 +24,39 @@ use Rattle.l4_commands.specs.declared.words.WordsFault.TheVariants.{Help, Usage,
 
 -- A job by its texts.
 pub data Asked : Type 0 where
-  ToRun : (file : Text) (turns : ℕ) (printed : Printed) (record_to : Option Text) → Asked
-  ToReplay : (file schedule : Text) (printed : Printed) → Asked
+  ToRun : (file : Text) (turns : ℕ) (printed : Printed) (record_to expected : Option Text) → Asked
+  ToReplay : (file schedule : Text) (rest : Option ℕ) (printed : Printed)
+      (expected : Option Text) → Asked
   ToAudit : (file trace : Text) (judged : Judged) → Asked
-  ToChart : (file trace : Text) (first last : ℕ) (threads : Option Text) (form : ChartForm) (width : ℕ) → Asked
-  ToSearch : (file : Text) (depth states : ℕ) (stuck : Bool) (with_line never : Option Text) (none : Bool) → Asked
-  ToLint : (file : Text) → Asked
+  ToChart : (file trace : Text) (first last : ℕ) (threads : Option Text) (form : ChartForm)
+      (width : ℕ) → Asked
+  ToSearch : (file : Text) (depth states : ℕ) (stuck : Bool) (with_line never : Option Text)
+      (none waits : Bool) (expected : Option Text) → Asked
+  ToLint : (file : Text) (schedule : Option Text) → Asked
 
 abbrev pub asked_by : Job → Asked
-asked_by (Run file turns printed record_to) = ToRun file.now turns printed (option_copied record_to)
-asked_by (Replay file schedule printed) = ToReplay file.now schedule.now printed
+asked_by (Run file turns printed record_to expected) =
+    ToRun file.now turns printed (option_copied record_to) (option_copied expected)
+asked_by (Replay file schedule rest printed expected) =
+    ToReplay file.now schedule.now rest printed (option_copied expected)
 asked_by (Audit file trace judged) = ToAudit file.now trace.now judged
-asked_by (Chart c) = ToChart c.file.now c.trace.now c.first c.last (option_copied c.threads) c.form c.width
-asked_by (Endings e) = ToSearch e.file.now e.depth e.states e.stuck (option_copied e.with_line) (option_copied e.never) e.none
-asked_by (Lint file) = ToLint file.now
+asked_by (Chart c) = ToChart c.file.now c.trace.now c.first c.last (option_copied c.threads)
+    c.form c.width
+asked_by (Endings e) =
+    ToSearch e.file.now e.depth e.states e.stuck (option_copied e.with_line) (option_copied e.never)
+    e.none e.waits (option_copied e.expected)
+asked_by (Lint file schedule) = ToLint file.now (option_copied schedule)
 
 -- The number of a text of digits, and the flag of a text.
 abbrev pub number_of : Text → ℕ
 number_of text = digits_value 10 (without_leading_plus text)
 
 abbrev pub flag_of : Text → Option Bool
-flag_of text = if bytes_eq text (codes "true") then Some true else if bytes_eq text (codes "false") then Some false else None
+flag_of text = if bytes_eq text (codes "true") then Some true else if bytes_eq text (codes "false")
+    then Some false else None
 
--- The number of an argument, and whether a flag was given, by the matches of a subcommand's arguments.
+-- The number of an argument, and whether a flag was given, by the matches of a subcommand's
+-- arguments.
 abbrev pub number_in : (name : Text) → List Row → Option ℕ
 number_in name rows = option_map number_of (one_of name rows)
 
@@ -81,20 +92,55 @@ is_same file name = false
 abbrev pub is_over_file : List Row → Bool
 is_over_file rows = is_same (first_of (codes "file") rows) (first_of (codes "record") rows)
 
+-- Or a schedule is given of a run, or something is expected of one that is recorded.
+abbrev pub are_both : Option Text → Option Text → Bool
+are_both (Some record_to) (Some expected) = true
+are_both record_to expected = false
+
+abbrev pub is_run_wrong : List Row → Bool
+is_run_wrong rows =
+    is_over_file rows || (is_some (first_of (codes "schedule") rows)
+    || are_both (first_of (codes "record") rows) (first_of (codes "expect") rows))
+
 -- The job of the matches.
 abbrev pub run_in : List Row → Option Asked
 run_in rows = do
   file ← first_of (codes "file") rows
   turns ← number_in (codes "turns") rows
   printed ← printed_in rows
-  if is_over_file rows then None else Some (ToRun file turns printed (first_of (codes "record") rows))
+  if is_run_wrong rows then None
+      else Some (ToRun file turns printed (first_of (codes "record") rows)
+      (first_of (codes "expect") rows))
+
+-- For how many turns a replay goes on, if it does. Without --then-rest no turns may be given.
+abbrev pub rest_turns : (goes_on : Bool) → (given : Option Text) → (turns : Option ℕ) →
+    Option (Option ℕ)
+rest_turns false None turns = Some None
+rest_turns false (Some given) turns = None
+rest_turns true None turns = Some (Some 100000)
+rest_turns true (Some given) turns = option_map Some turns
+
+abbrev pub rest_in : List Row → Option (Option ℕ)
+rest_in rows = do
+  goes_on ← flag_in (codes "then-rest") rows
+  rest_turns goes_on (first_of (codes "turns") rows) (number_in (codes "turns") rows)
 
 abbrev pub replay_in : List Row → Option Asked
 replay_in rows = do
   file ← first_of (codes "file") rows
   schedule ← first_of (codes "schedule") rows
+  rest ← rest_in rows
   printed ← printed_in rows
-  Some (ToReplay file schedule printed)
+  Some (ToReplay file schedule rest printed (first_of (codes "expect") rows))
+
+-- Turns are given of a replay that does not go on.
+abbrev pub are_turns_alone : (goes_on : Option Bool) → (given : Option Text) → Bool
+are_turns_alone (Some false) (Some given) = true
+are_turns_alone goes_on given = false
+
+abbrev pub has_turns_alone : List Row → Bool
+has_turns_alone rows = are_turns_alone (flag_in (codes "then-rest") rows)
+    (first_of (codes "turns") rows)
 
 abbrev pub audit_in : List Row → Option Asked
 audit_in rows = do
@@ -140,7 +186,8 @@ is_wrong_line None = false
 is_wrong_line (Some line) = is_some (line_fault line)
 
 abbrev pub has_wrong_line : List Row → Bool
-has_wrong_line rows = is_wrong_line (first_of (codes "with") rows) || is_wrong_line (first_of (codes "never") rows)
+has_wrong_line rows = is_wrong_line (first_of (codes "with") rows) ||
+    is_wrong_line (first_of (codes "never") rows)
 
 abbrev pub endings_in : List Row → Option Asked
 endings_in rows = do
@@ -149,38 +196,67 @@ endings_in rows = do
   states ← number_in (codes "states") rows
   stuck ← flag_in (codes "stuck") rows
   none ← flag_in (codes "none") rows
-  if has_wrong_line rows then None else Some (ToSearch file depth states stuck (first_of (codes "with") rows) (first_of (codes "never") rows) none)
+  waits ← flag_in (codes "waits") rows
+  if has_wrong_line rows then None
+      else Some (ToSearch file depth states stuck (first_of (codes "with") rows)
+      (first_of (codes "never") rows) none waits (first_of (codes "expect") rows))
 
 abbrev pub lint_in : List Row → Option Asked
-lint_in rows = option_map ToLint (first_of (codes "file") rows)
+lint_in rows = do
+  file ← first_of (codes "file") rows
+  Some (ToLint file (first_of (codes "schedule") rows))
+
+-- The standard input, which can be read once, is named twice: of the machine text, the trace or the
+-- list of a schedule, and the expectations, two are.
+abbrev pub is_input_of : Option Text → Bool
+is_input_of None = false
+is_input_of (Some name) = is_input name
+
+abbrev pub names_input : (name : Text) → List Row → Bool
+names_input name rows = is_input_of (first_of name rows)
+
+abbrev pub lists_input : List Row → Bool
+lists_input rows = is_input_of (option_and_then list_name (first_of (codes "schedule") rows))
+
+abbrev pub are_two : (first second third : Bool) → Bool
+are_two first second third = (first && (second || third)) || (second && third)
+
+abbrev pub names_input_twice : List Row → Bool
+names_input_twice rows =
+    are_two (names_input (codes "file") rows)
+    (names_input (codes "trace") rows || lists_input rows) (names_input (codes "expect") rows)
 
 -- The job of the matches: of the subcommand that was named.
 abbrev pub asked_in : Text × List Row → Option Asked
 asked_in p =
-    if bytes_eq p.0 (codes "run") then run_in p.1
+    if names_input_twice p.1 then None
+    else (if bytes_eq p.0 (codes "run") then run_in p.1
     else (if bytes_eq p.0 (codes "replay") then replay_in p.1
     else (if bytes_eq p.0 (codes "audit") then audit_in p.1
     else (if bytes_eq p.0 (codes "chart") then chart_in p.1
     else (if bytes_eq p.0 (codes "endings") then endings_in p.1
     else (if bytes_eq p.0 (codes "lint") then lint_in p.1
-    else None)))))
+    else None))))))
 
 -- The job of the matches that the words have.
 abbrev pub asked_of : (words : List Text) → Option Asked
 asked_of words = option_and_then asked_in (subcommand_of l4run_app words)
 
--- Words that exclude each other: of a run, a schedule that is kept in the file of its machine text; of a chart, two forms; of a search, a line that may
--- not be asked for.
+-- Words that exclude each other: two files that are the standard input; of a run, a schedule, or
+-- one that is kept in the file of its machine text; of a replay, turns but no rest; of a chart, two
+-- forms; of a search, a line that may not be asked for.
 abbrev pub excludes : Option Flags → Bool
 excludes None = false
 excludes (Some flags) = is_none (form_of flags)
 
 abbrev pub excluding : Text × List Row → Bool
 excluding p =
-    if bytes_eq p.0 (codes "run") then is_over_file p.1
+    if names_input_twice p.1 then true
+    else (if bytes_eq p.0 (codes "run") then is_run_wrong p.1
+    else (if bytes_eq p.0 (codes "replay") then has_turns_alone p.1
     else (if bytes_eq p.0 (codes "chart") then excludes (flags_in p.1)
     else (if bytes_eq p.0 (codes "endings") then has_wrong_line p.1
-    else false))
+    else false))))
 
 abbrev pub excluded_in : Option (Text × List Row) → Kinds
 excluded_in None = []
@@ -190,9 +266,11 @@ excluded_in (Some p) = if excluding p then ArgumentConflict ∷ [] else []
 abbrev pub wrong_in : (words : List Text) → Kinds
 wrong_in words = faults_of words ++ excluded_in (subcommand_of l4run_app words)
 
--- Why there is no job, by what may be wrong with the words: help, or the version, is answered only where they ask for it, and usage only where they
--- are wrong.
+-- Why there is no job, by what may be wrong with the words: help, or the version, is answered only
+-- where they ask for it, and usage only where they are wrong.
 abbrev pub IsRefusal : Kinds → WordsFault → Type 0
-IsRefusal kinds (Help text) = (kind : ErrorKind) × IsAmong kind kinds × ((kind ≡ DisplayHelp) ⊎ (kind ≡ DisplayVersion))
-IsRefusal kinds (Usage text) = (kind : ErrorKind) × IsAmong kind kinds × (kind ≢ DisplayHelp) × (kind ≢ DisplayVersion)
+IsRefusal kinds (Help text) = (kind : ErrorKind) × IsAmong kind kinds ×
+    ((kind ≡ DisplayHelp) ⊎ (kind ≡ DisplayVersion))
+IsRefusal kinds (Usage text) = (kind : ErrorKind) × IsAmong kind kinds × (kind ≢ DisplayHelp) ×
+    (kind ≢ DisplayVersion)
 IsRefusal kinds NoMemory = ⊤

@@ -15,17 +15,40 @@ trace_rule = record (new_rule (codes "trace")) { value_names = 1; required = tru
 
 -- --turns N, a number below 2^64, and 100000 where it is not given
 abbrev pub turns_rule : Rule
-turns_rule = record (new_rule (codes "turns")) { long = Some (codes "turns"); value_names = 1; parser = Some (Unsigned 0 18446744073709551615); defaults = codes "100000" ∷ [] }
+turns_rule = record (new_rule (codes "turns")) {
+  long = Some (codes "turns");
+  value_names = 1;
+  parser = Some (Unsigned 0 18446744073709551615);
+  defaults = codes "100000" ∷ [];
+}
+
+-- The same of a replay that goes on, where it stands for no number if it is not given.
+abbrev pub rest_turns_rule : Rule
+rest_turns_rule = record (new_rule (codes "turns")) {
+  long = Some (codes "turns");
+  value_names = 1;
+  parser = Some (Unsigned 0 18446744073709551615);
+}
 
 -- --schedule LIST
 abbrev pub schedule_rule : Rule
-schedule_rule = record (new_rule (codes "schedule")) { long = Some (codes "schedule"); value_names = 1; required = true }
+schedule_rule = record (new_rule (codes "schedule")) {
+  long = Some (codes "schedule");
+  value_names = 1;
+  required = true;
+}
 
--- --depth N, --states N, --from N, --to N and --width N, numbers below 2^64. Where they are not given, the depth is 1000, the states are 100000, the
--- first step is 1, the last is any, and 0 stands for the width of the terminal.
+-- --depth N, --states N, --from N, --to N and --width N, numbers below 2^64. Where they are not
+-- given, the depth is 1000, the states are 100000, the first step is 1, the last is any, and 0
+-- stands for the width of the terminal.
 abbrev pub number_rule : (name default : Text) → Rule
 number_rule name default =
-    record (new_rule name) { long = Some name; value_names = 1; parser = Some (Unsigned 0 18446744073709551615); defaults = default ∷ [] }
+    record (new_rule name) {
+      long = Some name;
+      value_names = 1;
+      parser = Some (Unsigned 0 18446744073709551615);
+      defaults = default ∷ [];
+    }
 
 abbrev pub depth_rule : Rule
 depth_rule = number_rule (codes "depth") (codes "1000")
@@ -42,7 +65,8 @@ to_rule = number_rule (codes "to") (codes "18446744073709551615")
 abbrev pub width_rule : Rule
 width_rule = number_rule (codes "width") (codes "0")
 
--- --record NAME, --with LINE, --never LINE and --threads LIST
+-- --record NAME, --expect NAME, --with LINE, --never LINE, --threads LIST, and --schedule LIST of
+-- `run` and `lint`
 abbrev pub text_rule : (name : Text) → Rule
 text_rule name = record (new_rule name) { long = Some name; value_names = 1 }
 
@@ -59,6 +83,9 @@ waits_rule = flag_rule (codes "waits")
 abbrev pub counts_rule : Rule
 counts_rule = flag_rule (codes "counts")
 
+abbrev pub expect_rule : Rule
+expect_rule = text_rule (codes "expect")
+
 -- What is printed of a run, and what is printed last.
 abbrev pub with_extras : App → App
 with_extras a = with_rule (with_rule a waits_rule) counts_rule
@@ -70,17 +97,26 @@ with_printed a = with_extras (with_rule a report_rule)
 abbrev pub turned_app : App
 turned_app = with_rule (with_rule (new_app (codes "run")) file_rule) turns_rule
 
+-- A schedule is an argument of `replay`. That it is given is told by a text of its own.
+abbrev pub recorded_app : App
+recorded_app = with_rule (with_printed turned_app) (text_rule (codes "record"))
+
 abbrev pub run_app : App
-run_app = with_rule (with_printed turned_app) (text_rule (codes "record"))
+run_app = with_rule (with_rule recorded_app expect_rule) (text_rule (codes "schedule"))
 
 -- The command `replay`, with its file and schedule, and what is printed.
 abbrev pub scheduled_app : App
 scheduled_app = with_rule (with_rule (new_app (codes "replay")) file_rule) schedule_rule
 
-abbrev pub replay_app : App
-replay_app = with_printed scheduled_app
+-- And with --then-rest, and --turns N for it.
+abbrev pub rested_app : App
+rested_app = with_rule (with_rule scheduled_app (flag_rule (codes "then-rest"))) rest_turns_rule
 
--- The command `audit`, with its files, what is told of a world and of a step that is not possible, and what is printed last.
+abbrev pub replay_app : App
+replay_app = with_rule (with_printed rested_app) expect_rule
+
+-- The command `audit`, with its files, what is told of a world and of a step that is not possible,
+-- and what is printed last.
 abbrev pub audited_app : App
 audited_app = with_rule (with_rule (new_app (codes "audit")) file_rule) trace_rule
 
@@ -108,20 +144,30 @@ chart_app = with_rule (with_rule forms_app (flag_rule (codes "html"))) (flag_rul
 
 -- The command `endings`, with its file, how far it searches, and which endings it asks for.
 abbrev pub searched_app : App
-searched_app = with_rule (with_rule (with_rule (new_app (codes "endings")) file_rule) depth_rule) states_rule
+searched_app = with_rule (with_rule (with_rule (new_app (codes "endings")) file_rule)
+    depth_rule) states_rule
 
 abbrev pub lines_app : App
-lines_app = with_rule (with_rule searched_app (text_rule (codes "with"))) (text_rule (codes "never"))
+lines_app = with_rule (with_rule searched_app (text_rule (codes "with")))
+    (text_rule (codes "never"))
 
+abbrev pub asked_app : App
+asked_app = with_rule (with_rule lines_app (flag_rule (codes "stuck"))) (flag_rule (codes "none"))
+
+-- And with what is told of each, and what is expected of it.
 abbrev pub endings_app : App
-endings_app = with_rule (with_rule lines_app (flag_rule (codes "stuck"))) (flag_rule (codes "none"))
+endings_app = with_rule (with_rule asked_app waits_rule) expect_rule
 
 abbrev pub lint_app : App
-lint_app = with_rule (new_app (codes "lint")) file_rule
+lint_app =
+    with_rule (with_rule (new_app (codes "lint")) file_rule) (text_rule (codes "schedule"))
 
 -- It has --version.
 abbrev pub top_app : App
-top_app = let a = new_app (codes "l4run") in record a { top = record a.top { has_version = true; subcommand_required = true } }
+top_app = let a = new_app (codes "l4run") in record a {
+  top =
+      record a.top { has_version = true; subcommand_required = true };
+}
 
 -- One of the six has to be named.
 abbrev pub runs_app : App

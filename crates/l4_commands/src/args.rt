@@ -1,12 +1,16 @@
 //! The arguments of the commands.
-ghost use Rattle.std.specs.Prelude.{◌≡◌, false};
+ghost use Rattle.std.specs.Prelude.{◌≡◌, codes, false};
 ghost use Rattle.clap.specs.Words.{rule_of};
 ghost use Rattle.l4_commands.specs.Commands.{file_rule, trace_rule, turns_rule, schedule_rule};
+ghost use Rattle.l4_commands.specs.Commands.{rest_turns_rule};
 ghost use Rattle.l4_commands.specs.Commands.{number_rule, text_rule, flag_rule, report_rule};
-ghost use Rattle.l4_commands.specs.Commands.{waits_rule, counts_rule};
+ghost use Rattle.l4_commands.specs.Commands.{waits_rule, counts_rule, expect_rule};
 
 use clap::{Arg, ArgAction, value_parser};
 use std::alloc::Global;
+
+/// How many turns a run has, and a replay that goes on, where they are not given.
+pub const DEFAULT_TURNS: u64 = 100_000;
 
 pub fn file_arg<'a>(alloc: Global) -> Arg<'a>
     ensures rule { rule_of result ≡ file_rule }
@@ -38,6 +42,18 @@ pub fn turns_arg<'a>(alloc: Global) -> Arg<'a>
         .help("Ends after N turns, 1 to 1000000, and at most one more for each further processor")
         .value_parser(value_parser!(u64))
         .default_value("100000")
+}
+
+// The turns of a replay that goes on. Where they are not given, the matches have none.
+pub fn rest_turns_arg<'a>(alloc: Global) -> Arg<'a>
+    ensures rule { rule_of result ≡ rest_turns_rule }
+    ensures local { result.global ≡ false }
+{
+    Arg::new(alloc, "turns")
+        .long("turns")
+        .value_name("N")
+        .help("Turns of `--then-rest`, as those of `run` [default: 100000]")
+        .value_parser(value_parser!(u64))
 }
 
 pub fn schedule_arg<'a>(alloc: Global) -> Arg<'a>
@@ -85,6 +101,30 @@ pub fn flag_arg<'a>(alloc: Global, name: &'a str, help: &'a str) -> Arg<'a>
         .long(name)
         .help(help)
         .action(ArgAction::SetTrue)
+}
+
+pub fn expect_arg<'a>(alloc: Global) -> Arg<'a>
+    ensures rule { rule_of result ≡ expect_rule }
+    ensures local { result.global ≡ false }
+{
+    text_arg(
+        alloc,
+        "expect",
+        "NAME",
+        "Tells what of the file NAME does not hold of the report, with status 4",
+    )
+}
+
+// The schedule of a run. It has none, and help does not show it: whoever gives one is told of
+// `replay`.
+pub fn no_schedule_arg<'a>(alloc: Global) -> Arg<'a>
+    ensures rule { rule_of result ≡ text_rule (codes "schedule") }
+    ensures local { result.global ≡ false }
+{
+    Arg::new(alloc, "schedule")
+        .long("schedule")
+        .value_name("LIST")
+        .hide(true)
 }
 
 pub fn report_arg<'a>(alloc: Global) -> Arg<'a>

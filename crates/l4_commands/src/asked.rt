@@ -1,16 +1,19 @@
 //! What the matches of the words ask for.
 ghost use Rattle.std.specs.Prelude.{◌≡◌, ◌∷◌, [], IfSome, IsSome, IsTrue, Some, true};
-ghost use Rattle.std.specs.Prelude.{is_some, option_and_then};
+ghost use Rattle.std.specs.Prelude.{codes, is_some, option_and_then};
 ghost use Rattle.std.specs.Option.{option_copied};
-ghost use Rattle.clap.specs.Words.{rows_of, found_of, subcommand_rows_of};
+ghost use Rattle.clap.specs.Words.{first_of, rows_of, found_of, subcommand_rows_of};
 ghost use Rattle.clap.specs.declared.error.kind.ErrorKind.TheVariants.{ArgumentConflict};
 ghost use Rattle.l4_commands.specs.Asked.{asked_by, asked_in, flag_in, number_in};
 ghost use Rattle.l4_commands.specs.Asked.{extras_in, judged_in, printed_in, is_over_file, is_same};
 ghost use Rattle.l4_commands.specs.Asked.{run_in, replay_in, audit_in, flags_in};
 ghost use Rattle.l4_commands.specs.Asked.{form_of, chart_in, endings_in, lint_in, excludes};
+ghost use Rattle.l4_commands.specs.Asked.{has_turns_alone, rest_in, is_input_of, is_run_wrong};
+ghost use Rattle.l4_commands.specs.Asked.{are_both, are_two, lists_input, names_input, names_input_twice};
 ghost use Rattle.l4_commands.specs.Asked.{excluded_in, is_wrong_line, has_wrong_line};
 
-use crate::job::{ChartForm, ChartJob, EndingsJob, Extras, Job, Judged, Printed};
+use crate::args::DEFAULT_TURNS;
+use crate::job::{ChartForm, ChartJob, EndingsJob, Extras, INPUT, Job, Judged, Printed, list_name};
 use clap::ArgMatches;
 use l4_lines::lines::{LineFault, line_fault};
 
@@ -80,11 +83,54 @@ fn is_over_file(matches: &ArgMatches<'_>) -> bool
     is_same(matches.get_str("file"), matches.get_str("record"))
 }
 
+// Whether a schedule is given of a run.
+fn has_schedule(matches: &ArgMatches<'_>) -> bool
+    ensures { result ≡ is_some (first_of (codes "schedule") (rows_of (found_of matches.now))) }
+{
+    match matches.get_str("schedule") {
+        Some(_) => true,
+        None => false,
+    }
+}
+
+fn are_both(record_to: Option<&str>, expected: Option<&str>) -> bool
+    ensures { result ≡ are_both (option_copied record_to.entry) (option_copied expected.entry) }
+{
+    match (record_to, expected) {
+        (Some(_), Some(_)) => true,
+        _ => false,
+    }
+}
+
+// Whether a run is to be recorded, and something is expected of it.
+fn is_recorded_and_expected(matches: &ArgMatches<'_>) -> bool
+    ensures { result ≡ are_both (first_of (codes "record") (rows_of (found_of matches.now)))
+        (first_of (codes "expect") (rows_of (found_of matches.now))) }
+{
+    are_both(matches.get_str("record"), matches.get_str("expect"))
+}
+
+// What is wrong with the words of a run.
+fn run_conflict<'a>(matches: &ArgMatches<'a>) -> Option<Conflict<'a>>
+    ensures { is_some result ≡ is_run_wrong (rows_of (found_of matches.now)) }
+{
+    if is_over_file(matches) {
+        return Some(Conflict::OverItsFile);
+    }
+    if has_schedule(matches) {
+        return Some(Conflict::ScheduleOfRun);
+    }
+    if is_recorded_and_expected(matches) {
+        return Some(Conflict::RecordAndExpect);
+    }
+    None
+}
+
 // The job of the matches of `run`.
 fn run_job<'a>(matches: &ArgMatches<'a>) -> Option<Job<'a>>
     ensures { IfSome result (λ job. run_in (rows_of (found_of matches.now)) ≡ Some (asked_by job)) }
 {
-    if is_over_file(matches) {
+    if run_conflict(matches).is_some() {
         return None;
     }
     Some(Job::Run {
@@ -92,7 +138,31 @@ fn run_job<'a>(matches: &ArgMatches<'a>) -> Option<Job<'a>>
         turns: number(matches, "turns")?,
         printed: printed(matches)?,
         record_to: matches.get_str("record"),
+        expected: matches.get_str("expect"),
     })
+}
+
+// For how many turns the replay of the matches goes on, if it does. None where turns are given and
+// it does not.
+fn rest(matches: &ArgMatches<'_>) -> Option<Option<u64>>
+    ensures { IfSome result (λ rest. rest_in (rows_of (found_of matches.now)) ≡ Some rest) }
+{
+    match (flag(matches, "then-rest")?, matches.get_str("turns")) {
+        (false, None) => Some(None),
+        (false, Some(_)) => None,
+        (true, None) => Some(Some(DEFAULT_TURNS)),
+        (true, Some(_)) => Some(Some(number(matches, "turns")?)),
+    }
+}
+
+// Whether the matches of `replay` have turns and no rest.
+fn has_turns_alone(matches: &ArgMatches<'_>) -> bool
+    ensures { IsTrue result → has_turns_alone (rows_of (found_of matches.now)) ≡ true }
+{
+    match (flag(matches, "then-rest"), matches.get_str("turns")) {
+        (Some(false), Some(_)) => true,
+        _ => false,
+    }
 }
 
 // The job of the matches of `replay`.
@@ -103,7 +173,9 @@ fn replay_job<'a>(matches: &ArgMatches<'a>) -> Option<Job<'a>>
     Some(Job::Replay {
         file: matches.get_str("file")?,
         schedule: matches.get_str("schedule")?,
+        then_rest: rest(matches)?,
         printed: printed(matches)?,
+        expected: matches.get_str("expect"),
     })
 }
 
@@ -173,6 +245,14 @@ fn chart_job<'a>(matches: &ArgMatches<'a>) -> Option<Job<'a>>
 /// What is wrong with words that `clap` lets pass.
 #[derive(Clone, Copy, Debug)]
 pub enum Conflict<'a> {
+    /// The standard input is read once.
+    InputTwice,
+    /// A schedule is of a replay.
+    ScheduleOfRun,
+    /// Nothing is expected of a run that is recorded.
+    RecordAndExpect,
+    /// A replay that does not go on has no turns.
+    TurnsAlone,
     /// A schedule would be written over the machine text.
     OverItsFile,
     /// A chart can't have two forms.
@@ -216,6 +296,8 @@ fn endings_job<'a>(matches: &ArgMatches<'a>) -> Option<Job<'a>>
         with_line: matches.get_str("with"),
         never: matches.get_str("never"),
         none: flag(matches, "none")?,
+        waits: flag(matches, "waits")?,
+        expected: matches.get_str("expect"),
     }))
 }
 
@@ -226,7 +308,53 @@ fn lint_job<'a>(matches: &ArgMatches<'a>) -> Option<Job<'a>>
 {
     Some(Job::Lint {
         file: matches.get_str("file")?,
+        schedule: matches.get_str("schedule"),
     })
+}
+
+// Whether a name is that of the standard input.
+fn is_input(name: Option<&str>) -> bool
+    ensures { result ≡ is_input_of (option_copied name.entry) }
+{
+    match name {
+        Some(name) => name == INPUT,
+        None => false,
+    }
+}
+
+// Whether the argument of this name is the standard input.
+fn names_input(matches: &ArgMatches<'_>, name: &str) -> bool
+    ensures { result ≡ names_input name.now (rows_of (found_of matches.now)) }
+{
+    is_input(matches.get_str(name))
+}
+
+// Whether the list of a schedule is the standard input.
+fn lists_input(matches: &ArgMatches<'_>) -> bool
+    ensures { result ≡ lists_input (rows_of (found_of matches.now)) }
+{
+    match matches.get_str("schedule") {
+        Some(schedule) => is_input(list_name(schedule)),
+        None => false,
+    }
+}
+
+// Whether two of three are.
+fn are_two(first: bool, second: bool, third: bool) -> bool
+    ensures { result ≡ are_two first second third }
+{
+    first && (second || third) || second && third
+}
+
+// Whether two files are the standard input.
+fn names_input_twice(matches: &ArgMatches<'_>) -> bool
+    ensures { result ≡ names_input_twice (rows_of (found_of matches.now)) }
+{
+    are_two(
+        names_input(matches, "file"),
+        names_input(matches, "trace") || lists_input(matches),
+        names_input(matches, "expect"),
+    )
 }
 
 pub fn job_of_matches<'a>(matches: &ArgMatches<'a>) -> Option<Job<'a>>
@@ -234,6 +362,9 @@ pub fn job_of_matches<'a>(matches: &ArgMatches<'a>) -> Option<Job<'a>>
         option_and_then asked_in (subcommand_rows_of matches.now) ≡ Some (asked_by job)) }
 {
     let (name, matches) = matches.subcommand()?;
+    if names_input_twice(matches) {
+        return None;
+    }
     match name {
         "run" => run_job(matches),
         "replay" => replay_job(matches),
@@ -260,7 +391,9 @@ pub fn excluded<'a>(matches: &ArgMatches<'a>) -> Option<Conflict<'a>>
     ensures { IsSome result → excluded_in (subcommand_rows_of matches.now) ≡ ArgumentConflict ∷ [] }
 {
     match matches.subcommand() {
-        Some(("run", run)) if is_over_file(run) => Some(Conflict::OverItsFile),
+        Some((_, command)) if names_input_twice(command) => Some(Conflict::InputTwice),
+        Some(("run", run)) => run_conflict(run),
+        Some(("replay", replay)) if has_turns_alone(replay) => Some(Conflict::TurnsAlone),
         Some(("chart", chart)) if has_two_forms(chart) => Some(Conflict::TwoForms),
         Some(("endings", endings)) => wrong_line(endings),
         _ => None,

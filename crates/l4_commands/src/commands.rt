@@ -3,14 +3,15 @@ ghost use Rattle.std.specs.Prelude.{◌≡◌, false, IfOk};
 ghost use Rattle.clap.specs.Words.{app_of};
 ghost use Rattle.clap.specs.declared.builder.command.Command.TheViews.{out-Command};
 ghost use Rattle.l4_commands.specs.Commands.{with_extras, with_printed, turned_app, run_app};
+ghost use Rattle.l4_commands.specs.Commands.{asked_app, recorded_app, rested_app};
 ghost use Rattle.l4_commands.specs.Commands.{scheduled_app, replay_app, audited_app, explained_app};
 ghost use Rattle.l4_commands.specs.Commands.{audit_app, traced_app, steps_app, part_app, forms_app, chart_app};
 ghost use Rattle.l4_commands.specs.Commands.{searched_app, lines_app, endings_app, lint_app};
 ghost use Rattle.l4_commands.specs.Commands.{runs_app, traces_app, l4run_app};
 
 use crate::args::{
-    counts_arg, file_arg, flag_arg, number_arg, report_arg, schedule_arg, text_arg, trace_arg,
-    turns_arg, waits_arg,
+    counts_arg, expect_arg, file_arg, flag_arg, no_schedule_arg, number_arg, report_arg,
+    rest_turns_arg, schedule_arg, text_arg, trace_arg, turns_arg, waits_arg,
 };
 use crate::texts::{
     AUDIT_EXAMPLE, CHART_EXAMPLE, ENDINGS_EXAMPLE, LINT_EXAMPLE, REPLAY_EXAMPLE, RUN_EXAMPLE,
@@ -54,8 +55,9 @@ fn turned_command<'a>(alloc: Global) -> Result<Command<'a>, AllocError>
     run.arg(file)?.arg(turns)
 }
 
-fn run_command<'a>(alloc: Global) -> Result<Command<'a>, AllocError>
-    ensures app { IfOk result (λ command. app_of command ≡ run_app) }
+// With where its schedule is kept.
+fn recorded_command<'a>(alloc: Global) -> Result<Command<'a>, AllocError>
+    ensures app { IfOk result (λ command. app_of command ≡ recorded_app) }
     ensures local { IfOk result (λ command. (out-Command command).has_globals ≡ false) }
 {
     let record = text_arg(
@@ -67,6 +69,16 @@ fn run_command<'a>(alloc: Global) -> Result<Command<'a>, AllocError>
     let turned = turned_command(alloc)?;
     let run = with_printed(alloc, turned)?;
     run.arg(record)
+}
+
+fn run_command<'a>(alloc: Global) -> Result<Command<'a>, AllocError>
+    ensures app { IfOk result (λ command. app_of command ≡ run_app) }
+    ensures local { IfOk result (λ command. (out-Command command).has_globals ≡ false) }
+{
+    let expect = expect_arg(alloc);
+    let schedule = no_schedule_arg(alloc);
+    let recorded = recorded_command(alloc)?;
+    recorded.arg(expect)?.arg(schedule)
 }
 
 // The command `replay` with its file and schedule.
@@ -82,12 +94,29 @@ fn scheduled_command<'a>(alloc: Global) -> Result<Command<'a>, AllocError>
     replay.arg(file)?.arg(schedule)
 }
 
+// With how it goes on.
+fn rested_command<'a>(alloc: Global) -> Result<Command<'a>, AllocError>
+    ensures app { IfOk result (λ command. app_of command ≡ rested_app) }
+    ensures local { IfOk result (λ command. (out-Command command).has_globals ≡ false) }
+{
+    let rest = flag_arg(
+        alloc,
+        "then-rest",
+        "Goes on where the list ends, in rounds of a turn of each processor",
+    );
+    let turns = rest_turns_arg(alloc);
+    let scheduled = scheduled_command(alloc)?;
+    scheduled.arg(rest)?.arg(turns)
+}
+
 fn replay_command<'a>(alloc: Global) -> Result<Command<'a>, AllocError>
     ensures app { IfOk result (λ command. app_of command ≡ replay_app) }
     ensures local { IfOk result (λ command. (out-Command command).has_globals ≡ false) }
 {
-    let scheduled = scheduled_command(alloc)?;
-    with_printed(alloc, scheduled)
+    let expect = expect_arg(alloc);
+    let rested = rested_command(alloc)?;
+    let printed = with_printed(alloc, rested)?;
+    printed.arg(expect)
 }
 
 // The command `audit` with its files.
@@ -240,8 +269,9 @@ fn lines_command<'a>(alloc: Global) -> Result<Command<'a>, AllocError>
     endings.arg(line)?.arg(never)
 }
 
-fn endings_command<'a>(alloc: Global) -> Result<Command<'a>, AllocError>
-    ensures app { IfOk result (λ command. app_of command ≡ endings_app) }
+// With which endings are asked for.
+fn asked_command<'a>(alloc: Global) -> Result<Command<'a>, AllocError>
+    ensures app { IfOk result (λ command. app_of command ≡ asked_app) }
     ensures local { IfOk result (λ command. (out-Command command).has_globals ≡ false) }
 {
     let stuck = flag_arg(
@@ -258,15 +288,35 @@ fn endings_command<'a>(alloc: Global) -> Result<Command<'a>, AllocError>
     endings.arg(stuck)?.arg(none)
 }
 
+fn endings_command<'a>(alloc: Global) -> Result<Command<'a>, AllocError>
+    ensures app { IfOk result (λ command. app_of command ≡ endings_app) }
+    ensures local { IfOk result (λ command. (out-Command command).has_globals ≡ false) }
+{
+    let waits = flag_arg(
+        alloc,
+        "waits",
+        "Prints behind each who waits for whom there, as `replay` does",
+    );
+    let expect = expect_arg(alloc);
+    let asked = asked_command(alloc)?;
+    asked.arg(waits)?.arg(expect)
+}
+
 fn lint_command<'a>(alloc: Global) -> Result<Command<'a>, AllocError>
     ensures app { IfOk result (λ command. app_of command ≡ lint_app) }
     ensures local { IfOk result (λ command. (out-Command command).has_globals ≡ false) }
 {
     let file = file_arg(alloc);
+    let schedule = text_arg(
+        alloc,
+        "schedule",
+        "LIST",
+        "Tells what is wrong in this list, or in the file of `@NAME`, for the machine",
+    );
     let lint = Command::new(alloc, "lint")
         .about("Tells all that is wrong in a machine text")
         .after_help(LINT_EXAMPLE);
-    lint.arg(file)
+    lint.arg(file)?.arg(schedule)
 }
 
 // The program with what runs a machine text.

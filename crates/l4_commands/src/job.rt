@@ -2,7 +2,11 @@
 ghost use Rattle.std.specs.Prelude.{◌≡◌, ◌||◌, MatchOption, None};
 ghost use Rattle.std.specs.Option.{option_map};
 ghost use Rattle.l4_commands.specs.Files.{file_of, job_of, list_name, on_output, record_of};
-ghost use Rattle.l4_commands.specs.Files.{second_file_of};
+ghost use Rattle.l4_commands.specs.Files.{expected_job, expected_of, lint_list_of, list_file_of};
+ghost use Rattle.l4_commands.specs.Files.{list_lint_job, second_file_of};
+
+/// The name that stands for the standard input. A file of that name is `./-`.
+pub const INPUT: &str = "-";
 
 /// A form of a chart.
 #[derive(Clone, Copy, Debug, PartialEq, Eq)]
@@ -57,6 +61,10 @@ pub struct EndingsJob<'a> {
     pub never: Option<&'a str>,
     /// Whether there should be no such ending: one that is found changes the status.
     pub none: bool,
+    /// Whether who waits for whom is told of each.
+    pub waits: bool,
+    /// The name of the file with what is expected of each.
+    pub expected: Option<&'a str>,
 }
 
 /// What is printed last of a run, a replay or an audit.
@@ -118,6 +126,63 @@ pub struct Recording<'a> {
     pub printed: Printed,
     /// The name of the file that the list is written to.
     pub name: &'a str,
+    /// That of the file with what is expected of it. Words ask for one of both.
+    pub expected: Option<&'a str>,
+}
+
+/// What expectations may be of.
+#[derive(Clone, Copy, Debug, PartialEq, Eq)]
+pub enum Course<'a> {
+    /// A run.
+    Run {
+        /// How many turns, as of `Job::Run`.
+        turns: u64,
+        /// What is printed.
+        printed: Printed,
+    },
+    /// A replay.
+    Replay {
+        /// The schedule, as of `Job::Replay`.
+        schedule: &'a str,
+        /// For how many turns it goes on.
+        then_rest: Option<u64>,
+        /// What is printed.
+        printed: Printed,
+    },
+    /// Each ending that a search finds.
+    Endings(EndingsJob<'a>),
+}
+
+impl<'a> Course<'a> {
+    /// The name of the file with the list that it goes by, where there is one.
+    pub fn list_file(&self) -> Option<&'a str>
+        ensures { option_map (λ name. name.now) result ≡ list_file_of self.now }
+    {
+        match *self {
+            Course::Replay { schedule, .. } => list_name(schedule),
+            Course::Run { .. } | Course::Endings(_) => None,
+        }
+    }
+}
+
+/// A job of which something is expected.
+#[derive(Clone, Copy, Debug, PartialEq, Eq)]
+pub struct Expecting<'a> {
+    /// The name of the file with the machine text.
+    pub file: &'a str,
+    /// What has to meet the expectations.
+    pub course: Course<'a>,
+    /// The name of the file with the expectations.
+    pub name: &'a str,
+}
+
+/// A machine text and a list of items for it, of which all that is wrong is said.
+#[derive(Clone, Copy, Debug, PartialEq, Eq)]
+pub struct ListLint<'a> {
+    /// The name of the file with the machine text.
+    pub file: &'a str,
+    /// The list, as of a replay.
+    pub schedule: &'a str,
 }
 
 /// What is to be done.
@@ -134,16 +199,24 @@ pub enum Job<'a> {
         /// The name of the file that a list is written to by which a replay is this very run. It is
         /// not that of the machine text.
         record_to: Option<&'a str>,
+        /// The name of the file with what is expected of its report. Words ask for no run that is
+        /// recorded and of which something is expected.
+        expected: Option<&'a str>,
     },
-    /// Replay a schedule, a list of items, on the machine text in a file.
+    /// Replay a schedule, a list of items, on the machine text in a file, and maybe go on.
     Replay {
         /// The name of the file with the machine text.
         file: &'a str,
         /// The list of its items, with commas between them, or `@` and the name of the file that
         /// it is in.
         schedule: &'a str,
+        /// For how many turns it goes on in rounds, if it does: 1 to 1,000,000 less the number of
+        /// items. Any other number is the fault `Turns`.
+        then_rest: Option<u64>,
         /// What is printed.
         printed: Printed,
+        /// The name of the file with what is expected of its report.
+        expected: Option<&'a str>,
     },
     /// Audit the trace in a file against the machine text in another.
     Audit {
@@ -158,10 +231,12 @@ pub enum Job<'a> {
     Chart(ChartJob<'a>),
     /// Search for all endings of the machine text in a file.
     Endings(EndingsJob<'a>),
-    /// Say all that is wrong in the machine text in a file.
+    /// Say all that is wrong in the machine text in a file, and in a list of items for it.
     Lint {
         /// The name of the file with the machine text.
         file: &'a str,
+        /// The list, as of a replay, where there is one.
+        schedule: Option<&'a str>,
     },
 }
 
@@ -174,7 +249,7 @@ impl<'a> Job<'a> {
             Job::Run { file, .. } | Job::Replay { file, .. } | Job::Audit { file, .. } => file,
             Job::Chart(chart) => chart.file,
             Job::Endings(search) => search.file,
-            Job::Lint { file } => file,
+            Job::Lint { file, .. } => file,
         }
     }
 
@@ -202,12 +277,72 @@ impl<'a> Job<'a> {
                 turns,
                 printed,
                 record_to: Some(name),
+                expected,
             } => Some(Recording {
                 file,
                 turns,
                 printed,
                 name,
+                expected,
             }),
+            _ => None,
+        }
+    }
+
+    /// The job with what is expected of it, where something is.
+    pub fn expecting(&self) -> Option<Expecting<'a>>
+        ensures { MatchOption result (expected_of self.now ≡ None)
+            (λ expecting. self.now ≡ expected_job expecting) }
+    {
+        match *self {
+            Job::Run {
+                file,
+                turns,
+                printed,
+                record_to: None,
+                expected: Some(name),
+            } => Some(Expecting {
+                file,
+                course: Course::Run { turns, printed },
+                name,
+            }),
+            Job::Replay {
+                file,
+                schedule,
+                then_rest,
+                printed,
+                expected: Some(name),
+            } => Some(Expecting {
+                file,
+                course: Course::Replay {
+                    schedule,
+                    then_rest,
+                    printed,
+                },
+                name,
+            }),
+            Job::Endings(search) => match search.expected {
+                Some(name) => Some(Expecting {
+                    file: search.file,
+                    course: Course::Endings(search),
+                    name,
+                }),
+                None => None,
+            },
+            _ => None,
+        }
+    }
+
+    /// The machine text and the list that are judged, where the job has a list judged.
+    pub fn list_lint(&self) -> Option<ListLint<'a>>
+        ensures { MatchOption result (lint_list_of self.now ≡ None)
+            (λ lint. self.now ≡ list_lint_job lint) }
+    {
+        match *self {
+            Job::Lint {
+                file,
+                schedule: Some(schedule),
+            } => Some(ListLint { file, schedule }),
             _ => None,
         }
     }

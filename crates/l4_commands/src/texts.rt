@@ -1,7 +1,7 @@
 //! What the program says of itself, and what the help of each command says last.
 
 /// The version of the program.
-pub const VERSION: &str = "0.23";
+pub const VERSION: &str = "0.24";
 
 pub const RUN_EXAMPLE: &str = "Example: `l4run run ping.l4`, where the file ping.l4 has the lines
 
@@ -18,8 +18,8 @@ prints a line for each step: 1.1 sends the word 10 to 2.1, which waits for anybo
 With `--report` it prints what the two threads have come to in place of it.
 
 Behind that, `--waits` tells who waits for whom, as `waits 1.1 2.1 send`, and which threads wait in a circle, as
-`circle 1.1 2.1`, or as `deadlock 1.1 2.1` where none of them can go on by any step. `--counts` tells what each thread
-did, as
+`circle 1.1 2.1`, or as `deadlock 1.1 2.1` where none of them can go on by any step
+of theirs. `--counts` tells what each thread did, as
 
   counts 1.1 turns 4 sends 1 delivered 1 received 0 refused 2:0 3:0 4:0 5:0 6:0 7:0
 
@@ -27,7 +27,10 @@ Several processors of a machine text work at the same time, each in a thread of 
 each is one that the machine can take. `l4run replay` takes turns in the order that you give: by
 `l4run replay ping.l4 --schedule @ping.list` that of a run with `--record ping.list`.
 
-A run that ends with status 0 has nothing left to do. Threads may still wait for ever: `--report` shows which.";
+A run that ends with status 0 has nothing left to do. Threads may still wait for ever: `--report` shows which.
+
+`--expect ping.expected` tells which lines of that file the report does not have, and has behind `never`, with
+status 4. The name `-` stands for the standard input, wherever a file is read.";
 
 pub const REPLAY_EXAMPLE: &str =
     "Example: `l4run replay ping.l4 --schedule 0,0,0`, with the machine text that `l4run help run` shows,
@@ -37,7 +40,11 @@ An item 0 to 15 is one turn of that processor, t0 to t15 one tick of its clock t
 handles a letter first, if one has come. Three items name what else may happen: by 1:0 processor 1
 handles the first letter from processor 0, by c1 it takes a turn of its own though letters may be
 there, by t0:24 the clock of processor 0 goes on to 24. Where there is nothing to do, there is no
-step.";
+step.
+
+With `--then-rest` it goes on where the list ends, so that the boring end need not be written: in rounds of one turn of
+each processor, the lowest first, and where a round does nothing, to the next deadline of all. It ends where nothing is
+left to do, or where the turns are used up.";
 
 pub const AUDIT_EXAMPLE: &str =
     "Example: `l4run audit ping.l4 ping.trace`, with the machine text that `l4run help run` shows and what
@@ -79,10 +86,35 @@ the `whole` or was `cut`: then there may be more endings, and the status is 3.";
 pub const LINT_EXAMPLE: &str =
     "Example: `l4run lint ping.l4`, with the machine text that `l4run help run` shows but the line `set 64 10`,
 prints `line 4 column 5: BadNumber: `64`: wanted: a register, 1 to 63`. Each fault has such a line: where
-it is, its kind, what stands there, and what may. The status is 1 then, and 0 where nothing is wrong.";
+it is, its kind, what stands there, and what may. The status is 1 then, and 0 where nothing is wrong. Then each
+doubt has a line, with `perhaps` in the place of the kind, and it may be as it is meant. Behind that,
+`--schedule LIST` tells each faulty item of a list for this machine, with status 1.";
 
 pub const TWO_FORMS: &str =
     "error: only one of '--ascii', '--svg', '--html' and '--mermaid' can be given
+
+For more information, try '--help'.
+";
+
+pub const INPUT_TWICE: &str = "error: the standard input '-' can be named only once
+
+For more information, try '--help'.
+";
+
+pub const SCHEDULE_OF_RUN: &str =
+    "error: a run takes no '--schedule'; a replay does: 'l4run replay FILE --schedule LIST'
+
+For more information, try '--help'.
+";
+
+pub const RECORD_AND_EXPECT: &str =
+    "error: only one of '--record' and '--expect' can be given; record a run, and expect of its replay
+
+For more information, try '--help'.
+";
+
+pub const TURNS_ALONE: &str =
+    "error: '--turns' of 'replay' goes with '--then-rest'; turns alone are of 'l4run run FILE --turns N'
 
 For more information, try '--help'.
 ";
@@ -95,6 +127,12 @@ For more information, try '--help'.
 
 pub const UNKNOWN_LINE: &str =
     "no line of a report begins so, but each with thread, waiting or ending
+
+For more information, try '--help'.
+";
+
+pub const NUMBER_LINE: &str =
+    "no number of a send may be asked for, but any send of a thread, as waiting 1.1#* 2.1
 
 For more information, try '--help'.
 ";

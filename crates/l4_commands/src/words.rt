@@ -10,7 +10,10 @@ ghost use Rattle.l4_commands.specs.declared.words.WordsFault.TheVariants.{NoMemo
 use crate::asked::{Conflict, excluded, job_of_matches};
 use crate::commands::l4run_command;
 use crate::job::Job;
-use crate::texts::{DELETED_LINE, OVER_ITS_FILE, TWO_FORMS, UNKNOWN_LINE};
+use crate::texts::{
+    DELETED_LINE, INPUT_TWICE, NUMBER_LINE, OVER_ITS_FILE, RECORD_AND_EXPECT, SCHEDULE_OF_RUN,
+    TURNS_ALONE, TWO_FORMS, UNKNOWN_LINE,
+};
 use clap::error::ErrorKind;
 use clap::{ArgMatches, Error};
 use l4_lines::lines::LineFault;
@@ -66,6 +69,10 @@ fn matches_of<'a>(alloc: Global, words: &'a [&'a str]) -> Result<ArgMatches<'a>,
 // What usage says of it.
 fn conflict_text(alloc: Global, conflict: Conflict<'_>) -> Result<String, AllocError> {
     match conflict {
+        Conflict::InputTwice => String::from_str(alloc, INPUT_TWICE),
+        Conflict::ScheduleOfRun => String::from_str(alloc, SCHEDULE_OF_RUN),
+        Conflict::RecordAndExpect => String::from_str(alloc, RECORD_AND_EXPECT),
+        Conflict::TurnsAlone => String::from_str(alloc, TURNS_ALONE),
         Conflict::OverItsFile => String::from_str(alloc, OVER_ITS_FILE),
         Conflict::TwoForms => String::from_str(alloc, TWO_FORMS),
         Conflict::Line(line, LineFault::Unknown) => {
@@ -73,6 +80,9 @@ fn conflict_text(alloc: Global, conflict: Conflict<'_>) -> Result<String, AllocE
         }
         Conflict::Line(line, LineFault::Deleted) => {
             format!(in alloc; "error: invalid line '{line}': {DELETED_LINE}")
+        }
+        Conflict::Line(line, LineFault::Number) => {
+            format!(in alloc; "error: invalid line '{line}': {NUMBER_LINE}")
         }
     }
 }

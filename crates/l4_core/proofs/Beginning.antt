@@ -16,7 +16,7 @@ use Rattle.l4_thread.specs.Ipcs.{began_of}
 use Rattle.l4_core.specs.FastPath.{partner_of}
 use Rattle.l4_core.specs.Parts.{AreCore}
 use Rattle.l4_core.specs.Processor.{Processor, with_local}
-use Rattle.l4_core.specs.Tellings.{Told, with_step}
+use Rattle.l4_core.specs.EventBuffers.{EventBuffer, with_step}
 use Rattle.l4_core.specs.Turning.{work, Does, IsAtHand, IsNewSender, begun_by}
 use Rattle.l4_core.proofs.Fitting.{unqueued, ready_not_sends}
 
@@ -88,7 +88,7 @@ goes_there p q i instr partner core hand began is at finds send has =
     ∙ goes_to_partner p.machine (declared p.machine i).id p.local.clock (thread p.local i).context (instruction (held p.machine p.local i)) s.0 s.1
     ∙ ap (λ (x : Send). destination_place p.machine x.to) same ∙ ap (λ (x : Processor). destination_place x.machine send.to) (sym after)
 
-pub act_sends : (p q u : Processor) (i : ℕ) (a : Act) (before middle after : Told) → AreCore p → IsAtHand p i → BeganSend ≡ began_of a → q ≡ with_local p (begun_by a i p.local) → middle ≡ with_step (steps.Begin (last_name q.machine q.local i)) before →
+pub act_sends : (p q u : Processor) (i : ℕ) (a : Act) (before middle after : EventBuffer) → AreCore p → IsAtHand p i → BeganSend ≡ began_of a → q ≡ with_local p (begun_by a i p.local) → middle ≡ with_step (steps.Begin (last_name q.machine q.local i)) before →
     ((send : Send) → (thread q.local i).send ≡ Some send → Does (send_goes_to q.machine q.cpu i send (destination_place q.machine send.to)) q u middle after) → Does (acts p.machine p.cpu i a) p u before after
 act_sends p q u i a before middle after core hand began is adds goes =
     let s = sends_of a began in
@@ -96,12 +96,12 @@ act_sends p q u i a before middle after core hand began is adds goes =
     let doing = goes s.0 (ap (λ (t : Thread). t.send) (begun_thread p q i s.0 core hand.own.within at)) in
     let l : Local = comes_to i (begins s.0) p.local in
     let begun : work q.local middle ≡ tells (steps.Begin (last_name p.machine l i)) (work l before) =
-    ap (λ (t : Told). work q.local t) adds ∙ ap (λ (x : Processor). work x.local (with_step (steps.Begin (last_name x.machine x.local i)) before)) at in
+    ap (λ (t : EventBuffer). work q.local t) adds ∙ ap (λ (x : Processor). work x.local (with_step (steps.Begin (last_name x.machine x.local i)) before)) at in
     record {
       machine = doing.machine ∙ ap (λ (x : Processor). x.machine) at;
       cpu = doing.cpu ∙ ap (λ (x : Processor). x.cpu) at;
       stamp = doing.stamp ∙ ap (λ (x : Processor). x.local.stamp) at;
-      kept = doing.kept ∙ ap (λ (t : Told). t.before) adds;
+      kept = doing.kept ∙ ap (λ (t : EventBuffer). t.before) adds;
       work = doing.work ∙ ap (λ (x : Processor). send_goes_to x.machine x.cpu i s.0 (destination_place x.machine s.0.to) (work q.local middle)) at
           ∙ ap (send_goes_to p.machine p.cpu i s.0 (destination_place p.machine s.0.to)) begun ∙ ap (λ (b : Act). acts p.machine p.cpu i b (work p.local before)) (sym s.1);
     }

@@ -16,7 +16,7 @@ use Rattle.l4_thread.specs.Messages.{outgoing}
 use Rattle.l4_thread.specs.Requests.{message_if}
 use Rattle.l4_core.specs.Parts.{AreCore}
 use Rattle.l4_core.specs.Processor.{Processor, with_local}
-use Rattle.l4_core.specs.Tellings.{Told, with_step}
+use Rattle.l4_core.specs.EventBuffers.{EventBuffer, with_step}
 use Rattle.l4_core.specs.Turning.{hands_message, hands_over, hands_send, work, Does, IsSender, IsReceiver}
 use Rattle.l4_core.proofs.Crossing.{crosses}
 use Rattle.l4_core.proofs.Fitting.{waits_not_sends}
@@ -39,7 +39,7 @@ handed_is : (p : Processor) (r i : ℕ) (send : Send) (x : Work) → (thread x.l
     hands_over p.machine p.cpu r i x ≡ hands_message p.machine p.cpu r i send.message (received_tag (is_cross p.machine (declared p.machine r).id send.message) send.message) x
 handed_is p r i send x has = ap (λ o. hands_send p.machine p.cpu r i o x) has
 
-pub hand_over_does : (p q u : Processor) (r i : ℕ) (before middle after : Told) (d : DeliveryRef) (tag : ℕ) → AreCore p → IsReceiver p r → IsSender p i →
+pub hand_over_does : (p q u : Processor) (r i : ℕ) (before middle after : EventBuffer) (d : DeliveryRef) (tag : ℕ) → AreCore p → IsReceiver p r → IsSender p i →
     d.name ≡ last_name p.machine p.local i → d.receiver ≡ (declared p.machine r).id → option_map (λ (s : Send). s.message) (thread p.local i).send ≡ Some d.message → d.message.actual ≡ (declared p.machine i).id → d.cross ≡ not (is_own p.machine p.cpu i) →
     tag ≡ received_tag d.cross d.message → middle ≡ with_step (delivered d) before → q ≡ with_local p (comes_to r (receives (outgoing (declared p.machine i).id (thread p.local i)) tag) p.local) → Does (decides_send q.machine q.cpu Delivered i) q u middle after →
     Does (hands_over p.machine p.cpu r i) p u before after
@@ -57,11 +57,11 @@ hand_over_does p q u r i before middle after d tag core receiver sender named to
     ap (λ t. steps.Deliver d.name d.receiver d.message.shown d.message.actual t d.message.words) (sym tagged) ∙ ap (λ n. steps.Deliver n d.receiver d.message.shown d.message.actual tag d.message.words) named
     ∙ ap (λ g. steps.Deliver (last_name p.machine p.local i) g d.message.shown d.message.actual tag d.message.words) to in
     let here : work q.local middle ≡ work (comes_to r (receives d.message tag) p.local) (with_step (steps.Deliver (last_name p.machine p.local i) (declared p.machine r).id d.message.shown d.message.actual tag d.message.words) before) =
-    ap (λ (x : Processor). work x.local middle) is ∙ ap (λ (t : Told). work (comes_to r (receives d.message tag) p.local) t) (tells ∙ ap (λ s. with_step s before) step) in
+    ap (λ (x : Processor). work x.local middle) is ∙ ap (λ (t : EventBuffer). work (comes_to r (receives d.message tag) p.local) t) (tells ∙ ap (λ s. with_step s before) step) in
     record {
       machine = doing.machine ∙ ap (λ (x : Processor). x.machine) is;
       cpu = doing.cpu ∙ ap (λ (x : Processor). x.cpu) is;
       stamp = doing.stamp ∙ ap (λ (x : Processor). x.local.stamp) is;
-      kept = doing.kept ∙ ap (λ (t : Told). t.before) tells;
+      kept = doing.kept ∙ ap (λ (t : EventBuffer). t.before) tells;
       work = doing.work ∙ ap (λ (x : Processor). decides_send x.machine x.cpu Delivered i (work q.local middle)) is ∙ ap (decides_send p.machine p.cpu Delivered i) here ∙ sym whole;
     }

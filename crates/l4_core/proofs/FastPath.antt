@@ -30,7 +30,7 @@ use Rattle.tcb_arena.specs.Blocks.{is_ready as is_ready_in}
 use Rattle.l4_core.specs.FastPath.{fast_receiver, next_name, passes_fast, takes_at_once}
 use Rattle.l4_core.specs.Parts.{AreCore}
 use Rattle.l4_core.specs.Processor.{Processor, with_local}
-use Rattle.l4_core.specs.Tellings.{Told, with_step}
+use Rattle.l4_core.specs.EventBuffers.{EventBuffer, with_step}
 use Rattle.l4_core.specs.Turning.{work, Does, IsAtHand, IsOwnOf, IsReceiver}
 use Rattle.l4_core.proofs.Crossing.{crosses}
 use Rattle.l4_core.proofs.Fitting.{unqueued, ready_not_sends, waits_not_ready}
@@ -389,7 +389,7 @@ sends_there m sender now c AnyLocalThread period receive r e = cc
 sends_there m sender now c (LocalThread word) period receive r e = cc
 sends_there m sender now c (GlobalThread t) period receive r e = refl
 
-pub fast_does : (p q u : Processor) (r i : ℕ) (before first second after : Told) (d : DeliveryRef) (tag : ℕ) (to : model.To) (from : Id) (send_period receive_period : Period) →
+pub fast_does : (p q u : Processor) (r i : ℕ) (before first second after : EventBuffer) (d : DeliveryRef) (tag : ℕ) (to : model.To) (from : Id) (send_period receive_period : Period) →
     AreCore p → IsOwnOf p r → IsAtHand p i → model.Ipc to from send_period receive_period ≡ instruction (held p.machine p.local i) → fast_receiver p.machine p.cpu p.local i (destination (thread p.local i).context to) ≡ Some r →
     d.name ≡ next_name p.machine p.local i → d.receiver ≡ (declared p.machine r).id → d.message ≡ outgoing (declared p.machine i).id (thread p.local i) → d.cross ≡ false → tag ≡ received_tag d.cross d.message →
     first ≡ with_step (Begin d.name) before → second ≡ with_step (Queue d.name) first → after ≡ with_step (seen.delivered d) second →
@@ -449,6 +449,6 @@ fast_does p q u r i before first second after d tag to from send_period receive_
       machine = ap (λ (x : Processor). x.machine) gone;
       cpu = ap (λ (x : Processor). x.cpu) gone;
       stamp = ap (λ (x : Processor). x.local.stamp) gone;
-      kept = ap (λ (t : Told). t.before) told;
+      kept = ap (λ (t : EventBuffer). t.before) told;
       work = ap (λ (x : Processor). work x.local after) gone ∙ ap (work (comes_to i (passes receive l.clock) (comes_to r (receives message whole) l))) told ∙ sym does_it;
     }

@@ -25,7 +25,7 @@ use Rattle.l4_core.specs.declared.known.tasks.Task.TheVariants.{Arrive, End, Ref
 use Rattle.l4_core.specs.declared.known.tasks.Task.TheVariants as tasks
 use Rattle.l4_core.specs.Processor.{Processor, with_local}
 use Rattle.l4_core.specs.Tasks.{does_task, refusal_for, refused_if, task_of, IsArrival, IsCaller, IsSplit, IsTask}
-use Rattle.l4_core.specs.Tellings.{Told, IsOpen}
+use Rattle.l4_core.specs.EventBuffers.{EventBuffer, IsOpen}
 use Rattle.l4_core.specs.Turning.{Does, IsEvent, IsFree, IsNewSender, work}
 use Rattle.l4_core_model.proofs.Changed.{get-changed}
 use Rattle.l4_core.proofs.Turning.{opened_work}
@@ -154,7 +154,7 @@ task_kept p q task stamp t is = subst (IsTask task) (sym is) (by task t)
     by (FinishOrder i) t = record { own = t.own; waits = t.waits }
     by (tasks.Retarget j o) t = t
 
-pub handled_event : (p q r : Processor) (letter : Letter) (task : Task) (before after : Told) (stamp : ℕ) → Some task ≡ task_of p.machine p.cpu p.local letter.content →
+pub handled_event : (p q r : Processor) (letter : Letter) (task : Task) (before after : EventBuffer) (stamp : ℕ) → Some task ≡ task_of p.machine p.cpu p.local letter.content →
     q ≡ with_local p (record p.local { stamp = next_stamp letter.stamp p.local }) → stamp ≡ next_stamp letter.stamp p.local → IsOpen before → Does (does_task q.machine q.cpu task) q r before after →
     IsEvent (handle p.machine p.cpu p.local (letter_of letter)) p r before after stamp
 handled_event p q r letter task before after stamp e is stamped untold d = record {

@@ -15,7 +15,7 @@ use Rattle.tcb_arena.specs.Blocks.{is_ready as is_ready_in}
 use Rattle.l4_core.specs.Changing.{IsFitting}
 use Rattle.l4_core.specs.Parts.{AreCore}
 use Rattle.l4_core.specs.Processor.{Processor, with_local}
-use Rattle.l4_core.specs.Tellings.{Told, with_letter, with_step}
+use Rattle.l4_core.specs.EventBuffers.{EventBuffer, with_letter, with_step}
 use Rattle.l4_core.specs.Turning.{work, Does, IsAtHand, IsFree}
 use Rattle.l4_core.proofs.Covering.{any-filtered}
 use Rattle.l4_core.proofs.Fitting.{ready_not_sends, unqueued}
@@ -41,7 +41,7 @@ obeys_local p caller what j x = by (is_deleted (thread x.local j).phase)
     by false = withdrawn_local p j (cause_of what) done
 
 -- What an order leaves of a processor.
-pub obeyed_is : (p q v : Processor) (i j : ℕ) (order : Asked) (caller : GlobalId) (middle after : Told) → q ≡ with_local p (comes_to i (orders order) p.local) → Does (obeys q.machine q.cpu caller order.what j) q v middle after →
+pub obeyed_is : (p q v : Processor) (i j : ℕ) (order : Asked) (caller : GlobalId) (middle after : EventBuffer) → q ≡ with_local p (comes_to i (orders order) p.local) → Does (obeys q.machine q.cpu caller order.what j) q v middle after →
     v ≡ with_local p (asks order.what j (comes_to i (orders order) p.local))
 obeyed_is p q v i j order caller middle after is doing =
     let machine = doing.machine ∙ ap (λ (x : Processor). x.machine) is in
@@ -113,16 +113,16 @@ still_fitting p v i j order core hand lt is = record {
 
 -- An order is given.
 
-abbrev given : Processor → (i : ℕ) → Asked → Told → Work
+abbrev given : Processor → (i : ℕ) → Asked → EventBuffer → Work
 given p i order before = work p.local before ▷ does (comes_to i (orders order)) ▷ tells (steps.Order (declared p.machine i).id order.target order.what)
 
-given_is : (p q : Processor) (i : ℕ) (order : Asked) (caller : GlobalId) (before middle : Told) → caller ≡ (declared p.machine i).id → q ≡ with_local p (comes_to i (orders order) p.local) → middle ≡ with_step (steps.Order caller order.target order.what) before →
+given_is : (p q : Processor) (i : ℕ) (order : Asked) (caller : GlobalId) (before middle : EventBuffer) → caller ≡ (declared p.machine i).id → q ≡ with_local p (comes_to i (orders order) p.local) → middle ≡ with_step (steps.Order caller order.target order.what) before →
     work q.local middle ≡ given p i order before
 given_is p q i order caller before middle named is adds =
     ap (λ (x : Processor). work x.local middle) is ∙ ap (work (comes_to i (orders order) p.local)) adds
     ∙ ap (λ (id : GlobalId). work (comes_to i (orders order) p.local) (with_step (steps.Order id order.target order.what) before)) named
 
-pub gives_here : (p q v u : Processor) (i j : ℕ) (order : Asked) (caller : GlobalId) (before middle after : Told) → caller ≡ (declared p.machine i).id → q ≡ with_local p (comes_to i (orders order) p.local) → middle ≡ with_step (steps.Order caller order.target order.what) before →
+pub gives_here : (p q v u : Processor) (i j : ℕ) (order : Asked) (caller : GlobalId) (before middle after : EventBuffer) → caller ≡ (declared p.machine i).id → q ≡ with_local p (comes_to i (orders order) p.local) → middle ≡ with_step (steps.Order caller order.target order.what) before →
     place_of p.machine order.target ≡ Some j → is_own p.machine p.cpu j ≡ true → Does (obeys q.machine q.cpu caller order.what j) q v middle after → u ≡ with_local v (comes_to i obeyed v.local) → Does (gives_order p.machine p.cpu i order) p u before after
 gives_here p q v u i j order caller before middle after named is adds at own doing last =
     let x = given p i order before in
@@ -135,11 +135,11 @@ gives_here p q v u i j order caller before middle after named is adds at own doi
       machine = ap (λ (y : Processor). y.machine) last ∙ doing.machine ∙ ap (λ (y : Processor). y.machine) is;
       cpu = ap (λ (y : Processor). y.cpu) last ∙ doing.cpu ∙ ap (λ (y : Processor). y.cpu) is;
       stamp = ap (λ (y : Processor). y.local.stamp) last ∙ doing.stamp ∙ ap (λ (y : Processor). y.local.stamp) is;
-      kept = doing.kept ∙ ap (λ (t : Told). t.before) adds;
+      kept = doing.kept ∙ ap (λ (t : EventBuffer). t.before) adds;
       work = ap (λ (y : Processor). work y.local after) last ∙ ap (does (comes_to i obeyed)) done ∙ sym goes;
     }
 
-pub gives_away : (p q : Processor) (i j : ℕ) (order : Asked) (caller : GlobalId) (before middle after : Told) (cpu : ℕ) (letter : Letter) → caller ≡ (declared p.machine i).id → q ≡ with_local p (comes_to i (orders order) p.local) →
+pub gives_away : (p q : Processor) (i j : ℕ) (order : Asked) (caller : GlobalId) (before middle after : EventBuffer) (cpu : ℕ) (letter : Letter) → caller ≡ (declared p.machine i).id → q ≡ with_local p (comes_to i (orders order) p.local) →
     middle ≡ with_step (steps.Order caller order.target order.what) before → place_of p.machine order.target ≡ Some j → is_own p.machine p.cpu j ≡ false → cpu ≡ (declared p.machine j).cpu →
     letter ≡ record { stamp = q.local.stamp; content = OrderLetter caller order.target order.what } → after ≡ with_letter cpu letter middle → Does (gives_order p.machine p.cpu i order) p q before after
 gives_away p q i j order caller before middle after cpu letter named is adds at away there written posted =
@@ -152,18 +152,18 @@ gives_away p q i j order caller before middle after cpu letter named is adds at 
       machine = ap (λ (y : Processor). y.machine) is;
       cpu = ap (λ (y : Processor). y.cpu) is;
       stamp = ap (λ (y : Processor). y.local.stamp) is;
-      kept = ap (λ (t : Told). t.before) posted ∙ ap (λ (t : Told). t.before) adds;
+      kept = ap (λ (t : EventBuffer). t.before) posted ∙ ap (λ (t : EventBuffer). t.before) adds;
       work = sent ∙ ap (λ n. posts n (OrderLetter caller order.target order.what) (work q.local middle)) there
           ∙ ap (λ (id : GlobalId). posts (declared p.machine j).cpu (OrderLetter id order.target order.what) (work q.local middle)) named
           ∙ ap (posts (declared p.machine j).cpu (OrderLetter (declared p.machine i).id order.target order.what)) (given_is p q i order caller before middle named is adds) ∙ sym goes;
     }
 
-pub gives_nobody : (p q : Processor) (i : ℕ) (order : Asked) (caller : GlobalId) (before middle : Told) → caller ≡ (declared p.machine i).id → q ≡ with_local p (comes_to i (orders order) p.local) → middle ≡ with_step (steps.Order caller order.target order.what) before →
+pub gives_nobody : (p q : Processor) (i : ℕ) (order : Asked) (caller : GlobalId) (before middle : EventBuffer) → caller ≡ (declared p.machine i).id → q ≡ with_local p (comes_to i (orders order) p.local) → middle ≡ with_step (steps.Order caller order.target order.what) before →
     place_of p.machine order.target ≡ None → Does (gives_order p.machine p.cpu i order) p q before middle
 gives_nobody p q i order caller before middle named is adds at = record {
   machine = ap (λ (y : Processor). y.machine) is;
   cpu = ap (λ (y : Processor). y.cpu) is;
   stamp = ap (λ (y : Processor). y.local.stamp) is;
-  kept = ap (λ (t : Told). t.before) adds;
+  kept = ap (λ (t : EventBuffer). t.before) adds;
   work = given_is p q i order caller before middle named is adds ∙ sym (ap (λ o. order_goes_to p.machine p.cpu i order o (given p i order before)) at);
 }

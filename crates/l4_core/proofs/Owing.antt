@@ -5,14 +5,14 @@ use Rattle.l4_model.specs.Rules.{owed_by, received_tag, is_cross}
 use Rattle.l4_core_model.specs.Local.{declared, last_name, thread}
 use Rattle.l4_core_model.specs.Acts.{Work, owes_for, delivers, delivers_message, delivers_send}
 use Rattle.l4_core.specs.Processor.{Processor}
-use Rattle.l4_core.specs.Tellings.{Told}
+use Rattle.l4_core.specs.EventBuffers.{EventBuffer}
 use Rattle.l4_core.specs.Turning.{hands_message, hands_over, hands_send, work, Does}
 
-pub owes_nothing : (p : Processor) (r : ℕ) (told : Told) → Does (owes_for p.machine p.cpu r None) p p told told
+pub owes_nothing : (p : Processor) (r : ℕ) (told : EventBuffer) → Does (owes_for p.machine p.cpu r None) p p told told
 owes_nothing p r told = record { machine = refl; cpu = refl; stamp = refl; kept = refl; work = refl }
 
 -- A delivery hands the message over, and then owes.
-pub delivers_both : (p q u : Processor) (r i : ℕ) (send : Send) (owed : Option Owed) (before middle after : Told) → (thread p.local i).send ≡ Some send → owed ≡ owed_by p.machine (last_name p.machine p.local i) send.message (declared p.machine r).id →
+pub delivers_both : (p q u : Processor) (r i : ℕ) (send : Send) (owed : Option Owed) (before middle after : EventBuffer) → (thread p.local i).send ≡ Some send → owed ≡ owed_by p.machine (last_name p.machine p.local i) send.message (declared p.machine r).id →
     Does (hands_over p.machine p.cpu r i) p q before middle → Does (owes_for q.machine q.cpu r owed) q u middle after → Does (delivers p.machine p.cpu r i) p u before after
 delivers_both p q u r i send owed before middle after has is handed owing =
     let x : Work = work p.local before in

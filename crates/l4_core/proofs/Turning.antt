@@ -11,16 +11,16 @@ use Rattle.l4_core.specs.declared.processor.Choice.TheVariants.{ByDuty, ByDue, B
 use Rattle.l4_core.specs.Choosing.{choice_of, IsPossible}
 use Rattle.l4_core.specs.Parts.{AreCore}
 use Rattle.l4_core.specs.Processor.{Processor, with_local}
-use Rattle.l4_core.specs.Tellings.{Told, IsOpen}
+use Rattle.l4_core.specs.EventBuffers.{EventBuffer, IsOpen}
 use Rattle.l4_core.specs.Turning.{work, Does, IsAtHand, IsEvent}
 use Rattle.l4_core.proofs.Dues.{ready_there}
 
 -- An event that has told nothing yet.
-pub opened_work : (l : Local) (t : Told) → IsOpen t → work l t ≡ record { local = l; steps = []; letters = [] }
+pub opened_work : (l : Local) (t : EventBuffer) → IsOpen t → work l t ≡ record { local = l; steps = []; letters = [] }
 opened_work l t untold = rw (untold.steps, untold.letters) refl
 
 -- What was chosen is the turn.
-pub turned_event : (p q r : Processor) (chosen : Choice) (before after : Told) (stamp : ℕ) → Some (choice_of p.local.owed chosen) ≡ choice p.machine p.cpu p.local →
+pub turned_event : (p q r : Processor) (chosen : Choice) (before after : EventBuffer) (stamp : ℕ) → Some (choice_of p.local.owed chosen) ≡ choice p.machine p.cpu p.local →
     q ≡ with_local p (record p.local { stamp = next_stamp 0 p.local }) → stamp ≡ next_stamp 0 p.local → IsOpen before → Does (does_choice q.machine q.cpu (choice_of q.local.owed chosen)) q r before after →
     IsEvent (turn p.machine p.cpu p.local) p r before after stamp
 turned_event p q r chosen before after stamp e is stamped untold d = record {

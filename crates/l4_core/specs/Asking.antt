@@ -4,7 +4,7 @@ use Rattle.l4_model.specs.Words.{GlobalId}
 use Rattle.l4_model.specs.Machine.{What, Instr, Ipc}
 use Rattle.l4_model.specs.Rules.{Act, RunsAlone, Orders}
 
--- An order to this thread, or none that is admitted.
+-- The order, if a target is admitted; else the instruction runs alone.
 abbrev pub admitted_act : What → Option GlobalId → Act
 admitted_act what None = RunsAlone
 admitted_act what (Some target) = Orders (record { target = target; what = what })

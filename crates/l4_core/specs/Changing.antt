@@ -15,18 +15,19 @@ abbrev pub ends_send : Change → Bool
 ends_send (EndSend decision) = true
 ends_send _ = false
 
--- It comes back to its instruction when what it asked for is done, and goes on to the next one then.
+-- A thread that gives an order goes on to its next instruction once the order is done.
 abbrev pub comes_back : Change → Bool
 comes_back (GiveOrder order) = true
 comes_back _ = false
 
--- A living thread has no undecided send then, unless it is what ends.
+-- A change can happen to a thread. A living thread with an undecided send can only have that send
+-- ended.
 pub record IsFitting (change : Change) (t : Thread) : Type 0 where
   pub living : asks_for_life change ≡ true → is_deleted t.phase ≡ false
   pub idle : ends_send change ≡ false → is_some t.send ≡ true → is_deleted t.phase ≡ true
   pub room : may_advance change ≡ true → t.context.place + 1 < 2 ^ 64
   pub next : comes_back change ≡ true → t.context.place + 1 < 2 ^ 64
 
--- What it asked for is no longer awaited.
+-- The order of a thread is cleared.
 abbrev pub forgets_order : Thread → Thread
 forgets_order t = record t { order = None }

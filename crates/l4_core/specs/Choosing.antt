@@ -10,7 +10,7 @@ use Rattle.l4_core.specs.declared.processor.Choice.TheVariants.{ByDuty, ByDue, B
 use Rattle.l4_core.specs.Processor.{Processor}
 use Rattle.l4_core.specs.Covered.{IsFirstDuty, HasNoDuty}
 
--- It stands for a retarget where none is kept.
+-- Stands for a retarget if none is kept.
 abbrev pub nothing_owed : Owed
 nothing_owed =
     record {
@@ -23,7 +23,8 @@ nothing_owed =
 abbrev pub kept_beside : List (Option Owed) → ℕ → Owed
 kept_beside owed i = unwrap_or (slice_index_or owed i None) nothing_owed
 
--- What is kept beside the threads tells which retarget is to be done.
+-- A duty of the program as one of the core run. The retarget to be done is the one that is kept
+-- beside the thread.
 abbrev pub duty_of : (owed : List (Option Owed)) → (place : ℕ) → Duty → turns.Duty
 duty_of owed i Retarget = turns.Retargets (kept_beside owed i)
 duty_of owed i DropOwn = turns.DropsOwn
@@ -40,13 +41,16 @@ choice_of owed (ByDuty place duty) = turns.ByDuty place (duty_of owed place duty
 choice_of owed (ByDue place) = turns.ByDue place
 choice_of owed (ByReady place) = turns.ByReady place
 
--- The first place with a duty, or there is none.
+-- The place that was found is the first with a duty. If none was found, no thread has a duty.
 abbrev pub IsFound : Option (ℕ × Duty) → Processor → Type 0
 IsFound None p = HasNoDuty p.machine p.cpu p.local
-IsFound (Some found) p = IsFirstDuty found.0 (duty_of p.local.owed found.0 found.1) p.machine p.cpu p.local
+IsFound (Some found) p = IsFirstDuty found.0 (duty_of p.local.owed found.0 found.1) p.machine
+    p.cpu p.local
 
--- What a choice says is so.
+-- A choice is right: its duty is the first one, its deadline is due, or its thread is the first
+-- ready one.
 abbrev pub IsPossible : Choice → Processor → Type 0
-IsPossible (ByDuty place duty) p = IsFirstDuty place (duty_of p.local.owed place duty) p.machine p.cpu p.local
+IsPossible (ByDuty place duty) p = IsFirstDuty place (duty_of p.local.owed place duty) p.machine
+    p.cpu p.local
 IsPossible (ByDue place) p = due_block p.local.clock p.local.lists.armed ≡ Some place
 IsPossible (ByReady place) p = slice_get p.local.lists.ready 0 ≡ Some place

@@ -1,4 +1,5 @@
--- Sets of places that leave none out: of those of this processor's threads with a duty, and of those where a send of timeout zero waits.
+-- Sets of places that leave none out: of those of this processor's threads with a duty, and of
+-- those where a send of timeout zero waits.
 use Rattle.std.specs.Prelude.{◌≡◌, ℕ, ◌<◌, Bool, true, false, if◌then◌else◌, ◌&&◌, Option, Some, None, List, find, slice_index_or}
 use Rattle.std.specs.Option.{option_map}
 use Rattle.l4_model.specs.Words.{Id, AnyThread}
@@ -16,7 +17,7 @@ use Rattle.l4_core.specs.Settled.{IsOwn}
 abbrev pub duty_at : Machine → (cpu : ℕ) → Local → ℕ → Option Duty
 duty_at m cpu l i = duty_of m cpu l (held m l i)
 
--- It may not wait at all.
+-- A send has timeout zero: it may not wait at all.
 abbrev pub is_zero_send : Option Send → Bool
 is_zero_send None = false
 is_zero_send (Some send) = is_zero send.period
@@ -27,20 +28,26 @@ first_zero l ws = find (λ w. is_zero_send (thread l w.block).send) ws
 
 pub record Covers (duties : List ℕ) (m : Machine) (cpu : ℕ) (l : Local) : Type 0 where
   pub within : (place : ℕ) → has duties place ≡ true → IsOwn m cpu place
-  pub others : (place : ℕ) → IsOwn m cpu place → has duties place ≡ false → duty_at m cpu l place ≡ None
+  pub others : (place : ℕ) → IsOwn m cpu place → has duties place ≡ false →
+      duty_at m cpu l place ≡ None
 
--- The same of all places but this one.
-pub record CoversOthers (place : ℕ) (duties : List ℕ) (m : Machine) (cpu : ℕ) (l : Local) : Type 0 where
+-- The set leaves no place with a duty out, but maybe this one.
+pub record CoversOthers (place : ℕ) (duties : List ℕ) (m : Machine) (cpu : ℕ) (l : Local) :
+    Type 0 where
   pub within : (other : ℕ) → has duties other ≡ true → IsOwn m cpu other
-  pub others : (other : ℕ) → IsOwn m cpu other → (place ≡ other → ⊥) → has duties other ≡ false → duty_at m cpu l other ≡ None
+  pub others : (other : ℕ) → IsOwn m cpu other → (place ≡ other → ⊥) → has duties other ≡ false →
+      duty_at m cpu l other ≡ None
 
--- The same of all places but these two.
-pub record CoversBut (one another : ℕ) (duties : List ℕ) (m : Machine) (cpu : ℕ) (l : Local) : Type 0 where
+-- The set leaves no place with a duty out, but maybe these two.
+pub record CoversBut (one another : ℕ) (duties : List ℕ) (m : Machine) (cpu : ℕ) (l : Local) :
+    Type 0 where
   pub within : (other : ℕ) → has duties other ≡ true → IsOwn m cpu other
-  pub others : (other : ℕ) → IsOwn m cpu other → (one ≡ other → ⊥) → (another ≡ other → ⊥) → has duties other ≡ false → duty_at m cpu l other ≡ None
+  pub others : (other : ℕ) → IsOwn m cpu other → (one ≡ other → ⊥) → (another ≡ other → ⊥) →
+      has duties other ≡ false → duty_at m cpu l other ≡ None
 
 abbrev pub CoversZeros : (zeros : List ℕ) → Local → Type 0
-CoversZeros zeros l = (place : ℕ) → has zeros place ≡ false → first_zero l (list_of l.lists place) ≡ None
+CoversZeros zeros l = (place : ℕ) → has zeros place ≡ false →
+    first_zero l (list_of l.lists place) ≡ None
 
 -- The first place with a duty.
 pub record IsFirstDuty (place : ℕ) (duty : Duty) (m : Machine) (cpu : ℕ) (l : Local) : Type 0 where
@@ -63,7 +70,8 @@ names_nobody m l id = is_nobody id (held_by m l id)
 
 -- The first send of timeout zero that waits at a place and may be refused.
 abbrev pub first_refusable : Machine → Local → ℕ → Option Waiting
-first_refusable m l i = find (λ w. zero_refusable m (held m l i) (thread l w.block).send) (list_of l.lists i)
+first_refusable m l i = find (λ w. zero_refusable m (held m l i) (thread l w.block).send)
+    (list_of l.lists i)
 
 abbrev pub untold_of : Machine → (cpu : ℕ) → Local → ℕ → Option ℕ
 untold_of m cpu l i = next_untold m cpu (slice_index_or l.told i 0)
@@ -72,31 +80,41 @@ abbrev pub or_tell : Option ℕ → (untold : Option ℕ) → Option Duty
 or_tell None untold = option_map TellsGone untold
 or_tell (Some sender) untold = Some (RefusesFirst sender)
 
--- Of a deleted thread: its send is dropped, those that wait at it are refused, and the other processors are told.
+-- The duty of a deleted thread: its send is dropped, else the first send that waits at it is
+-- refused, else another processor is told.
 abbrev pub deleted_duty : (queued : Bool) → List Waiting → (untold : Option ℕ) → Option Duty
-deleted_duty queued ws untold = if queued then Some DropsOwn else or_tell (first_taken AnyThread ws) untold
+deleted_duty queued ws untold = if queued then Some DropsOwn
+    else or_tell (first_taken AnyThread ws) untold
 
 abbrev pub or_close : Option ℕ → (nobody : Bool) → Option Duty
 or_close None nobody = if nobody then Some ClosesReceive else None
 or_close (Some sender) nobody = Some (DeliversFirst sender)
 
--- Of a thread in a receive phase: it is cancelled, it gets the first send that it accepts, or is closed for nobody.
-abbrev pub receive_duty : (nobody : Id → Bool) → (cancelled : Bool) → List Waiting → Option Receive → Option Duty
+-- The duty of a receive phase: it is cancelled, else it gets the first send that it accepts, else
+-- it is closed if nobody has the id that it names.
+abbrev pub receive_duty : (nobody : Id → Bool) → (cancelled : Bool) → List Waiting →
+    Option Receive → Option Duty
 receive_duty nobody cancelled ws None = None
-receive_duty nobody cancelled ws (Some receive) = if cancelled then Some CancelsReceive else or_close (first_taken receive.from ws) (nobody receive.from)
+receive_duty nobody cancelled ws (Some receive) = if cancelled then Some CancelsReceive
+    else or_close (first_taken receive.from ws) (nobody receive.from)
 
 abbrev pub or_refuse : Option Duty → (zero : Option Waiting) → Option Duty
 or_refuse None zero = option_map (λ w. RefusesZero w.block) zero
 or_refuse (Some duty) zero = Some duty
 
--- Of a living thread: its waiting send is cancelled, its receive phase has a duty, or a send of timeout zero that waits at it is refused.
-abbrev pub living_duty : (nobody : Id → Bool) → Thread → (queued : Bool) → List Waiting → (zero : Option Waiting) → Option Duty
+-- The duty of a living thread: its waiting send is cancelled, else its receive phase has a duty,
+-- else a send of timeout zero that waits at it is refused.
+abbrev pub living_duty : (nobody : Id → Bool) → Thread → (queued : Bool) → List Waiting →
+    (zero : Option Waiting) → Option Duty
 living_duty nobody t queued ws zero =
-    if t.cancel_send && queued then Some CancelsOwn else or_refuse (receive_duty nobody t.cancel_receive ws (receive_now t.phase)) zero
+    if t.cancel_send && queued then Some CancelsOwn
+    else or_refuse (receive_duty nobody t.cancel_receive ws (receive_now t.phase)) zero
 
-abbrev pub duty_of_thread : (nobody : Id → Bool) → Thread → (queued : Bool) → List Waiting → (untold : Option ℕ) → (zero : Option Waiting) → Option Duty
+abbrev pub duty_of_thread : (nobody : Id → Bool) → Thread → (queued : Bool) → List Waiting →
+    (untold : Option ℕ) → (zero : Option Waiting) → Option Duty
 duty_of_thread nobody t queued ws untold zero =
-    if is_deleted t.phase then deleted_duty queued ws untold else living_duty nobody t queued ws zero
+    if is_deleted t.phase then deleted_duty queued ws untold
+    else living_duty nobody t queued ws zero
 
 -- A retarget that is kept beside a thread comes before its other duties.
 abbrev pub after_retarget : Option Owed → (other : Option Duty) → Option Duty

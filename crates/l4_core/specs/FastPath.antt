@@ -1,4 +1,5 @@
--- The fast path: a send that its receiver takes at once goes from register to register. It stands in no list, and nothing of it is kept.
+-- The fast path: a send that its receiver takes at once goes from register to register. It stands
+-- in no list, and nothing of it is kept.
 use Rattle.std.specs.Prelude.{ℕ, ◌+◌, Bool, false, not, ◌&&◌, Option, Some, None, is_none}
 use Rattle.l4_model.specs.Words.{Id}
 use Rattle.l4_model.specs.Machine.{Machine, Instr, Ipc}
@@ -22,10 +23,11 @@ partner_of m c _ = None
 abbrev pub takes_at_once : Machine → Local → (r i : ℕ) → Option Receive → Bool
 takes_at_once m l r i None = false
 takes_at_once m l r i (Some receive) =
-    accepts m receive.from (declared m i).id (declared m r).id && is_none (first_taken receive.from (list_of l.lists r))
+    accepts m receive.from (declared m i).id (declared m r).id &&
+    is_none (first_taken receive.from (list_of l.lists r))
 
--- The receiver that takes at once what a thread sends now to this id: a thread of this processor that takes it. The send asks for no
--- propagation.
+-- The receiver that takes at once what a thread sends now to this id: a thread of this processor.
+-- None if the send asks for propagation.
 abbrev pub fast_receiver : Machine → (cpu : ℕ) → Local → (sender : ℕ) → Id → Option ℕ
 fast_receiver m cpu l i to = do
   not (propagates (thread l i).context)
@@ -38,12 +40,14 @@ fast_receiver m cpu l i to = do
 abbrev pub next_name : Machine → Local → ℕ → Name
 next_name m l i = record { thread = (declared m i).id; k = (thread l i).context.begun + 1 }
 
--- The three steps of such a send are told, its receiver has the message, and the Ipc of its sender goes on.
+-- The three steps of a send on the fast path are told, its receiver has the message, and the Ipc of
+-- its sender goes on.
 abbrev pub passes_fast : Machine → (r i : ℕ) → Message → (tag : ℕ) → Option Receive → Work → Work
 passes_fast m r i message tag receive x =
     x
     ▷ tells (Begin (next_name m x.local i))
     ▷ tells (Queue (next_name m x.local i))
-    ▷ tells (Deliver (next_name m x.local i) (declared m r).id message.shown message.actual tag message.words)
+    ▷ tells (Deliver (next_name m x.local i) (declared m r).id message.shown message.actual tag
+    message.words)
     ▷ does (comes_to r (receives message tag))
     ▷ does (comes_to i (passes receive x.local.clock))

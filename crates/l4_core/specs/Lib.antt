@@ -10,6 +10,6 @@ pub mod Processor
 pub mod Settled
 pub mod Settling
 pub mod Tasks
-pub mod Tellings
+pub mod EventBuffers
 pub mod Turning
 pub mod Values

@@ -12,7 +12,8 @@ is_filled word = not (word == 0)
 
 -- Bit r of a word is set where word r of a set isn't zero.
 abbrev pub MarksFilled : (filled : ℕ) (words : List ℕ) → Type 0
-MarksFilled filled words = (row : ℕ) → row < 64 → (bit_at filled row == 1) ≡ is_filled (slice_index_or words row 0)
+MarksFilled filled words = (row : ℕ) → row < 64 →
+    (bit_at filled row == 1) ≡ is_filled (slice_index_or words row 0)
 
 -- The place of the lowest bit of a word.
 pub record IsLowest (word bit : ℕ) : Type 0 where

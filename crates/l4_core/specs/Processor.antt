@@ -1,4 +1,5 @@
--- What a contract sees of a `Core`: the machine, which of its processors this is, and what that one knows.
+-- What a contract sees of a `Core`: the machine, the number of the processor, and what this
+-- processor knows.
 use Rattle.std.specs.Prelude.{ℕ}
 use Rattle.l4_model.specs.Machine.{Machine}
 use Rattle.l4_core_model.specs.Local.{Local}

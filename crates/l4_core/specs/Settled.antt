@@ -31,7 +31,7 @@ pub record HasSend (m : Machine) (cpu : ℕ) (l : Local) (i : ℕ) : Type 0 wher
   pub within : i < length m.threads
   pub sends : is_some (thread l i).send ≡ true
 
--- A thread whose send waits in a list here. Where it is a thread of this processor, so is the receiver.
+-- A thread whose send waits in a list here. If the thread is of this processor, so is the receiver.
 pub record IsWaiting (m : Machine) (cpu : ℕ) (l : Local) (i : ℕ) : Type 0 where
   pub within : i < length m.threads
   pub sends : is_some (thread l i).send ≡ true
@@ -53,9 +53,11 @@ pub record IsSettled (m : Machine) (cpu : ℕ) (l : Local) : Type 0 where
   pub owed : length l.owed ≡ length m.threads
   pub known : (i : ℕ) → slice_index_or l.told i 0 ≤ m.cpus
   pub sent : (i : ℕ) → IsSent (declared m i).id (thread l i).send (thread l i).context.begun
-  pub sending : (i : ℕ) → is_own m cpu i ≡ true → is_some (thread l i).send ≡ true → MaySend (thread l i).phase
+  pub sending : (i : ℕ) → is_own m cpu i ≡ true → is_some (thread l i).send ≡ true →
+      MaySend (thread l i).phase
   pub begun : (i : ℕ) → is_own m cpu i ≡ true → (thread l i).context.begun ≤ l.stamp
-  pub ordering : (i : ℕ) → is_own m cpu i ≡ true → is_ordering (thread l i).phase ≡ true → (thread l i).context.place + 1 < 2 ^ 64
+  pub ordering : (i : ℕ) → is_own m cpu i ≡ true → is_ordering (thread l i).phase ≡ true →
+      (thread l i).context.place + 1 < 2 ^ 64
   pub queued : (i : ℕ) → plain.is_queued l.lists i ≡ true → IsWaiting m cpu l i
   pub ready : (i : ℕ) → is_ready_in l.lists i ≡ true → IsReadied m cpu l i
   pub armed : (i : ℕ) → is_armed_in l.lists i ≡ true → IsOwn m cpu i

@@ -4,14 +4,17 @@ use Rattle.l4_model.specs.World.{Thread}
 use Rattle.l4_core_model.specs.Plain.{Plain, without_block}
 use Rattle.l4_core_model.specs.Local.{Local, thread, entered, readied, armed_for, armed_period}
 
--- Its old deadline goes, and that of its phase is armed.
+-- The old deadline of a thread goes, and that of its phase is armed.
 abbrev pub rearms : Thread → (clock place : ℕ) → Plain → Plain
-rearms t clock place s = record s { armed = armed_for (armed_period t.phase t.send) clock place (without_block place s.armed) }
+rearms t clock place s = record s {
+  armed = armed_for (armed_period t.phase t.send) clock place
+      (without_block place s.armed);
+}
 
--- It stands last among the ready ones, where it can run.
+-- A thread that can run stands last among the ready ones.
 abbrev pub readies : Thread → (place : ℕ) → Plain → Plain
 readies t place s = record s { ready = readied t.phase place s.ready }
 
--- It has come to the phase that it is in.
+-- The thread at a place is settled in its phase.
 abbrev pub settles : (place : ℕ) → Local → Local
 settles i l = record l { lists = entered (thread l i) l.clock i l.lists }

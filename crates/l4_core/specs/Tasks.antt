@@ -28,11 +28,11 @@ refusal_for ByTimeout = TimedOut
 refusal_for ByCancel = Cancelled
 refusal_for ByDeletion = Dropped
 
--- A withdrawn send is refused, where it still waits.
+-- A withdrawn send is refused, if it still waits.
 abbrev pub refused_if : Bool → ℕ → Refusal → Task
 refused_if waits i refusal = if waits then Refuse i refusal else Leave
 
--- None where the letter is not lawful here.
+-- None if the letter is not lawful here.
 abbrev pub task_of : Machine → (cpu : ℕ) → Local → Content → Option Task
 task_of m cpu l (content.Send name to message zero_timeout) = do
   r ← own_place m cpu to
@@ -69,12 +69,15 @@ task_of m cpu l (content.Retarget o) = do
   Some (Retarget j o)
 
 abbrev pub does_task : Machine → (cpu : ℕ) → Task → Work → Work
-does_task m cpu (Arrive r i name to message zero_timeout) x = x ▷ does (changes i (stands_in name.k (stand_in to message zero_timeout))) ▷ arrives m cpu r i
-does_task m cpu (End i decision) x = x ▷ does (comes_to i (after_decision (decision_of decision) x.local.clock))
+does_task m cpu (Arrive r i name to message zero_timeout) x = x
+    ▷ does (changes i (stands_in name.k (stand_in to message zero_timeout))) ▷ arrives m cpu r i
+does_task m cpu (End i decision) x = x ▷ does
+    (comes_to i (after_decision (decision_of decision) x.local.clock))
 does_task m cpu (Refuse i refusal) x = refuses m cpu (refusal_of_send refusal) i x
 does_task m cpu Leave x = x
 does_task m cpu (NoteGone i) x = x ▷ does (changes i is_gone_now)
-does_task m cpu (Obey j i caller what) x = x ▷ obeys m cpu caller (what_of what) j ▷ posts (declared m i).cpu (OrderDoneLetter caller)
+does_task m cpu (Obey j i caller what) x = x ▷ obeys m cpu caller (what_of what) j
+    ▷ posts (declared m i).cpu (OrderDoneLetter caller)
 does_task m cpu (FinishOrder i) x = x ▷ does (comes_to i obeyed)
 does_task m cpu (Retarget j o) x = x ▷ retargets (owed_of o) j
 

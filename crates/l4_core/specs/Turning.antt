@@ -14,14 +14,15 @@ use Rattle.l4_core_model.specs.Turns as turns
 use Rattle.tcb_arena.specs.Blocks.{is_ready as is_ready_in}
 use Rattle.l4_core.specs.Processor.{Processor}
 use Rattle.l4_core.specs.Settled.{IsOwn, HasSend}
-use Rattle.l4_core.specs.Tellings.{Told}
+use Rattle.l4_core.specs.EventBuffers.{EventBuffer}
 
 -- An event under way.
-abbrev pub work : Local → Told → Work
+abbrev pub work : Local → EventBuffer → Work
 work l t = record { local = l; steps = t.steps; letters = t.letters }
 
 -- A piece of an event was done.
-pub record Does (piece : Work → Work) (old new : Processor) (before after : Told) : Type 0 where
+pub record Does (piece : Work → Work) (old new : Processor) (before after : EventBuffer) :
+    Type 0 where
   pub machine : new.machine ≡ old.machine
   pub cpu : new.cpu ≡ old.cpu
   pub stamp : new.local.stamp ≡ old.local.stamp
@@ -32,17 +33,20 @@ pub record Does (piece : Work → Work) (old new : Processor) (before after : To
 abbrev pub fails_with : steps.Step → (code place : ℕ) → Work → Work
 fails_with step code place x = x ▷ tells step ▷ does (comes_to place (fails code))
 
--- A message comes to its receiver, and its send is decided: a delivery but for the retarget that it may leave owed.
+-- A message comes to its receiver, and its send is decided: a delivery but for the retarget that it
+-- may leave owed.
 abbrev pub hands_message : Machine → (cpu r i : ℕ) → Message → (tag : ℕ) → Work → Work
 hands_message m cpu r i message tag x =
     x
-    ▷ tells (steps.Deliver (last_name m x.local i) (declared m r).id message.shown message.actual tag message.words)
+    ▷ tells (steps.Deliver (last_name m x.local i) (declared m r).id message.shown message.actual
+    tag message.words)
     ▷ does (comes_to r (receives message tag))
     ▷ decides_send m cpu Delivered i
 
 abbrev pub hands_send : Machine → (cpu r i : ℕ) → Option Send → Work → Work
 hands_send m cpu r i =
-    if_some (λ send. hands_message m cpu r i send.message (received_tag (is_cross m (declared m r).id send.message) send.message))
+    if_some (λ send. hands_message m cpu r i send.message
+    (received_tag (is_cross m (declared m r).id send.message) send.message))
 
 abbrev pub hands_over : Machine → (cpu r i : ℕ) → Work → Work
 hands_over m cpu r i x = hands_send m cpu r i (thread x.local i).send x
@@ -60,11 +64,11 @@ IsOwnOf p i = IsOwn p.machine p.cpu i
 abbrev pub IsSender : Processor → ℕ → Type 0
 IsSender p i = HasSend p.machine p.cpu p.local i
 
--- The receiver of its send is of this processor, where the thread is.
+-- If the thread is of this processor, its send is not split.
 abbrev pub IsNotSplit : Processor → ℕ → Type 0
 IsNotSplit p i = is_own p.machine p.cpu i ≡ true → split_place p.machine p.cpu p.local i ≡ None
 
--- The same, and its send stands in no list.
+-- A thread with an undecided send that stands in no list.
 pub record IsNewSender (p : Processor) (i : ℕ) : Type 0 where
   pub sender : IsSender p i
   pub unqueued : plain.is_queued p.local.lists i ≡ false
@@ -75,7 +79,7 @@ pub record IsFree (p : Processor) (i : ℕ) : Type 0 where
   pub unready : is_ready_in p.local.lists i ≡ false
   pub unqueued : plain.is_queued p.local.lists i ≡ false
 
--- A thread that is ready, and no more in the list of the ready ones.
+-- A ready thread of this processor that does not stand in the ready list.
 pub record IsAtHand (p : Processor) (i : ℕ) : Type 0 where
   pub own : IsOwn p.machine p.cpu i
   pub ready : (thread p.local i).phase ≡ Ready
@@ -86,7 +90,8 @@ pub record IsReceiver (p : Processor) (i : ℕ) : Type 0 where
   pub waits : is_some (receive_now (thread p.local i).phase) ≡ true
 
 -- An event was told behind what was told before, with this stamp.
-pub record IsEvent (event : Option Work) (old new : Processor) (before after : Told) (stamp : ℕ) : Type 0 where
+pub record IsEvent (event : Option Work) (old new : Processor) (before after : EventBuffer)
+    (stamp : ℕ) : Type 0 where
   pub machine : new.machine ≡ old.machine
   pub cpu : new.cpu ≡ old.cpu
   pub kept : after.before ≡ before.before
@@ -94,11 +99,14 @@ pub record IsEvent (event : Option Work) (old new : Processor) (before after : T
   pub stamped : stamp ≡ new.local.stamp
 
 -- There is no such event, and nothing has changed.
-pub record IsNoEvent (event : Option Work) (old new : Processor) (before after : Told) : Type 0 where
+pub record IsNoEvent (event : Option Work) (old new : Processor) (before after : EventBuffer) :
+    Type 0 where
   pub none : event ≡ None
   pub same : new ≡ old
   pub untold : after ≡ before
 
-abbrev pub IsTurn : (old new : Processor) → (before after : Told) → Option ℕ → Type 0
-IsTurn old new before after (Some stamp) = IsEvent (turns.turn old.machine old.cpu old.local) old new before after stamp
-IsTurn old new before after None = IsNoEvent (turns.turn old.machine old.cpu old.local) old new before after
+abbrev pub IsTurn : (old new : Processor) → (before after : EventBuffer) → Option ℕ → Type 0
+IsTurn old new before after (Some stamp) = IsEvent (turns.turn old.machine old.cpu old.local) old
+    new before after stamp
+IsTurn old new before after None = IsNoEvent (turns.turn old.machine old.cpu old.local) old
+    new before after

@@ -8,13 +8,18 @@ use Rattle.l4_types.specs.declared.letters.Letter.{Letter}
 use Rattle.l4_core.specs.declared.processor.values.Turn.{Turn}
 use Rattle.l4_core.specs.declared.processor.values.Turn.TheVariants.{Did, Idle}
 use Rattle.l4_core.specs.Processor.{Processor}
-use Rattle.l4_core.specs.Tellings.{posted_of}
+use Rattle.l4_core.specs.EventBuffers.{posted_of}
 
 -- An event was told, as a value, with the letters that it posts.
-pub record IsToldEvent (event : Option Work) (old new : Processor) (told : Event) (letters : List (ℕ × Letter)) : Type 0 where
+pub record IsToldEvent (event : Option Work) (old new : Processor) (told : Event)
+    (letters : List (ℕ × Letter)) : Type 0 where
   pub machine : new.machine ≡ old.machine
   pub cpu : new.cpu ≡ old.cpu
-  pub is : event ≡ Some (record { local = new.local; steps = map step_of told.steps.items; letters = map posted_of letters })
+  pub is : event ≡ Some (record {
+    local = new.local;
+    steps = map step_of told.steps.items;
+    letters = map posted_of letters;
+  })
   pub stamped : told.stamp ≡ new.local.stamp
 
 -- There is no such event, and nothing has changed.
@@ -23,5 +28,6 @@ pub record IsUntold (event : Option Work) (old new : Processor) : Type 0 where
   pub same : new ≡ old
 
 abbrev pub Turned : (old new : Processor) → Turn → Type 0
-Turned old new (Did event letters) = IsToldEvent (turns.turn old.machine old.cpu old.local) old new event letters.items
+Turned old new (Did event letters) = IsToldEvent (turns.turn old.machine old.cpu old.local) old new
+    event letters.items
 Turned old new Idle = IsUntold (turns.turn old.machine old.cpu old.local) old new

@@ -51,7 +51,7 @@ pub(crate) mod tasks;
 /// declaration. The block of a foreign thread has only what is cached here: whether it is deleted,
 /// and a send of it that waits here.
 #[derive(Drop)]
-pub(crate) struct Known<'m> {
+pub(crate) struct ProcessorState<'m> {
     machine: &'m Machine,
     cpu: u8,
     threads: Vec<Tcb>,
@@ -64,7 +64,7 @@ pub(crate) struct Known<'m> {
     stamp: u64,
 }
 
-impl<'m> Model for Known<'m> {
+impl<'m> Model for ProcessorState<'m> {
     ghost use Rattle.l4_core.specs.Processor.{Processor};
     ghost use Rattle.l4_core.specs.Parts.{kept_of, local_of, IsKept};
 
@@ -83,9 +83,13 @@ impl<'m> Model for Known<'m> {
         (kept_of c.machine.now c.owed.items) c.clock c.stamp };
 }
 
-impl<'m> Known<'m> {
+impl<'m> ProcessorState<'m> {
     /// What a processor knows at the beginning.
-    pub(crate) fn new(alloc: Global, machine: &'m Machine, cpu: u8) -> Result<Known<'m>, NoMemory>
+    pub(crate) fn new(
+        alloc: Global,
+        machine: &'m Machine,
+        cpu: u8,
+    ) -> Result<ProcessorState<'m>, NoMemory>
         requires { cpu < machine.now.cpus }
         ensures { IfOk result (λ known.
             known ≡
@@ -96,7 +100,7 @@ impl<'m> Known<'m> {
         let lists = opening_lists(alloc, machine, cpu)?;
         let told = untold(alloc, machine)?;
         let owed = nothing_owed(alloc, machine)?;
-        Ok(Known {
+        Ok(ProcessorState {
             machine,
             cpu,
             threads,
@@ -331,7 +335,7 @@ impl<'m> Known<'m> {
         }
     }
 
-    /// The place of the receiver of a split send. None where the send is not split.
+    /// The place of the receiver of a split send. None if the send is not split.
     pub(crate) fn split_place(&self, sender: usize) -> Option<usize>
         requires { sender < length self.now.machine.threads }
         ensures value { result ≡ split_place self.now.machine self.now.cpu self.now.local sender }
@@ -399,8 +403,8 @@ impl<'m> Known<'m> {
         }
     }
 
-    /// The target of an order, where that is admitted: it is declared, and for a cancellation of
-    /// the caller's space.
+    /// The target of an order, if the order is admitted: a declared thread, for a cancellation one
+    /// of the caller's space.
     pub(crate) fn admitted(&self, place: usize, target: ThreadId, what: What) -> Option<GlobalId>
         requires { place < length self.now.machine.threads }
         ensures { ask_act self.now.machine (declared self.now.machine place).id target
@@ -461,7 +465,7 @@ fn opening_lists(alloc: Global, machine: &Machine, cpu: u8) -> Result<Arena, NoM
     Ok(lists)
 }
 
-// Makes a thread ready at the beginning, where it is of this processor.
+// Makes a thread ready at the beginning, if it is of this processor.
 fn open_place(lists: &mut Arena, machine: &Machine, cpu: u8, place: usize)
     requires within { place < length machine.now.threads }
     requires below { lists.old ≡ lists_below machine.now cpu place }
@@ -485,7 +489,7 @@ fn untold(alloc: Global, machine: &Machine) -> Result<Vec<u8>, NoMemory>
     Ok(told)
 }
 
-// Nothing is owed. Only a machine of profile 2 has a place for each thread.
+// No retarget is owed. Only a machine of profile 2 has a place for each thread.
 fn nothing_owed(alloc: Global, machine: &Machine) -> Result<Vec<Option<Owed>>, NoMemory>
     ensures { IfOk result (λ owed.
         kept_of machine.now owed.items ≡ map (λ d. None) machine.now.threads) }

@@ -5,9 +5,9 @@
 //! the definition: the same steps with the same stamp, the same letters, and the same local state.
 //! A letter is refused exactly where it is not lawful, and then nothing changes.
 //!
-//! Only `Core::new` takes memory, and `Told::begin`, which makes room in the caller's list. How
-//! many instructions a turn takes is measured (docs/BENCHMARKS.md), in no clause. `l4_part_tests`
-//! asks a core by hand, in rows of text.
+//! Only `Core::new` takes memory, and `EventBuffer::begin`, which makes room in the caller's list.
+//! How many instructions a turn takes is measured (docs/BENCHMARKS.md), in no clause. The tests ask
+//! a core by hand, in rows of text.
 //!
 //! ```rust
 //! let mut core = Core::new(alloc, &machine, 0)?;
@@ -20,7 +20,7 @@
 //! ```
 #![tactic(auto)]
 
+pub mod event_buffer;
 mod known;
 mod places;
 pub mod processor;
-pub mod told;

@@ -42,7 +42,7 @@ impl Places {
         }
     }
 
-    /// Puts a place in, where it is not in yet.
+    /// Puts a place into the set, unless it is in.
     pub fn insert(&mut self, place: usize)
         requires { place < most_threads }
         ensures { (other : ℕ) → has self.new other ≡ (has self.old other || other == place) }
@@ -62,7 +62,7 @@ impl Places {
         }
     }
 
-    /// Takes a place out, where it is in.
+    /// Takes a place out of the set, if it is in.
     pub fn remove(&mut self, place: usize)
         requires { place < most_threads }
         ensures { (other : ℕ) → has self.new other ≡ (has self.old other && not (other == place)) }

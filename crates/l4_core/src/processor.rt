@@ -13,16 +13,16 @@ ghost use Rattle.l4_core_model.specs.Turns.{advance, can_stamp, choice, is_busy,
 ghost use Rattle.l4_types.specs.ReportView.{report_of_view};
 ghost use Rattle.l4_core.specs.Choosing.{choice_of, IsFound, IsPossible};
 ghost use Rattle.l4_core.specs.Processor.{with_local};
-ghost use Rattle.l4_core.specs.Tellings.{IsOpen};
+ghost use Rattle.l4_core.specs.EventBuffers.{IsOpen};
 ghost use Rattle.l4_core.specs.Covered.{Covers, CoversBut, CoversOthers, CoversZeros, is_zero_send};
 ghost use Rattle.l4_core.specs.Parts.{AreCore};
 ghost use Rattle.l4_core.specs.Places.{has};
 ghost use Rattle.l4_core.specs.Turning.{IsOwnOf, IsTurn};
 
-use crate::known::Known;
+use crate::event_buffer::EventBuffer;
+use crate::known::ProcessorState;
 use crate::known::duties::{Duty, first_duty};
 use crate::places::Places;
-use crate::told::Told;
 use l4_history::sink::Sink;
 use l4_script::machine::Machine;
 use l4_thread::tcb::Tcb;
@@ -47,7 +47,7 @@ pub mod values;
 /// One processor of a machine.
 #[derive(Drop)]
 pub struct Core<'m> {
-    known: Known<'m>,
+    known: ProcessorState<'m>,
     // Has the place of each thread of this processor that has a duty, and maybe others.
     duties: Places,
     // Has each place at which a send of timeout zero waits, and maybe others.
@@ -97,7 +97,7 @@ impl<'m> Core<'m> {
             record { machine = machine.now; cpu = cpu; local = opening_local machine.now cpu }) }
     {
         Ok(Core {
-            known: Known::new(alloc, machine, cpu)?,
+            known: ProcessorState::new(alloc, machine, cpu)?,
             duties: Places::new(),
             zeros: Places::new(),
         })
@@ -121,8 +121,8 @@ impl<'m> Core<'m> {
         self.known.len()
     }
 
-    /// Whether the thread at this place is of this processor. Of another one only what letters told
-    /// is known.
+    /// Whether the thread at this place is of this processor. Of a foreign thread only what letters
+    /// told is known.
     pub fn is_own(&self, place: usize) -> bool
         requires { place < length self.now.machine.threads }
         ensures { result ≡ is_own self.now.machine self.now.cpu place }
@@ -132,9 +132,9 @@ impl<'m> Core<'m> {
 
     /// The core's turn: the first duty of a thread, else the first due timeout, else one
     /// instruction of the first ready thread. Appends its steps to `told`, and returns its stamp,
-    /// or None where there is nothing to do; then nothing is changed. Conditions: `can_stamp(0)`,
-    /// and `told` has begun an event that has no step yet.
-    pub fn turn_into<S: Sink>(&mut self, told: &mut Told<S>) -> Option<u64>
+    /// or None if there is nothing to do; then nothing is changed. Conditions: `can_stamp(0)`, and
+    /// `told` has begun an event that has no step yet.
+    pub fn turn_into<S: Sink>(&mut self, told: &mut EventBuffer<S>) -> Option<u64>
         requires stamp { can_stamp self.old.local 0 ≡ true }
         requires untold { IsOpen told.old }
         ensures { IsTurn self.old self.new told.old told.new result }
@@ -146,8 +146,8 @@ impl<'m> Core<'m> {
         Some(stamp)
     }
 
-    /// Whether the next event can have a stamp, below 2^62. `letter_stamp` is that of the letter
-    /// that it handles, 0 where there is none.
+    /// Whether the next event can have a stamp, below 2^62. `letter_stamp` is the stamp of the
+    /// letter that it handles, 0 if it handles none.
     pub fn can_stamp(&self, letter_stamp: u64) -> bool
         ensures { result ≡ can_stamp self.now.local letter_stamp }
     {
@@ -200,8 +200,8 @@ impl<'m> Core<'m> {
         self.known.begun(place)
     }
 
-    /// Where the undecided send of the thread at this place goes, where it has one, as far as it is
-    /// known here.
+    /// Where the undecided send of the thread at this place goes, if it has one, as far as is known
+    /// here.
     pub fn destination(&self, place: usize) -> Option<ThreadId>
         requires { place < length self.now.machine.threads }
         ensures { result ≡ option_map (λ send. send.to) (thread self.now.local place).send }
@@ -234,7 +234,7 @@ impl<'m> Core<'m> {
     }
 
     /// The first processor that may not yet know of the deletion of the thread at this place. All
-    /// below it but this one were notified.
+    /// processors below that one were notified, but this processor itself.
     pub fn notified_up_to(&self, place: usize) -> u8
         requires { place < length self.now.machine.threads }
         ensures { result ≡ slice_index_or self.now.local.told place 0 }
@@ -251,8 +251,8 @@ impl<'m> Core<'m> {
         self.known.owed(place)
     }
 
-    // Begins an event, and returns its stamp. `letter_stamp` is that of the letter that it handles,
-    // 0 where there is none.
+    // Begins an event, and returns its stamp. `letter_stamp` is the stamp of the letter that it
+    // handles, 0 if it handles none.
     fn open(&mut self, letter_stamp: u64) -> u64
         requires { can_stamp self.old.local letter_stamp ≡ true }
         ensures state { self.new ≡
@@ -300,7 +300,7 @@ impl<'m> Core<'m> {
 }
 
 // Notes that each thread of the processor may have a duty now.
-fn note_all(known: &Known, duties: &mut Places)
+fn note_all(known: &ProcessorState, duties: &mut Places)
     requires { Covers duties.old known.now.machine known.now.cpu known.now.local }
     ensures all { (other : ℕ) → IsOwnOf known.now other → has duties.new other ≡ true }
     ensures own { (other : ℕ) → has duties.new other ≡ true → IsOwnOf known.now other }
@@ -312,7 +312,7 @@ fn note_all(known: &Known, duties: &mut Places)
 }
 
 // Notes that a thread may have a duty now.
-fn note(known: &Known, duties: &mut Places, place: usize)
+fn note(known: &ProcessorState, duties: &mut Places, place: usize)
     requires { IsOwnOf known.now place }
     ensures core { AreCore known.now }
     ensures put { (other : ℕ) → has duties.new other ≡ (has duties.old other || other == place) }
@@ -324,7 +324,7 @@ fn note(known: &Known, duties: &mut Places, place: usize)
 // Notes that a thread of this processor may have a duty now. All other places with a duty are in
 // the set already.
 #[inline(always)]
-fn note_duty(known: &Known, duties: &mut Places, zeros: &Places, place: usize)
+fn note_duty(known: &ProcessorState, duties: &mut Places, zeros: &Places, place: usize)
     requires own { IsOwnOf known.now place }
     requires others { CoversOthers place duties.old known.now.machine known.now.cpu
         known.now.local }
@@ -337,9 +337,9 @@ fn note_duty(known: &Known, duties: &mut Places, zeros: &Places, place: usize)
     }
 }
 
-// The same of the first of two places, where the second may have a duty now too.
+// Notes that the first of two places may have a duty now. The second may have one now too.
 fn note_duty_beside(
-    known: &Known<'_>,
+    known: &ProcessorState<'_>,
     duties: &mut Places,
     zeros: &Places,
     place: usize,
@@ -358,9 +358,9 @@ fn note_duty_beside(
 }
 
 // A send was put into the list of a receiver. This may be a reason for a duty of the receiver, or
-// of the sender where it is of this processor. The other places with a duty are in.
+// of the sender if it is of this processor. The other places with a duty are in the set already.
 fn note_queued(
-    known: &Known<'_>,
+    known: &ProcessorState<'_>,
     duties: &mut Places,
     zeros: &Places,
     receiver: usize,
@@ -379,8 +379,8 @@ fn note_queued(
     }
 }
 
-// Notes that a thread may have a duty now, where it is of this processor.
-fn note_own(known: &Known, duties: &mut Places, place: usize)
+// Notes that a thread may have a duty now, if it is of this processor.
+fn note_own(known: &ProcessorState, duties: &mut Places, place: usize)
     requires { place < length known.now.machine.threads }
     ensures covers { Covers duties.old known.now.machine known.now.cpu known.now.local →
         Covers duties.new known.now.machine known.now.cpu known.now.local }
@@ -394,7 +394,7 @@ fn note_own(known: &Known, duties: &mut Places, place: usize)
 }
 
 // If this send has timeout zero, notes that one may wait at the receiver.
-fn note_zero(known: &Known, zeros: &mut Places, receiver: usize, sender: usize)
+fn note_zero(known: &ProcessorState, zeros: &mut Places, receiver: usize, sender: usize)
     requires receiver { IsOwnOf known.now receiver }
     requires sender { sender < length known.now.machine.threads }
     ensures zeros { CoversZeros zeros.old known.now.local → CoversZeros zeros.new known.now.local }

@@ -4,11 +4,11 @@ use Rattle.std.specs.Prelude.{nat_le}
 use Rattle.l4_model.specs.Machine.{Machine}
 use Rattle.l4_model.specs.Conditions.{◌>>=◌}
 use Rattle.l4_model.proofs.Chains.{some_is, cond_keeps}
-use Rattle.l4_core_model.specs.Runs.{Happening, Ticks, Happened, happens, processors, Run, then_event, core_run, opening_run}
+use Rattle.l4_core_model.specs.Runs.{Action, Ticks, Happened, happens, processors, Run, then_event, core_run, opening_run}
 use Rattle.l4_core_model.specs.Schedules.{next_turn, or_stays, attempts, attempts_all, Entry, entry_of, entry_event, replays, replay, turns_in_order, round, earliest_deadline, ticks_to, ticks, turns_of, has_gone_on, round_or_ticks, rounds, run}
 use Rattle.l4_core_model.specs.Laws.{IsCoreRun}
 
-core_run-last : (m : Machine) (es : List Happening) (r last : Run) (e : Happening) (h : Happened) → core_run m r es ≡ Some last → happens m last.system e ≡ Some h → core_run m r (es ++ e ∷ []) ≡ Some (then_event last h)
+core_run-last : (m : Machine) (es : List Action) (r last : Run) (e : Action) (h : Happened) → core_run m r es ≡ Some last → happens m last.system e ≡ Some h → core_run m r (es ++ e ∷ []) ≡ Some (then_event last h)
 core_run-last m [] r last e h is possible =
     let same = some_is r last is in
     subst (λ r. (happens m r.system e >>= λ h. Some (then_event r h)) ≡ Some (then_event last h)) (sym same) (rw possible)
@@ -21,35 +21,35 @@ core_run-last m (x ∷ es) r last e h is possible = by (happens m r.system x) is
     by (Some g) is rest = rest g is possible
 
 record IsRun (m : Machine) (r : Run) : Type 0 where
-  happenings : List Happening
-  is : core_run m (opening_run m) happenings ≡ Some r
+  actions : List Action
+  is : core_run m (opening_run m) actions ≡ Some r
 
 opening_is_run : (m : Machine) → IsRun m (opening_run m)
-opening_is_run m = record { happenings = []; is = refl }
+opening_is_run m = record { actions = []; is = refl }
 
--- A happening is tried, where there is one.
-goes_on : (m : Machine) (r : Run) (o : Option Happening) → IsRun m r → IsRun m (or_stays r (o >>= happens m r.system))
+-- A action is tried, where there is one.
+goes_on : (m : Machine) (r : Run) (o : Option Action) → IsRun m r → IsRun m (or_stays r (o >>= happens m r.system))
 goes_on m r None s = s
 goes_on m r (Some e) s = by (happens m r.system e) refl
   where
     by : (o : Option Happened) → happens m r.system e ≡ o → IsRun m (or_stays r o)
     by None is = s
-    by (Some h) is = record { happenings = s.happenings ++ e ∷ []; is = core_run-last m s.happenings (opening_run m) r e h s.is is }
+    by (Some h) is = record { actions = s.actions ++ e ∷ []; is = core_run-last m s.actions (opening_run m) r e h s.is is }
 
 -- by a schedule
 
 replays_is_run : (m : Machine) (schedule : List Entry) (r : Run) → IsRun m r → IsRun m (replays m r schedule)
 replays_is_run m [] r s = s
 replays_is_run m (entry ∷ entries) r s =
-    let o : Option Happening = entry_event m r.system entry in
+    let o : Option Action = entry_event m r.system entry in
     replays_is_run m entries (or_stays r (o >>= happens m r.system)) (goes_on m r o s)
 
 pub replay_is_core_run : (m : Machine) (schedule : List ℕ) → IsCoreRun m (replay m schedule)
-replay_is_core_run m schedule = let s = replays_is_run m (map entry_of schedule) (opening_run m) (opening_is_run m) in (s.happenings, s.is)
+replay_is_core_run m schedule = let s = replays_is_run m (map entry_of schedule) (opening_run m) (opening_is_run m) in (s.actions, s.is)
 
 -- in rounds
 
-all_attempted : (m : Machine) (es : List Happening) (r : Run) → IsRun m r → IsRun m (attempts_all m r es)
+all_attempted : (m : Machine) (es : List Action) (r : Run) → IsRun m r → IsRun m (attempts_all m r es)
 all_attempted m [] r s = s
 all_attempted m (e ∷ es) r s = all_attempted m es (attempts m r e) (goes_on m r (Some e) s)
 
@@ -77,4 +77,4 @@ rounds_is_run m turns (suc left) r s =
     (λ no. done)
 
 pub run_is_core_run : (m : Machine) (turns : ℕ) → IsCoreRun m (run m turns)
-run_is_core_run m turns = let s = rounds_is_run m turns turns (opening_run m) (opening_is_run m) in (s.happenings, s.is)
+run_is_core_run m turns = let s = rounds_is_run m turns turns (opening_run m) (opening_is_run m) in (s.actions, s.is)

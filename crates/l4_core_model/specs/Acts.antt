@@ -12,7 +12,8 @@ use Rattle.l4_core_model.specs.Plain as plain
 use Rattle.l4_core_model.specs.Letters.{Refusal, TimedOut, Nobody, Result, Delivered, Refused, Cause, Content, SendLetter, DoneLetter, WithdrawLetter, OrderLetter, RetargetLetter, Letter, refusal_step, cause_of}
 use Rattle.l4_core_model.specs.Local.{Local, declared, is_own, thread, held, destination_place, last_name, changes, keeps_beside, relists, comes_to, after_decision}
 
--- An event under way: the local state, the steps told so far, and the letters posted, each with the processor that it goes to.
+-- An event under way: the local state, the steps told so far, and the letters posted, each with the
+-- processor that it goes to.
 pub record Work : Type 0 where
   pub local : Local
   pub steps : List Step
@@ -27,7 +28,10 @@ abbrev pub tells : Step → Work → Work
 tells step x = record x { steps = x.steps ++ step ∷ [] }
 
 abbrev pub posts : ℕ → Content → Work → Work
-posts cpu content x = record x { letters = x.letters ++ (cpu, record { stamp = x.local.stamp; content = content }) ∷ [] }
+posts cpu content x = record x {
+  letters = x.letters ++
+      (cpu, record { stamp = x.local.stamp; content = content }) ∷ [];
+}
 
 abbrev pub does : (Local → Local) → Work → Work
 does f x = record x { local = f x.local }
@@ -38,18 +42,22 @@ tells_send m step i x = tells (step (last_name m x.local i)) x
 
 -- Sends
 
--- The send of the thread at place i is decided here. Its sender goes on, at once where it is of this processor, else by a letter.
+-- The send of the thread at place i is decided here. Its sender goes on, at once where it is of
+-- this processor, else by a letter.
 abbrev pub decides_send : Machine → (cpu : ℕ) → Result → ℕ → Work → Work
 decides_send m cpu result i x =
     if is_own m cpu i
-    then (x ▷ does (relists (plain.unqueued i)) ▷ does (comes_to i (after_decision result x.local.clock)))
-    else (x ▷ does (relists (plain.unqueued i)) ▷ does (changes i decided) ▷ posts (declared m i).cpu (DoneLetter (last_name m x.local i) result))
+    then (x ▷ does (relists (plain.unqueued i))
+    ▷ does (comes_to i (after_decision result x.local.clock)))
+    else (x ▷ does (relists (plain.unqueued i)) ▷ does (changes i decided)
+    ▷ posts (declared m i).cpu (DoneLetter (last_name m x.local i) result))
 
 abbrev pub refuses : Machine → (cpu : ℕ) → Refusal → ℕ → Work → Work
-refuses m cpu refusal i x = x ▷ tells_send m (refusal_step refusal) i ▷ decides_send m cpu (Refused refusal) i
+refuses m cpu refusal i x = x ▷ tells_send m (refusal_step refusal) i
+    ▷ decides_send m cpu (Refused refusal) i
 
--- A retarget that is owed since a message came to the thread at place r. It is kept beside that thread where the originator is of this
--- processor, else a letter goes to that one's.
+-- A retarget that is owed since a message came to the thread at place r. It is kept beside that
+-- thread if this is the originator's home. Otherwise a letter carries it to the originator's home.
 abbrev pub owes : Machine → (cpu r : ℕ) → Owed → Option ℕ → Work → Work
 owes m cpu r o =
     if_some (λ j x.
@@ -67,14 +75,16 @@ retargets o j x = x ▷ tells (Retarget o.send) ▷ does (changes j (turns o))
 abbrev pub delivers_message : Machine → (cpu r i : ℕ) → Message → (tag : ℕ) → Work → Work
 delivers_message m cpu r i message tag x =
     x
-    ▷ tells (Deliver (last_name m x.local i) (declared m r).id message.shown message.actual tag message.words)
+    ▷ tells (Deliver (last_name m x.local i) (declared m r).id message.shown message.actual tag
+    message.words)
     ▷ does (comes_to r (receives message tag))
     ▷ decides_send m cpu Delivered i
     ▷ owes_for m cpu r (owed_by m (last_name m x.local i) message (declared m r).id)
 
 abbrev pub delivers_send : Machine → (cpu r i : ℕ) → Option Send → Work → Work
 delivers_send m cpu r i =
-    if_some (λ send. delivers_message m cpu r i send.message (received_tag (is_cross m (declared m r).id send.message) send.message))
+    if_some (λ send. delivers_message m cpu r i send.message
+    (received_tag (is_cross m (declared m r).id send.message) send.message))
 
 abbrev pub delivers : Machine → (cpu r i : ℕ) → Work → Work
 delivers m cpu r i x = delivers_send m cpu r i (thread x.local i).send x
@@ -88,10 +98,15 @@ abbrev pub first_acceptable : Local → ℕ → Option ℕ
 first_acceptable l r = first_of_list l.lists r (thread l r).phase
 
 abbrev pub delivers_if_first : Machine → (cpu r i : ℕ) → Work → Work
-delivers_if_first m cpu r i x = if is_place (first_acceptable x.local r) i then delivers m cpu r i x else x
+delivers_if_first m cpu r i x = if is_place (first_acceptable x.local r) i
+    then delivers m cpu r i x else x
 
 abbrev pub entry : Machine → (r i : ℕ) → Send → plain.Waiting
-entry m r i send = record { block = i; shown = send.message.shown; local = same_space m send.message.shown (declared m r).id }
+entry m r i send = record {
+  block = i;
+  shown = send.message.shown;
+  local = same_space m send.message.shown (declared m r).id;
+}
 
 -- Whether a send of timeout zero may be refused, as far as is known here.
 abbrev pub zero_refusable : Machine → Found → Option Send → Bool
@@ -100,27 +115,33 @@ zero_refusable m r (Some send) = is_zero send.period && is_refusable m send (Som
 
 abbrev pub queues_send : Machine → (cpu r i : ℕ) → Option Send → Work → Work
 queues_send m cpu r i =
-    if_some (λ send x. x ▷ tells_send m Queue i ▷ does (relists (plain.queued r (entry m r i send))) ▷ delivers_if_first m cpu r i)
+    if_some (λ send x. x ▷ tells_send m Queue i ▷ does (relists (plain.queued r (entry m r i send)))
+    ▷ delivers_if_first m cpu r i)
 
--- A send has come to its receiver's processor: it is refused, or queued, and delivered where the receiver waits for it.
+-- A send has come to its receiver's processor: it is refused, or queued, and delivered where the
+-- receiver waits for it.
 abbrev pub arrives : Machine → (cpu r i : ℕ) → Work → Work
 arrives m cpu r i x =
     if is_deleted (thread x.local r).phase then refuses m cpu Nobody i x
-    else if zero_refusable m (held m x.local r) (thread x.local i).send then refuses m cpu TimedOut i x
+    else if zero_refusable m (held m x.local r) (thread x.local i).send
+    then refuses m cpu TimedOut i x
     else queues_send m cpu r i (thread x.local i).send x
 
 abbrev pub posts_send : Machine → (r i : ℕ) → Send → Work → Work
 posts_send m r i send x =
-    posts (declared m r).cpu (SendLetter (last_name m x.local i) (declared m r).id send.message (is_zero send.period)) x
+    posts (declared m r).cpu (SendLetter (last_name m x.local i) (declared m r).id send.message
+    (is_zero send.period)) x
 
 -- A begun send goes to its destination.
 abbrev pub send_goes_to : Machine → (cpu i : ℕ) → Send → Option ℕ → Work → Work
 send_goes_to m cpu i send None x = refuses m cpu Nobody i x
-send_goes_to m cpu i send (Some r) x = if is_own m cpu r then arrives m cpu r i x else posts_send m r i send x
+send_goes_to m cpu i send (Some r) x = if is_own m cpu r then arrives m cpu r i x
+    else posts_send m r i send x
 
 abbrev pub begins_send : Machine → (cpu i : ℕ) → Send → Work → Work
 begins_send m cpu i send x =
-    x ▷ does (comes_to i (begins send)) ▷ tells_send m Begin i ▷ send_goes_to m cpu i send (destination_place m send.to)
+    x ▷ does (comes_to i (begins send)) ▷ tells_send m Begin i
+    ▷ send_goes_to m cpu i send (destination_place m send.to)
 
 -- The split send of a thread of this processor: its receiver is of another.
 abbrev pub split_receiver : Machine → (cpu : ℕ) → Option Send → Option ℕ
@@ -135,7 +156,8 @@ abbrev pub split_place : Machine → (cpu : ℕ) → Local → ℕ → Option �
 split_place m cpu l i = split_receiver m cpu (thread l i).send
 
 abbrev pub withdraws : Machine → Cause → (i : ℕ) → Option ℕ → Work → Work
-withdraws m cause i = if_some (λ r x. posts (declared m r).cpu (WithdrawLetter (last_name m x.local i) (declared m r).id cause) x)
+withdraws m cause i = if_some (λ r x. posts (declared m r).cpu
+    (WithdrawLetter (last_name m x.local i) (declared m r).id cause) x)
 
 -- Receive phases that fail
 
@@ -152,7 +174,8 @@ asks what i l = changes i (asked what) l
 abbrev pub withdraws_for : Machine → (cpu j : ℕ) → Option Cause → Work → Work
 withdraws_for m cpu j = if_some (λ cause x. withdraws m cause j (split_place m cpu x.local j) x)
 
--- What the caller asks for is done to the thread at place j. A deleted thread's send is not withdrawn again.
+-- What the caller asks for is done to the thread at place j. A deleted thread's send is not
+-- withdrawn again.
 abbrev pub obeys : Machine → (cpu : ℕ) → (caller : GlobalId) → What → (j : ℕ) → Work → Work
 obeys m cpu caller what j x =
     if is_deleted (thread x.local j).phase then (x ▷ tells (Obey caller) ▷ does (asks what j))
@@ -161,20 +184,24 @@ obeys m cpu caller what j x =
 abbrev pub order_goes_to : Machine → (cpu i : ℕ) → Asked → Option ℕ → Work → Work
 order_goes_to m cpu i order =
     if_some (λ j x.
-    if is_own m cpu j then (x ▷ obeys m cpu (declared m i).id order.what j ▷ does (comes_to i obeyed))
+    if is_own m cpu j then (x ▷ obeys m cpu (declared m i).id order.what j
+    ▷ does (comes_to i obeyed))
     else posts (declared m j).cpu (OrderLetter (declared m i).id order.target order.what) x)
 
 abbrev pub gives_order : Machine → (cpu i : ℕ) → Asked → Work → Work
 gives_order m cpu i order x =
-    x ▷ does (comes_to i (orders order)) ▷ tells (Order (declared m i).id order.target order.what) ▷ order_goes_to m cpu i order (place_of m order.target)
+    x ▷ does (comes_to i (orders order)) ▷ tells (Order (declared m i).id order.target order.what)
+    ▷ order_goes_to m cpu i order (place_of m order.target)
 
 -- Instructions
 
 abbrev pub runs_alone_at : Machine → ℕ → Work → Work
-runs_alone_at m i x = x ▷ tells (RanLocal (declared m i).id) ▷ does (comes_to i (runs (instruction (held m x.local i))))
+runs_alone_at m i x = x ▷ tells (RanLocal (declared m i).id)
+    ▷ does (comes_to i (runs (instruction (held m x.local i))))
 
 abbrev pub waits_at : Machine → ℕ → Receive → Work → Work
-waits_at m i receive x = x ▷ tells (Wait (declared m i).id) ▷ does (comes_to i (waits receive x.local.clock))
+waits_at m i receive x = x ▷ tells (Wait (declared m i).id)
+    ▷ does (comes_to i (waits receive x.local.clock))
 
 abbrev pub acts : Machine → (cpu i : ℕ) → Act → Work → Work
 acts m cpu i RunsAlone x = runs_alone_at m i x

@@ -5,7 +5,8 @@ use Rattle.l4_model.specs.Machine.{What, CancelSend, CancelReceive, CancelBoth, 
 use Rattle.l4_model.specs.World.{Message, Name, Owed}
 use Rattle.l4_model.specs.Steps.{Step, SendTimeout, SendNobody, SendCancel, Drop}
 
--- How a send is decided without a delivery, and how it is decided.
+-- How a send ends without delivery; and `Result`, how it ends at all.
+
 pub data Refusal : Type 0 where
   TimedOut : Refusal
   Nobody : Refusal

@@ -1,4 +1,5 @@
--- What one processor knows. All that this crate defines is this project's own: what goes on in and between processors the manual leaves open.
+-- What one processor knows. All that this crate defines is this project's own: what goes on in and
+-- between processors the manual leaves open.
 use Rattle.std.specs.Prelude.{ℕ, ◌+◌, ◌==◌, Bool, if◌then◌else◌, Option, Some, None, List, [], ◌∷◌, ◌++◌, map, filter, length, slice_index_or}
 use Rattle.std.specs.Option.{option_map}
 use Rattle.std.specs.List.{range_with_len}
@@ -12,12 +13,13 @@ use Rattle.l4_model.specs.Effects.{decided, refused, delivered}
 use Rattle.l4_core_model.specs.Plain as plain
 use Rattle.l4_core_model.specs.Letters.{TimedOut, Nobody, Cancelled, Dropped, Result, Delivered, Refused}
 
--- Places are those of the order of declaration, of all threads of the machine. Of a thread of this processor
--- `threads` has all that is known at its home. Another's is a stand-in: its phase says whether it is known here as deleted, its
--- send is the one that waits here in its place, and its count is the number of that send, or of the last one. Its other fields
--- say nothing of the thread. `told` is the first processor that may not yet know of a thread's deletion: all below it but this one
--- were told. `owed` has beside a thread of this processor the retarget that is owed since it received a message, where the originator is of
--- this processor too.
+-- Places are those of the order of declaration, of all threads of the machine. Of a thread of this
+-- processor `threads` has all that is known at its home. The entry of a foreign thread is a
+-- stand-in: its phase tells whether its deletion is known here, and its send is the one that waits
+-- here. Its count is the number of that send, or of the last one that came. Its other fields say
+-- nothing of the thread. `told` has a number for each thread: all processors below it, other than
+-- this one, were told of the thread's deletion. `owed` has beside a thread of this processor the
+-- retarget that is owed since it received a message, where the originator is of this processor too.
 pub record Local : Type 0 where
   pub threads : List Thread
   pub lists : plain.Plain
@@ -87,6 +89,7 @@ abbrev pub relists : (plain.Plain → plain.Plain) → Local → Local
 relists f l = record l { lists = f l.lists }
 
 -- The period that is armed for the phase of a thread. A send of timeout zero is not armed.
+
 abbrev pub period_of_send : Option Send → Period
 period_of_send None = None
 period_of_send (Some send) = if is_zero send.period then None else send.period
@@ -104,8 +107,8 @@ abbrev pub readied : Phase → (place : ℕ) → List ℕ → List ℕ
 readied Ready i ready = ready ++ i ∷ []
 readied _ i ready = ready
 
--- A thread has come to the phase that it is in: its old deadline goes, that of its phase is armed where it has one, and it stands
--- last among the ready ones where it can run.
+-- A thread has come to its phase: its old deadline is disarmed, and the new one, if any, is armed.
+-- A thread that is ready becomes the last of the ready list.
 abbrev pub entered : Thread → (clock place : ℕ) → plain.Plain → plain.Plain
 entered t clock i s =
     record s {
@@ -114,7 +117,10 @@ entered t clock i s =
     }
 
 abbrev pub comes_to : ℕ → (Thread → Thread) → Local → Local
-comes_to i f l = record l { threads = changed f l.threads i; lists = entered (f (thread l i)) l.clock i l.lists }
+comes_to i f l = record l {
+  threads = changed f l.threads i;
+  lists = entered (f (thread l i)) l.clock i l.lists;
+}
 
 abbrev pub was_delivered : Option Send → (now : ℕ) → Thread → Thread
 was_delivered send now = if_some (λ s. delivered s now) send
@@ -131,10 +137,17 @@ after_decision (Refused Nobody) now t = refused send_nobody_code t
 after_decision (Refused Cancelled) now t = refused send_cancelled_code t
 after_decision (Refused Dropped) now t = was_dropped t
 
--- A send of another processor's thread stands here in its place. Of its period only zero is known.
+-- The stand-in of a foreign thread's send. Of its period only whether it is zero is known.
 abbrev pub stand_in : (receiver : GlobalId) → Message → (zero_timeout : Bool) → Send
 stand_in receiver message zero_timeout =
-    record { to = GlobalThread receiver; message = message; period = if zero_timeout then Some 0 else None; since = 0; receive = None }
+    record {
+      to = GlobalThread receiver;
+      message = message;
+      period = if zero_timeout then Some 0
+          else None;
+      since = 0;
+      receive = None;
+    }
 
 abbrev pub stands_in : (k : ℕ) → Send → Thread → Thread
 stands_in k send t = record t { context = record t.context { begun = k }; send = Some send }

@@ -12,6 +12,7 @@ use Rattle.l4_core_model.specs.Acts.{Work, ◌▷◌, does, posts, arrives, reta
 use Rattle.l4_core_model.specs.Turns.{opened}
 
 -- The place of a declared thread of this processor, and of another.
+
 abbrev pub own_place : Machine → (cpu : ℕ) → GlobalId → Option ℕ
 own_place m cpu id = do
   i ← place_of m id
@@ -33,7 +34,8 @@ abbrev pub waits_here : Local → (i k : ℕ) → Bool
 waits_here l i k = plain.is_queued l.lists i && (thread l i).context.begun == k
 
 abbrev pub withdraws_here : Machine → (cpu i k : ℕ) → Cause → Work → Work
-withdraws_here m cpu i k cause x = if waits_here x.local i k then refuses m cpu (refusal_of cause) i x else x
+withdraws_here m cpu i k cause x = if waits_here x.local i k
+    then refuses m cpu (refusal_of cause) i x else x
 
 -- What each letter does. None where it is not lawful here.
 abbrev pub handled : Machine → (cpu : ℕ) → Content → Work → Option Work
@@ -43,7 +45,8 @@ handled m cpu (SendLetter s receiver message zero_timeout) x = do
   is_none (thread x.local i).send
   same_id message.actual s.thread
   is_declared m message.shown
-  Some (x ▷ does (changes i (stands_in s.k (stand_in receiver message zero_timeout))) ▷ arrives m cpu r i)
+  Some (x ▷ does (changes i (stands_in s.k (stand_in receiver message zero_timeout)))
+      ▷ arrives m cpu r i)
 handled m cpu (DoneLetter s result) x = do
   i ← own_place m cpu s.thread
   is_some (split_place m cpu x.local i)

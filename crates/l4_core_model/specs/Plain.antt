@@ -1,4 +1,5 @@
--- Plain lists of blocks: for each block the sends that wait at it, the ready blocks, and the armed ones.
+-- Plain lists of blocks: for each block the sends that wait at it, the ready blocks, and the armed
+-- ones.
 use Rattle.std.specs.Prelude.{ℕ, ◌==◌, nat_le, Bool, not, if◌then◌else◌, List, [], ◌∷◌, ◌++◌, map, filter, find, drop, slice_index_or, Option, Some, None}
 use Rattle.std.specs.Option.{option_map}
 use Rattle.std.specs.List.{list_any}
@@ -6,7 +7,8 @@ use Rattle.l4_model.specs.Words.{GlobalId, Id}
 use Rattle.l4_model.specs.World.{changed}
 use Rattle.l4_model.specs.Rules.{takes}
 
--- A waiting send: its sender's block, the sender that it shows, and whether that is of the receiver's space.
+-- A waiting send: its sender's block, the sender that it shows, and whether the shown sender is of
+-- the receiver's space.
 pub record Waiting : Type 0 where
   pub block : ℕ
   pub shown : GlobalId
@@ -49,7 +51,7 @@ popped s = record s { ready = drop 1 s.ready }
 
 -- Armed blocks
 
--- One more stands behind those that are not later.
+-- Inserts an entry behind all entries that are not later.
 abbrev pub put_entry : ℕ × ℕ → List (ℕ × ℕ) → List (ℕ × ℕ)
 put_entry e [] = e ∷ []
 put_entry e (x ∷ xs) = if nat_le x.0 e.0 then x ∷ put_entry e xs else e ∷ x ∷ xs

@@ -42,10 +42,10 @@ without_first from to [] = []
 without_first from to (p ∷ ps) = if is_between from to p then ps else p ∷ without_first from to ps
 
 -- The core events.
-pub data Happening : Type 0 where
-  Handles : (cpu from : ℕ) → Happening
-  Turns : (cpu : ℕ) → Happening
-  Ticks : (cpu clock : ℕ) → Happening
+pub data Action : Type 0 where
+  Handles : (cpu from : ℕ) → Action
+  Turns : (cpu : ℕ) → Action
+  Ticks : (cpu clock : ℕ) → Action
 
 -- What is told of an event.
 pub record Event : Type 0 where
@@ -63,15 +63,18 @@ posted from p = record { from = from; to = p.0; letter = p.1 }
 abbrev pub taken : (from to : ℕ) → System → System
 taken from to g = record g { mail = without_first from to g.mail }
 
--- A processor's event is done.
+-- The system after a processor's event, and the event.
 abbrev pub done : (cpu : ℕ) → System → Work → Happened
 done cpu g x =
     record {
       event = record { cpu = cpu; stamp = x.local.stamp; steps = x.steps };
-      system = record { locals = changed (λ l. x.local) g.locals cpu; mail = g.mail ++ map (posted cpu) x.letters };
+      system = record {
+        locals = changed (λ l. x.local) g.locals cpu;
+        mail = g.mail ++ map (posted cpu) x.letters;
+      };
     }
 
-abbrev pub happens : Machine → System → Happening → Option Happened
+abbrev pub happens : Machine → System → Action → Option Happened
 happens m g (Handles cpu from) = do
   l ← slice_get g.locals cpu
   letter ← slice_get (letters g.mail from cpu) 0
@@ -91,7 +94,7 @@ pub record Run : Type 0 where
 abbrev pub then_event : Run → Happened → Run
 then_event r h = record { events = r.events ++ h.event ∷ []; system = h.system }
 
-abbrev pub core_run : Machine → Run → List Happening → Option Run
+abbrev pub core_run : Machine → Run → List Action → Option Run
 core_run m r [] = Some r
 core_run m r (e ∷ es) = happens m r.system e >>= λ h. core_run m (then_event r h) es
 
@@ -103,7 +106,8 @@ abbrev pub told : List Event → List Step
 told [] = []
 told (e ∷ es) = e.steps ++ told es
 
--- The events in order of stamp, of equal ones by processor.
+-- The events in order of stamp, those of equal stamp by processor.
+
 abbrev pub is_earlier : Event → Event → Bool
 is_earlier a b = nat_lt a.stamp b.stamp || (a.stamp == b.stamp && nat_lt a.cpu b.cpu)
 
@@ -131,11 +135,13 @@ local_at_rest m g cpu = at (slice_get g.locals cpu)
 abbrev pub at_rest : Machine → System → Bool
 at_rest m g = list_all (local_at_rest m g) (processors m) && is_empty g.mail
 
--- A machine as a text declares it: each thread is found by its id at its own place, and has a processor of the machine.
+-- A machine as a text declares it: each thread is found by its id at its own place, and has a
+-- processor of the machine.
 pub record IsMachine (m : Machine) : Type 0 where
   pub placed : (i : ℕ) → i < length m.threads → place_of m (declared m i).id ≡ Some i
   pub homed : (i : ℕ) → i < length m.threads → (declared m i).cpu < m.cpus
 
 -- What the events of a core run tell is a history.
 abbrev pub TellsHistories : Machine → Type 0
-TellsHistories m = (happenings : List Happening) (r : Run) → core_run m (opening_run m) happenings ≡ Some r → IsHistory m (told r.events)
+TellsHistories m = (actions : List Action) (r : Run) → core_run m (opening_run m) actions ≡ Some r →
+    IsHistory m (told r.events)

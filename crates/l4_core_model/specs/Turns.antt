@@ -1,4 +1,5 @@
--- The core's turn: the first duty, else the first due timeout, else one instruction of the first ready thread.
+-- The core's turn: the first duty, else the first due timeout, else one instruction of the first
+-- ready thread.
 use Rattle.l4_model.specs.Rules.{receive_timeout_code, receive_nobody_code, receive_cancelled_code}
 use Rattle.l4_model.specs.Options.{if_some}
 use Rattle.std.specs.Prelude.{ℕ, ◌+◌, ◌==◌, max, nat_lt, Bool, if◌then◌else◌, Option, Some, None, is_some, List, [], ◌∷◌, find, slice_index_or, slice_get}
@@ -22,7 +23,11 @@ abbrev pub can_stamp : Local → (letter_stamp : ℕ) → Bool
 can_stamp l letter_stamp = nat_lt (next_stamp letter_stamp l) clock_limit
 
 abbrev pub opened : (letter_stamp : ℕ) → Local → Work
-opened letter_stamp l = record { local = record l { stamp = next_stamp letter_stamp l }; steps = []; letters = [] }
+opened letter_stamp l = record {
+  local = record l { stamp = next_stamp letter_stamp l };
+  steps = [];
+  letters = [];
+}
 
 -- Duties
 
@@ -37,20 +42,22 @@ pub data Duty : Type 0 where
   ClosesReceive : Duty
   RefusesZero : (sender : ℕ) → Duty
 
+-- When each duty of a thread arises
+
 -- A retarget is owed beside it.
 abbrev pub duty_retargets : Local → Found → Option Duty
 duty_retargets l t = do
   o ← owed_beside l t.at
   Some (Retargets o)
 
--- Deleted, its send waits in a list of this processor.
+-- It is deleted, and its send waits in a list of this processor.
 abbrev pub duty_drops_own : Local → Found → Option Duty
 duty_drops_own l t = do
   is_deleted t.now.phase
   plain.is_queued l.lists t.at
   Some DropsOwn
 
--- Deleted, its list is not empty.
+-- It is deleted, and a send waits at it.
 abbrev pub duty_refuses_waiting : Local → Found → Option Duty
 duty_refuses_waiting l t = do
   is_deleted t.now.phase
@@ -64,7 +71,7 @@ next_untold m cpu told = within (if told == cpu then told + 1 else told)
     within : ℕ → Option ℕ
     within n = if nat_lt n m.cpus then Some n else None
 
--- Deleted, some other processor is not yet told.
+-- It is deleted, and some other processor is not yet told.
 abbrev pub duty_tells_gone : Machine → (cpu : ℕ) → Local → Found → Option Duty
 duty_tells_gone m cpu l t = do
   is_deleted t.now.phase
@@ -78,27 +85,27 @@ duty_cancels_own l t = do
   t.now.cancel_send
   Some CancelsOwn
 
--- Receiving, and its receive phase is to be cancelled.
+-- It is receiving, and its receive phase is to be cancelled.
 abbrev pub duty_cancels_receive : Found → Option Duty
 duty_cancels_receive t = do
   is_some (receive_now t.now.phase)
   t.now.cancel_receive
   Some CancelsReceive
 
--- Receiving, its list has an acceptable name.
+-- It is receiving, and a send that it accepts waits at it.
 abbrev pub duty_delivers_first : Local → Found → Option Duty
 duty_delivers_first l t = do
   first ← first_acceptable l t.at
   Some (DeliversFirst first)
 
--- Receiving closed for nobody, as far as is known here.
+-- It is receiving from a non-existing partner, as far as this processor knows.
 abbrev pub duty_closes_receive : Machine → Local → Found → Option Duty
 duty_closes_receive m l t = do
   receive ← receive_now t.now.phase
   is_nobody receive.from (held_by m l receive.from)
   Some ClosesReceive
 
--- Its list has a name of timeout zero that may be refused, as far as is known here.
+-- A send of timeout zero waits at it, and may be refused as far as this processor knows.
 abbrev pub duty_refuses_zero : Machine → Local → Found → Option Duty
 duty_refuses_zero m l t = do
   w ← find (λ w. zero_refusable m t (thread l w.block).send) (plain.list_of l.lists t.at)
@@ -111,7 +118,9 @@ first_some (Some x ∷ os) = Some x
 
 abbrev pub duty_of : Machine → (cpu : ℕ) → Local → Found → Option Duty
 duty_of m cpu l t =
-    first_some (duty_retargets l t ∷ duty_drops_own l t ∷ duty_refuses_waiting l t ∷ duty_tells_gone m cpu l t ∷ duty_cancels_own l t ∷ duty_cancels_receive t ∷ duty_delivers_first l t ∷ duty_closes_receive m l t ∷ duty_refuses_zero m l t ∷ [])
+    first_some (duty_retargets l t ∷ duty_drops_own l t ∷ duty_refuses_waiting l t ∷
+    duty_tells_gone m cpu l t ∷ duty_cancels_own l t ∷ duty_cancels_receive t ∷
+    duty_delivers_first l t ∷ duty_closes_receive m l t ∷ duty_refuses_zero m l t ∷ [])
 
 -- What the core's turn does: a duty of a thread, a due timeout, or an instruction.
 pub data Choice : Type 0 where
@@ -122,7 +131,8 @@ pub data Choice : Type 0 where
 -- The first duty of these threads.
 abbrev pub first_duty : Machine → (cpu : ℕ) → Local → List ℕ → Option Choice
 first_duty m cpu l [] = None
-first_duty m cpu l (i ∷ is) = first_some (option_map (ByDuty i) (duty_of m cpu l (held m l i)) ∷ first_duty m cpu l is ∷ [])
+first_duty m cpu l (i ∷ is) = first_some (option_map (ByDuty i) (duty_of m cpu l (held m l i)) ∷
+    first_duty m cpu l is ∷ [])
 
 abbrev pub choice : Machine → (cpu : ℕ) → Local → Option Choice
 choice m cpu l =
@@ -134,27 +144,32 @@ abbrev pub has_told : (cpu place : ℕ) → Local → Local
 has_told cpu i l = record l { told = changed (λ n. cpu + 1) l.told i }
 
 abbrev pub does_duty : Machine → (cpu i : ℕ) → Duty → Work → Work
-does_duty m cpu i (Retargets o) x = x ▷ does (keeps_beside i None) ▷ if_some (retargets o) (place_of m o.originator)
+does_duty m cpu i (Retargets o) x = x ▷ does (keeps_beside i None)
+    ▷ if_some (retargets o) (place_of m o.originator)
 does_duty m cpu i DropsOwn x = refuses m cpu Dropped i x
 does_duty m cpu i (RefusesFirst sender) x = refuses m cpu Nobody sender x
-does_duty m cpu i (TellsGone to) x = x ▷ does (has_told to i) ▷ posts to (GoneLetter (declared m i).id)
+does_duty m cpu i (TellsGone to) x = x ▷ does (has_told to i)
+    ▷ posts to (GoneLetter (declared m i).id)
 does_duty m cpu i CancelsOwn x = refuses m cpu Cancelled i x
 does_duty m cpu i CancelsReceive x = fails_receive m ReceiveCancel receive_cancelled_code i x
 does_duty m cpu i (DeliversFirst sender) x = delivers m cpu i sender x
 does_duty m cpu i ClosesReceive x = fails_receive m ReceiveNobody receive_nobody_code i x
 does_duty m cpu i (RefusesZero sender) x = refuses m cpu TimedOut sender x
 
--- A deadline is past: of a receive phase, of a send that waits here, or of a split send.
+-- A deadline is past: a receive phase or a send that waits here times out. For a split send a
+-- letter asks for its withdrawal.
 abbrev pub times_out : Machine → (cpu i : ℕ) → Work → Work
 times_out m cpu i x =
-    if is_some (receive_now (thread x.local i).phase) then fails_receive m ReceiveTimeout receive_timeout_code i x
+    if is_some (receive_now (thread x.local i).phase)
+    then fails_receive m ReceiveTimeout receive_timeout_code i x
     else if plain.is_queued x.local.lists i then refuses m cpu TimedOut i x
     else withdraws m ByTimeout i (split_place m cpu x.local i) x
 
 abbrev pub does_choice : Machine → (cpu : ℕ) → Choice → Work → Work
 does_choice m cpu (ByDuty i duty) x = does_duty m cpu i duty x
 does_choice m cpu (ByDue i) x = x ▷ does (relists plain.popped_due) ▷ times_out m cpu i
-does_choice m cpu (ByReady i) x = x ▷ does (relists plain.popped) ▷ acts m cpu i (act_of m (held m x.local i))
+does_choice m cpu (ByReady i) x = x ▷ does (relists plain.popped)
+    ▷ acts m cpu i (act_of m (held m x.local i))
 
 -- The core's turn. None where it is idle.
 abbrev pub turn : Machine → (cpu : ℕ) → Local → Option Work

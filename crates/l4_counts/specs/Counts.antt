@@ -1,13 +1,14 @@
--- What a history has of each thread.
+-- Counts of what each thread does in a history.
 use Rattle.std.specs.Prelude.{ℕ, ◌+◌, Bool, true, false, List, [], ◌∷◌}
 use Rattle.l4_model.specs.Words.{GlobalId, same_id}
 use Rattle.l4_model.specs.Rules.{bit}
-use Rattle.l4_model.specs.Steps.{Step, Local, Begin, Deliver, Wait, SendTimeout, ReceiveTimeout, SendNobody, ReceiveNobody, SendCancel, ReceiveCancel, Order}
+use Rattle.l4_model.specs.Steps.{Step, Local, Begin, Deliver, Wait, SendTimeout, ReceiveTimeout}
+use Rattle.l4_model.specs.Steps.{SendNobody, ReceiveNobody, SendCancel, ReceiveCancel, Order}
 use Rattle.l4_counts.specs.declared.counts.Counts.{Counts}
 
 -- Steps of this thread
 
--- It ran an instruction.
+-- The thread ran an instruction.
 abbrev pub is_turn : GlobalId → Step → Bool
 is_turn id (Local t) = same_id t id
 is_turn id (Begin s) = same_id s.thread id
@@ -19,17 +20,17 @@ abbrev pub is_begun : GlobalId → Step → Bool
 is_begun id (Begin s) = same_id s.thread id
 is_begun id _ = false
 
--- A send that it began was delivered.
+-- A send of the thread was delivered.
 abbrev pub is_delivered : GlobalId → Step → Bool
 is_delivered id (Deliver s receiver shown actual tag words) = same_id s.thread id
 is_delivered id _ = false
 
--- It received a message.
+-- The thread received a message.
 abbrev pub is_received : GlobalId → Step → Bool
 is_received id (Deliver s receiver shown actual tag words) = same_id receiver id
 is_received id _ = false
 
--- Its ipc failed: its send with ErrorCode 2, 4 or 6, its receive phase with 3, 5 or 7.
+-- An ipc of the thread failed: its send with ErrorCode 2, 4 or 6, its receive phase with 3, 5 or 7.
 abbrev pub is_send_timeout : GlobalId → Step → Bool
 is_send_timeout id (SendTimeout s) = same_id s.thread id
 is_send_timeout id _ = false
@@ -54,7 +55,7 @@ abbrev pub is_receive_cancel : GlobalId → Step → Bool
 is_receive_cancel id (ReceiveCancel t) = same_id t id
 is_receive_cancel id _ = false
 
--- How many there are
+-- The counts
 
 abbrev pub how_many : (Step → Bool) → List Step → ℕ
 how_many test [] = 0
@@ -75,7 +76,7 @@ counts_of id steps =
       receives_cancelled = how_many (is_receive_cancel id) steps;
     }
 
--- One step more.
+-- The counts after one more step.
 abbrev pub with_step : GlobalId → Step → Counts → Counts
 with_step id step c =
     record {

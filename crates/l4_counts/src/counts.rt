@@ -1,4 +1,4 @@
-//! What a history has of one thread.
+//! Counts of what one thread does in a history.
 ghost use Rattle.std.specs.Prelude.{◌≡◌, ◌+◌, []};
 ghost use Rattle.l4_model.specs.Rules.{bit};
 ghost use Rattle.l4_model.specs.Words.{GlobalId as ModelId};
@@ -10,14 +10,14 @@ use l4_history::history::History;
 use l4_types::ids::GlobalId;
 use l4_types::step_ref::{DeliveryRef, StepRef};
 
-/// What a history has of one thread.
+/// Counts of what one thread does in a history.
 #[derive(Clone, Copy, PartialEq, Eq, Debug)]
 pub struct Counts {
     /// Instructions that it ran: its steps `local`, `begin`, `wait` and `order`.
     pub turns: u64,
     /// Sends that it began.
     pub sends: u64,
-    /// Sends of it that were delivered.
+    /// Sends of the thread that were delivered.
     pub delivered: u64,
     /// Messages that it received.
     pub received: u64,
@@ -36,7 +36,7 @@ pub struct Counts {
 }
 
 impl Counts {
-    // Of no step.
+    // The counts of no step.
     pub(crate) fn none() -> Counts
         ensures { (id : ModelId) → result ≡ counts_of id [] }
     {
@@ -54,7 +54,7 @@ impl Counts {
         }
     }
 
-    /// What a history has of this thread.
+    /// Counts what this thread does in a history.
     pub fn of(history: &History, id: GlobalId) -> Counts
         ensures { result ≡ counts_of id history.now.steps }
     {
@@ -65,7 +65,7 @@ impl Counts {
         counts
     }
 
-    // Counts one step more.
+    // Counts one more step.
     pub(crate) fn add(&mut self, id: GlobalId, step: &StepRef<'_>)
         requires { AreFew self.old }
         ensures { self.new ≡ with_step id (seen step.now) self.old }

@@ -1,13 +1,12 @@
-//! What a history has of each thread: how many instructions it ran, how many sends it began, how
-//! many of these were delivered, how many messages it received, and how many of its ipcs failed
-//! with each ErrorCode.
+//! Counts of what each thread does in a history: instructions run, sends begun, sends delivered,
+//! messages received, and ipcs failed with each ErrorCode.
 //!
 //! Definitions count the steps of a list, `Counts::of` those of a history. `counts_of_each` goes
-//! over the history once for all threads: each step is looked up by the threads that it tells of,
-//! which are two at most.
+//! over the history once for all threads. It counts each step at the threads that the step
+//! concerns, which are two at most.
 //!
-//! An order that is not admitted fails with ErrorCode 2 too. It is a `local` step like any other,
-//! and no ipc, so it is counted as a turn alone.
+//! An order that is not admitted fails with ErrorCode 2, too. Such an order is a `local` step like
+//! any other, and no ipc, so it counts as a turn alone.
 //!
 //! ```rust
 //! let mut lines = Vec::new(alloc);

@@ -14,8 +14,8 @@ use l4_types::ids::GlobalId;
 use l4_words::spelling::push_thread;
 use std::alloc::{AllocError, Global};
 
-/// Appends what a history has of each thread of a machine: a line each, in order of declaration.
-/// Where memory is refused, nothing is appended.
+/// Appends a line with the counts of each thread of a machine, in order of declaration. If memory
+/// is refused, nothing is appended.
 pub fn write_counts(
     alloc: Global,
     machine: &Machine,

@@ -1,4 +1,4 @@
-//! What a history has of each thread of a machine.
+//! Counts of what each thread of a machine does in a history.
 ghost use Rattle.std.specs.Prelude.{◌≡◌, All, IfOk, IfSome, length, slice_get};
 ghost use Rattle.l4_model.specs.Machine.{place_of};
 ghost use Rattle.l4_core_model.specs.Runs.{IsMachine};
@@ -14,8 +14,8 @@ use l4_types::ids::GlobalId;
 use l4_types::step_ref::StepRef;
 use std::alloc::Global;
 
-/// What a history has of each thread of a machine, in order of declaration. It goes over the
-/// history once.
+/// Counts what each thread of a machine does in a history, in order of declaration. The call goes
+/// over the history once.
 pub fn counts_of_each(
     alloc: Global,
     machine: &Machine,
@@ -31,7 +31,7 @@ pub fn counts_of_each(
     Ok(counts)
 }
 
-// Counts one step more, at the threads that it tells of.
+// Counts one more step, at the threads that it concerns.
 fn count_step(counts: &mut [Counts], machine: &Machine, step: &StepRef<'_>)
     requires lawful { IsMachine machine.now }
     requires each { length counts.old ≡ length machine.now.threads }
@@ -64,7 +64,7 @@ fn count_step(counts: &mut [Counts], machine: &Machine, step: &StepRef<'_>)
     }
 }
 
-// Counts one step more, at this thread. An id that is not declared has no counts.
+// Counts one more step, at this thread. An id that is not declared has no counts.
 fn count_at(counts: &mut [Counts], machine: &Machine, id: GlobalId, step: &StepRef<'_>)
     requires each { length counts.old ≡ length machine.now.threads }
     requires few { IfSome (place_of machine.now id) (λ place.

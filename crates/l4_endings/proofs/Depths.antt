@@ -1,5 +1,5 @@
 -- How far away the states are that a search has found, where it is whole.
-use Rattle.std.proofs.Common.{◌≡◌, ℕ, ◌+◌, ◌-◌, ◌<◌, ◌≤◌, Bool, true, ◌⊎◌, inl, inr, List, length, refl, ap, sym, subst, ◌∙◌, arith}
+use Rattle.std.proofs.Common.{◌≡◌, ℕ, ◌-◌, ◌<◌, ◌≤◌, Bool, true, ◌⊎◌, inl, inr, List, length, refl, ap, sym, subst, arith}
 use Rattle.std.proofs.lemmas.Bool.{cases_lt}
 use Rattle.l4_model.specs.Machine.{Machine}
 use Rattle.l4_core_model.specs.Runs.{System, IsMachine}
@@ -39,7 +39,7 @@ module _ (m : Machine) (found : List Seen) (depth : ℕ) (a : AreAllListed m fou
         system = l.system;
         events = length (seen_at found l.place).schedule;
         run = least_run m (seen_at found l.place).schedule l.system l.leads;
-        alike = l.alike;
+        similar = l.similar;
         short = longest l.place l.inside;
       }
 
@@ -50,7 +50,7 @@ module _ (m : Machine) (found : List Seen) (depth : ℕ) (a : AreAllListed m fou
         far = record {
           system = s.system;
           run = subst (λ (n : ℕ). IsLeastRun m n s.system) (sym deepest) s.run;
-          shortest = λ g fewer r alike. omega (arith, deepest, s.shortest g fewer r alike);
+          shortest = λ g fewer r similar. omega (arith, deepest, s.shortest g fewer r similar);
         };
         near = near;
       }

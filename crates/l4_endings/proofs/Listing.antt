@@ -1,5 +1,6 @@
 -- Choices that lead on, listed one by one.
-use Rattle.std.proofs.Common.{◌≡◌, ℕ, ◌+◌, Option, None, Some, List, [], ◌∷◌, ◌++◌, map, refl, ap, sym, subst, ◌∙◌, arith, Result, Ok, Err}
+use Rattle.std.proofs.Common.{◌≡◌, ℕ, ◌+◌, ◌<◌, ◌≤◌, ◌⊎◌, inl, inr, Option, None, Some, List, [], ◌∷◌, ◌++◌, map, refl, ap, sym, subst, ◌∙◌, arith, Result, Ok, Err}
+use Rattle.std.proofs.lemmas.Bool.{cases_lt}
 use Rattle.std.specs.Prelude.{IfOk, IsSome}
 use Rattle.std.specs.Option.{option_map}
 use Rattle.std.proofs.lemmas.List.{map-append}
@@ -41,3 +42,12 @@ have_led m s some = by (after_choices m (opening_system m) s) some
     by : (o : Option System) → IsSome (option_map (state_in m) o) → IsSome o
     by None some = some
     by (Some g) some = refl
+
+-- What is true of all numbers below one, and of that one, is true below the next.
+pub one_more : (P : ℕ → Type 0) (number : ℕ) → ((n : ℕ) → n < number → P n) → P number →
+    (n : ℕ) → n < number + 1 → P n
+one_more P number below here n less = by (cases_lt n number)
+  where
+    by : (n < number) ⊎ (number ≤ n) → P n
+    by (inl l) = below n l
+    by (inr le) = subst P (let s : number ≡ n = omega (arith, less, le) in s) here

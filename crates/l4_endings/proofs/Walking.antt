@@ -3,8 +3,11 @@ use Rattle.std.proofs.Common.{◌≡◌, ℕ, ◌+◌, ◌*◌, ◌/◌, ◌%◌
 use Rattle.std.specs.Prelude.{IsSome, is_some, slice_get}
 use Rattle.std.specs.Option.{option_map}
 use Rattle.std.proofs.lemmas.List.{length-map, take-append-drop, take_more}
+use Rattle.std.proofs.lemmas.Nat.{div-mul-add, mod-mul-add, mul-add-lt}
+use Rattle.std.proofs.Math.Nat.{mul_comm}
 use Rattle.l4_model.specs.Machine.{Machine}
 use Rattle.l4_model.specs.Conditions.{◌>>=◌}
+use Rattle.l4_model.proofs.Chains.{some_is}
 use Rattle.std.proofs.lemmas.Option.{slice_get-get_or}
 use Rattle.l4_core_model.specs.Local.{opening_local}
 use Rattle.l4_core_model.specs.Runs.{Event, IsMachine, System, Run, opening_run, opening_system}
@@ -12,12 +15,15 @@ use Rattle.l4_choices.specs.Entries.{Entry}
 use Rattle.l4_machine.specs.Entries.{after_entry as after_entry_of_run, is_entry, is_entry_of}
 use Rattle.l4_machine.specs.Stations.{Station}
 use Rattle.l4_machine.specs.UnderWay.{UnderWay, GoesOn, HasRun, IsRun}
-use Rattle.l4_states.specs.Choices.{after_choices, after_entry, choice, choice_of, state_after, state_in}
+use Rattle.l4_states.specs.Choices.{after_choices, after_entry, choice, choice_of, state_after, state_in, IsEarly, IsNear, LeadsEarly}
+use Rattle.l4_states.proofs.Early.{AreLow, is_early, low_next, low_opening}
 use Rattle.l4_states.proofs.Endings.{replayed}
 use Rattle.l4_states.proofs.Following.{after-append, has_reached}
 use Rattle.l4_states.proofs.Reached.{reached_within}
+use Rattle.l4_explore.specs.Tries.{deepest}
+use Rattle.l4_endings.specs.Tried.{IsTickOf}
 use Rattle.l4_endings.specs.Walked.{AreChoices, IsWalked}
-use Rattle.l4_endings.proofs.Possible.{number_below}
+use Rattle.l4_endings.proofs.Possible.{entry_same, number_below}
 
 -- Where choices lead, some of them do.
 pub choices_before : (m : Machine) (g : System) (s t : List ℕ) →
@@ -33,7 +39,13 @@ choices_before m g (e ∷ s) t some =
     by (Some h) rest some = rest h some
 
 pub walked_start : (m : Machine) (w : UnderWay) → IsRun m (opening_run m) w → IsWalked m [] w
-walked_start m w is = record { run = opening_run m; is = is; leads = refl; events = refl }
+walked_start m w is = record {
+  run = opening_run m;
+  is = is;
+  leads = refl;
+  events = refl;
+  clocks = low_opening m;
+}
 
 pub has_run : (m : Machine) (s : List ℕ) (w : UnderWay) → IsWalked m s w → HasRun w
 has_run m s w walked = (m, (walked.run, walked.is))
@@ -74,10 +86,21 @@ next_below m s w e walked some =
     let o = on m s w e walked some in
     number_below m walked.run.system o.next e (locals_of_run m walked.run w walked.is) o.leads
 
-pub walked_on : (m : Machine) (s : List ℕ) (w v : UnderWay) (e : ℕ) (entry : Entry) →
-    IsWalked m s w → AreChoices m (s ++ e ∷ []) → entry ≡ choice m e →
-    GoesOn (after_entry_of_run entry) w v → IsWalked m (s ++ e ∷ []) v
-walked_on m s w v e entry walked some same goes =
+-- No least deadline of the processor of a choice is farther ahead than the longest period.
+abbrev pub IsNearIn : UnderWay → (cpus e : ℕ) → Type 0
+IsNearIn w cpus e =
+    (m : Machine) (r : Run) → IsRun m r w → IsNear r.system (e / (cpus + 2))
+
+-- A choice, as it is told by the number of processors
+abbrev pub told_choice : (cpus e : ℕ) → Entry
+told_choice cpus e = choice_of cpus (e / (cpus + 2)) (e % (cpus + 2))
+
+pub walked_on : (m : Machine) (s : List ℕ) (w v : UnderWay) (e cpus : ℕ) →
+    IsWalked m s w → AreChoices m (s ++ e ∷ []) → cpus ≡ m.cpus →
+    GoesOn (after_entry_of_run (told_choice cpus e)) w v → IsNearIn w cpus e →
+    IsWalked m (s ++ e ∷ []) v
+walked_on m s w v e cpus walked some count goes near =
+    let same = entry_same m cpus e count in
     let o = on m s w e walked some in
     let r = replayed m (e ∷ []) walked.run o.next
     (ap (λ (p : Option System). p >>= λ h. Some h) o.leads) in
@@ -89,6 +112,13 @@ walked_on m s w v e entry walked some same goes =
       is = is;
       leads = next_is m s w e walked ∙ o.leads ∙ ap (λ (g : System). Some g) (sym r.system);
       events = r.count ∙ omega (arith, walked.events, length-append s (e ∷ []));
+      clocks =
+          subst (λ n. AreLow n (after_entry_of_run (choice m e) m walked.run).system.locals)
+          (sym (length-append s (e ∷ [])))
+          (subst (λ (g : System). AreLow (length s + 1) g.locals) (sym r.system)
+          (low_next m walked.run.system (length s) walked.clocks e o.next
+          (subst (λ n. IsNear walked.run.system (e / (n + 2))) count
+          (near m walked.run walked.is)) o.leads));
     }
 
 -- Of a list of choices the next one
@@ -116,12 +146,13 @@ pub is_choice : (m : Machine) (s : List ℕ) (i e : ℕ) → AreChoices m s → 
 is_choice m s i e some inside is =
     subst (AreChoices m) (sym (before_it s i e inside is)) (up_to m s (i + 1) some)
 
-pub walked_more : (m : Machine) (s : List ℕ) (w v : UnderWay) (i e : ℕ) (entry : Entry) →
+pub walked_more : (m : Machine) (s : List ℕ) (w v : UnderWay) (i e cpus : ℕ) →
     IsWalked m (take i s) w → AreChoices m s → i < length s → e ≡ get_or s i 0 →
-    entry ≡ choice m e → GoesOn (after_entry_of_run entry) w v → IsWalked m (take (i + 1) s) v
-walked_more m s w v i e entry walked some inside is same goes =
+    cpus ≡ m.cpus → GoesOn (after_entry_of_run (told_choice cpus e)) w v → IsNearIn w cpus e →
+    IsWalked m (take (i + 1) s) v
+walked_more m s w v i e cpus walked some inside is count goes near =
     subst (λ (t : List ℕ). IsWalked m t v) (before_it s i e inside is)
-    (walked_on m (take i s) w v e entry walked (is_choice m s i e some inside is) same goes)
+    (walked_on m (take i s) w v e cpus walked (is_choice m s i e some inside is) count goes near)
 
 -- The entry of a choice, where it is told by the number of processors.
 pub entry_is : (m : Machine) (cpus e : ℕ) (entry : Entry) → cpus ≡ m.cpus →
@@ -197,3 +228,36 @@ pub local_here : (m : Machine) (r : Run) (w : UnderWay) (cpu : ℕ) → IsRun m 
 local_here m r w cpu is own =
     slice_get-get_or r.system.locals cpu (opening_local m 0)
     (omega (arith, own, locals_of_run m r w is))
+
+-- A walk of few choices is early.
+
+tick_below : (cpus cpu : ℕ) → cpu < cpus → cpu * (cpus + 2) + (cpus + 1) < cpus * (cpus + 2)
+tick_below cpus cpu own =
+    subst (λ n. cpu * (cpus + 2) + (cpus + 1) < n) (mul_comm (cpus + 2) cpus)
+    (mul-add-lt cpu (cpus + 2) (cpus + 1) cpus own (omega arith))
+
+-- The same of the state that choices lead to
+abbrev pub IsNearAfter : Machine → List ℕ → (cpus e : ℕ) → Type 0
+IsNearAfter m s cpus e =
+    (g : System) → after_choices m (opening_system m) s ≡ Some g → IsNear g (e / (cpus + 2))
+
+pub near_after : (m : Machine) (s : List ℕ) (w : UnderWay) (cpus e : ℕ) → IsWalked m s w →
+    IsNearIn w cpus e → IsNearAfter m s cpus e
+near_after m s w cpus e walked near g at =
+    subst (λ (k : System). IsNear k (e / (cpus + 2)))
+    (some_is walked.run.system g (sym walked.leads ∙ at)) (near m walked.run walked.is)
+
+pub early_here : (m : Machine) (s : List ℕ) (w : UnderWay) → IsWalked m s w →
+    length s < deepest →
+    ((e : ℕ) → e < m.cpus * (m.cpus + 2) → IsTickOf m.cpus e → IsNearAfter m s m.cpus e) →
+    LeadsEarly m s
+early_here m s w walked short near g at =
+    subst IsEarly (some_is walked.run.system g (sym walked.leads ∙ at))
+    (is_early m walked.run.system (length s) walked.clocks short
+    (locals_of_run m walked.run w walked.is)
+    (λ cpu own.
+    let tick : ℕ = cpu * (m.cpus + 2) + (m.cpus + 1) in
+    subst (IsNear walked.run.system)
+    (div-mul-add cpu (m.cpus + 2) (m.cpus + 1) (omega arith))
+    (near tick (tick_below m.cpus cpu own)
+    (mod-mul-add cpu (m.cpus + 2) (m.cpus + 1) (omega arith)) walked.run.system walked.leads)))

@@ -2,16 +2,16 @@
 use Rattle.std.specs.Prelude.{ℕ, ◌≤◌}
 use Rattle.l4_model.specs.Machine.{Machine}
 use Rattle.l4_core_model.specs.Runs.{System}
-use Rattle.l4_choices.specs.Alike.{IsAlike}
+use Rattle.l4_shifted.specs.Shifted.{IsShifted}
 use Rattle.l4_states.specs.Choices.{IsLeastRun}
 use Rattle.l4_states.specs.Listed.{GoesFar}
 
--- At most so many events lead to a state that is alike.
+-- At most so many events lead to a state that is similar.
 pub record IsWithin (m : Machine) (depth : ℕ) (g : System) : Type 0 where
   pub system : System
   pub events : ℕ
   pub run : IsLeastRun m events system
-  pub alike : IsAlike system g
+  pub similar : IsShifted system g
   pub short : events ≤ depth
 
 -- So it is for every state, and one is as far away.

@@ -1,5 +1,5 @@
 -- What is tried of a machine.
-use Rattle.std.specs.Prelude.{ℕ, ◌+◌, ◌<◌, ◌≤◌, ◌≡◌, Option, None, List, [], ◌∷◌, ◌++◌, Vec, map}
+use Rattle.std.specs.Prelude.{ℕ, ◌+◌, ◌%◌, ◌<◌, ◌≤◌, ◌≡◌, Option, None, List, [], ◌∷◌, ◌++◌, Vec, map}
 use Rattle.std.proofs.Common.{Global}
 use Rattle.l4_model.specs.Machine.{Machine}
 use Rattle.l4_core_model.specs.Runs.{IsMachine}
@@ -21,6 +21,10 @@ AreUpTo state_of s from below [] =
     (e : ℕ) → from ≤ e → e < below → state_of (s ++ e ∷ []) ≡ None
 AreUpTo state_of s from below (n ∷ ns) =
     (n.entry < below) × IsNext state_of s from n × AreUpTo state_of s (n.entry + 1) below ns
+
+-- The number stands for a tick.
+abbrev pub IsTickOf : (cpus number : ℕ) → Type 0
+IsTickOf cpus number = number % (cpus + 2) ≡ cpus + 1
 
 abbrev pub entries_from : List code.Entry → List Entry
 entries_from entries = map entry_from entries

@@ -1,5 +1,7 @@
 -- A core run under way in the program that choices have led to.
-use Rattle.std.specs.Prelude.{ℕ, ◌≡◌, Some, List, IsSome, length}
+use Rattle.std.specs.Prelude.{ℕ, ◌*◌, ◌≤◌, ◌≡◌, Some, List, IsSome, length}
+use Rattle.std.specs.List.{AllByRecursion}
+use Rattle.l4_model.specs.Words.{period_limit}
 use Rattle.l4_model.specs.Machine.{Machine}
 use Rattle.l4_core_model.specs.Runs.{Run, opening_system}
 use Rattle.l4_states.specs.Choices.{after_choices}
@@ -15,3 +17,5 @@ pub record IsWalked (m : Machine) (numbers : List ℕ) (w : UnderWay) : Type 0 w
   pub is : IsRun m run w
   pub leads : after_choices m (opening_system m) numbers ≡ Some run.system
   pub events : length run.events ≡ length numbers
+  -- each event brings a clock on by less than the longest period
+  pub clocks : AllByRecursion (λ l. l.clock ≤ length numbers * period_limit) run.system.locals

@@ -5,7 +5,8 @@ ghost use Rattle.l4_core_model.specs.Runs.{Run, System};
 ghost use Rattle.l4_choices.specs.Entries.{TickOf};
 ghost use Rattle.l4_machine.specs.Entries.{entry_from, is_entry_of};
 ghost use Rattle.l4_machine.specs.UnderWay.{HasRun, IsRun};
-ghost use Rattle.l4_states.specs.Choices.{after_entry, choice, choice_of};
+ghost use Rattle.l4_states.specs.Choices.{after_entry, choice, choice_of, IsNear};
+ghost use Rattle.l4_endings.specs.Tried.{IsTickOf};
 
 use l4_core::processor::Core;
 use l4_machine::{Entry, Walk};
@@ -48,11 +49,22 @@ pub(crate) fn choice(cpus: u8, number: u16) -> Entry
     choice_of(cpus, (number / width) as u8, (number % width) as u8)
 }
 
+/// The least deadline of a processor, which is not farther ahead than the longest period.
+pub(crate) fn least_deadline(walk: &Walk<'_>, cpu: u8) -> Option<u64>
+    requires run { HasRun walk.now }
+    requires own { cpu < walk.now.machine.cpus }
+    ensures { (m : MachineOfModel) (r : Run) → IsRun m r walk.now → IsNear r.system cpu }
+{
+    walk.core(cpu).least_deadline()
+}
+
 // Whether the clock of a processor may go on to its least deadline.
 fn can_tick(core: &Core<'_>) -> bool
-    ensures { (m : MachineOfModel) (g : System) (cpu : ℕ) →
+    ensures value { (m : MachineOfModel) (g : System) (cpu : ℕ) →
         slice_get g.locals cpu ≡ Some core.now.local →
         result ≡ is_some (after_entry m g (TickOf cpu)) }
+    ensures near { (g : System) (cpu : ℕ) → slice_get g.locals cpu ≡ Some core.now.local →
+        IsNear g cpu }
 {
     match core.least_deadline() {
         Some(deadline) => core.clock() < deadline && deadline < CLOCKS,
@@ -66,8 +78,10 @@ fn is_possible_at(walk: &Walk<'_>, cpus: u8, cpu: u8, k: u8) -> bool
     requires cpus { cpus ≡ walk.now.machine.cpus }
     requires own { cpu < cpus }
     requires choice { k < cpus + 2 }
-    ensures { (m : MachineOfModel) (r : Run) → IsRun m r walk.now →
+    ensures value { (m : MachineOfModel) (r : Run) → IsRun m r walk.now →
         result ≡ is_some (after_entry m r.system (choice_of cpus cpu k)) }
+    ensures near { (m : MachineOfModel) (r : Run) → IsRun m r walk.now → cpus < k →
+        IsNear r.system cpu }
 {
     law_of_core_runs();
     if k < cpus {
@@ -79,14 +93,17 @@ fn is_possible_at(walk: &Walk<'_>, cpus: u8, cpu: u8, k: u8) -> bool
     }
 }
 
-/// Whether a choice, below their count, can be made.
+/// Whether a choice, below their count, can be made. If it is a tick, the least deadline is not
+/// farther ahead than the longest period.
 pub(crate) fn is_possible(walk: &Walk<'_>, cpus: u8, number: u16) -> bool
     requires run { HasRun walk.now }
     requires cpus { cpus ≡ walk.now.machine.cpus }
     requires few { cpus < 17 }
     requires number { number < cpus * (cpus + 2) }
-    ensures { (m : MachineOfModel) (r : Run) → IsRun m r walk.now →
+    ensures value { (m : MachineOfModel) (r : Run) → IsRun m r walk.now →
         result ≡ is_some (after_entry m r.system (choice m number)) }
+    ensures near { (m : MachineOfModel) (r : Run) → IsRun m r walk.now →
+        IsTickOf cpus number → IsNear r.system (number / (cpus + 2)) }
 {
     let width = u16::from(cpus) + 2;
     is_possible_at(walk, cpus, (number / width) as u8, (number % width) as u8)

@@ -1,6 +1,7 @@
 //! The endings of a machine.
-ghost use Rattle.std.specs.Prelude.{ℕ, ◌≡◌, ◌<◌, ◌≤◌, ◌++◌, ◌∷◌, [], IfOk, OnOk, length, map, true};
+ghost use Rattle.std.specs.Prelude.{ℕ, ◌≡◌, ◌<◌, ◌≤◌, ◌++◌, ◌∷◌, [], min, IfOk, OnOk, length, map, true};
 ghost use Rattle.l4_explore.specs.Search.{seen_at};
+ghost use Rattle.l4_explore.specs.Tries.{deepest};
 ghost use Rattle.l4_states.specs.Endings.{ends_of, entries_of, AreAllEndings, AreEndings};
 ghost use Rattle.l4_endings.specs.Deepest.{IsDeepest};
 ghost use Rattle.l4_endings.specs.Tried.{entries_from, told};
@@ -9,7 +10,8 @@ ghost use Rattle.l4_endings.specs.Walked.{AreChoices};
 use crate::choices::choice;
 use crate::tried::Choices;
 use l4_explore::found::Found;
-use l4_explore::search::explore;
+use l4_explore::progress::{Progress, Unheard};
+use l4_explore::search::explore_heard;
 use l4_machine::Entry;
 use l4_script::machine::Machine;
 use l4_types::errors::NoMemory;
@@ -21,7 +23,7 @@ pub struct FoundEndings {
     /// The endings, each by the entries that lead there: a shortest schedule, and of these the
     /// first. The shorter ones come first.
     pub endings: Vec<Vec<Entry>>,
-    /// How many states were found, at rest or not, of which no two are alike.
+    /// How many states were found, at rest or not, of which no two are similar.
     pub states: usize,
     /// All states that core runs of at most so many events lead to are among them. Where the search
     /// is whole, no state is farther away, and one is as far.
@@ -31,10 +33,12 @@ pub struct FoundEndings {
 }
 
 /// The endings of all core runs of a machine, of at most so many events, whose ticks go to the
-/// least deadline of their processor: each once, of those that differ in stamps only, or in the
-/// order of letters of different pairs of processors. At most so many states are looked at; where
-/// there is one more, those that fewer events lead to are all there. A search that is not whole
-/// was cut off: there is a state that so many events lead to, and no fewer, or one state more.
+/// least deadline of their processor. Each is listed once, of those that differ only in stamps, in
+/// numbers of sends, in how late it is, or in the order of letters of different pairs of
+/// processors.
+/// At most so many states are looked at; where there is one more, those that fewer events lead to
+/// are all there. No search goes deeper than 1,000,000 events. A search that is not whole was cut
+/// off: there is a state that so many events lead to, and no fewer, or one state more.
 ///
 /// `NoMemory`: memory was refused.
 pub fn endings(
@@ -47,13 +51,37 @@ pub fn endings(
     ensures all { IfOk result (λ r.
         AreAllEndings machine.now (told r.endings.items) r.depth r.is_whole) }
     ensures found { IfOk result (λ r.
-        AreEndings machine.now (told r.endings.items) r.states depth most r.depth r.is_whole) }
+        AreEndings machine.now (told r.endings.items) r.states (min depth deepest) most r.depth
+        r.is_whole) }
+    ensures few { IfOk result (λ r. r.states ≤ most) }
+    ensures whole { IfOk result (λ r.
+        r.is_whole ≡ true → (r.depth < depth) × IsDeepest machine.now r.depth) }
+{
+    endings_heard(alloc, machine, depth, most, &mut Unheard)
+}
+
+/// The endings that `endings` finds. The listener hears how far the search for them has come.
+///
+/// `NoMemory`: memory was refused.
+pub fn endings_heard<P: Progress>(
+    alloc: Global,
+    machine: &Machine,
+    depth: u32,
+    most: u32,
+    progress: &mut P,
+) -> Result<FoundEndings, NoMemory>
+    requires { 0 < most }
+    ensures all { IfOk result (λ r.
+        AreAllEndings machine.now (told r.endings.items) r.depth r.is_whole) }
+    ensures found { IfOk result (λ r.
+        AreEndings machine.now (told r.endings.items) r.states (min depth deepest) most r.depth
+        r.is_whole) }
     ensures few { IfOk result (λ r. r.states ≤ most) }
     ensures whole { IfOk result (λ r.
         r.is_whole ≡ true → (r.depth < depth) × IsDeepest machine.now r.depth) }
 {
     let _ = machine.cpus();
-    let explored = explore(alloc, &Choices { machine }, depth, most)?;
+    let explored = explore_heard(alloc, &Choices { machine }, depth, most, progress)?;
     Ok(FoundEndings {
         endings: ends(alloc, machine, &explored.found)?,
         states: explored.found.len(),

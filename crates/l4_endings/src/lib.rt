@@ -1,7 +1,7 @@
 //! What a set of threads may do at all: the endings of all core runs of a machine.
 //!
 //! An ending is a state at rest: nothing is to be done, armed or under way. A search in breadth
-//! tries whatever may happen next in each state, once for all states that are alike. So it finds
+//! tries whatever may happen next in each state, once for all states that are similar. So it finds
 //! each ending by a shortest schedule that leads there.
 //!
 //! ```rust
@@ -18,4 +18,4 @@ mod states;
 mod tried;
 mod walks;
 
-pub use endings_of::{FoundEndings, endings};
+pub use endings_of::{FoundEndings, endings, endings_heard};

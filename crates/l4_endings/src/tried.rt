@@ -1,9 +1,11 @@
 //! What may be done with a machine.
-ghost use Rattle.std.specs.Prelude.{◌+◌, ◌*◌, ◌<◌, ◌≡◌, ◌++◌, ◌∷◌, ◌^◌, [], IfOk, OnOk, Some, length, map};
-ghost use Rattle.l4_core_model.specs.Runs.{IsMachine};
+ghost use Rattle.std.specs.Prelude.{◌+◌, ◌*◌, ◌/◌, ◌<◌, ◌≡◌, ◌++◌, ◌∷◌, ◌^◌, [], IfOk, OnOk, Some, length, map};
+ghost use Rattle.l4_model.specs.Machine.{Machine as MachineOfModel};
+ghost use Rattle.l4_core_model.specs.Runs.{IsMachine, Run};
 ghost use Rattle.l4_explore.specs.Views.{next_from, state_from};
-ghost use Rattle.l4_states.specs.Choices.{state_after};
-ghost use Rattle.l4_endings.specs.Tried.{schedules, AreUpTo};
+ghost use Rattle.l4_machine.specs.UnderWay.{IsRun};
+ghost use Rattle.l4_states.specs.Choices.{state_after, IsNear};
+ghost use Rattle.l4_endings.specs.Tried.{schedules, AreUpTo, IsTickOf};
 ghost use Rattle.l4_endings.specs.Walked.{AreChoices, IsWalked};
 
 use crate::choices::{choice_count, is_possible};
@@ -58,10 +60,12 @@ fn list_choice(
     requires walk { IsWalked machine.now schedule.now walk.now }
     requires few { length schedule.now < 2 ^ 60 }
     requires number { number < machine.now.cpus * (machine.now.cpus + 2) }
-    ensures { OnOk result (
+    ensures listed { OnOk result (
         AreUpTo (state_after machine.now) schedule.now 0 number (map next_from choices.old.items) →
         AreUpTo (state_after machine.now) schedule.now 0 (number + 1)
         (map next_from choices.new.items)) }
+    ensures near { OnOk result ((m : MachineOfModel) (r : Run) → IsRun m r walk.now →
+        IsTickOf machine.now.cpus number → IsNear r.system (number / (machine.now.cpus + 2))) }
 {
     if !is_possible(walk, machine.cpus(), number) {
         return Ok(());

@@ -1,8 +1,13 @@
 //! Core runs that choices lead to.
-ghost use Rattle.std.specs.Prelude.{◌<◌, ◌++◌, ◌∷◌, ◌^◌, [], IfOk, length};
+ghost use Rattle.std.specs.Prelude.{◌≡◌, ◌<◌, ◌*◌, ◌+◌, ◌/◌, ◌%◌, ◌++◌, ◌∷◌, ◌^◌, [], IfOk, OnOk, length};
+ghost use Rattle.l4_model.specs.Machine.{Machine as MachineOfModel};
+ghost use Rattle.l4_core_model.specs.Runs.{Run};
+ghost use Rattle.l4_machine.specs.Entries.{after_entry};
+ghost use Rattle.l4_machine.specs.UnderWay.{GoesOn, HasRun, IsRun};
+ghost use Rattle.l4_states.specs.Choices.{choice_of, IsNear};
 ghost use Rattle.l4_endings.specs.Walked.{AreChoices, IsWalked};
 
-use crate::choices::choice;
+use crate::choices::{choice, least_deadline};
 use l4_machine::Walk;
 use l4_script::machine::Machine;
 use l4_types::errors::NoMemory;
@@ -23,7 +28,7 @@ pub(crate) fn walk_to<'m>(
     let cpus = machine.cpus();
     let mut walk = Walk::new(alloc, machine)?;
     for number in numbers {
-        walk.take(choice(cpus, *number))?;
+        make(&mut walk, cpus, *number)?;
     }
     Ok(walk)
 }
@@ -42,6 +47,22 @@ pub(crate) fn walk_on<'m>(
     ensures { IfOk result (IsWalked machine.now (numbers.now ++ number ∷ [])) }
 {
     let mut walk = walk_to(alloc, machine, numbers)?;
-    walk.take(choice(machine.cpus(), number))?;
+    make(&mut walk, machine.cpus(), number)?;
     Ok(walk)
+}
+
+// Makes a choice. Its processor's least deadline was not farther ahead than the longest period.
+fn make(walk: &mut Walk<'_>, cpus: u8, number: u16) -> Result<(), NoMemory>
+    requires run { HasRun walk.old }
+    requires few { length walk.old.order < 2 ^ 61 }
+    requires cpus { cpus ≡ walk.old.machine.cpus }
+    requires most { cpus < 17 }
+    requires number { number < cpus * (cpus + 2) }
+    ensures goes { OnOk result (GoesOn (after_entry
+        (choice_of cpus (number / (cpus + 2)) (number % (cpus + 2)))) walk.old walk.new) }
+    ensures near { OnOk result ((m : MachineOfModel) (r : Run) → IsRun m r walk.old →
+        IsNear r.system (number / (cpus + 2))) }
+{
+    let _near = least_deadline(walk, (number / (u16::from(cpus) + 2)) as u8);
+    walk.take(choice(cpus, number))
 }

@@ -12,8 +12,8 @@ use Rattle.l4_explain.specs.declared.accounts.Account.{Account}
 use Rattle.l4_explain.specs.declared.accounts.Refusal.{Refusal}
 use Rattle.l4_explain.specs.declared.accounts.Shown.{Shown}
 
--- The steps before the refused one lead to this audit. There it is not possible, for this reason,
--- so it is the first such one.
+-- The steps before the refused step lead to this audit. There the refused step is not possible, for
+-- this reason, so it is the first such step.
 pub record IsRefused (m : Machine) (h : List Step) (a : Auditing) (r : Refusal) : Type 0 where
   pub taken : ℕ
   pub number : r.number ≡ taken + 1
@@ -28,7 +28,7 @@ abbrev pub IsStopped : Machine → List Step → Auditing → Option Refusal →
 IsStopped m h a None = IsReached m h a
 IsStopped m h a (Some r) = IsRefused m h a r
 
--- The explanation of a refused step, and the report of the world, where they are asked for.
+-- The explanation of a refused step, and the report of the world, if they are asked for.
 
 abbrev pub explained : (asked : Bool) → Auditing → Option Refusal → List ℕ
 explained asked a None = []
@@ -37,7 +37,7 @@ explained asked a (Some r) = if asked then explanation a.at.machine a.at.world r
 abbrev pub reported : (asked : Bool) → Auditing → Ending → List ℕ
 reported asked a ending = if asked then world_report a ending else []
 
--- This is told by an audit that has stopped.
+-- The account is what an audit tells that has stopped.
 pub record IsToldBy (shown : Shown) (a : Auditing) (refusal : Option Refusal) (account : Account)
     : Type 0 where
   pub refused : account.refused ≡ option_map (λ r. r.number) refusal
@@ -45,7 +45,7 @@ pub record IsToldBy (shown : Shown) (a : Auditing) (refusal : Option Refusal) (a
   pub lines_are : account.lines.items ≡
       explained shown.explain a refusal ++ reported shown.report a account.ending
 
--- And this of the steps of a trace.
+-- The account is what is told of the steps of a trace.
 pub record IsAccount (shown : Shown) (m : Machine) (h : List Step) (account : Account)
     : Type 0 where
   pub at : Auditing

@@ -67,7 +67,8 @@ line_of_sentence s = codes "because " ++ s.0 ++ value_text s.1 ++ codes "\n"
 abbrev pub reason_text : Reason → List ℕ
 reason_text r = line_of_sentence (sentence r)
 
--- Which values the world of a machine may have: numbers are words, and ids have one.
+-- The values that the world of a machine may have: numbers that are words, and ids that have a
+-- word.
 abbrev pub is_value : Value → Bool
 is_value (Thread thread) = is_global thread
 is_value (Id id) = has_word_in W64 id

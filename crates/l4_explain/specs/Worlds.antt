@@ -14,14 +14,14 @@ use Rattle.l4_reports.specs.ReportLines.{report_text}
 use Rattle.l4_trace.specs.Lines.{line_of}
 use Rattle.l4_explain.specs.Reasons.{reason_text}
 
--- Each step but ticks that is possible, as a trace spells it.
+-- The line of a possible step, which is spelled as in a trace.
 abbrev pub possible_line : Step → List ℕ
 possible_line step = codes "possible " ++ line_of step
 
 abbrev pub possible_text : Machine → World → List ℕ
 possible_text m w = flat_map possible_line (possible m w)
 
--- Why a step is not possible there, and which steps are.
+-- Why a step is not possible in a world, and which steps are possible there.
 abbrev pub explanation : Machine → World → Reason → List ℕ
 explanation m w r = reason_text r ++ possible_text m w
 
@@ -31,6 +31,7 @@ world_report a ending =
     report_text (view a.at.machine a.at.world)
     (filter_map (waiting_send a.at.machine a.at.world) a.begun) ending
 
--- It ends quiet where no step but a tick is possible there, now or after any ticks.
+-- The report of a world ends quiet exactly if no step but a tick is possible there, now or after
+-- any ticks.
 abbrev pub Ends : Auditing → Ending → Type 0
 Ends a ending = (is_quiet ending ≡ true) ↔ IsStill a.at.machine a.at.world

@@ -24,9 +24,9 @@ pub struct Refusal {
 /// An audit that has taken steps as far as they are possible.
 #[derive(Drop)]
 pub struct Stopped<'m> {
-    /// The audit, in the world before the refused step, or behind the last one.
+    /// The audit, in the world before the refused step, or after the last step.
     pub auditor: Auditor<'m>,
-    /// The first step that is not possible. None where each is.
+    /// The first step that is not possible. None if each is possible.
     pub refusal: Option<Refusal>,
 }
 
@@ -35,17 +35,17 @@ pub struct Stopped<'m> {
 pub struct Shown {
     /// Why the refused step is not possible, and which steps are possible instead.
     pub explain: bool,
-    /// The report of the world before it, or of that behind the last step.
+    /// The report of the world before the refused step, or after the last step.
     pub report: bool,
 }
 
-/// What is told of steps.
+/// What is told of the steps of a history.
 #[derive(Debug, Drop)]
 pub struct Account {
-    /// The number of the first step that is not possible, counted from 1. None where each is.
+    /// The number of the first step that is not possible, counted from 1. None if each is possible.
     pub refused: Option<usize>,
-    /// `Quiet` where no step but a tick is possible in the world before it, or behind the last
-    /// step, now or after any ticks.
+    /// `Quiet` if no step but a tick is possible, now or after any ticks. The world is that before
+    /// the refused step, or after the last step.
     pub ending: Ending,
     /// The explanation and then the report, as far as they were asked for.
     pub lines: Vec<u8>,
@@ -86,7 +86,7 @@ fn number_of(refusal: &Option<Refusal>) -> Option<usize>
     }
 }
 
-// The explanation, where a step was refused and it is asked for.
+// The explanation, if a step was refused and the explanation is asked for.
 fn explained(
     alloc: Global,
     auditor: &Auditor<'_>,
@@ -105,7 +105,7 @@ fn explained(
     Ok(lines)
 }
 
-// Appends the report, where it is asked for, and returns its ending in any case.
+// Appends the report if it is asked for. Returns the ending in any case.
 fn reported(
     alloc: Global,
     auditor: Auditor<'_>,
@@ -141,9 +141,9 @@ fn account_by(
     })
 }
 
-/// Tells what is asked for of the steps of a history: of the first one that is not possible, and of
-/// the world before it. Where each is possible, there is nothing to explain, and the world is that
-/// behind the last one.
+/// Tells what is asked for: of the first step of a history that is not possible, and of the world
+/// before it. If each step is possible, there is nothing to explain, and the world is the one after
+/// the last step.
 pub fn account_of(
     alloc: Global,
     machine: &Machine,

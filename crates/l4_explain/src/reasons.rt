@@ -30,7 +30,7 @@ pub(crate) enum Value {
     Order(Asked),
 }
 
-/// Appends the line of a reason. Where memory is refused, nothing is appended.
+/// Appends the line of a reason. If memory is refused, nothing is appended.
 pub fn write_reason(reason: &Reason, out: &mut Vec<u8>) -> Result<(), NoMemory>
     ensures ok { OnOk result (out.new.items ≡ out.old.items ++ reason_text reason.now) }
     ensures err { OnErr result (out.new.items ≡ out.old.items) }
@@ -194,7 +194,7 @@ fn push_what(text: &mut String, what: What) -> Result<(), AllocError>
     }
 }
 
-/// No two reasons have one line, where their values are words and ids.
+/// No two reasons have one line, if their values are words and ids.
 pub fn law_one_reason()
     ensures { (r s : Told) → has_word r ≡ true → has_word s ≡ true →
         reason_text r ≡ reason_text s → r ≡ s }

@@ -14,8 +14,8 @@ use l4_types::reports::Ending;
 use l4_types::steps::Step;
 use std::alloc::Global;
 
-/// Appends a line for each step but ticks that is possible where an audit has come to, in the order
-/// of `Auditor::possible`. Where memory is refused, nothing is appended.
+/// Appends a line for each step but ticks that is possible in the world that an audit has come to.
+/// The lines stand in the order of `Auditor::possible`. If memory is refused, nothing is appended.
 pub fn write_possible(
     alloc: Global,
     auditor: &Auditor<'_>,
@@ -50,8 +50,8 @@ fn push_step(lines: &mut Vec<u8>, step: &Step) -> Result<(), NoMemory>
     write_event(step, lines)
 }
 
-/// Appends why a step is not possible where an audit has come to, and which steps are. Where memory
-/// is refused, nothing is appended.
+/// Appends why a step is not possible in the world that an audit has come to, and which steps are
+/// possible there. If memory is refused, nothing is appended.
 pub fn write_explanation(
     alloc: Global,
     auditor: &Auditor<'_>,
@@ -69,9 +69,9 @@ pub fn write_explanation(
     Ok(())
 }
 
-/// Appends the report of the world that an audit has come to, and returns its ending: `Quiet` where
-/// no step but a tick is possible there, now or after any ticks. Where memory is refused, nothing
-/// is appended.
+/// Appends the report of the world that an audit has come to, and returns its ending. That is
+/// `Quiet` if no step but a tick is possible there, now or after any ticks. If memory is refused,
+/// nothing is appended.
 pub fn write_world(
     alloc: Global,
     auditor: Auditor<'_>,

@@ -12,14 +12,11 @@ use Rattle.l4_explore.proofs.Trying.{begun}
 
 module _ (f : List ℕ → Option State) (laws : AreSchedules f) (found : List Seen) where
   -- From a state that was found by a schedule that is no later, one entry more.
-  onward : (xs : List ℕ) (x : ℕ) (c state : State) (r : IsFound found c xs) → AreFound f found →
-      IsTried f found r.place x → f xs ≡ Some c →
-      f (xs ++ x ∷ []) ≡ Some state → IsFound found state (xs ++ x ∷ [])
-  onward xs x c state r all tried e leads =
-      let merged = laws.merges (seen_at found r.place).schedule xs x
-      (all.reached r.place r.inside ∙ ap Some r.is ∙ sym e) in
+  onward : (xs : List ℕ) (x : ℕ) (c state : State) (r : IsFound found c xs) →
+      IsTried f found r.place x → f xs ≡ Some c → f (xs ++ x ∷ []) ≡ Some state → IsFound found state (xs ++ x ∷ [])
+  onward xs x c state r tried e leads =
       found_later found state _ _ (not_after_append (seen_at found r.place).schedule xs x r.early)
-      (tried state (merged ∙ leads))
+      (tried xs state (e ∙ sym (ap (λ (a : State). Some a) r.is)) leads)
 
   -- A state that was found by a schedule that leads there is found by an earlier one or that.
   early_one : AreFound f found → (i : ℕ) (s : List ℕ) → i < length found →
@@ -42,7 +39,7 @@ module _ (f : List ℕ → Option State) (laws : AreSchedules f) (found : List S
         by None e = let no = laws.begins xs x e in cc
         by (Some c) e =
             let r = rest c e in
-            onward xs x c state r s.all (s.tried r.place x (omega (arith, r.inside))) e leads
+            onward xs x c state r (s.tried r.place x (omega (arith, r.inside))) e leads
 
     all_found : (xs : List ℕ) → Leads xs
     all_found = by_end Leads (λ state leads. s.opening state leads) step_all
@@ -90,7 +87,7 @@ module _ (f : List ℕ → Option State) (laws : AreSchedules f) (found : List S
             (x < from) ⊎ (from ≤ x) →
             IsFound found state (xs ++ x ∷ []) ⊎ IsNotAfter limit (xs ++ x ∷ [])
         at_next c r e is (inl l) =
-            inl (onward xs x c state r t.all
+            inl (onward xs x c state r
             (subst (λ j. IsTried f found j x) (sym is) (t.first x l)) e leads)
         at_next c r e is (inr l) =
             inr (later_entry xs x l
@@ -99,7 +96,7 @@ module _ (f : List ℕ → Option State) (laws : AreSchedules f) (found : List S
         from_place : (c : State) (r : IsFound found c xs) → f xs ≡ Some c →
             (r.place < next) ⊎ (next ≤ r.place) →
             IsFound found state (xs ++ x ∷ []) ⊎ IsNotAfter limit (xs ++ x ∷ [])
-        from_place c r e (inl l) = inl (onward xs x c state r t.all (t.tried r.place x l) e leads)
+        from_place c r e (inl l) = inl (onward xs x c state r (t.tried r.place x l) e leads)
         from_place c r e (inr l) = elim (eq-or-lt_of_le l) [
           | inl is ↦ at_next c r e (sym is) (cases_lt x from)
           | inr m ↦ inr (later_place xs x r.place m r.inside r.early)

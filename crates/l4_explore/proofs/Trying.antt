@@ -3,7 +3,7 @@ use Rattle.std.proofs.Common.{◌≡◌, ℕ, zero, suc, ◌+◌, ◌<◌, ◌�
 use Rattle.std.proofs.Math.ListN.{length-append}
 use Rattle.std.proofs.lemmas.Bool.{cases_lt, ltb-true, ltb-false}
 use Rattle.l4_explore.specs.Orders.{IsBefore}
-use Rattle.l4_explore.specs.Tries.{State, AreSchedules, Next, IsNext, AreNexts}
+use Rattle.l4_explore.specs.Tries.{State, AreSchedules, Next, IsNext, AreNexts, StandsForAll}
 use Rattle.l4_explore.specs.Search.{Seen, seen_at, has_code, seen_next, met, IsFound, AreWithin, IsTried, IsTrying, IsSearched, IsStopped}
 use Rattle.l4_explore.proofs.Orders.{before_length, before_trans, before_append, before_last}
 use Rattle.l4_explore.proofs.Listed.{seen_at-old, seen_at-new, found_in_more, place_of_code, no_place}
@@ -17,6 +17,13 @@ pub below_or_last : (n i : ℕ) → i < n + 1 → (i < n) ⊎ (i ≡ n)
 below_or_last n i h = elim (cases_lt i n) [ inl l ↦ inl l | inr g ↦ inr (omega arith) ]
 
 module _ (f : List ℕ → Option State) where
+  -- What is tried of a schedule that stands for all is tried of its state.
+  stood : (found : List Seen) (next e : ℕ) → StandsForAll f (seen_at found next).schedule →
+      f (seen_at found next).schedule ≡ Some (seen_at found next).state →
+      ((state : State) → f ((seen_at found next).schedule ++ e ∷ []) ≡ Some state →
+      IsFound found state ((seen_at found next).schedule ++ e ∷ [])) → IsTried f found next e
+  stood found next e stands is tried s state at leads = tried state (stands s e state (at ∙ sym is) leads)
+
   -- The state at the beginning alone.
   pub opened : (state : State) → f [] ≡ Some state →
       IsSearched f (record { state = state; schedule = [] } ∷ []) 0
@@ -56,9 +63,10 @@ module _ (f : List ℕ → Option State) where
 
   -- All entries were tried.
   pub ended : (found : List Seen) (next from : ℕ) → IsTrying f found next from →
+      StandsForAll f (seen_at found next).schedule →
       ((e : ℕ) → from ≤ e → f ((seen_at found next).schedule ++ e ∷ []) ≡ None) →
       IsSearched f found (next + 1)
-  ended found next from t none = record {
+  ended found next from t stands none = record {
     all = t.all;
     opening = t.opening;
     within = omega (arith, t.inside);
@@ -72,17 +80,19 @@ module _ (f : List ℕ → Option State) where
     where
       at_next : (e : ℕ) → (e < from) ⊎ (from ≤ e) → IsTried f found next e
       at_next e (inl l) = t.first e l
-      at_next e (inr l) = λ state leads. let no = none e l in cc
+      at_next e (inr l) = stood found next e stands (t.all.reached next t.inside)
+          (λ state leads. let no = none e l in cc)
 
       by : (i e : ℕ) → (i < next) ⊎ (i ≡ next) → IsTried f found i e
       by i e (inl l) = t.tried i e l
       by i e (inr is) = subst (λ k. IsTried f found k e) (sym is) (at_next e (cases_lt e from))
 
   -- Entries that lead to none are passed over.
-  pub passed : (found : List Seen) (next from to : ℕ) → IsTrying f found next from → from ≤ to →
+  pub passed : (found : List Seen) (next from to : ℕ) → IsTrying f found next from →
+      StandsForAll f (seen_at found next).schedule → from ≤ to →
       ((e : ℕ) → from ≤ e → e < to → f ((seen_at found next).schedule ++ e ∷ []) ≡ None) →
       IsTrying f found next to
-  passed found next from to t later none = record {
+  passed found next from to t stands later none = record {
     all = t.all;
     opening = t.opening;
     inside = t.inside;
@@ -93,11 +103,12 @@ module _ (f : List ℕ → Option State) where
     where
       by : (e : ℕ) → e < to → (e < from) ⊎ (from ≤ e) → IsTried f found next e
       by e l (inl m) = t.first e m
-      by e l (inr m) = λ state leads. let no = none e m l in cc
+      by e l (inr m) = stood found next e stands (t.all.reached next t.inside)
+          (λ state leads. let no = none e m l in cc)
 
   -- An entry that leads to what was found.
   module _ (laws : AreSchedules f) (found : List Seen) (next entry : ℕ) (state : State)
-      (t : IsTrying f found next entry)
+      (t : IsTrying f found next entry) (stands : StandsForAll f (seen_at found next).schedule)
       (leads : f ((seen_at found next).schedule ++ entry ∷ []) ≡ Some state) where
     pub met_known : has_code found state.code ≡ true → IsTrying f found next (entry + 1)
     met_known known = record {
@@ -119,10 +130,14 @@ module _ (f : List ℕ → Option State) where
               early = inr (t.before at.place entry at.inside (omega arith));
             }
 
-        this : IsTried f found next entry
-        this other leads' =
+        same : (other : State) → f ((seen_at found next).schedule ++ entry ∷ []) ≡ Some other →
+            IsFound found other ((seen_at found next).schedule ++ entry ∷ [])
+        same other leads' =
             let e : state ≡ other = cc in
             subst (λ s. IsFound found s ((seen_at found next).schedule ++ entry ∷ [])) e there
+
+        this : IsTried f found next entry
+        this = stood found next entry stands (t.all.reached next t.inside) same
 
         by : (e : ℕ) → (e < entry) ⊎ (e ≡ entry) → IsTried f found next e
         by e (inl l) = t.first e l
@@ -130,6 +145,7 @@ module _ (f : List ℕ → Option State) where
 
   -- An entry that leads to what was not found yet.
   module _ (found : List Seen) (next entry : ℕ) (state : State) (t : IsTrying f found next entry)
+      (stands : StandsForAll f (seen_at found next).schedule)
       (leads : f ((seen_at found next).schedule ++ entry ∷ []) ≡ Some state)
       (new : has_code found state.code ≡ false) where
     abbrev another : Seen
@@ -190,12 +206,15 @@ module _ (f : List ℕ → Option State) where
 
     -- What was tried stays so.
     still : (i e : ℕ) → i < length found → IsTried f found i e → IsTried f more_found i e
-    still i e l h other leads' =
+    still i e l h s other at leads' =
         let is = seen_at-old found another i l in
-        rw is (found_in_more found another other _ (h other (rw is at leads')))
+        rw is (found_in_more found another other _
+        (h s other (at ∙ ap (λ (x : Seen). Some x.state) is) leads'))
 
-    new_one : IsTried f more_found next entry
-    new_one other leads' = record {
+    new_here : (other : State) →
+        f ((seen_at more_found next).schedule ++ entry ∷ []) ≡ Some other →
+        IsFound more_found other ((seen_at more_found next).schedule ++ entry ∷ [])
+    new_here other leads' = record {
       place = length found;
       inside = omega (arith, long);
       is = ap (λ (s : Seen). s.state) (seen_at-new found another)
@@ -207,6 +226,14 @@ module _ (f : List ℕ → Option State) where
         same_state : (other : State) →
             f ((seen_at found next).schedule ++ entry ∷ []) ≡ Some other → state ≡ other
         same_state other h = cc
+
+    new_one : IsTried f more_found next entry
+    new_one =
+        stood more_found next entry
+        (subst (λ (x : Seen). StandsForAll f x.schedule) (sym old_next) stands)
+        (subst (λ (x : Seen). f x.schedule ≡ Some x.state) (sym old_next)
+        (t.all.reached next t.inside))
+        new_here
 
     pub met_new : IsTrying f
         (found ++ record { state = state; schedule = (seen_at found next).schedule ++ entry ∷ [] }
@@ -247,10 +274,10 @@ pub record HasMet (f : List ℕ → Option State) (old new : List Seen) (next mo
 
 module _ (f : List ℕ → Option State) (laws : AreSchedules f) (found : List Seen)
     (next from most : ℕ) (n : Next)
-    (t : IsTrying f found next from) (is : IsNext f (seen_at found next).schedule from n)
-    (few : length found ≤ most) where
+    (t : IsTrying f found next from) (stands : StandsForAll f (seen_at found next).schedule)
+    (is : IsNext f (seen_at found next).schedule from n) (few : length found ≤ most) where
   here : IsTrying f found next n.entry
-  here = passed f found next from n.entry t is.later is.first
+  here = passed f found next from n.entry t stands is.later is.first
 
   abbrev Pair : Type 0
   Pair = List Seen × Bool
@@ -267,7 +294,7 @@ module _ (f : List ℕ → Option State) (laws : AreSchedules f) (found : List S
         few = few;
         same = refl;
         goes =
-            met_known f laws found next n.entry n.state here is.leads e;
+            met_known f laws found next n.entry n.state here stands is.leads e;
       }
   after false true e r = record {
     few = omega (
@@ -276,7 +303,7 @@ module _ (f : List ℕ → Option State) (laws : AreSchedules f) (found : List S
       ltb-true (length found) most r,
     );
     same = ap (λ (s : Seen). s.schedule) (seen_at-old found (seen_next found next n) next t.inside);
-    goes = met_new f found next n.entry n.state here is.leads e;
+    goes = met_new f found next n.entry n.state here stands is.leads e;
   }
   after false false e r = record {
     few = few;
@@ -302,6 +329,7 @@ pub record GoingOn (f : List ℕ → Option State) (found : List Seen) (next : �
     (left : List Next) : Type 0 where
   pub from : ℕ
   pub trying : IsTrying f found next from
+  pub stands : StandsForAll f schedule
   pub nexts : AreNexts f schedule from left
   pub same : (seen_at found next).schedule ≡ schedule
 
@@ -309,9 +337,14 @@ module _ (f : List ℕ → Option State) (laws : AreSchedules f) (next most : �
     (schedule : List ℕ) where
   pub begin : (found : List Seen) (left : List Next) → IsSearched f found next →
       next < length found → schedule ≡ (seen_at found next).schedule →
-      AreNexts f schedule 0 left → GoingOn f found next schedule left
-  begin found left s inside same nexts =
-      record { from = 0; trying = begun f found next s inside; nexts = nexts; same = sym same }
+      StandsForAll f schedule → AreNexts f schedule 0 left → GoingOn f found next schedule left
+  begin found left s inside same stands nexts = record {
+    from = 0;
+    trying = begun f found next s inside;
+    stands = stands;
+    nexts = nexts;
+    same = sym same;
+  }
 
   -- One of them is tried.
   pub one_tried : (found new : List Seen) (n : Next) (left ns : List Next) (more : Bool) →
@@ -322,6 +355,7 @@ module _ (f : List ℕ → Option State) (laws : AreSchedules f) (next most : �
       let nexts : AreNexts f schedule g.from (n ∷ ns) =
       subst (λ (ks : List Next). AreNexts f schedule g.from ks) is g.nexts in
       has_met f laws found next g.from most n g.trying
+      (subst (λ (s : List ℕ). StandsForAll f s) (sym g.same) g.stands)
       (subst (λ s. IsNext f s g.from n) (sym g.same) nexts.0) few new more h
 
   pub goes_on : (found new : List Seen) (n : Next) (left ns : List Next) →
@@ -330,7 +364,13 @@ module _ (f : List ℕ → Option State) (laws : AreSchedules f) (next most : �
   goes_on found new n left ns g is m =
       let nexts : AreNexts f schedule g.from (n ∷ ns) =
       subst (λ (ks : List Next). AreNexts f schedule g.from ks) is g.nexts in
-      record { from = n.entry + 1; trying = m.goes; nexts = nexts.1; same = m.same ∙ g.same }
+      record {
+        from = n.entry + 1;
+        trying = m.goes;
+        stands = g.stands;
+        nexts = nexts.1;
+        same = m.same ∙ g.same;
+      }
 
   -- None is left.
   pub all_tried : (found : List Seen) (left : List Next) → GoingOn f found next schedule left →
@@ -339,6 +379,7 @@ module _ (f : List ℕ → Option State) (laws : AreSchedules f) (next most : �
       let nexts : AreNexts f schedule g.from [] =
       subst (λ (ks : List Next). AreNexts f schedule g.from ks) is g.nexts in
       ended f found next g.from g.trying
+      (subst (λ (s : List ℕ). StandsForAll f s) (sym g.same) g.stands)
       (subst (λ s. (e : ℕ) → g.from ≤ e → f (s ++ e ∷ []) ≡ None) (sym g.same) nexts)
 
   pub going_near : (found : List Seen) (left : List Next) → GoingOn f found next schedule left →

@@ -8,15 +8,15 @@ use indexmap::IndexMap;
 use std::alloc::{AllocError, Global};
 use std::marker::Model;
 
-/// The states that a search has found, by their codes: at least the one at the beginning. Each has
-/// the schedule that it was found by.
+/// The states that a search has found, by their codes: at least the opening state. Each has the
+/// schedule that it was found by.
 #[derive(Drop)]
 pub struct Found {
     states: IndexMap<Vec<u8>, Arrival>,
 }
 
-// How a state was found: from the one at a place, by one entry more. The first one is that of the
-// empty schedule.
+// How a state was found: from the state at a place, by one more entry. The first state is that of
+// the empty schedule.
 #[derive(Clone, Copy)]
 struct Arrival {
     from: u32,
@@ -38,7 +38,7 @@ impl Model for Found {
 }
 
 impl Found {
-    /// The state at the beginning alone.
+    /// The opening state alone, as found by the empty schedule.
     ///
     /// `AllocError`: memory was refused.
     pub(crate) fn new(alloc: Global, opening: Reached) -> Result<Found, AllocError>
@@ -55,7 +55,7 @@ impl Found {
         Ok(Found { states })
     }
 
-    /// How many they are, at least one.
+    /// The number of found states, at least one.
     pub fn len(&self) -> usize
         ensures value { result ≡ length self.now }
         ensures some { 0 < result }
@@ -63,7 +63,7 @@ impl Found {
         self.states.len()
     }
 
-    /// Whether nothing is left to be done in one of them.
+    /// Whether nothing is left to do in the state at a place.
     pub fn is_end(&self, place: usize) -> bool
         requires { place < length self.now }
         ensures { result ≡ (seen_at self.now place).state.is_end }
@@ -71,7 +71,7 @@ impl Found {
         self.arrival(place).is_end
     }
 
-    /// The schedule of one of them.
+    /// The schedule of the state at a place.
     ///
     /// `AllocError`: memory was refused.
     pub fn schedule(&self, alloc: Global, place: usize) -> Result<Vec<u16>, AllocError>
@@ -88,7 +88,7 @@ impl Found {
         Ok(schedule)
     }
 
-    // The last step of the schedule of one of them. None where the schedule is empty.
+    // The last step of the schedule of the state at a place. None if the schedule is empty.
     fn last_step(&self, place: usize) -> Option<Arrival>
         requires { place < length self.now }
         ensures { IsArrived self.now place result }
@@ -97,7 +97,7 @@ impl Found {
         if place == 0 { None } else { Some(arrival) }
     }
 
-    // How one of them was found.
+    // How the state at a place was found.
     fn arrival(&self, place: usize) -> Arrival
         requires { place < length self.now }
         ensures end { result.is_end ≡ (seen_at self.now place).state.is_end }
@@ -110,14 +110,14 @@ impl Found {
         }
     }
 
-    /// Whether a state of this code is among them.
+    /// Whether a state with this code was found.
     pub(crate) fn has(&self, code: &Vec<u8>) -> bool
         ensures { result ≡ has_code self.now code.now.items }
     {
         self.states.contains_key(code)
     }
 
-    /// One more, found from the one at a place by one entry more.
+    /// Adds a state, found by one more entry from the state at place `from`.
     ///
     /// `AllocError`: memory was refused.
     pub(crate) fn add(
@@ -130,7 +130,10 @@ impl Found {
         requires few { length self.old < 2 ^ 32 }
         requires new { has_code self.old reached.code.items ≡ false }
         ensures ok { OnOk result (self.new ≡ self.old
-            ++ seen_next self.old from (record { entry = entry; state = state_from reached }) ∷ []) }
+            ++ seen_next self.old from (record {
+              entry = entry;
+              state = state_from reached;
+            }) ∷ []) }
         ensures err { OnErr result (self.new ≡ self.old) }
     {
         let arrival = Arrival {

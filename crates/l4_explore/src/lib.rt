@@ -1,8 +1,8 @@
-//! A search in breadth of all schedules: every state that one of them leads to, each once, with the
-//! first schedule that leads there.
+//! Breadth-first search of all schedules. It finds every state that a schedule leads to, once, with
+//! the first schedule that leads there.
 //!
-//! What is searched is told by its schedules alone: which state each leads to, and by which entries
-//! it goes on. A state is known by its code, a list of bytes.
+//! A search knows by schedules alone what it searches: which state each schedule leads to, and
+//! which entries lead on from there. It tells states apart by their codes, lists of bytes.
 //!
 //! ```rust
 //! let explored = explore(alloc, &walk, 10, 100)?;
@@ -11,5 +11,6 @@
 #![tactic(auto)]
 
 pub mod found;
+pub mod progress;
 pub mod search;
 pub mod tries;

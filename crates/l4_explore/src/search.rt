@@ -1,27 +1,32 @@
-//! A search in breadth.
-ghost use Rattle.std.specs.Prelude.{◌≡◌, ◌<◌, ◌≤◌, ◌+◌, ◌^◌, false, true, IfOk, OnOk, length};
+//! Breadth-first search.
+ghost use Rattle.std.specs.Prelude.{◌≡◌, ◌<◌, ◌≤◌, ◌+◌, min, false, true, IfOk, OnOk, length};
 ghost use Rattle.l4_explore.specs.Search.{depth_of, met, seen_at, AreWithin, IsCut, IsExplored, IsSearched, IsStopped};
+ghost use Rattle.l4_explore.specs.Tries.{deepest};
 ghost use Rattle.l4_explore.specs.Views.{next_from};
 
 use crate::found::Found;
+use crate::progress::{Progress, Unheard};
 use crate::tries::{Choice, Tries};
 use std::alloc::{AllocError, Global};
 
-/// What a search has come to.
+/// No search goes deeper.
+pub const DEEPEST: u32 = 1_000_000;
+
+/// What a search has found.
 #[derive(Drop)]
 pub struct Explored {
     /// The states, in the order of their schedules: the shorter ones first, those of one length by
     /// their entries.
     pub found: Found,
-    /// All states that schedules of at most so many entries lead to are among them. Where the
-    /// search is whole, how many entries the longest schedule has.
+    /// `found` has all states that schedules of at most this many entries lead to. If the search is
+    /// whole, this is how many entries the longest schedule has.
     pub depth: usize,
-    /// Whether longer schedules lead to no more.
+    /// Whether longer schedules lead to no more states.
     pub is_whole: bool,
 }
 
-/// The states that schedules of at most so many entries lead to, each once, with the first schedule
-/// that leads there: at most so many states, the first ones.
+/// Finds the first `most` states that schedules of at most `depth` entries lead to. Each is found
+/// once, with the first schedule that leads there. No search goes deeper than 1,000,000 entries.
 ///
 /// `AllocError`: memory was refused.
 pub fn explore<T: Tries>(
@@ -31,6 +36,54 @@ pub fn explore<T: Tries>(
     most: u32,
 ) -> Result<Explored, AllocError>
     requires { 0 < most }
+    ensures explored { IfOk result (λ r.
+        IsExplored (T.state_of tries.now) r.found r.depth r.is_whole) }
+    ensures few { IfOk result (λ r. length r.found ≤ most) }
+    ensures whole { IfOk result (λ r.
+        r.is_whole ≡ true → (r.depth ≡ depth_of r.found) × (r.depth < depth)) }
+    ensures cut { IfOk result (λ r.
+        r.is_whole ≡ false →
+        IsCut (T.state_of tries.now) r.found (min depth deepest) most r.depth) }
+{
+    explore_heard(alloc, tries, depth, most, &mut Unheard)
+}
+
+/// Finds the states that `explore` finds. `progress` hears how far the search has come: once for
+/// each state that the search goes on from, and at last that it has ended.
+///
+/// `AllocError`: memory was refused.
+pub fn explore_heard<T: Tries, P: Progress>(
+    alloc: Global,
+    tries: &T,
+    depth: u32,
+    most: u32,
+    progress: &mut P,
+) -> Result<Explored, AllocError>
+    requires { 0 < most }
+    ensures explored { IfOk result (λ r.
+        IsExplored (T.state_of tries.now) r.found r.depth r.is_whole) }
+    ensures few { IfOk result (λ r. length r.found ≤ most) }
+    ensures whole { IfOk result (λ r.
+        r.is_whole ≡ true → (r.depth ≡ depth_of r.found) × (r.depth < depth)) }
+    ensures cut { IfOk result (λ r.
+        r.is_whole ≡ false →
+        IsCut (T.state_of tries.now) r.found (min depth deepest) most r.depth) }
+{
+    let explored = explore_on(alloc, tries, depth.min(DEEPEST), most, progress);
+    progress.ended();
+    explored
+}
+
+// Goes on from one state after the other.
+fn explore_on<T: Tries, P: Progress>(
+    alloc: Global,
+    tries: &T,
+    depth: u32,
+    most: u32,
+    progress: &mut P,
+) -> Result<Explored, AllocError>
+    requires some { 0 < most }
+    requires short { depth ≤ deepest }
     ensures explored { IfOk result (λ r.
         IsExplored (T.state_of tries.now) r.found r.depth r.is_whole) }
     ensures few { IfOk result (λ r. length r.found ≤ most) }
@@ -50,6 +103,7 @@ pub fn explore<T: Tries>(
                 is_whole: false,
             });
         }
+        progress.looked_at(found.len(), schedule.len());
         if !expand(alloc, tries, &mut found, next, &schedule, most)? {
             return Ok(Explored {
                 found,
@@ -67,7 +121,8 @@ pub fn explore<T: Tries>(
     })
 }
 
-// Goes on from one of them by all its entries. False where there is one state more than are wanted.
+// Goes on from the state at `next` by all its entries. False if there is one state more than are
+// wanted.
 fn expand<T: Tries>(
     alloc: Global,
     tries: &T,
@@ -80,7 +135,7 @@ fn expand<T: Tries>(
     requires inside { next < length found.old }
     requires schedule { schedule.now ≡ (seen_at found.old next).schedule }
     requires few { length found.old ≤ most }
-    requires short { length schedule.now < 2 ^ 32 }
+    requires short { length schedule.now < deepest }
     ensures few { OnOk result (length found.new ≤ most) }
     ensures same { OnOk result ((seen_at found.new next).schedule ≡ schedule.now) }
     ensures near { OnOk result (AreWithin found.new (length schedule.now + 1)) }
@@ -97,7 +152,8 @@ fn expand<T: Tries>(
     Ok(true)
 }
 
-// One entry more from one of them leads to a state. False where it is one more than are wanted.
+// Adds the state that one more entry leads to, unless it was found before. False if it is one more
+// than are wanted.
 fn meet(found: &mut Found, from: usize, choice: Choice, most: u32) -> Result<bool, AllocError>
     requires { from < length found.old }
     ensures { IfOk result (λ more. (found.new, more) ≡ met found.old from most (next_from choice)) }

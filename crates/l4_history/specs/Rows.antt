@@ -1,4 +1,5 @@
--- What the rows of a history tell: its records, the heads of its deliveries, and the words of all of them.
+-- What the rows of a history tell: its records, the heads of its deliveries, and the words of all
+-- of them.
 use Rattle.std.specs.Prelude.{◌≡◌, ℕ, ◌+◌, ◌<◌, ◌≤◌, Option, Some, None, IfSome, List, ◌++◌, length, map, take, drop, slice_get, All}
 use Rattle.l4_history.specs.declared.records.Head.{Head}
 use Rattle.l4_types.specs.declared.step_ref.DeliveryRef.{DeliveryRef}
@@ -20,11 +21,18 @@ HasMore old new = (more : List steps.Step) × (new ≡ old ++ more)
 
 abbrev pub message_of : List ℕ → Head → Message
 message_of words h =
-    record { label = h.label; words = take h.count (drop h.start words); propagated = h.propagated; shown = h.shown; actual = h.actual }
+    record {
+      label = h.label;
+      words = take h.count (drop h.start words);
+      propagated = h.propagated;
+      shown = h.shown;
+      actual = h.actual;
+    }
 
 -- The delivery of a head. No record names a place without one.
 abbrev pub delivery_at : List ℕ → Option Head → steps.Step
-delivery_at words (Some h) = steps.Deliver h.name h.receiver h.shown h.actual (received_tag h.cross (message_of words h)) (take h.count (drop h.start words))
+delivery_at words (Some h) = steps.Deliver h.name h.receiver h.shown h.actual
+    (received_tag h.cross (message_of words h)) (take h.count (drop h.start words))
 delivery_at words None = steps.Local (global_id 0 1)
 
 -- What a history keeps of a step: of a delivery the place of its head.
@@ -46,9 +54,20 @@ pub record IsHeadOf (d : DeliveryRef) (start : ℕ) (h : Head) : Type 0 where
   pub count : h.count ≡ length d.message.words
   pub few : h.count < register_count
   pub label : h.label < label_limit
-  pub delivery : record { name = h.name; receiver = h.receiver; message = record { label = h.label; words = d.message.words; propagated = h.propagated; shown = h.shown; actual = h.actual }; cross = h.cross } ≡ d
+  pub delivery : record {
+    name = h.name;
+    receiver = h.receiver;
+    message = record {
+      label = h.label;
+      words = d.message.words;
+      propagated = h.propagated;
+      shown = h.shown;
+      actual = h.actual;
+    };
+    cross = h.cross;
+  } ≡ d
 
--- A record that names none but the first heads, so many.
+-- A record that names only heads below this number.
 abbrev pub IsRecord : ℕ → Step ℕ → Type 0
 IsRecord heads r = IfSome (delivery_in r) (λ at. at < heads)
 

@@ -115,8 +115,8 @@ impl History {
         Ok(())
     }
 
-    /// Appends a step. It takes no memory: the caller has reserved room. It is inlined, since
-    /// little of it is left where the kind of step is known.
+    /// Appends a step. It takes no memory: the caller has reserved room. Inlined: where the caller
+    /// knows the kind of step, most of the body folds away.
     #[inline(always)]
     pub fn push(&mut self, step: StepRef<'_>)
         requires { 0 < self.old.room }
@@ -145,7 +145,8 @@ impl History {
         self.room -= 1;
     }
 
-    /// Appends a delivery. Its words are copied once, and no larger value moves.
+    /// Appends a delivery. Its words are copied once, straight into the row, and no `Message` is
+    /// built.
     #[inline(always)]
     pub fn push_delivery(&mut self, delivery: &DeliveryRef<'_>)
         requires { 0 < self.old.room }

@@ -6,7 +6,7 @@
 //! itself takes no memory. `Sink` is what takes steps: a history or a plain vector.
 //!
 //! Memory is taken by `reserve`, and by `extend`, `tell`, `from_steps` and `to_steps`, which make
-//! room as they go. How many bytes a step takes stands in no clause.
+//! room as they go. No clause says how many bytes a step takes.
 //!
 //! ```rust
 //! let mut history = History::new(alloc);

@@ -97,8 +97,8 @@ impl<const CAP: usize> Sink for ArrayVec<Step, CAP> {
     }
 }
 
-/// Appends steps one after another, and makes room for each. Where memory is refused, those before
-/// it are appended.
+/// Appends steps one after another, and makes room for each. If memory is refused at a step, the
+/// steps before it stay appended.
 pub fn tell<S: Sink>(sink: &mut S, steps: &[Step]) -> Result<(), NoMemory>
     ensures ok { OnOk result (S.told sink.new ≡ S.told sink.old ++ map step_of steps.now) }
     ensures err { OnErr result (HasMore (S.told sink.old) (S.told sink.new)) }

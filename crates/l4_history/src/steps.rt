@@ -6,7 +6,7 @@ use crate::history::History;
 use l4_types::step_ref::StepRef;
 use std::marker::Model;
 
-/// Goes over steps of a history in order, and moves none.
+/// Iterates over steps of a history in order, without copying their words.
 #[derive(Drop)]
 pub struct Steps<'a> {
     pub(crate) history: &'a History,

@@ -71,7 +71,7 @@ local 1.1
 local 2.1
 ";
 
-// A client turns to whom its message is handed.
+// A client turns to the thread that its message is handed to.
 const HANDED: &str = "l4 2 64
 cpus 1
 thread 1.1 cpu 0 space 1
@@ -253,7 +253,7 @@ const CHARTS: [(&str, &str, &str, &str); 7] = [
     (HANDED, HANDED_TRACE, "80", HANDED_OF_80),
 ];
 
-// Whether the chart of a trace is drawn so.
+// Whether the chart of a trace is drawn as given.
 fn is_drawn<R: AllocGlobal + Threads + Sync>(
     rt: &R,
     text: &str,

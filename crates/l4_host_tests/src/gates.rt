@@ -10,13 +10,13 @@ use std::thread::Threads;
 
 const CPUS: u8 = 16;
 
-// So many turns has each processor in the first round.
+// How many turns each processor has in the first round.
 const SHARE: u64 = 100;
 
 const TURNS: u64 = 1_600;
 
-// Writes the threads of a processor: one that calls the server of the next one, a server, and one
-// that cancels what goes on two processors further and calls the server there.
+// Writes the three threads of a processor. One calls the server of the next processor, and one is a
+// server. The third cancels what goes on two processors further, and calls the server there.
 fn write_threads(text: &mut String, cpu: u8) -> Result<(), AllocError> {
     let cpu = u32::from(cpu);
     let next = 100 + (cpu + 1) % 16;
@@ -102,8 +102,8 @@ fn one_is_stopped_at_every_turn(rt: HostRuntime) {
     }
 }
 
-// Lets one processor take its share alone. The others may begin when it has tried its last turn, or
-// finds nothing and tries a turn again.
+// Lets one processor take its share alone. The others may begin when this processor has tried its
+// last turn, or has found nothing to do and tries a turn again.
 #[derive(Drop)]
 struct Alone {
     cpu: u8,
@@ -124,7 +124,7 @@ impl Gate for Alone {
     }
 }
 
-// Whether nobody has looked in vain where a processor has its share alone.
+// Whether nobody has looked in vain if a processor has its share alone.
 fn has_share_alone<R: AllocGlobal + Threads + Sync>(rt: &R, text: &str, cpu: u8) -> bool {
     let gate = Alone {
         cpu,
@@ -144,7 +144,7 @@ fn each_has_its_share_alone_first(rt: HostRuntime) {
 }
 
 // Lets the processors take one turn after the other, at odd turns in the order of their numbers, at
-// even ones against it. One that has nothing to do is not waited for.
+// even turns in reverse. A processor that has nothing to do is not waited for.
 #[derive(Drop)]
 struct Reversed {
     place: AtomicU64,

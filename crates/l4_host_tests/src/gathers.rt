@@ -40,8 +40,8 @@ thread 3.1 cpu 2 space 1
 jump 0
 ";
 
-// Lets a processor take this many turns, by a second call where memory was refused. Returns whether
-// it has taken all.
+// Lets a processor take this many turns, by a second call if memory was refused. Returns whether it
+// has taken all.
 fn takes<R: Print>(rt: &R, processor: &mut Processor<'_>, turns: u64) -> bool
     ensures { HasGoneOn processor.old processor.new }
 {
@@ -59,8 +59,8 @@ fn takes<R: Print>(rt: &R, processor: &mut Processor<'_>, turns: u64) -> bool
     whole && stop == Stop::Used
 }
 
-/// The processors of a machine, which have taken turns one after the other: each time a number of
-/// one of them. None where one does not take as many.
+/// The processors of a machine after each share of `shares` in turn: the processor of this place
+/// takes this many turns. None if it does not take as many.
 pub(crate) fn worked<'m, R: AllocGlobal + Print>(
     rt: &R,
     machine: &'m Machine,
@@ -84,7 +84,7 @@ pub(crate) fn worked<'m, R: AllocGlobal + Print>(
     Some(processors)
 }
 
-/// Their outcome, by a second call where memory was refused.
+/// The outcome of processors, by a second call if memory was refused.
 pub(crate) fn gathered_again<R: AllocGlobal + Print>(
     rt: &R,
     machine: &Machine,
@@ -102,7 +102,7 @@ pub(crate) fn gathered_again<R: AllocGlobal + Print>(
     }
 }
 
-// The fault without the last of them, and those that come back.
+// The fault if the last processor is missing, and the processors that come back.
 fn gathered_without_last<'m>(
     alloc: Global,
     machine: &Machine,
@@ -122,7 +122,7 @@ fn has_trace(alloc: Global, outcome: &Outcome, lines: &str) -> bool {
     }
 }
 
-// Whether it has this report.
+// Whether an outcome has this report.
 fn has_report(alloc: Global, outcome: &Outcome, report: &str) -> bool {
     let mut reported = Vec::new(alloc);
     let threads = outcome.threads.as_slice();
@@ -163,8 +163,8 @@ fn two_logs_make_one_history(rt: HostRuntime) {
     assert!(rt; come_to(&rt, ACROSS, 64, &shares, (lines, report, 8)) == Some(true));
 }
 
-// There is room for one letter between the two: the others wait in the outbox. Two sends and one
-// answer are under way.
+// The ring between the two processors has room for one letter: the others wait in the outbox. Two
+// sends and one answer are under way.
 #[test]
 fn full_rings_hold_nothing_back(rt: HostRuntime) {
     let lines =
@@ -194,8 +194,8 @@ fn come_back<R: AllocGlobal + Print>(rt: &R, machine: &Machine) -> Option<bool> 
     Some(fault == RunFault::Strangers && are_two(back.as_slice()))
 }
 
-// None of them is there; then the last of three is missing: the two others come back in their
-// order, with all that they did. That one is there twice is ruled out by ownership, since no
+// First no processor is there; then the last of three is missing. The two others come back in their
+// order, with all that they did. Ownership rules out that a processor is there twice, since no
 // processor can be copied.
 #[test]
 fn one_of_them_is_missing(rt: HostRuntime) {

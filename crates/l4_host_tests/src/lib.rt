@@ -1,11 +1,11 @@
-//! Tests of whole machines, of processors at work, and of the program where a stream fails or
-//! memory is refused.
+//! Tests of whole machines, of processors at work, and of the program if a stream fails or memory
+//! is refused.
 //!
 //! Processors work one after the other in the hand of a caller, or each on a host thread of its
-//! own. Gates hold some of them back. Which history comes is up to the host, so a test looks for
-//! what each must have: it passes its audit, which finds what the outcome has. `streams` has reads
-//! and writes that fail, `refused` calls in which bench/refusals.sh refuses memory, `charts` what a
-//! terminal shows.
+//! own. Gates hold some of them back. The host decides which history a run takes, so a test looks
+//! for what each must have. The history passes its audit, and the audit finds what the outcome
+//! reports. `streams` has reads and writes that fail, `refused` calls in which bench/refusals.sh
+//! refuses memory, `charts` what a terminal shows.
 //!
 //! No clause says that several host threads are at work, that they do not wait, or that memory
 //! suffices: these tests show it. crates.txt gives them threads, and no leave to wait for one.

@@ -1,6 +1,6 @@
 // Processors in threads of the caller that may not wait. crates.txt gives this crate threads, and
-// no leave to wait for one: that the prover takes it shows that no call of theirs waits, which is
-// in no clause.
+// no leave to wait for one. That the prover accepts the crate shows that no call of these threads
+// waits, which no clause says.
 ghost use Rattle.std.specs.Prelude.{ℕ, ◌≡◌, length, slice_get, Some};
 ghost use Rattle.l4_proc.specs.Working.{HasGoneOn};
 ghost use Rattle.l4_proc.specs.declared.processor.Processor.{Processor as ProcessorOfMachine};
@@ -15,7 +15,7 @@ use std::test::Fail;
 use std::thread;
 use std::thread::Threads;
 
-// A hundred calls, none of which waits.
+// Makes a hundred calls, none of which waits.
 fn work_on(processor: &mut Processor<'_>)
     ensures { HasGoneOn processor.old processor.new }
 {
@@ -25,8 +25,8 @@ fn work_on(processor: &mut Processor<'_>)
     }
 }
 
-// The first half of the processors does so in one thread, the second half in another: of two, each
-// in a thread of its own.
+// Makes these calls for the first half of the processors in one thread, and for the second half in
+// another. Of two processors, each is in a thread of its own.
 fn all_work_on<R: Threads + Sync>(rt: &R, processors: &mut [Processor<'_>])
     ensures for_each { length processors.new ≡ length processors.old }
     ensures each { (i : ℕ) (old new : ProcessorOfMachine) → slice_get processors.old i ≡ Some old → slice_get processors.new i ≡ Some new → HasGoneOn old new }
@@ -41,7 +41,7 @@ fn all_work_on<R: Threads + Sync>(rt: &R, processors: &mut [Processor<'_>])
     );
 }
 
-// How many turns two processors have taken, where they stand in their order and each has taken one.
+// How many turns two processors have taken, if they stand in their order and each has taken one.
 fn turns_of_both(processors: &[Processor<'_>]) -> Option<u64> {
     if processors.len() != 2 || processors[0].cpu() != 0 || processors[1].cpu() != 1 {
         return None;
@@ -53,7 +53,8 @@ fn turns_of_both(processors: &[Processor<'_>]) -> Option<u64> {
     first.checked_add(second)
 }
 
-// Whatever the other one does, each comes back, and their steps are a history of the machine.
+// Each processor comes back, whatever the other one does, and their steps are a history of the
+// machine.
 #[test]
 fn without_wait(rt: HostRuntime) -> Result<(), Fail> {
     let machine = machine_of(rt.alloc(), CALLS).expect(&rt, "a machine");

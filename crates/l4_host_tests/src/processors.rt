@@ -37,12 +37,12 @@ pub(crate) fn has_stamps(log: &Log, stamps: &[u64]) -> bool
     true
 }
 
-// Whether a processor takes as many turns as it may.
+// Whether a processor takes this many turns.
 fn uses_up(processor: &mut Processor<'_>, turns: u64) -> bool {
     processor.work(turns, &Open) == Stop::Used
 }
 
-// Whether it finds nothing to do before it has taken as many.
+// Whether a processor finds nothing to do before it has taken this many turns.
 fn is_idle(processor: &mut Processor<'_>, turns: u64) -> bool {
     processor.work(turns, &Open) == Stop::Idle
 }
@@ -79,15 +79,15 @@ fn has_crossed(alloc: Global) -> Option<bool> {
     Some(have_worked && are_done)
 }
 
-// Two letters: the send, and that it was delivered. The receiver waits, the send goes, it is
-// delivered, the sender learns of it, and both end. A processor that takes no letter, or that never
-// moves one on, keeps all contracts.
+// Two letters: the send, and that it was delivered. The receiver waits, the send goes and is
+// delivered, the sender learns of it, and both threads end. No contract forbids a processor that
+// takes no letter, or that never moves one on.
 #[test]
 fn a_message_crosses(rt: HostRuntime) {
     assert!(rt; has_crossed(rt.alloc()) == Some(true));
 }
 
-// Whether its clock advances to five, which is no turn.
+// Whether the clock of a processor advances to five, which is no turn.
 fn ticks_to_five(processor: &mut Processor<'_>) -> bool {
     processor.core().least_deadline() == Some(5)
         && processor.tick(0).is_err()
@@ -131,9 +131,9 @@ fn meet<R: AllocGlobal + Threads + Sync>(rt: &R, cpus: u8) -> Option<bool> {
     Some(gate.was_kept() && have_taken_ten(processors.as_slice(), cpus))
 }
 
-// Each has a thread that goes on for ever, and they meet while each takes ten turns. No clause says
-// that host threads run side by side: where they do not, the looks of a gate that waits for all run
-// out.
+// Each processor has a thread that goes on for ever, and the processors meet while each takes ten
+// turns. No clause says that host threads run side by side. If they do not, the looks of a gate
+// that waits for all run out.
 #[test]
 fn processors_are_at_work_at_the_same_time(rt: HostRuntime) {
     for cpus in [2, 16] {
@@ -171,7 +171,7 @@ fn a_message_crosses_between_threads(rt: HostRuntime) {
     assert!(rt; crosses_between_threads(&rt) == Some(true));
 }
 
-/// Whether the processor at this place takes turns until it finds nothing.
+/// Whether the processor at this place takes turns until it finds nothing to do.
 pub(crate) fn runs_idle(processors: &mut Vec<Processor<'_>>, at: usize) -> bool
     requires { AreOneFabric (map (λ p. p.port) processors.old.items) }
     ensures { AreOneFabric (map (λ p. p.port) processors.new.items) }

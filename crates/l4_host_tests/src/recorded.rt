@@ -1,5 +1,5 @@
-// Runs that are recorded, and their replays. Memory may be refused to the call that records: it is
-// made again then.
+// Runs that are recorded, and their replays. If memory is refused to the call that records, the
+// call is made again.
 use l4_jobs::job::{Extras, Job, Printed, Recording};
 use l4_jobs::perform::perform;
 use l4_jobs::recording::perform_recorded;
@@ -23,18 +23,21 @@ const RECORDING: Recording<'static> = Recording {
     turns: 100,
     printed: ALL,
     name: "m.list",
+    expected: None,
 };
 
 const AGAIN: Job<'static> = Job::Replay {
     file: "m.l4",
     schedule: "@m.list",
+    then_rest: None,
     printed: ALL,
+    expected: None,
 };
 
-// A text that has no such line.
+// A faulty text: no line of a machine text is `walk`.
 const WALK: &str = "l4 1 64\ncpus 1\nwalk\n";
 
-// Takes nothing.
+// A writer that takes nothing.
 #[derive(Drop)]
 struct Full;
 
@@ -68,8 +71,8 @@ fn run<R: AllocGlobal + Threads + Sync, L: Sink>(
     )
 }
 
-// The list and the trace of a run, by a second call where memory was refused: then nothing is
-// written. The writers have room for all that may be written, so that they need none.
+// The record and the trace of a run, by a second call if memory was refused. The refused call
+// writes nothing. The writers have room for all that may be written, so they need no memory.
 fn recorded<R: AllocGlobal + Threads + Sync + Print>(rt: &R) -> Option<(Vec<u8>, Vec<u8>)> {
     let mut record = Vec::with_capacity(rt.alloc(), 1_000).ok()?;
     let mut out = Vec::with_capacity(rt.alloc(), 1_000).ok()?;
@@ -88,7 +91,7 @@ fn recorded<R: AllocGlobal + Threads + Sync + Print>(rt: &R) -> Option<(Vec<u8>,
     (status == 0 && faults.is_empty()).then_some((record, out))
 }
 
-// The replay of a list prints what the run printed that it was recorded of.
+// The replay of a record prints what the recorded run printed.
 #[test]
 fn a_recorded_run_is_replayed(rt: HostRuntime) {
     let (record, trace) = recorded(&rt).expect(&rt, "a record");

@@ -1,5 +1,5 @@
 // Calls on whole machines and processors, and on the program, to which memory may be refused. Each
-// call is made, and made again where memory was refused: the second gives what the first would have
+// call is made, and made again if memory was refused: the second gives what the first would have
 // given. The work of processors and their outcome, which may be refused too, are tested by their
 // rows.
 ghost use Rattle.std.specs.Prelude.{IfOk, OnOk, map};
@@ -13,8 +13,13 @@ use crate::runs::{is_right, machine_of};
 use l4_audit::audit::{Audit, AuditFault, check};
 use l4_audit::auditor::Auditor;
 use l4_endings::{FoundEndings, endings};
-use l4_jobs::job::{ChartForm, ChartJob, EndingsJob, Extras, Job, Judged, Printed};
+use l4_explore::progress::Unheard;
+use l4_jobs::expecting::perform_expected;
+use l4_jobs::job::{
+    ChartForm, ChartJob, Course, EndingsJob, Expecting, Extras, Job, Judged, ListLint, Printed,
+};
 use l4_jobs::lints::perform_lint;
+use l4_jobs::list_lints::perform_list_lint;
 use l4_jobs::perform::perform;
 use l4_jobs::words::{WordsFault, job_of};
 use l4_machine::{Entry, Outcome, RunFault, Walk, replay, run};
@@ -36,10 +41,10 @@ use std::thread::Threads;
 const REPORT: &str =
     "thread 1.1 ended 0 nil nil 0 a\nthread 2.1 ended 0 1.1 1.1 74001 a\nending quiet\n";
 
-// A turn in which there is nothing to do is none.
+// The entries of a replay. A turn in which there is nothing to do does not count.
 const SCHEDULE: [u8; 11] = [1, 1, 0, 0, 0, 1, 0, 0, 1, 0, 1];
 
-// The processors of a machine, made again where memory was refused.
+// The processors of a machine, made again if memory was refused.
 fn assembled<'m, R: AllocGlobal + Print>(
     rt: &R,
     machine: &'m Machine,
@@ -73,8 +78,8 @@ fn processors_are_assembled(rt: HostRuntime) {
     assert!(rt; are_fresh(processors.as_slice()));
 }
 
-// Whether the clock of a processor advances, by a second call where memory was refused. A tick that
-// is refused changes nothing.
+// Whether the clock of a processor advances, by a second call if memory was refused. A tick that is
+// refused changes nothing.
 fn is_ticked<R: Print>(rt: &R, processor: &mut Processor<'_>, to: u64) -> bool {
     let clock = processor.core().clock();
     let events = processor.log().len();
@@ -91,7 +96,7 @@ fn is_ticked<R: Print>(rt: &R, processor: &mut Processor<'_>, to: u64) -> bool {
     }
 }
 
-// It advances 19 times, and the one thread of the processor then begins to wait.
+// Whether the clock has advanced 19 times, and the one thread of the processor then begins to wait.
 fn begins_to_wait(processor: &mut Processor<'_>) -> bool {
     processor.work(2, &Open) == Stop::Idle && processor.turns() == 1 && processor.log().len() == 20
 }
@@ -108,7 +113,7 @@ fn a_clock_goes_on(rt: HostRuntime) {
     assert!(rt; begins_to_wait(&mut processor));
 }
 
-// Whether letters were brought to rest, by a second call where memory was refused.
+// Whether letters were brought to rest, by a second call if memory was refused.
 fn rested<R: AllocGlobal + Abort + Print>(
     rt: &R,
     processors: &mut Vec<Processor<'_>>,
@@ -128,7 +133,7 @@ fn rested<R: AllocGlobal + Abort + Print>(
     }
 }
 
-// Whether letters come to rest once the processors are idle. There are none at first.
+// Whether letters come to rest once the processors are idle. There are no letters at first.
 fn come_to_rest<R: AllocGlobal + Abort + Print>(rt: &R, processors: &mut Vec<Processor<'_>>) -> bool
     requires { AreOneFabric (map (λ p. p.port) processors.old.items) }
     ensures { AreOneFabric (map (λ p. p.port) processors.new.items) }
@@ -148,7 +153,7 @@ fn drop_last(processors: &mut Vec<Processor<'_>>)
     let _last = processors.pop();
 }
 
-// Whether the last one of two is missed.
+// Whether the call notices that the last of two processors is missing.
 fn is_missed(alloc: Global, processors: &mut Vec<Processor<'_>>) -> bool
     requires { AreOneFabric (map (λ p. p.port) processors.old.items) }
 {
@@ -167,7 +172,7 @@ fn letters_come_to_rest(rt: HostRuntime) {
     assert!(rt; is_missed(rt.alloc(), &mut processors));
 }
 
-// The outcome of a run, by a second call where memory was refused.
+// The outcome of a run, by a second call if memory was refused.
 fn ran<R: AllocGlobal + Threads + Sync + Print>(
     rt: &R,
     machine: &Machine,
@@ -190,7 +195,7 @@ fn a_machine_runs(rt: HostRuntime) {
     assert!(rt; outcome.waiting.is_empty());
 }
 
-// The outcome of the replay of the schedule, by a second call where memory was refused.
+// The outcome of the replay of the schedule, by a second call if memory was refused.
 fn replayed<R: AllocGlobal + Print>(rt: &R, machine: &Machine) -> Result<Outcome, RunFault> {
     call_begins(rt, "replay");
     let told = replay(rt.alloc(), machine, &SCHEDULE);
@@ -224,7 +229,7 @@ fn walked<'m>(alloc: Global, machine: &'m Machine) -> Result<Walk<'m>, NoMemory>
     Ok(walk)
 }
 
-// Such a run, made anew where memory was refused.
+// The core run of `walked`, made anew if memory was refused.
 fn walked_again<'m, R: AllocGlobal + Print>(
     rt: &R,
     machine: &'m Machine,
@@ -240,7 +245,7 @@ fn walked_again<'m, R: AllocGlobal + Print>(
     }
 }
 
-// Whether it has come to rest in as many events as the replay.
+// Whether that core run has come to rest in as many events as the replay.
 fn has_come_to_rest<R: AllocGlobal + Print>(rt: &R, machine: &Machine) -> bool {
     match walked_again(rt, machine) {
         Ok(walk) => walk.events() == 8 && walk.is_at_rest(),
@@ -254,7 +259,7 @@ fn a_core_run_goes_on(rt: HostRuntime) {
     assert!(rt; has_come_to_rest(&rt, &machine));
 }
 
-// What the audit of its history finds, by a second call where memory was refused.
+// What the audit of a history finds, by a second call if memory was refused.
 fn audited<R: AllocGlobal + Print>(
     rt: &R,
     machine: &Machine,
@@ -286,7 +291,7 @@ fn a_schedule_is_replayed_and_audited(rt: HostRuntime) {
     assert!(rt; is_confirmed(&outcome, &audit));
 }
 
-// The steps that are possible, listed again where memory was refused.
+// The steps that are possible, listed again if memory was refused.
 fn listed<R: AllocGlobal + Print>(rt: &R, auditor: &Auditor<'_>) -> Result<Vec<Step>, NoMemory> {
     call_begins(rt, "possible");
     let steps = auditor.possible(rt.alloc());
@@ -297,7 +302,7 @@ fn listed<R: AllocGlobal + Print>(rt: &R, auditor: &Auditor<'_>) -> Result<Vec<S
     }
 }
 
-// How many steps are possible, where this is one of them.
+// How many steps are possible, if this step is one of them.
 fn possible_beside<R: AllocGlobal + Print>(
     rt: &R,
     auditor: &Auditor<'_>,
@@ -326,7 +331,7 @@ fn possible_steps_are_listed(rt: HostRuntime) {
     assert!(rt; left.is_empty());
 }
 
-// The endings of a machine, looked for again where memory was refused.
+// The endings of a machine, looked for again if memory was refused.
 fn searched<R: AllocGlobal + Print>(rt: &R, machine: &Machine) -> Result<FoundEndings, NoMemory> {
     call_begins(rt, "endings");
     let found = endings(rt.alloc(), machine, 100, 100);
@@ -344,7 +349,7 @@ fn endings_are_looked_for(rt: HostRuntime) {
     assert!(rt; found.is_whole && found.states == 7 && found.endings.len() == 1);
 }
 
-// What words of a command line ask for, read again where memory was refused.
+// What words of a command line ask for, read again if memory was refused.
 fn asked<'a, R: AllocGlobal + Print>(rt: &R, words: &'a [&'a str]) -> Result<Job<'a>, WordsFault> {
     call_begins(rt, "job_of");
     let read = job_of(rt.alloc(), words);
@@ -375,6 +380,7 @@ const RUN: Job<'static> = Job::Run {
     turns: 100,
     printed: TRACE,
     record_to: None,
+    expected: None,
 };
 
 const REPORTED: Job<'static> = Job::Run {
@@ -385,6 +391,7 @@ const REPORTED: Job<'static> = Job::Run {
         extras: NOTHING_MORE,
     },
     record_to: None,
+    expected: None,
 };
 
 const WITH_ALL: Job<'static> = Job::Run {
@@ -395,18 +402,31 @@ const WITH_ALL: Job<'static> = Job::Run {
         extras: ALL,
     },
     record_to: None,
+    expected: None,
 };
 
 const REPLAY: Job<'static> = Job::Replay {
     file: "m.l4",
     schedule: "1,0,0,0,1,0,0,1",
+    then_rest: None,
     printed: TRACE,
+    expected: None,
+};
+
+const GONE_ON: Job<'static> = Job::Replay {
+    file: "m.l4",
+    schedule: "1,0,0,0,1,0,0",
+    then_rest: Some(100),
+    printed: TRACE,
+    expected: None,
 };
 
 const FROM_FILE: Job<'static> = Job::Replay {
     file: "m.l4",
     schedule: "@m.list",
+    then_rest: None,
     printed: TRACE,
+    expected: None,
 };
 
 const AUDIT: Job<'static> = Job::Audit {
@@ -454,7 +474,7 @@ counts 1.1 turns 3 sends 1 delivered 0 received 0 refused 2:0 3:0 4:0 5:0 6:0 7:
 counts 2.1 turns 1 sends 0 delivered 0 received 0 refused 2:0 3:0 4:0 5:0 6:0 7:0
 ";
 
-// The same with the report behind the line.
+// The line of that audit, and the report behind it.
 const PING_WORLD: &str = "passed 5 spent
 thread 1.1 sending 0 nil nil 70001 a
 thread 2.1 receiving 0 nil nil 0
@@ -517,6 +537,8 @@ const ENDINGS: Job<'static> = Job::Endings(EndingsJob {
     with_line: Some("thread 2.1 ended .."),
     never: Some("waiting .."),
     none: false,
+    waits: false,
+    expected: None,
 });
 
 const PING_ENDINGS: &str = "ending 1 c0,c0,c0,c0,c0,c0
@@ -577,9 +599,9 @@ fn done<R: AllocGlobal + Threads + Sync>(
     perform(rt, rt.alloc(), job, &mut machine, &mut trace, out, faults)
 }
 
-// Whether a job has this output and this fault, by a second call where memory was refused: then it
-// has said so, and has written nothing else; or all of its output, where the line of its fault was
-// refused behind it. The writers have room for all that may be written, so that they need none.
+// Whether a job has this output and this fault, by a second call if memory was refused. The refused
+// call says so and writes nothing else. Or it writes all of its output, if only the line of its
+// fault was refused. The writers have room for all that may be written, so they need no memory.
 fn is_performed<R: AllocGlobal + Threads + Sync + Print>(
     rt: &R,
     job: &Job<'_>,
@@ -614,6 +636,7 @@ fn jobs_are_performed(rt: HostRuntime) {
         (REPORTED, PING, "", PING_REPORT),
         (WITH_ALL, PING, "", PING_REPORT_WITH_ALL),
         (REPLAY, ACROSS, "", ACROSS_TRACE),
+        (GONE_ON, ACROSS, "", ACROSS_TRACE),
         (
             FROM_FILE,
             ACROSS,
@@ -640,22 +663,157 @@ fn refused_steps_are_explained(rt: HostRuntime) {
     }
 }
 
-// Whether the lint of a text has this status and output, by a second call where memory was refused:
-// then it has said so, and has written nothing else.
-fn is_linted<R: AllocGlobal + Print>(rt: &R, text: &str, status: u8, wanted: &str) -> Option<bool> {
+// A run, and the endings of a text, of which something is expected.
+const RUN_EXPECTED: Expecting<'static> = Expecting {
+    file: "m.l4",
+    course: Course::Run {
+        turns: 100,
+        printed: Printed {
+            report: true,
+            extras: NOTHING_MORE,
+        },
+    },
+    name: "m.expected",
+};
+
+const ENDINGS_EXPECTED: Expecting<'static> = Expecting {
+    file: "m.l4",
+    course: Course::Endings(EndingsJob {
+        file: "m.l4",
+        depth: 100,
+        states: 100,
+        stuck: false,
+        with_line: None,
+        never: None,
+        none: false,
+        waits: true,
+        expected: Some("m.expected"),
+    }),
+    name: "m.expected",
+};
+
+const NEVER_QUIET: &str = "line 1: never: ending quiet; found: ending quiet\n";
+
+const NO_ENDING_QUIET: &str = "ending 1 c0,c0,c0,c0,c0,c0
+line 1: never: ending quiet; found: ending quiet
+";
+
+// Judges what is expected of a job on a text. Returns the status.
+fn judged<R: AllocGlobal + Threads + Sync>(
+    rt: &R,
+    expecting: &Expecting<'_>,
+    expected: &str,
+    out: &mut Vec<u8>,
+    faults: &mut Vec<u8>,
+) -> u8 {
+    let (mut machine, mut list, mut lines) = (PING.as_bytes(), "".as_bytes(), expected.as_bytes());
+    perform_expected(
+        rt,
+        rt.alloc(),
+        expecting,
+        &mut machine,
+        &mut list,
+        &mut lines,
+        out,
+        faults,
+        &mut Unheard,
+    )
+}
+
+// Whether a job has this status and output, and tells this of what is expected, by a second call if
+// memory was refused. The refused call says so and writes nothing else.
+fn is_judged<R: AllocGlobal + Threads + Sync + Print>(
+    rt: &R,
+    expecting: &Expecting<'_>,
+    expected: &str,
+    status: u8,
+    wanted: &str,
+    unmet: &str,
+) -> Option<bool> {
     let mut out = Vec::with_capacity(rt.alloc(), 1_000).ok()?;
     let mut faults = Vec::with_capacity(rt.alloc(), 1_000).ok()?;
-    let mut machine = text.as_bytes();
-    call_begins(rt, "perform_lint");
-    let mut ended = perform_lint(rt.alloc(), "m.l4", &mut machine, &mut out, &mut faults);
+    call_begins(rt, "perform_expected");
+    let mut ended = judged(rt, expecting, expected, &mut out, &mut faults);
+    call_ends(rt);
+    if faults.as_slice() == b"l4run: no memory\n".as_slice() {
+        if !out.is_empty() {
+            return None;
+        }
+        faults.clear();
+        ended = judged(rt, expecting, expected, &mut out, &mut faults);
+    }
+    let is_wanted = out.as_slice() == wanted.as_bytes() && faults.as_slice() == unmet.as_bytes();
+    Some(ended == status && is_wanted)
+}
+
+#[test]
+fn expectations_are_judged(rt: HostRuntime) {
+    for (expecting, expected, status, wanted, unmet) in [
+        (RUN_EXPECTED, "thread 2.1 ended ..\n", 0, PING_REPORT, ""),
+        (
+            RUN_EXPECTED,
+            "never ending quiet\n",
+            4,
+            PING_REPORT,
+            NEVER_QUIET,
+        ),
+        (
+            ENDINGS_EXPECTED,
+            "never ending quiet\n",
+            4,
+            PING_ENDINGS,
+            NO_ENDING_QUIET,
+        ),
+    ] {
+        let is_judged = is_judged(&rt, &expecting, expected, status, wanted, unmet);
+        assert!(rt; is_judged == Some(true), "{wanted}");
+    }
+}
+
+// Says what is wrong with a text, and with a list for it. Returns the status.
+fn linted<R: AllocGlobal>(
+    rt: &R,
+    text: &str,
+    schedule: Option<&str>,
+    out: &mut Vec<u8>,
+    faults: &mut Vec<u8>,
+) -> u8 {
+    let (mut machine, mut list) = (text.as_bytes(), "".as_bytes());
+    let Some(schedule) = schedule else {
+        return perform_lint(rt.alloc(), "m.l4", &mut machine, out, faults);
+    };
+    let lint = ListLint {
+        file: "m.l4",
+        schedule,
+    };
+    perform_list_lint(rt.alloc(), &lint, &mut machine, &mut list, out, faults)
+}
+
+// Whether the lint of a text, and of a list for it, has this status and output, by a second call if
+// memory was refused. The refused call says so and writes nothing else.
+fn is_linted<R: AllocGlobal + Print>(
+    rt: &R,
+    text: &str,
+    schedule: Option<&str>,
+    status: u8,
+    wanted: &str,
+) -> Option<bool> {
+    let mut out = Vec::with_capacity(rt.alloc(), 1_000).ok()?;
+    let mut faults = Vec::with_capacity(rt.alloc(), 1_000).ok()?;
+    let call = if schedule.is_some() {
+        "perform_list_lint"
+    } else {
+        "perform_lint"
+    };
+    call_begins(rt, call);
+    let mut ended = linted(rt, text, schedule, &mut out, &mut faults);
     call_ends(rt);
     if !faults.is_empty() {
         if faults.as_slice() != b"l4run: no memory\n".as_slice() || !out.is_empty() {
             return None;
         }
         faults.clear();
-        machine = text.as_bytes();
-        ended = perform_lint(rt.alloc(), "m.l4", &mut machine, &mut out, &mut faults);
+        ended = linted(rt, text, schedule, &mut out, &mut faults);
     }
     Some(ended == status && faults.is_empty() && out.as_slice() == wanted.as_bytes())
 }
@@ -664,6 +822,16 @@ fn is_linted<R: AllocGlobal + Print>(rt: &R, text: &str, status: u8, wanted: &st
 fn texts_are_linted(rt: HostRuntime) {
     let faulty = "l4 1 64\ncpus 1\nthread 1.1 cpu 0 space 1\nset 64 10\nend\n";
     let fault = "line 4 column 5: BadNumber: `64`: wanted: a register, 1 to 63\n";
-    assert!(rt; is_linted(&rt, faulty, 1, fault) == Some(true));
-    assert!(rt; is_linted(&rt, PING, 0, "") == Some(true));
+    let doubtful = "l4 1 64\ncpus 1\nthread 1.1 cpu 0 space 1\nipc 3.1 nil never never\n";
+    let doubt = "line 4 column 5: perhaps: `3.1`: no thread has this id\n";
+    let item = "schedule item 2: `2`: wanted: a processor, below the number of the cpus line\n";
+    for (text, schedule, status, wanted) in [
+        (faulty, None, 1, fault),
+        (doubtful, None, 0, doubt),
+        (PING, None, 0, ""),
+        (PING, Some("0,2"), 1, item),
+    ] {
+        let is_linted = is_linted(&rt, text, schedule, status, wanted);
+        assert!(rt; is_linted == Some(true), "{wanted}");
+    }
 }

@@ -1,5 +1,5 @@
-// Processors whose rings have each room from 1 to 64, and which take turns in an order that nobody
-// planned. Whatever room there is, their steps are a history of the machine.
+// Processors that take turns in an order that nobody planned, with each room of their rings from 1
+// to 64. Whatever room there is, their steps are a history of the machine.
 ghost use Rattle.std.specs.Prelude.{◌<◌, ◌≤◌, IfSome};
 ghost use Rattle.l4_machine.specs.Gathers.{AreOfOne};
 ghost use Rattle.l4_mail.specs.Fabrics.{most_room};
@@ -17,7 +17,7 @@ const CALLS: u64 = 400;
 
 const MOST_TURNS: u64 = 8;
 
-// The next one of numbers without a plan (an xorshift generator).
+// The next pseudo-random number (xorshift).
 fn next(number: u64) -> u64 {
     let number = number ^ (number << 13);
     let number = number ^ (number >> 7);
@@ -49,7 +49,7 @@ fn mixed<'m, R: AllocGlobal>(
     Some(processors)
 }
 
-// Whether with rings of this room their steps are a history.
+// Whether the steps of processors with rings of this room are a history.
 fn come_to_a_history<R: AllocGlobal + Print>(rt: &R, machine: &Machine, room: usize) -> Option<bool>
     requires { (0 < room) × (room ≤ most_room) }
 {

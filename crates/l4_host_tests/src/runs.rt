@@ -1,6 +1,6 @@
-// Runs of several processors, each in a host thread of its own. Which of its histories such a
-// machine has is up to the host's threads, so the tests look for what each run must have. Where no
-// letter goes between processors there is only one: such runs are cases.
+// Runs of several processors, each in a host thread of its own. The host's threads decide which of
+// its histories such a machine has, so the tests look for what each run must have. If no letter
+// goes between processors, there is only one history: such runs are cases.
 use crate::gathers::has;
 use l4_audit::audit::check;
 use l4_machine::{Outcome, run};
@@ -19,7 +19,7 @@ pub(crate) fn machine_of(alloc: Global, text: &str) -> Option<Machine> {
     Machine::parse(alloc, text.as_bytes()).ok()
 }
 
-/// The outcome of a run, where it has what every run must have.
+/// The outcome of a run, if it has what every run must have.
 pub(crate) fn comes_to<R: AllocGlobal + Threads + Sync, G: Gate + Sync>(
     rt: &R,
     text: &str,
@@ -34,8 +34,8 @@ pub(crate) fn comes_to<R: AllocGlobal + Threads + Sync, G: Gate + Sync>(
     Some(outcome)
 }
 
-/// Whether the history of an outcome is one of the machine, which leads to the threads and the
-/// sends that it reports, and if it is quiet, to a still world.
+/// Whether the history of an outcome is one of the machine, and leads to the threads and sends that
+/// the outcome reports. If the outcome is quiet, the history leads to a still world.
 pub(crate) fn passes(alloc: Global, machine: &Machine, outcome: &Outcome) -> bool {
     let Ok(audit) = check(alloc, machine, outcome.history.as_slice()) else {
         return false;
@@ -45,8 +45,8 @@ pub(crate) fn passes(alloc: Global, machine: &Machine, outcome: &Outcome) -> boo
         && (outcome.ending == Ending::Spent || audit.ending == Ending::Quiet)
 }
 
-/// Whether an outcome of a run of this many turns has what every one must have: it passes, and
-/// unless it has come to rest it has used up its turns, with at most one more for each other
+/// Whether an outcome of a run of this many turns has what every outcome must have. It passes.
+/// Unless the run has come to rest, it has used up its turns, with at most one more for each other
 /// processor.
 pub(crate) fn is_right(alloc: Global, machine: &Machine, turns: u64, outcome: &Outcome) -> bool {
     passes(alloc, machine, outcome)
@@ -86,7 +86,7 @@ impl Meeting {
         self.missed.fetch_add(1, Ordering::SeqCst);
     }
 
-    /// Whether all came to both meetings, and nobody waited in vain.
+    /// Whether all processors came to both meetings, and nobody waited in vain.
     pub(crate) fn was_kept(&self) -> bool {
         self.missed.load(Ordering::SeqCst) == 0
             && self.first.load(Ordering::SeqCst) == self.cpus
@@ -114,8 +114,8 @@ fn meet<R: AllocGlobal + Threads + Sync>(rt: &R, cpus: u8) -> Option<bool> {
     Some(outcome.turns == turns && outcome.ending == Ending::Spent && gate.was_kept())
 }
 
-// No clause says that host threads run side by side: where they do not, the looks of a gate that
-// waits for all run out.
+// No clause says that host threads run side by side. If they do not, the looks of a gate that waits
+// for all run out.
 #[test]
 fn both_at_work(rt: HostRuntime) {
     for cpus in [2, 16] {
@@ -123,8 +123,8 @@ fn both_at_work(rt: HostRuntime) {
     }
 }
 
-// Notes the last turn of each of four processors, how often each was asked for again, and how often
-// a turn was left out or fell back.
+// Notes the last turn of each of four processors, and how often each was asked for again. Notes too
+// how often a turn was left out or fell back.
 #[derive(Drop)]
 struct Noted {
     last: [AtomicU64; 4],
@@ -169,8 +169,8 @@ impl Noted {
         last.load(Ordering::SeqCst) == turn && again.load(Ordering::SeqCst) == 0
     }
 
-    // Whether each of the three busy ones of four processors was asked for this many turns, one
-    // after the other, and the idle one for its first.
+    // Whether each of the three busy processors of four was asked for this many turns, one after
+    // the other. The idle processor was asked for its first turn.
     fn is_once_each(&self, turns: u64) -> bool {
         let is_idle = self.last[3].load(Ordering::SeqCst) == 1;
         is_idle
@@ -181,10 +181,10 @@ impl Noted {
     }
 }
 
-// Of 1,000 turns each processor may take 250 in the first round. One has nothing to do, so 250 are
-// left, of which each may take 63, and then of 61 each 16, of 13 each 4, and of one each one. So
-// each of the three busy processors is asked for 334 turns, one after the other, and the idle one
-// for its first turn alone: it never gets as far as to try another one.
+// Of 1,000 turns each processor may take 250 in the first round. One processor has nothing to do,
+// so 250 turns are left. Of these each may take 63, then of 61 each 16, of 13 each 4, and of one
+// each one. So each of the three busy processors is asked for 334 turns, one after the other. The
+// idle one is asked for its first turn alone: it never gets as far as to try another one.
 #[test]
 fn each_turn_is_asked_for_once(rt: HostRuntime) {
     let text = endless(rt.alloc(), 4, 3).expect(&rt, "a text");
@@ -202,8 +202,8 @@ fn is_spent<R: AllocGlobal + Threads + Sync>(rt: &R, text: &str, turns: u64) -> 
     }
 }
 
-// Whether threads that go on for ever use them up, and each is a step. Where there is one
-// processor, there are as many as were asked for.
+// Whether threads that go on for ever use up the turns, and each turn is a step. A single processor
+// takes exactly as many turns as were asked for.
 fn is_used_up<R: AllocGlobal + Threads + Sync>(rt: &R, cpus: u8, turns: u64) -> Option<bool> {
     let text = endless(rt.alloc(), cpus, cpus).ok()?;
     let outcome = comes_to(rt, text.as_str(), turns, &Open)?;
@@ -230,7 +230,7 @@ fn turns_are_used_up(rt: HostRuntime) {
 const ARRIVED: &str =
     "thread 1.1 ended 0 nil nil 0 a\nthread 2.1 ended 0 1.1 1.1 74001 a\nending quiet\n";
 
-// Whether there is one delivery, and the number of turns that goes with where the wait stands.
+// Whether there is one delivery, and the number of turns fits the place of the wait.
 fn has_arrived(alloc: Global, outcome: &Outcome) -> Option<bool> {
     let lines = trace(alloc, outcome.history.as_slice()).ok()?;
     let lines = str::from_utf8(lines.as_slice()).ok()?;
@@ -243,10 +243,10 @@ fn has_arrived(alloc: Global, outcome: &Outcome) -> Option<bool> {
     Some(has(alloc, outcome, lines, ARRIVED, turns))
 }
 
-// Whether the wait or the send comes first is up to the threads. The sender's processor has five
-// events: two instructions, the send, the letter that it was taken, and the end. That of the
-// receiver has the wait, the end, and where the wait comes first, one in which the send is queued
-// and taken; else two.
+// The threads decide whether the wait or the send comes first. The sender's processor has five
+// events: two instructions, the send, the letter that the send was taken, and the end. The
+// receiver's processor has the wait and the end. If the wait comes first, it has one event more, in
+// which the send is queued and taken; else two.
 #[test]
 fn a_word_arrives_in_each_run(rt: HostRuntime) {
     for _ in 0..20 {

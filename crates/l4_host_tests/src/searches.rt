@@ -1,6 +1,7 @@
 // Machines whose endings are known. How many states they have, and how deep these lie, was found by
 // a second emulator, which was written from the rules (bench/endings.py).
-use l4_endings::endings;
+use l4_endings::{endings, endings_heard};
+use l4_explore::progress::Progress;
 use l4_samples::{ACROSS, CALLS, PING};
 use l4_script::machine::Machine;
 use std::alloc::Global;
@@ -9,9 +10,9 @@ use std::alloc::Global;
 #[derive(Clone, Copy, PartialEq, Eq, Debug)]
 struct Found {
     states: usize,
-    // How deep all of them were found.
+    // The depth to which all states were found.
     depth: usize,
-    // Whether there are no more.
+    // Whether there are no more states.
     is_whole: bool,
     endings: usize,
     // How many entries lead to the nearest ending.
@@ -34,7 +35,7 @@ const ACROSS_FOUND: Found = Found {
     shortest: Some(8),
 };
 
-// To a depth of 12: it goes on for ever.
+// To a depth of 12, since the machine goes on for ever.
 const CALLS_FOUND: Found = Found {
     states: 21,
     depth: 12,
@@ -60,6 +61,47 @@ fn search(alloc: Global, text: &str, depth: u32) -> Option<Found> {
     })
 }
 
+// What a listener has heard of a search.
+#[derive(Clone, Copy, PartialEq, Eq, Debug)]
+struct Heard {
+    times: usize,
+    // The last numbers.
+    states: usize,
+    depth: usize,
+    // Whether a number was lower than the one before, or was heard after the end.
+    has_fallen: bool,
+    has_ended: bool,
+}
+
+impl Progress for Heard {
+    fn looked_at(&mut self, states: usize, depth: usize) {
+        if states < self.states || depth < self.depth || self.has_ended {
+            self.has_fallen = true;
+        }
+        self.times = self.times.saturating_add(1);
+        self.states = states;
+        self.depth = depth;
+    }
+
+    fn ended(&mut self) {
+        self.has_ended = true;
+    }
+}
+
+// What is heard of a search for the endings of a machine text to this depth.
+fn hear(alloc: Global, text: &str, depth: u32) -> Option<Heard> {
+    let machine = Machine::parse(alloc, text.as_bytes()).ok()?;
+    let mut heard = Heard {
+        times: 0,
+        states: 0,
+        depth: 0,
+        has_fallen: false,
+        has_ended: false,
+    };
+    endings_heard(alloc, &machine, depth, 10_000, &mut heard).ok()?;
+    Some(heard)
+}
+
 #[test]
 fn each_ending_is_found(rt: HostRuntime) {
     assert!(rt; search(rt.alloc(), PING, 1_000) == Some(PING_FOUND));
@@ -69,4 +111,28 @@ fn each_ending_is_found(rt: HostRuntime) {
 #[test]
 fn a_search_is_cut_off_by_its_depth(rt: HostRuntime) {
     assert!(rt; search(rt.alloc(), CALLS, 12) == Some(CALLS_FOUND));
+}
+
+// A whole search goes on from each state, and no state is deeper than the last one.
+#[test]
+fn a_listener_hears_of_each_state(rt: HostRuntime) {
+    let heard = hear(rt.alloc(), ACROSS, 1_000);
+    let wanted = Heard {
+        times: ACROSS_FOUND.states,
+        states: ACROSS_FOUND.states,
+        depth: ACROSS_FOUND.depth,
+        has_fallen: false,
+        has_ended: true,
+    };
+    assert!(rt; heard == Some(wanted));
+}
+
+// A search that is cut at a depth goes on from all states above that depth.
+#[test]
+fn a_listener_hears_rising_numbers(rt: HostRuntime) {
+    let Some(heard) = hear(rt.alloc(), CALLS, 12) else {
+        panic!(rt; "memory was refused");
+    };
+    assert!(rt; heard.states <= CALLS_FOUND.states && heard.depth == 11);
+    assert!(rt; heard.has_ended && !heard.has_fallen);
 }

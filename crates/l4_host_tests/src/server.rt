@@ -1,9 +1,9 @@
-//! A server is tested by the crate `l4` alone: a client asks it, and the test looks at what the
-//! client has got.
+//! A test of a server by the crate `l4` alone. A client calls the server, and the test looks at the
+//! answer that the client got.
 
 use l4::{Ending, GlobalId, Machine, Open, Outcome, State, ThreadId, ThreadView, check, run};
 
-// The server adds 100 to the word that it is asked, answers, and waits for the next client.
+// The server adds 100 to the word that a client sends, answers, and waits for the next client.
 const SERVER: &str = "l4 1 64
 cpus 1
 thread 1.1 cpu 0 space 1

@@ -15,10 +15,10 @@ const AUDIT: [&str; 4] = ["l4run", "audit", "m.l4", "m.trace"];
 
 const HELP: [&str; 2] = ["l4run", "--help"];
 
-// A text that has no such line.
+// A faulty text: no line of a machine text is `walk`.
 const WALK: &str = "l4 1 64\ncpus 1\nwalk\n";
 
-// Gives the bytes, and then ends, or fails in place of an end.
+// A reader that gives the bytes, and then ends, or fails instead.
 #[derive(Drop)]
 struct Source {
     bytes: &'static [u8],
@@ -35,7 +35,7 @@ impl Read for Source {
     }
 }
 
-// Takes this many bytes, and then fails.
+// A writer that takes this many bytes, and then fails.
 #[derive(Drop)]
 struct Full {
     taken: Vec<u8>,
@@ -58,7 +58,7 @@ impl Write for Full {
     }
 }
 
-/// Does what the words ask for, where the output may show lines. Returns the status, and writes
+/// Does what the words ask for, on an output that may show lines. Returns the status, and writes
 /// faults after those of the caller.
 pub(crate) fn does<R: AllocGlobal + Threads + Sync, M: Read, T: Read, W: Write>(
     rt: &R,
@@ -81,7 +81,7 @@ pub(crate) fn does<R: AllocGlobal + Threads + Sync, M: Read, T: Read, W: Write>(
 // trace, whose reader fails after them.
 type Given = (&'static [&'static str], &'static str, bool, &'static str);
 
-// What comes of it: the status, the output and the line of the fault.
+// What a call comes to: the status, the output and the line of the fault.
 type Wanted = (u8, &'static str, &'static str);
 
 // A text that cannot be read is reported by its name. A trace is read by an audit alone, and after
@@ -146,7 +146,8 @@ fn a_read_that_fails_is_reported(rt: HostRuntime) {
     }
 }
 
-// The bytes that a writer with this room has taken, where it then fails and that is reported.
+// The bytes that a writer with this room takes before it fails. None if the failure is not
+// reported.
 fn written<R: AllocGlobal + Threads + Sync>(
     rt: &R,
     words: &[&str],
@@ -163,7 +164,7 @@ fn written<R: AllocGlobal + Threads + Sync>(
     Some(out.taken)
 }
 
-// What is written before is the beginning of the output.
+// What is written before the failure is the beginning of the output.
 #[test]
 fn a_write_that_fails_is_reported(rt: HostRuntime) {
     let nothing = written(&rt, &RUN, 0).expect(&rt, "a report");

@@ -1,11 +1,14 @@
 pub mod Charted
+pub mod Expected
 pub mod Appending
 pub mod Audited
 pub mod Behind
 pub mod Judged
+pub mod ReadAs
 pub mod Recorded
 pub mod Linted
 pub mod Listed
+pub mod ListJudged
 pub mod Opened
 pub mod RunsShown
 pub mod Shown

@@ -1,13 +1,11 @@
 -- What is said of a machine text.
-use Rattle.std.proofs.Common.{◌≡◌, ℕ, ◌≤◌, Bool, true, false, None, Result, Ok, Err, List, [], ◌∷◌, Bor, length, take, refl, ap, sym, subst, inl, inr, ◌∙◌, arith}
-use Rattle.std.specs.Prelude.{◌⊎◌, IfSome, nat_lt}
+use Rattle.std.proofs.Common.{◌≡◌, ℕ, Bool, Option, None, Result, Ok, Err, List, [], ◌∷◌, ◌++◌, Bor, refl, ap, ap₂, sym, subst, inl, inr, ◌∙◌, arith}
+use Rattle.std.specs.Prelude.{◌⊎◌, IfSome}
 use Rattle.std.specs.declared.io.ErrorKind.{ErrorKind}
-use Rattle.std.proofs.lemmas.Bool.{lt-ltb, ltb-true}
-use Rattle.std.proofs.lemmas.Bool.Decides.{nat_tests}
-use Rattle.std.proofs.lemmas.List.{length-take, take_all}
 use Rattle.l4_model.specs.Machine.{Machine}
 use Rattle.l4_script.specs.Texts.{machine_of_text}
 use Rattle.l4_script.specs.declared.text.fault.TextFault.{TextFault}
+use Rattle.l4_lint.specs.Doubts.{doubts_of, doubts_text, lint_text}
 use Rattle.l4_lint.specs.Faults.{Fault as LintFault, faults_of, fault_in, first_in}
 use Rattle.l4_lint.specs.Spelling.{faults_text, status_of}
 use Rattle.l4_lint.proofs.First.{first_fault}
@@ -17,6 +15,7 @@ use Rattle.l4_commands.specs.declared.job.Job.{Job}
 use Rattle.l4_commands.specs.declared.job.Job.TheVariants.{Run, Replay, Audit, Chart, Endings, Lint}
 use Rattle.l4_jobs.specs.Jobs.{IsDone, IsFaultBehind, IsJobFault, IsNotDone, IsOpenedFault, IsStatusOf}
 use Rattle.l4_jobs.specs.Lints.{IsLintEnded, IsLintFault, IsLintOf, IsLinted, IsSaid}
+use Rattle.l4_jobs.specs.Reading.{IsReadAs}
 use Rattle.l4_jobs.specs.Recording.{IsRecordFault}
 use Rattle.l4_jobs.specs.Streams.{FileGives}
 use Rattle.l4_jobs.specs.declared.fault.Fault.{Fault}
@@ -28,31 +27,13 @@ Gives = Result (List ℕ) ErrorKind → Type 0
 abbrev Takes : Type 1
 Takes = List ℕ → Bool → Type 0
 
-not_below : (a b : ℕ) → nat_lt a b ≡ false → b ≤ a
-not_below a b h = grind (arith, nat_tests)
-
--- A text that is too long has the faults of its beginning.
-same_said : (bytes : List ℕ) → faults_of (take 0x100001 bytes) ≡ faults_of bytes
-same_said bytes = by (nat_lt 0x100000 (length bytes)) refl
-  where
-    by : (b : Bool) → nat_lt 0x100000 (length bytes) ≡ b → faults_of (take 0x100001 bytes) ≡ faults_of bytes
-    by true long =
-        let more = ltb-true 0x100000 (length bytes) long in
-        let too = lt-ltb 0x100000 (length (take 0x100001 bytes)) (omega (arith, more, length-take 0x100001 bytes)) in
-        rw (long, too) refl
-    by false short = ap faults_of (take_all 0x100001 bytes (let least = not_below _ _ short in omega (arith, least)))
-
 -- What is said of what was read is said of the text.
-pub said_of : (gives : Gives) (read slice lines : List ℕ) (status : ℕ) → (all : List ℕ) × gives (Ok all) × ((read ≡ all) ⊎ (read ≡ take 0x100001 all)) →
-    slice ≡ read → lines ≡ faults_text (faults_of slice) → status ≡ status_of (faults_of slice) →
-    (text : List ℕ) × gives (Ok text) × IsLintOf text lines status
-said_of gives read slice lines status (all, given, much) is told ended =
-    let same : faults_of slice ≡ faults_of all = ap faults_of is ∙ by much in
-    (all, given, (told ∙ ap faults_text same, ended ∙ ap status_of same))
-  where
-    by : (read ≡ all) ⊎ (read ≡ take 0x100001 all) → faults_of read ≡ faults_of all
-    by (inl is) = ap faults_of is
-    by (inr is) = ap faults_of is ∙ same_said all
+pub said_of : (gives : Gives) (read slice lines : List ℕ) (status : ℕ) → (all : List ℕ) × gives (Ok all) × IsReadAs read all → slice ≡ read →
+    lines ≡ lint_text slice → status ≡ status_of (faults_of slice) → (text : List ℕ) × gives (Ok text) × IsLintOf text lines status
+said_of gives read slice lines status (all, given, same) is told ended =
+    let faults : faults_of slice ≡ faults_of all = ap faults_of is ∙ same.faults in
+    let doubts : doubts_of slice ≡ doubts_of all = ap doubts_of is ∙ same.doubts in
+    (all, given, (told ∙ ap₂ (λ f d. faults_text f ++ doubts_text d) faults doubts, ended ∙ ap status_of faults))
 
 -- Where nothing is wrong the text declares a machine.
 none_wrong : (found : List LintFault) → status_of found ≡ 0 → found ≡ []
@@ -72,29 +53,46 @@ status_is [] status is = inl is
 status_is (f ∷ others) status is = inr is
 
 shown_right : (text lines : List ℕ) (status : ℕ) → IsLintOf text lines status → (status ≡ 1 → ⊥) →
-    (m : Machine) × (machine_of_text text ≡ Ok m) × (lines ≡ []) × (status ≡ 0)
+    (m : Machine) × (machine_of_text text ≡ Ok m) × (lines ≡ doubts_text (doubts_of text)) × (status ≡ 0)
 shown_right text lines status (told, ended) right =
     let zero = right_status (faults_of text) status ended right in
     let none = none_wrong (faults_of text) (sym ended ∙ zero) in
     let on = declared (machine_of_text text) (sym (first_fault text) ∙ ap first_in none) in
-    (on.0, on.1, told ∙ ap faults_text none, zero)
+    (on.0, on.1, told ∙ ap (λ found. faults_text found ++ doubts_text (doubts_of text)) none, zero)
 
-lint_done_of : (file : Bor (List ℕ)) (machine trace : Gives) (out : Takes) (keeps_out keeps : Type 0) (faults : Takes) (status : ℕ) →
-    IsLinted file.now machine out keeps_out keeps faults status → (status ≡ 1 → ⊥) → IsDone (Lint file) machine trace out keeps status
-lint_done_of file machine trace out keeps_out keeps faults status (inl (text, lines, said, given, is, inl (same, wrote, kept))) right =
+pub declares_right : (text : List ℕ) (status : ℕ) → status ≡ status_of (faults_of text) → status ≡ 0 → (m : Machine) × (machine_of_text text ≡ Ok m)
+declares_right text status ended zero =
+    declared (machine_of_text text) (sym (first_fault text) ∙ ap first_in (none_wrong (faults_of text) (sym ended ∙ zero)))
+
+-- And where it declares one, nothing is wrong.
+none_found : (found : List LintFault) → first_in found ≡ None → found ≡ []
+none_found [] e = refl
+none_found (f ∷ others) e = absurd (let bad = e in cc)
+
+pub none_faulty : (text : List ℕ) (m : Machine) → machine_of_text text ≡ Ok m → faults_of text ≡ []
+none_faulty text m declares = none_found (faults_of text) (first_fault text ∙ ap fault_in declares)
+
+pub doubts_alone : (text lines : List ℕ) (status : ℕ) → faults_of text ≡ [] → IsLintOf text lines status →
+    (lines ≡ doubts_text (doubts_of text)) × (status ≡ 0)
+doubts_alone text lines status none (told, ended) =
+    (told ∙ ap (λ found. faults_text found ++ doubts_text (doubts_of text)) none, ended ∙ ap status_of none)
+
+lint_done_of : (file : Bor (List ℕ)) (schedule : Option (Bor (List ℕ))) (machine trace : Gives) (out : Takes) (keeps_out keeps : Type 0) (faults : Takes) (status : ℕ) →
+    IsLinted file.now machine out keeps_out keeps faults status → (status ≡ 1 → ⊥) → IsDone (Lint file schedule) machine trace out keeps status
+lint_done_of file schedule machine trace out keeps_out keeps faults status (inl (text, lines, said, given, is, inl (same, wrote, kept))) right =
     let on = shown_right text lines status (is.0, same ∙ is.1) right in
     (text, [], lines, given, tt, record { machine = on.0; declares = on.1; shown = (on.2, on.3) }, wrote, kept)
-lint_done_of file machine trace out keeps_out keeps faults status (inl (text, lines, said, given, is, inr (one, wrote, reported))) right = elim (right one) [ ]
-lint_done_of file machine trace out keeps_out keeps faults status (inr (f, is, one, kept, reported)) right = elim (right one) [ ]
+lint_done_of file schedule machine trace out keeps_out keeps faults status (inl (text, lines, said, given, is, inr (one, wrote, reported))) right = elim (right one) [ ]
+lint_done_of file schedule machine trace out keeps_out keeps faults status (inr (f, is, one, kept, reported)) right = elim (right one) [ ]
 
-pub lint_done : (job : Job) (file : Bor (List ℕ)) (machine trace : Gives) (out : Takes) (keeps_out keeps : Type 0) (faults : Takes) (status : ℕ) →
-    job ≡ Lint file → IsLinted file.now machine out keeps_out keeps faults status → (status ≡ 1 → ⊥) → IsDone job machine trace out keeps status
-lint_done job file machine trace out keeps_out keeps faults status is linted right =
-    subst (λ j. IsDone j machine trace out keeps status) (sym is) (lint_done_of file machine trace out keeps_out keeps faults status linted right)
+pub lint_done : (job : Job) (file : Bor (List ℕ)) {schedule : Option (Bor (List ℕ))} (machine trace : Gives) (out : Takes) (keeps_out keeps : Type 0) (faults : Takes) (status : ℕ) →
+    job ≡ Lint file schedule → IsLinted file.now machine out keeps_out keeps faults status → (status ≡ 1 → ⊥) → IsDone job machine trace out keeps status
+lint_done job file {schedule} machine trace out keeps_out keeps faults status is linted right =
+    subst (λ j. IsDone j machine trace out keeps status) (sym is) (lint_done_of file schedule machine trace out keeps_out keeps faults status linted right)
 
-fault_of_job : (file : Bor (List ℕ)) (machine : Gives) (f : Fault) → IsLintFault file.now machine f → IsJobFault (Lint file) machine (λ given. ⊥) f
-fault_of_job file machine f (inl none) = inl none
-fault_of_job file machine f (inr unread) = inr (inl unread)
+fault_of_job : (file : Bor (List ℕ)) (schedule : Option (Bor (List ℕ))) (machine : Gives) (f : Fault) → IsLintFault file.now machine f → IsJobFault (Lint file schedule) machine (λ given. ⊥) f
+fault_of_job file schedule machine f (inl none) = inl none
+fault_of_job file schedule machine f (inr unread) = inr (inl unread)
 
 abbrev NotDone : {File : Type 0} → (opens : List ℕ → Result File ErrorKind → Type 0) → (gives : File → Gives) → Job → (machine trace : Gives) →
     (creates : List ℕ → Takes) → (out : Takes) → (keeps_out keeps : Type 0) → (faults : Takes) → Type 0
@@ -102,22 +100,22 @@ NotDone opens gives job machine trace creates out keeps_out keeps faults =
     IsNotDone job machine trace (λ f. IsFaultBehind opens gives (second_file_of job) job machine f ⊎ IsRecordFault job machine creates f) out keeps_out faults
     ⊎ IsLintEnded job machine out keeps faults
 
-lint_not_done_of : {File : Type 0} (opens : List ℕ → Result File ErrorKind → Type 0) (gives : File → Gives) (file : Bor (List ℕ)) (machine trace : Gives)
+lint_not_done_of : {File : Type 0} (opens : List ℕ → Result File ErrorKind → Type 0) (gives : File → Gives) (file : Bor (List ℕ)) (schedule : Option (Bor (List ℕ))) (machine trace : Gives)
     (creates : List ℕ → Takes) (out : Takes) (keeps_out keeps : Type 0) (faults : Takes) (status : ℕ) →
     IsLinted file.now machine out keeps_out keeps faults status → status ≡ 1 →
-    NotDone opens gives (Lint file) machine trace creates out keeps_out keeps faults
-lint_not_done_of opens gives file machine trace creates out keeps_out keeps faults status (inl (text, lines, said, given, is, ended)) one =
+    NotDone opens gives (Lint file schedule) machine trace creates out keeps_out keeps faults
+lint_not_done_of opens gives file schedule machine trace creates out keeps_out keeps faults status (inl (text, lines, said, given, is, ended)) one =
     inr (text, lines, said, given, is, subst (λ n. IsSaid lines said n out keeps faults) one ended)
-lint_not_done_of opens gives file machine trace creates out keeps_out keeps faults status (inr (f, is, last, kept, reported)) one =
-    inl (inl (f, inl (fault_of_job file machine f is), kept, reported))
+lint_not_done_of opens gives file schedule machine trace creates out keeps_out keeps faults status (inr (f, is, last, kept, reported)) one =
+    inl (inl (f, inl (fault_of_job file schedule machine f is), kept, reported))
 
-pub lint_not_done : {File : Type 0} (opens : List ℕ → Result File ErrorKind → Type 0) (gives : File → Gives) (job : Job) (file : Bor (List ℕ))
-    (machine trace : Gives) (creates : List ℕ → Takes) (out : Takes) (keeps_out keeps : Type 0) (faults : Takes) (status : ℕ) → job ≡ Lint file →
+pub lint_not_done : {File : Type 0} (opens : List ℕ → Result File ErrorKind → Type 0) (gives : File → Gives) (job : Job) (file : Bor (List ℕ)) {schedule : Option (Bor (List ℕ))}
+    (machine trace : Gives) (creates : List ℕ → Takes) (out : Takes) (keeps_out keeps : Type 0) (faults : Takes) (status : ℕ) → job ≡ Lint file schedule →
     IsLinted file.now machine out keeps_out keeps faults status → status ≡ 1 →
     NotDone opens gives job machine trace creates out keeps_out keeps faults
-lint_not_done opens gives job file machine trace creates out keeps_out keeps faults status is linted one =
+lint_not_done opens gives job file {schedule} machine trace creates out keeps_out keeps faults status is linted one =
     subst (λ j. NotDone opens gives j machine trace creates out keeps_out keeps faults) (sym is)
-    (lint_not_done_of opens gives file machine trace creates out keeps_out keeps faults status linted one)
+    (lint_not_done_of opens gives file schedule machine trace creates out keeps_out keeps faults status linted one)
 
 pub lint_status : (job : Job) (file : List ℕ) (machine : Gives) (out : Takes) (keeps_out keeps : Type 0) (faults : Takes) (status : ℕ) →
     IsLinted file machine out keeps_out keeps faults status → IsStatusOf job status
@@ -130,15 +128,15 @@ lint_status job file machine out keeps_out keeps faults status (inl (text, lines
 lint_status job file machine out keeps_out keeps faults status (inl (text, lines, said, given, is, inr (one, wrote, reported))) = inr (inl one)
 lint_status job file machine out keeps_out keeps faults status (inr (f, is, one, kept, reported)) = inr (inl one)
 
-pub lint_records : (job : Job) (file : Bor (List ℕ)) (P : List ℕ → Type 0) → job ≡ Lint file → IfSome (record_of job) P
-lint_records job file P is = subst (λ j. IfSome (record_of j) P) (sym is) tt
+pub lint_records : (job : Job) (file : Bor (List ℕ)) {schedule : Option (Bor (List ℕ))} (P : List ℕ → Type 0) → job ≡ Lint file schedule → IfSome (record_of job) P
+lint_records job file {schedule} P is = subst (λ j. IfSome (record_of j) P) (sym is) tt
 
 -- The machine text was opened.
 pub lint_more : (job : Job) (machine wider : Gives) (out : Takes) (keeps : Type 0) (faults : Takes) →
     ((text : List ℕ) → machine (Ok text) → wider (Ok text)) → IsLintEnded job machine out keeps faults → IsLintEnded job wider out keeps faults
-lint_more (Lint file) machine wider out keeps faults more (text, lines, said, given, is, ended) = (text, lines, said, more text given, is, ended)
-lint_more (Run file turns printed record_to) machine wider out keeps faults more h = h
-lint_more (Replay file schedule printed) machine wider out keeps faults more h = h
+lint_more (Lint file schedule) machine wider out keeps faults more (text, lines, said, given, is, ended) = (text, lines, said, more text given, is, ended)
+lint_more (Run file turns printed record_to expected) machine wider out keeps faults more h = h
+lint_more (Replay file schedule rest printed expected) machine wider out keeps faults more h = h
 lint_more (Audit file trace judged) machine wider out keeps faults more h = h
 lint_more (Chart chart) machine wider out keeps faults more h = h
 lint_more (Endings search) machine wider out keeps faults more h = h

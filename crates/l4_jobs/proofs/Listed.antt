@@ -32,7 +32,7 @@ file_read m gives text slice entries (all, given, much) is reads = (all, given, 
 pub file_faulty : (m : Machine) (name : List ℕ) (gives : Gives) (text slice : List ℕ) (f : RunFault) → IsReadOf gives text → slice ≡ text →
     schedule_in_file m slice ≡ Err f → IsListFault m name gives (fault_of_run f)
 file_faulty m name gives text slice f (all, given, much) is faulty =
-    inr (all, given, ap (λ r. fault_of_result (replayed m r)) (sym (judged m all text slice much is) ∙ faulty))
+    inr (all, given, ap (λ r. fault_of_result (replayed m None r)) (sym (judged m all text slice much is) ∙ faulty))
 
 pub list_fault : {X : Type 0} (m : Machine) (name : List ℕ) (gives : Gives) (text slice : List ℕ) (r : Result X Fault) (e : RunFault) →
     IfErr r (λ f. f ≡ fault_of_run e) → IsReadOf gives text → slice ≡ text → (e ≡ RunOutOfMemory) ⊎ (schedule_in_file m slice ≡ Err e) →
@@ -53,7 +53,7 @@ file_asked m list text name is = ap (λ name. named_schedule m name list text) i
 pub list_faulty : (m : Machine) (list : List ℕ) (gives : Gives) (f : RunFault) → list_name list ≡ None → schedule_of m list ≡ Err f →
     IsScheduleFault m list (list_name list) gives (fault_of_run f)
 list_faulty m list gives f none faulty =
-    subst (λ name. IsScheduleFault m list name gives (fault_of_run f)) (sym none) (ap (λ r. fault_of_result (replayed m r)) faulty)
+    subst (λ name. IsScheduleFault m list name gives (fault_of_run f)) (sym none) (ap (λ r. fault_of_result (replayed m None r)) faulty)
 
 pub named_faulty : (m : Machine) (list name : List ℕ) (gives : Gives) (f : Fault) → list_name list ≡ Some name → IsListFault m name gives f →
     IsScheduleFault m list (list_name list) gives f

@@ -6,7 +6,7 @@ use Rattle.l4_model.specs.Machine.{Machine}
 use Rattle.l4_script.specs.Texts.{machine_of_text}
 use Rattle.l4_script.specs.declared.text.fault.TextFault.{TextFault}
 use Rattle.l4_commands.specs.Files.{file_of, list_name, second_file_of}
-use Rattle.l4_jobs.specs.Jobs.{IsRead, IsScheduleFault, IsTold, IsTraceFault, IsAuditFault, IsChartFault, IsFaultOf, IsJobFault, IsFaultBehind, IsDone, IsNotDone, IsTrulyDone, IsUnread, TraceGives}
+use Rattle.l4_jobs.specs.Jobs.{IsRead, IsReplayFault, IsScheduleFault, IsTold, IsTraceFault, IsAuditFault, IsChartFault, IsFaultOf, IsJobFault, IsFaultBehind, IsDone, IsNotDone, IsTrulyDone, IsUnread, TraceGives}
 use Rattle.l4_jobs.specs.Audits.{tells_refusals}
 use Rattle.l4_jobs.specs.Streams.{FileGives}
 use Rattle.l4_jobs.specs.declared.fault.Fault.{Fault}
@@ -26,7 +26,7 @@ Takes = List ℕ → Bool → Type 0
 abbrev IsMore : Job → (less more : Gives) → Type 0
 IsMore job less more = IfSome (second_file_of job) (λ _. (given : Result (List ℕ) ErrorKind) → less given → more given)
 
-read_more : (name : Option (List ℕ)) (less more : Gives) (told : List ℕ) → IfSome name (λ _. (given : Result (List ℕ) ErrorKind) → less given → more given) →
+pub read_more : (name : Option (List ℕ)) (less more : Gives) (told : List ℕ) → IfSome name (λ _. (given : Result (List ℕ) ErrorKind) → less given → more given) →
     IsRead name less told → IsRead name more told
 read_more None less more told h t = tt
 read_more (Some name) less more told h t = h (Ok told) t
@@ -58,14 +58,21 @@ list_fault_more m list None less more f h is = is
 list_fault_more m list (Some name) less more f h (inl (kind, given, unread)) = inl (kind, h (Err kind) given, unread)
 list_fault_more m list (Some name) less more f h (inr (text, given, faulty)) = inr (text, h (Ok text) given, faulty)
 
+pub replay_fault_more : (m : Machine) (rest : Option ℕ) (list : List ℕ) (less more : Gives) (f : Fault) →
+    IfSome (list_name list) (λ _. (given : Result (List ℕ) ErrorKind) → less given → more given) →
+    IsReplayFault m rest list less f → IsReplayFault m rest list more f
+replay_fault_more m rest list less more f h (inl is) = inl (list_fault_more m list (list_name list) less more f h is)
+replay_fault_more m rest list less more f h (inr is) =
+    inr (record { text = is.text; read = read_more (list_name list) less more is.text h is.read; faulty = is.faulty })
+
 fault_more : (job : Job) (m : Result Machine TextFault) (less more : Gives) (f : Fault) → IsMore job less more → IsFaultOf job m less f → IsFaultOf job m more f
 fault_more job (Err e) less more f h is = is
-fault_more (Run file turns printed record_to) (Ok m) less more f h is = is
-fault_more (Replay file schedule printed) (Ok m) less more f h is = list_fault_more m schedule.now (list_name schedule.now) less more f h is
+fault_more (Run file turns printed record_to expected) (Ok m) less more f h is = is
+fault_more (Replay file schedule rest printed expected) (Ok m) less more f h is = replay_fault_more m rest schedule.now less more f h is
 fault_more (Audit file name judged) (Ok m) less more f h is = audit_fault_more (tells_refusals judged) m name.now less more f h is
 fault_more (Chart chart) (Ok m) less more f h is = chart_fault_more chart m less more f h is
 fault_more (Endings search) (Ok m) less more f h is = is
-fault_more (Lint file) (Ok m) less more f h is = is
+fault_more (Lint file schedule) (Ok m) less more f h is = is
 
 job_fault_more : (job : Job) (machine less more : Gives) (f : Fault) → IsMore job less more → IsJobFault job machine less f → IsJobFault job machine more f
 job_fault_more job machine less more f h (inl none) = inl none
@@ -148,4 +155,4 @@ pub truly_on_file : {File : Type 0} (opens : List ℕ → Result File ErrorKind 
     (file : File) (out : Takes) (keeps : Type 0) (status : ℕ) → opens (file_of job) (Ok file) → IsDone job (gives file) trace out keeps status →
     IsTrulyDone job (FileGives opens gives (file_of job)) trace out status
 truly_on_file opens gives job trace file out keeps status o (text, told, lines, given, t, s, wrote, kept) =
-    (text, told, lines, s.machine, (file, o, given), s.declares, t, true_on job s.machine told lines status s.shown, wrote)
+    (text, told, lines, s.machine, (file, o, given), s.declares, t, true_on job text s.machine told lines status s.shown, wrote)

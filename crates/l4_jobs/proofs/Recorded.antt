@@ -16,6 +16,7 @@ use Rattle.l4_schedules.proofs.ReadBack.{recorded_back}
 use Rattle.l4_commands.specs.Files.{file_of, list_name, record_of, second_file_of, job_of}
 use Rattle.l4_jobs.specs.Jobs.{IsDone, IsFaultBehind, IsJobFault, IsNotDone, IsOpenedFault, IsReplayAsked, IsRunAsked, IsRunShown, IsShown, IsWritten, Shows, asked_schedule, lines_of_run, named_schedule, status_at_rest, status_of_ending}
 use Rattle.l4_jobs.specs.Extras.{behind}
+use Rattle.l4_jobs.specs.Reading.{IsReadAs}
 use Rattle.l4_jobs.specs.Recording.{IsMade, IsNotRecorded, IsRecordDone, IsRecordFault, IsRecorded, IsUnwritten}
 use Rattle.l4_jobs.specs.Streams.{FileGives}
 use Rattle.l4_schedules.specs.InFiles.{schedule_in_file}
@@ -55,14 +56,14 @@ is_recorded printed m turns o entries lines text status few right found replayed
 }
 
 pub made_given : (r : Recording) (machine : Gives) (read slice lines text : List ℕ) (status : ℕ) →
-    (all : List ℕ) × machine (Ok all) × (machine_of_text read ≡ machine_of_text all) → slice ≡ read →
+    (all : List ℕ) × machine (Ok all) × IsReadAs read all → slice ≡ read →
     (m : Machine) × (machine_of_text slice ≡ Ok m) × IsRecorded r.printed m r.turns lines text status →
     IsMade (job_of r) machine lines text status
 made_given r machine read slice lines text status (all, given, same) is (m, declares, recorded) = record {
   text = all;
   given = given;
   on = m;
-  declares = sym (ap machine_of_text is ∙ same) ∙ declares;
+  declares = sym (ap machine_of_text is ∙ same.machine) ∙ declares;
   recorded = recorded;
 }
 
@@ -81,7 +82,7 @@ by_name m list text name is = ap (λ o. named_schedule m o list text) is
 pub as_replay : (printed : Printed) (m : Machine) (turns : ℕ) (lines text : List ℕ) (status : ℕ)
     (list name : List ℕ) → list_name list ≡ Some name →
     IsRecorded printed m turns lines text status →
-    IsRunShown printed m (IsReplayAsked m list text) lines status
+    IsRunShown printed m (IsReplayAsked m None list text) lines status
 as_replay printed m turns lines text status list name is r =
     replay_shown printed m list text r.entries r.findings lines status
     (by_name m list text name is ∙ r.reads) r.of_replay r.written r.status_is
@@ -96,11 +97,11 @@ shows_alone printed m r lines others is other =
     let same = one_world m (told r.events) other.world is.world other.reaches is.reaches in
     other.lines_are ∙ ap (λ w. lines_of_run printed.report m r w ++ behind printed.extras m w (told r.events)) same ∙ sym is.lines_are
 
-one_run : (m : Machine) (list text : List ℕ) (r s : Run) → IsReplayAsked m list text r → IsReplayAsked m list text s → r ≡ s
+one_run : (m : Machine) (list text : List ℕ) (r s : Run) → IsReplayAsked m None list text r → IsReplayAsked m None list text s → r ≡ s
 one_run m list text r s is other = let same : Ok r ≡ Ok s = sym is ∙ other in cc
 
 pub shown_alone : (printed : Printed) (m : Machine) (list text lines others : List ℕ) (status other : ℕ) →
-    IsRunShown printed m (IsReplayAsked m list text) lines status → IsRunShown printed m (IsReplayAsked m list text) others other →
+    IsRunShown printed m (IsReplayAsked m None list text) lines status → IsRunShown printed m (IsReplayAsked m None list text) others other →
     (others ≡ lines) × (other ≡ status)
 shown_alone printed m list text lines others status other a b =
     let same = one_run m list text b.run a.run b.is a.is in (

@@ -1,17 +1,19 @@
 -- What is written of an outcome is what is shown of its core run.
-use Rattle.std.proofs.Common.{◌≡◌, ℕ, ◌<◌, Bool, true, false, Some, None, Ok, List, ◌++◌, refl, ap, sym, inl, inr, ◌∙◌}
+use Rattle.std.proofs.Common.{◌≡◌, ℕ, ◌<◌, Bool, true, false, Option, Some, None, Result, Ok, Err, List, ◌++◌, refl, ap, sym, subst, inl, inr, ◌∙◌}
 use Rattle.std.specs.Prelude.{◌⊎◌, ◌↔◌, ◌==◌, ◌||◌, if◌then◌else◌, nat_lt}
 use Rattle.std.proofs.lemmas.Bool.{eqb-true, ltb-true, or_cases}
 use Rattle.l4_model.specs.Machine.{Machine}
-use Rattle.l4_model.specs.History.{reached}
+use Rattle.l4_model.specs.History.{IsHistory, reached}
 use Rattle.l4_model.specs.World.{World}
 use Rattle.l4_core_model.specs.Runs.{Run}
 use Rattle.l4_choices.specs.Entries.{Entry, replay_entries}
 use Rattle.l4_machine.specs.Entries.{turns_fault}
 use Rattle.l4_machine.specs.Outcomes.{Findings, IsFoundFor, IsOutcomeOf, in_order}
+use Rattle.l4_machine.specs.declared.outcome.RunFault.{RunFault}
 use Rattle.l4_machine.specs.declared.outcome.RunFault.TheVariants.{Turns}
+use Rattle.l4_rounds.specs.ThenRest.{rest_fault, then_rest}
 use Rattle.l4_trace.specs.Lines.{trace_of}
-use Rattle.l4_jobs.specs.Jobs.{IsReplayAsked, IsRunAsked, IsRunShown, IsWritten, Shows, asked_schedule, lines_of_outcome, lines_of_run, replayed, status_at_rest, status_of_ending}
+use Rattle.l4_jobs.specs.Jobs.{IsOutcomeOfAny, IsReplayAsked, IsRunAsked, IsRunShown, IsWritten, Shows, asked_schedule, gone_on, lines_of_outcome, lines_of_run, replayed, status_at_rest, status_of_ending, unless_fault}
 use Rattle.l4_types.specs.declared.reports.Ending.{Ending}
 use Rattle.l4_types.specs.declared.reports.Ending.TheVariants.{Quiet, Spent}
 use Rattle.l4_jobs.specs.Extras.{behind}
@@ -81,6 +83,31 @@ run_shown printed m turns o lines status right = run_is_shown printed m turns o 
 pub replay_shown : (printed : Printed) (m : Machine) (list text : List ℕ) (entries : List Entry) (o : Findings) (lines : List ℕ) (status : ℕ) →
     asked_schedule m list text ≡ Ok entries →
     IsOutcomeOf m (replay_entries m entries) o → IsWritten printed m o lines → status ≡ status_of_ending o.ending →
-    IsRunShown printed m (IsReplayAsked m list text) lines status
+    IsRunShown printed m (IsReplayAsked m None list text) lines status
 replay_shown printed m list text entries o lines status is =
-    shown printed m (IsReplayAsked m list text) (replay_entries m entries) o lines status (ap (replayed m) is)
+    shown printed m (IsReplayAsked m None list text) (replay_entries m entries) o lines status (ap (replayed m None) is)
+
+-- With the rest, where it goes on
+pub rest_shown : (printed : Printed) (m : Machine) (rest : Option ℕ) (list text : List ℕ) (entries : List Entry) (o : Findings) (lines : List ℕ) (status : ℕ) →
+    asked_schedule m list text ≡ Ok entries → IsOutcomeOfAny m (gone_on m rest entries) o → IsWritten printed m o lines →
+    status ≡ status_of_ending o.ending → IsRunShown printed m (IsReplayAsked m rest list text) lines status
+rest_shown printed m rest list text entries o lines status is outcome written ending = by (gone_on m rest entries) refl outcome
+  where
+    by : (g : Result Run RunFault) → gone_on m rest entries ≡ g → IsOutcomeOfAny m g o → IsRunShown printed m (IsReplayAsked m rest list text) lines status
+    by (Ok r) at outcome =
+        shown printed m (IsReplayAsked m rest list text) r o lines status (ap (replayed m rest) is ∙ at) outcome written ending
+    by (Err f) at outcome = absurd outcome
+
+-- What becomes of entries that go on
+pub rest_outcome : (m : Machine) (entries : List Entry) (turns : ℕ) (o : Findings) → rest_fault m entries turns ≡ None →
+    IsOutcomeOf m (then_rest m entries turns) o → IsOutcomeOfAny m (gone_on m (Some turns) entries) o
+rest_outcome m entries turns o right is =
+    subst (λ (f : Option RunFault). IsOutcomeOfAny m (unless_fault f (then_rest m entries turns)) o) (sym right) is
+
+pub rest_faulty : (m : Machine) (entries : List Entry) (turns : ℕ) (f : RunFault) → rest_fault m entries turns ≡ Some f →
+    gone_on m (Some turns) entries ≡ Err f
+rest_faulty m entries turns f is = ap (λ (g : Option RunFault). unless_fault g (then_rest m entries turns)) is
+
+pub any_possible : (m : Machine) (g : Result Run RunFault) (o : Findings) → IsOutcomeOfAny m g o → IsHistory m o.history
+any_possible m (Ok r) o is = is.is_true.possible
+any_possible m (Err f) o is = absurd is

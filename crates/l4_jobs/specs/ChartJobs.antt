@@ -52,16 +52,20 @@ abbrev pub status_of_refused : Option ℕ → ℕ
 status_of_refused None = 0
 status_of_refused (Some number) = 1
 
--- These are the lines of the chart: of the steps before the first that is not possible, and of the chosen threads.
-pub record IsCharted (chart : ChartJob) (m : Machine) (trace lines : List ℕ) (status : ℕ) : Type 0 where
+-- These are the lines of the chart: of the steps before the first that is not possible, and of the
+-- chosen threads.
+pub record IsCharted (chart : ChartJob) (m : Machine) (trace lines : List ℕ) (status : ℕ) :
+    Type 0 where
   pub threads : Option (List GlobalId)
   pub chosen : chosen_by m chart ≡ Ok threads
   pub steps : List Step
   pub reads : steps_of trace ≡ Ok steps
-  pub drawn : IsDrawing (drawing_form chart.form) (width_of chart) (columns_of m threads) (rows_of m (until_refused (refused_place m steps) (part_of chart threads)) steps) lines
+  pub drawn : IsDrawing (drawing_form chart.form) (width_of chart) (columns_of m threads)
+      (rows_of m (until_refused (refused_place m steps) (part_of chart threads)) steps) lines
   pub status_is : status ≡ status_of_refused (refused_place m steps)
 
--- Its fault on a list of threads, and on a trace whose lines are not those of steps. The list is judged first.
+-- Its fault on a list of threads, and on a trace whose lines are not those of steps. The list is
+-- judged first.
 abbrev pub fault_of_list : ThreadsFault → Fault
 fault_of_list threads_fault.NoMemory = fault.NoMemory
 fault_of_list (threads_fault.Item number) = fault.Threads number
@@ -79,7 +83,8 @@ or_later None later = later
 or_later (Some f) later = Some f
 
 abbrev pub fault_of_chart : ChartJob → Machine → (trace : List ℕ) → Option Fault
-fault_of_chart chart m trace = or_later (fault_of_threads (chosen_by m chart)) (fault_of_lines (steps_of trace))
+fault_of_chart chart m trace = or_later (fault_of_threads (chosen_by m chart))
+    (fault_of_lines (steps_of trace))
 
 -- The first step of a trace that is not possible.
 abbrev pub refused_of_steps : Machine → Result (List Step) ℕ → Option ℕ

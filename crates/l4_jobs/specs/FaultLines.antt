@@ -1,5 +1,7 @@
 -- The lines of faults.
 use Rattle.std.specs.Prelude.{◌≡◌, ◌⊎◌, ℕ, Bool, List, ◌++◌, codes, decimal}
+use Rattle.l4_expect.specs.declared.judging.Wrong.{Wrong}
+use Rattle.l4_expect.specs.declared.judging.Wrong.TheVariants as wrong
 use Rattle.l4_script.specs.declared.text.fault.TextFaultKind.{TextFaultKind}
 use Rattle.l4_script.specs.declared.text.fault.TextFaultKind.TheVariants as kind
 use Rattle.l4_jobs.specs.declared.fault.Fault.{Fault}
@@ -18,6 +20,13 @@ kind_word kind.TooManyThreads = codes "TooManyThreads"
 kind_word kind.TooManyInstructions = codes "TooManyInstructions"
 kind_word kind.BadTarget = codes "BadTarget"
 
+abbrev pub wrong_word : Wrong → List ℕ
+wrong_word wrong.BadLine = codes "BadLine"
+wrong_word wrong.Unknown = codes "Unknown"
+wrong_word wrong.BadWord = codes "BadWord"
+wrong_word wrong.Deleted = codes "Deleted"
+wrong_word wrong.Number = codes "Number"
+
 -- What is said of a fault, and its line.
 abbrev pub fault_words : Fault → List ℕ
 fault_words (fault.Text line kind) = codes "line " ++ decimal line ++ codes ": " ++ kind_word kind
@@ -28,6 +37,8 @@ fault_words (fault.Schedule number) = codes "schedule item " ++ decimal number
 fault_words (fault.Threads number) = codes "threads item " ++ decimal number
 fault_words (fault.Trace line) = codes "trace line " ++ decimal line
 fault_words (fault.Refused step) = codes "refused at step " ++ decimal step
+fault_words (fault.Expectation line wrong) =
+    codes "expectation line " ++ decimal line ++ codes ": " ++ wrong_word wrong
 fault_words fault.NoMemory = codes "no memory"
 fault_words (fault.Read name) = codes "cannot read " ++ name.now
 fault_words (fault.Unwritten name) = codes "cannot write " ++ name.now
@@ -36,7 +47,8 @@ fault_words fault.Write = codes "cannot write"
 abbrev pub fault_line : Fault → List ℕ
 fault_line f = codes "l4run: " ++ fault_words f ++ codes "\n"
 
--- The fault's one line was handed to the writer, or where memory for it ran out, the line that says so. The status tells the rest where the writer
--- did not take all of it.
+-- The fault's one line was handed to the writer, or where memory for it ran out, the line that says
+-- so. The status tells the rest where the writer did not take all of it.
 abbrev pub IsReported : (takes : (bytes : List ℕ) → (all : Bool) → Type 0) → Fault → Type 0
-IsReported takes f = (line : List ℕ) × ((line ≡ fault_line f) ⊎ (line ≡ fault_line fault.NoMemory)) × ((all : Bool) × takes line all)
+IsReported takes f = (line : List ℕ) × ((line ≡ fault_line f) ⊎
+    (line ≡ fault_line fault.NoMemory)) × ((all : Bool) × takes line all)

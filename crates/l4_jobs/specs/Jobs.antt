@@ -1,5 +1,5 @@
 -- What a job asks for, and what is shown for it.
-use Rattle.std.specs.Prelude.{◌≡◌, ◌↔◌, ◌⊎◌, ℕ, Bool, true, false, Option, Some, None, IsSomeAnd, Result, Ok, Err, List, [], ◌++◌, length}
+use Rattle.std.specs.Prelude.{◌≡◌, ◌↔◌, ◌⊎◌, ℕ, Bool, true, false, Option, Some, None, IsSomeAnd, Result, Ok, Err, List, ◌++◌, length}
 use Rattle.std.specs.Option.{option_map}
 use Rattle.std.specs.declared.io.ErrorKind.{ErrorKind}
 use Rattle.std.specs.declared.io.ErrorKind.TheVariants.{OutOfMemory}
@@ -17,12 +17,13 @@ use Rattle.l4_script.specs.declared.text.fault.TextFaultKind.TheVariants.{NoMemo
 use Rattle.l4_types.specs.declared.reports.Ending.{Ending}
 use Rattle.l4_types.specs.declared.reports.Ending.TheVariants.{Quiet, Spent}
 use Rattle.l4_audit.specs.Audits.{is_quiet}
-use Rattle.l4_machine.specs.Outcomes.{Findings, IsRunFor, IsTrueOf, in_order}
+use Rattle.l4_lint.specs.Doubts.{doubts_of, doubts_text}
+use Rattle.l4_machine.specs.Outcomes.{Findings, IsOutcomeOf, IsRunFor, IsTrueOf, in_order}
 use Rattle.l4_machine.specs.Entries.{turns_fault}
 use Rattle.l4_machine.specs.declared.outcome.RunFault.{RunFault}
 use Rattle.l4_machine.specs.declared.outcome.RunFault.TheVariants as run_fault
-use Rattle.l4_questions.specs.Answers.{IsAnswered}
 use Rattle.l4_reports.specs.ReportLines.{ending_at_rest, report_text}
+use Rattle.l4_rounds.specs.ThenRest.{rest_fault, then_rest}
 use Rattle.l4_schedules.specs.InFiles.{schedule_in_file}
 use Rattle.l4_schedules.specs.Items.{schedule_of}
 use Rattle.l4_trace.specs.Lines.{trace_of}
@@ -33,8 +34,8 @@ use Rattle.l4_commands.specs.Files.{file_of, list_name, second_file_of}
 use Rattle.l4_jobs.specs.Audits.{IsRefused, passed_line, report_where, tells_refusals}
 use Rattle.l4_jobs.specs.ChartJobs.{IsCharted, chosen_by, fault_of_chart, fault_of_lines, fault_of_threads, refused_of_steps}
 use Rattle.l4_jobs.specs.Extras.{behind}
-use Rattle.l4_jobs.specs.FaultLines.{IsReported}
-use Rattle.l4_jobs.specs.Searches.{fault_of_search, question_of}
+use Rattle.l4_jobs.specs.FaultLines.{IsReported, fault_line}
+use Rattle.l4_jobs.specs.Searches.{IsFoundBy, fault_of_search}
 use Rattle.l4_jobs.specs.Streams.{FileGives}
 use Rattle.l4_jobs.specs.declared.fault.Fault.{Fault}
 use Rattle.l4_jobs.specs.declared.fault.Fault.TheVariants as fault
@@ -64,7 +65,8 @@ abbrev pub IsUnread : (file : List ℕ) → ErrorKind → Fault → Type 0
 IsUnread file OutOfMemory f = f ≡ fault.NoMemory
 IsUnread file _ f = Names file f
 
--- A run of a machine for so many turns, its events in order of stamp. On several processors there may be more than one.
+-- A run of a machine for so many turns, its events in order of stamp. On several processors there
+-- may be more than one.
 pub record IsRunAsked (m : Machine) (turns : ℕ) (r : CoreRun) : Type 0 where
   pub lawful : turns_fault turns ≡ None
   pub run : CoreRun
@@ -81,16 +83,33 @@ named_schedule m (Some name) list text = schedule_in_file m text
 abbrev pub asked_schedule : Machine → (list text : List ℕ) → Result (List Entry) RunFault
 asked_schedule m list text = named_schedule m (list_name list) list text
 
--- The core run of a machine by it, or why there is none.
-abbrev pub replayed : Machine → Result (List Entry) RunFault → Result CoreRun RunFault
-replayed m (Ok entries) = Ok (replay_entries m entries)
-replayed m (Err fault) = Err fault
+-- The core run of a machine by entries, and where it goes on for so many turns, with the rest; or
+-- why there is none.
+abbrev pub unless_fault : Option RunFault → CoreRun → Result CoreRun RunFault
+unless_fault None r = Ok r
+unless_fault (Some fault) r = Err fault
 
-abbrev pub run_by_list : Machine → (list text : List ℕ) → Result CoreRun RunFault
-run_by_list m list text = replayed m (asked_schedule m list text)
+abbrev pub gone_on : Machine → (rest : Option ℕ) → List Entry → Result CoreRun RunFault
+gone_on m None entries = Ok (replay_entries m entries)
+gone_on m (Some turns) entries =
+    unless_fault (rest_fault m entries turns) (then_rest m entries turns)
 
-abbrev pub IsReplayAsked : Machine → (list text : List ℕ) → CoreRun → Type 0
-IsReplayAsked m list text r = run_by_list m list text ≡ Ok r
+abbrev pub replayed : Machine → (rest : Option ℕ) → Result (List Entry) RunFault →
+    Result CoreRun RunFault
+replayed m rest (Ok entries) = gone_on m rest entries
+replayed m rest (Err fault) = Err fault
+
+-- These are the findings of that core run.
+abbrev pub IsOutcomeOfAny : Machine → Result CoreRun RunFault → Findings → Type 0
+IsOutcomeOfAny m (Ok r) o = IsOutcomeOf m r o
+IsOutcomeOfAny m (Err fault) o = ⊥
+
+abbrev pub run_by_list : Machine → (rest : Option ℕ) → (list text : List ℕ) →
+    Result CoreRun RunFault
+run_by_list m rest list text = replayed m rest (asked_schedule m list text)
+
+abbrev pub IsReplayAsked : Machine → (rest : Option ℕ) → (list text : List ℕ) → CoreRun → Type 0
+IsReplayAsked m rest list text r = run_by_list m rest list text ≡ Ok r
 
 -- Its fault on a text. The text is judged first.
 abbrev pub text_fault : (line : ℕ) → TextFaultKind → Fault
@@ -129,12 +148,13 @@ fault_of_audit true m trace = fault_of_lines (steps_of trace)
 fault_of_audit false m trace = fault_of_trace m trace
 
 abbrev pub fault_of_job : Job → Machine → (trace : List ℕ) → Option Fault
-fault_of_job (Run file turns printed record_to) m trace = fault_of_turns turns
-fault_of_job (Replay file schedule printed) m text = fault_of_result (run_by_list m schedule.now text)
+fault_of_job (Run file turns printed record_to expected) m trace = fault_of_turns turns
+fault_of_job (Replay file schedule rest printed expected) m text =
+    fault_of_result (run_by_list m rest schedule.now text)
 fault_of_job (Audit file name judged) m trace = fault_of_audit (tells_refusals judged) m trace
 fault_of_job (Chart chart) m trace = fault_of_chart chart m trace
 fault_of_job (Endings search) m trace = fault_of_search search
-fault_of_job (Lint file) m trace = None
+fault_of_job (Lint file schedule) m trace = None
 
 abbrev pub fault_on : Job → Result Machine TextFault → (trace : List ℕ) → Option Fault
 fault_on job (Err f) trace = Some (text_fault f.line f.kind)
@@ -143,14 +163,18 @@ fault_on job (Ok m) trace = fault_of_job job m trace
 abbrev pub fault_of : Job → (text trace : List ℕ) → Option Fault
 fault_of job text trace = fault_on job (machine_of_text text) trace
 
--- Why a job prints nothing, by what its readers gave: memory ran out, the file of its machine text can't be read, or this fault is that of
--- the text or of the job on its machine. A trace is read where there is a machine to audit it on.
-abbrev pub IsTraceFault : Machine → (name : List ℕ) → (gives : Result (List ℕ) ErrorKind → Type 0) → Fault → Type 0
+-- Why a job prints nothing, by what its readers gave: memory ran out, the file of its machine text
+-- can't be read, or this fault is that of the text or of the job on its machine. A trace is read
+-- where there is a machine to audit it on.
+abbrev pub IsTraceFault : Machine → (name : List ℕ) → (gives : Result (List ℕ) ErrorKind → Type 0) →
+    Fault → Type 0
 IsTraceFault m name gives f =
-    ((kind : ErrorKind) × gives (Err kind) × IsUnread name kind f) ⊎ ((trace : List ℕ) × gives (Ok trace) × (fault_of_trace m trace ≡ Some f))
+    ((kind : ErrorKind) × gives (Err kind) × IsUnread name kind f) ⊎
+    ((trace : List ℕ) × gives (Ok trace) × (fault_of_trace m trace ≡ Some f))
 
 -- The same where a refused step is told of, and of a chart, whose list of threads is right.
-abbrev pub IsLinesFault : (name : List ℕ) → (gives : Result (List ℕ) ErrorKind → Type 0) → Fault → Type 0
+abbrev pub IsLinesFault : (name : List ℕ) → (gives : Result (List ℕ) ErrorKind → Type 0) →
+    Fault → Type 0
 IsLinesFault name gives f =
     ((kind : ErrorKind) × gives (Err kind) × IsUnread name kind f)
     ⊎ ((trace : List ℕ) × gives (Ok trace) × (fault_of_lines (steps_of trace) ≡ Some f))
@@ -160,7 +184,8 @@ abbrev pub IsAuditFault : (tells : Bool) → Machine → (name : List ℕ) →
 IsAuditFault true m name gives f = IsLinesFault name gives f
 IsAuditFault false m name gives f = IsTraceFault m name gives f
 
-abbrev pub IsChartFault : ChartJob → Machine → (gives : Result (List ℕ) ErrorKind → Type 0) → Fault → Type 0
+abbrev pub IsChartFault : ChartJob → Machine → (gives : Result (List ℕ) ErrorKind → Type 0) →
+    Fault → Type 0
 IsChartFault chart m gives f =
     (fault_of_threads (chosen_by m chart) ≡ Some f)
     ⊎ ((fault_of_threads (chosen_by m chart) ≡ None) × IsLinesFault chart.trace.now gives f)
@@ -173,24 +198,38 @@ abbrev pub IsListFault : Machine → (name : List ℕ) →
 IsListFault m name gives f =
     ((kind : ErrorKind) × gives (Err kind) × IsUnread name kind f)
     ⊎ ((text : List ℕ) × gives (Ok text)
-    × (fault_of_result (replayed m (schedule_in_file m text)) ≡ Some f))
+    × (fault_of_result (replayed m None (schedule_in_file m text)) ≡ Some f))
 
 abbrev pub IsScheduleFault : Machine → (list : List ℕ) → (name : Option (List ℕ)) →
     (gives : Result (List ℕ) ErrorKind → Type 0) → Fault → Type 0
-IsScheduleFault m list None gives f = fault_of_result (replayed m (schedule_of m list)) ≡ Some f
+IsScheduleFault m list None gives f = fault_of_result (replayed m None (schedule_of m list)) ≡
+    Some f
 IsScheduleFault m list (Some name) gives f = IsListFault m name gives f
 
+-- The same of a rest, where the schedule is right.
+pub record IsRestFault (m : Machine) (rest : Option ℕ) (list : List ℕ)
+    (gives : Result (List ℕ) ErrorKind → Type 0) (f : Fault) : Type 0 where
+  pub text : List ℕ
+  pub read : IsRead (list_name list) gives text
+  pub faulty : fault_of_result (run_by_list m rest list text) ≡ Some f
+
+abbrev pub IsReplayFault : Machine → (rest : Option ℕ) → (list : List ℕ) →
+    (gives : Result (List ℕ) ErrorKind → Type 0) → Fault → Type 0
+IsReplayFault m rest list gives f =
+    IsScheduleFault m list (list_name list) gives f ⊎ IsRestFault m rest list gives f
+
 abbrev pub IsFaultOn : Job → Machine → (trace : Result (List ℕ) ErrorKind → Type 0) → Fault → Type 0
-IsFaultOn (Run file turns printed record_to) m trace f = fault_of_turns turns ≡ Some f
-IsFaultOn (Replay file schedule printed) m list f =
-    IsScheduleFault m schedule.now (list_name schedule.now) list f
+IsFaultOn (Run file turns printed record_to expected) m trace f = fault_of_turns turns ≡ Some f
+IsFaultOn (Replay file schedule rest printed expected) m list f =
+    IsReplayFault m rest schedule.now list f
 IsFaultOn (Audit file name judged) m trace f =
     IsAuditFault (tells_refusals judged) m name.now trace f
 IsFaultOn (Chart chart) m trace f = IsChartFault chart m trace f
 IsFaultOn (Endings search) m trace f = fault_of_search search ≡ Some f
-IsFaultOn (Lint file) m trace f = ⊥
+IsFaultOn (Lint file schedule) m trace f = ⊥
 
-abbrev pub IsFaultOf : Job → Result Machine TextFault → (trace : Result (List ℕ) ErrorKind → Type 0) → Fault → Type 0
+abbrev pub IsFaultOf : Job → Result Machine TextFault →
+    (trace : Result (List ℕ) ErrorKind → Type 0) → Fault → Type 0
 IsFaultOf job (Err e) trace f = f ≡ text_fault e.line e.kind
 IsFaultOf job (Ok m) trace f = IsFaultOn job m trace f
 
@@ -201,25 +240,32 @@ IsJobFault job machine trace f =
     ⊎ ((text : List ℕ) × machine (Ok text) × IsFaultOf job (machine_of_text text) trace f)
 
 -- What reading the trace or the list of a job that reads one may come to.
-abbrev pub TraceGives : {File : Type 0} → (opens : List ℕ → Result File ErrorKind → Type 0) → (gives : File → Result (List ℕ) ErrorKind → Type 0) →
+abbrev pub TraceGives : {File : Type 0} → (opens : List ℕ → Result File ErrorKind → Type 0) →
+    (gives : File → Result (List ℕ) ErrorKind → Type 0) →
     Job → Result (List ℕ) ErrorKind → Type 0
-TraceGives opens gives job trace = IsSomeAnd (second_file_of job) (λ name. FileGives opens gives name trace)
+TraceGives opens gives job trace = IsSomeAnd (second_file_of job) (λ name.
+    FileGives opens gives name trace)
 
 -- Why a job whose machine text was opened prints nothing: the trace or list of this name can't be
 -- opened, or it was opened too.
-abbrev pub IsFaultBehind : {File : Type 0} → (opens : List ℕ → Result File ErrorKind → Type 0) → (gives : File → Result (List ℕ) ErrorKind → Type 0) →
-    (trace : Option (List ℕ)) → Job → (machine : Result (List ℕ) ErrorKind → Type 0) → Fault → Type 0
+abbrev pub IsFaultBehind : {File : Type 0} → (opens : List ℕ → Result File ErrorKind → Type 0) →
+    (gives : File → Result (List ℕ) ErrorKind → Type 0) →
+    (trace : Option (List ℕ)) → Job → (machine : Result (List ℕ) ErrorKind → Type 0) →
+    Fault → Type 0
 IsFaultBehind opens gives None job machine f = IsJobFault job machine (λ given. ⊥) f
 IsFaultBehind {File} opens gives (Some name) job machine f =
     ((kind : ErrorKind) × opens name (Err kind) × IsUnread name kind f)
     ⊎ ((file : File) × opens name (Ok file) × IsJobFault job machine (gives file) f)
 
--- Why a job on files prints nothing. They are opened one by one, that of the machine text first, and nothing is read of them before.
-abbrev pub IsOpenedFault : {File : Type 0} → (opens : List ℕ → Result File ErrorKind → Type 0) → (gives : File → Result (List ℕ) ErrorKind → Type 0) →
+-- Why a job on files prints nothing. They are opened one by one, that of the machine text first,
+-- and nothing is read of them before.
+abbrev pub IsOpenedFault : {File : Type 0} → (opens : List ℕ → Result File ErrorKind → Type 0) →
+    (gives : File → Result (List ℕ) ErrorKind → Type 0) →
     Job → Fault → Type 0
 IsOpenedFault {File} opens gives job f =
     ((kind : ErrorKind) × opens (file_of job) (Err kind) × IsUnread (file_of job) kind f)
-    ⊎ ((file : File) × opens (file_of job) (Ok file) × IsFaultBehind opens gives (second_file_of job) job (gives file) f)
+    ⊎ ((file : File) × opens (file_of job) (Ok file) ×
+    IsFaultBehind opens gives (second_file_of job) job (gives file) f)
 
 -- The exit status of a run that ends at rest, and of one that does not.
 abbrev pub status_at_rest : Bool → ℕ
@@ -247,7 +293,8 @@ lines_of_outcome true o = report_text o.threads o.waiting o.ending
 lines_of_outcome false o = trace_of o.history
 
 -- These lines are printed of an outcome, by the world that its history reaches.
-pub record IsWritten (printed : Printed) (m : Machine) (o : Findings) (lines : List ℕ) : Type 0 where
+pub record IsWritten (printed : Printed) (m : Machine) (o : Findings) (lines : List ℕ) :
+    Type 0 where
   pub world : World
   pub reaches : reached m o.history ≡ Some world
   pub lines_are : lines ≡
@@ -260,7 +307,8 @@ status_of_ending Spent = 3
 
 -- These lines and this status are of findings that are true of the machine. Nothing here names a
 -- run of processors.
-pub record IsTrueShown (printed : Printed) (m : Machine) (lines : List ℕ) (status : ℕ) : Type 0 where
+pub record IsTrueShown (printed : Printed) (m : Machine) (lines : List ℕ) (status : ℕ) :
+    Type 0 where
   pub findings : Findings
   pub is_true : IsTrueOf m findings
   pub written : IsWritten printed m findings lines
@@ -293,25 +341,33 @@ abbrev pub IsAudited : Judged → Machine → (trace lines : List ℕ) → (stat
 IsAudited judged m trace lines status =
     (IsPassed judged m trace lines × (status ≡ 0)) ⊎ (IsRefused judged m trace lines × (status ≡ 1))
 
--- These are what a job shows on a machine, and the exit status.
-abbrev pub IsShownOn : Job → Machine → (trace lines : List ℕ) → (status : ℕ) → Type 0
-IsShownOn (Run file turns printed record_to) m trace lines status =
+-- These are what a job shows of a text on the machine that it declares, and the exit status.
+abbrev pub IsShownOn : Job → (text : List ℕ) → Machine → (told lines : List ℕ) → (status : ℕ) →
+    Type 0
+IsShownOn (Run file turns printed record_to expected) text m told lines status =
     IsRunShown printed m (IsRunAsked m turns) lines status
-IsShownOn (Replay file schedule printed) m text lines status =
-    IsRunShown printed m (IsReplayAsked m schedule.now text) lines status
-IsShownOn (Audit file name judged) m trace lines status = IsAudited judged m trace lines status
-IsShownOn (Chart chart) m trace lines status = IsCharted chart m trace lines status
-IsShownOn (Endings search) m trace lines status = IsAnswered m (question_of search) lines status
-IsShownOn (Lint file) m trace lines status = (lines ≡ []) × (status ≡ 0)
+IsShownOn (Replay file schedule rest printed expected) text m told lines status =
+    IsRunShown printed m (IsReplayAsked m rest schedule.now told) lines status
+IsShownOn (Audit file name judged) text m told lines status = IsAudited judged m told lines status
+IsShownOn (Chart chart) text m told lines status = IsCharted chart m told lines status
+IsShownOn (Endings search) text m told lines status =
+    IsFoundBy search m lines status
+IsShownOn (Lint file schedule) text m told lines status =
+    (lines ≡ doubts_text (doubts_of text)) × (status ≡ 0)
 
 -- They are true of the machine.
-abbrev pub IsTrueOn : Job → Machine → (trace lines : List ℕ) → (status : ℕ) → Type 0
-IsTrueOn (Run file turns printed record_to) m trace lines status = IsTrueShown printed m lines status
-IsTrueOn (Replay file schedule printed) m trace lines status = IsTrueShown printed m lines status
-IsTrueOn (Audit file name judged) m trace lines status = IsAudited judged m trace lines status
-IsTrueOn (Chart chart) m trace lines status = IsCharted chart m trace lines status
-IsTrueOn (Endings search) m trace lines status = IsAnswered m (question_of search) lines status
-IsTrueOn (Lint file) m trace lines status = (lines ≡ []) × (status ≡ 0)
+abbrev pub IsTrueOn : Job → (text : List ℕ) → Machine → (told lines : List ℕ) → (status : ℕ) →
+    Type 0
+IsTrueOn (Run file turns printed record_to expected) text m told lines status =
+    IsTrueShown printed m lines status
+IsTrueOn (Replay file schedule rest printed expected) text m told lines status =
+    IsTrueShown printed m lines status
+IsTrueOn (Audit file name judged) text m told lines status = IsAudited judged m told lines status
+IsTrueOn (Chart chart) text m told lines status = IsCharted chart m told lines status
+IsTrueOn (Endings search) text m told lines status =
+    IsFoundBy search m lines status
+IsTrueOn (Lint file schedule) text m told lines status =
+    (lines ≡ doubts_text (doubts_of text)) × (status ≡ 0)
 
 -- An exit status. Only a search that is to find nothing may have status 4.
 abbrev pub IsNoneAsked : Job → Type 0
@@ -319,20 +375,24 @@ IsNoneAsked (Endings search) = search.none ≡ true
 IsNoneAsked _ = ⊥
 
 abbrev pub IsStatusOf : Job → (status : ℕ) → Type 0
-IsStatusOf job status = (status ≡ 0) ⊎ (status ≡ 1) ⊎ (status ≡ 3) ⊎ ((status ≡ 4) × IsNoneAsked job)
+IsStatusOf job status = (status ≡ 0) ⊎ (status ≡ 1) ⊎ (status ≡ 3) ⊎
+    ((status ≡ 4) × IsNoneAsked job)
 
 -- The text declares a machine, and these are what the job shows there.
 pub record IsShown (job : Job) (text trace lines : List ℕ) (status : ℕ) : Type 0 where
   pub machine : Machine
   pub declares : machine_of_text text ≡ Ok machine
-  pub shown : IsShownOn job machine trace lines status
+  pub shown : IsShownOn job text machine trace lines status
 
--- What a job did that printed all of its lines: the reader of its machine text gave a text that declares a machine, these are the lines of what the job
--- shows there, they were written once, and nothing was reported. The status is that of what is shown.
-abbrev pub IsDone : Job → (machine trace : Result (List ℕ) ErrorKind → Type 0) → (out : List ℕ → Bool → Type 0) → (keeps_faults : Type 0) →
+-- What a job did that printed all of its lines: the reader of its machine text gave a text that
+-- declares a machine, these are the lines of what the job shows there, they were written once, and
+-- nothing was reported. The status is that of what is shown.
+abbrev pub IsDone : Job → (machine trace : Result (List ℕ) ErrorKind → Type 0) →
+    (out : List ℕ → Bool → Type 0) → (keeps_faults : Type 0) →
     (status : ℕ) → Type 0
 IsDone job machine trace out keeps_faults status =
-    (text : List ℕ) × (told : List ℕ) × (lines : List ℕ) × machine (Ok text) × IsTold job trace told × IsShown job text told lines status
+    (text : List ℕ) × (told : List ℕ) × (lines : List ℕ) × machine (Ok text) ×
+    IsTold job trace told × IsShown job text told lines status
     × out lines true × keeps_faults
 
 -- The reader of its machine text gave a text that declares a machine, and the lines that a job
@@ -341,7 +401,8 @@ abbrev pub IsTrulyDone : Job → (machine trace : Result (List ℕ) ErrorKind �
     (out : List ℕ → Bool → Type 0) → (status : ℕ) → Type 0
 IsTrulyDone job machine trace out status =
     (text : List ℕ) × (read : List ℕ) × (lines : List ℕ) × (m : Machine) × machine (Ok text)
-    × (machine_of_text text ≡ Ok m) × IsTold job trace read × IsTrueOn job m read lines status × out lines true
+    × (machine_of_text text ≡ Ok m) × IsTold job trace read
+    × IsTrueOn job text m read lines status × out lines true
 
 -- The first step that is not possible, of a trace that is drawn, or audited where such a step is
 -- told of. No other job shows anything of one.
@@ -350,29 +411,42 @@ refused_of_audit true m trace = refused_of_steps m (steps_of trace)
 refused_of_audit false m trace = None
 
 abbrev pub refused_on : Job → Machine → (trace : List ℕ) → Option ℕ
-refused_on (Run file turns printed record_to) m trace = None
-refused_on (Replay file schedule printed) m trace = None
+refused_on (Run file turns printed record_to expected) m trace = None
+refused_on (Replay file schedule rest printed expected) m trace = None
 refused_on (Audit file name judged) m trace = refused_of_audit (tells_refusals judged) m trace
 refused_on (Chart chart) m trace = refused_of_steps m (steps_of trace)
 refused_on (Endings search) m trace = None
-refused_on (Lint file) m trace = None
+refused_on (Lint file schedule) m trace = None
 
 abbrev pub refused_in : Job → Result Machine TextFault → (trace : List ℕ) → Option ℕ
 refused_in job (Err f) trace = None
 refused_in job (Ok m) trace = refused_on job m trace
 
--- What a job did that has status 1: either nothing was written and its fault was reported; or its lines were written once, which failed, and that was
--- reported; or they were written, and the first step of the trace that is not possible was reported.
-abbrev pub IsNotDone : Job → (machine trace : Result (List ℕ) ErrorKind → Type 0) → (is_fault : Fault → Type 0) → (out : List ℕ → Bool → Type 0) →
+-- What a job did that has status 1: either nothing was written and its fault was reported; or its
+-- lines were written once, which failed, and that was reported; or they were written, and the first
+-- step of the trace that is not possible was reported.
+abbrev pub IsNotDone : Job → (machine trace : Result (List ℕ) ErrorKind → Type 0) →
+    (is_fault : Fault → Type 0) → (out : List ℕ → Bool → Type 0) →
     (keeps_out : Type 0) → (faults : List ℕ → Bool → Type 0) → Type 0
 IsNotDone job machine trace is_fault out keeps_out faults =
     ((f : Fault) × is_fault f × keeps_out × IsReported faults f)
-    ⊎ ((text : List ℕ) × (told : List ℕ) × (lines : List ℕ) × (status : ℕ) × machine (Ok text) × IsTold job trace told
+    ⊎ ((text : List ℕ) × (told : List ℕ) × (lines : List ℕ) × (status : ℕ) × machine (Ok text) ×
+    IsTold job trace told
     × IsShown job text told lines status × out lines false × IsReported faults fault.Write)
-    ⊎ ((text : List ℕ) × (told : List ℕ) × (lines : List ℕ) × (number : ℕ) × machine (Ok text) × IsTold job trace told
-    × IsShown job text told lines 1 × (refused_in job (machine_of_text text) told ≡ Some number) × out lines true × IsReported faults (fault.Refused number))
+    ⊎ ((text : List ℕ) × (told : List ℕ) × (lines : List ℕ) × (number : ℕ) × machine (Ok text) ×
+    IsTold job trace told
+    × IsShown job text told lines 1 × (refused_in job (machine_of_text text) told ≡ Some number) ×
+    out lines true × IsReported faults (fault.Refused number))
 
--- What is answered once the lines are written: the status, or that a step is not possible is reported.
-abbrev pub IsEnded : (refused : Option ℕ) → (status result : ℕ) → (keeps_faults : Type 0) → (faults : List ℕ → Bool → Type 0) → Type 0
+-- The line of a step that is not possible. It is made before anything is written.
+abbrev pub refusal_line : (refused : Option ℕ) → Option (List ℕ)
+refusal_line None = None
+refusal_line (Some number) = Some (fault_line (fault.Refused number))
+
+-- What is answered once the lines are written: the status, or that a step is not possible is
+-- reported.
+abbrev pub IsEnded : (refused : Option ℕ) → (status result : ℕ) → (keeps_faults : Type 0) →
+    (faults : List ℕ → Bool → Type 0) → Type 0
 IsEnded None status result keeps_faults faults = (result ≡ status) × keeps_faults
-IsEnded (Some number) status result keeps_faults faults = (result ≡ 1) × IsReported faults (fault.Refused number)
+IsEnded (Some number) status result keeps_faults faults = (result ≡ 1) ×
+    IsReported faults (fault.Refused number)

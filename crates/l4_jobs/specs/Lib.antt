@@ -1,9 +1,12 @@
 pub mod Audits
 pub mod ChartJobs
+pub mod Expecting
 pub mod Extras
 pub mod FaultLines
 pub mod Jobs
 pub mod Lints
+pub mod ListLints
+pub mod Reading
 pub mod Recording
 pub mod Refusals
 pub mod Searches

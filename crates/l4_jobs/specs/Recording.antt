@@ -33,7 +33,7 @@ pub record IsRecorded (printed : Printed) (m : Machine) (turns : ℕ) (lines tex
 
 -- The same of what a job asks for. No other job records.
 abbrev pub IsRecordedBy : Job → Machine → (lines text : List ℕ) → (status : ℕ) → Type 0
-IsRecordedBy (Run file turns printed record_to) m lines text status =
+IsRecordedBy (Run file turns printed record_to expected) m lines text status =
     IsRecorded printed m turns lines text status
 IsRecordedBy _ m lines text status = ⊥
 

@@ -2,6 +2,9 @@
 use Rattle.std.specs.Prelude.{◌≡◌, ◌⊎◌, ℕ, Bool, true, false, Option, Some, None, Result, Ok, Err, List, ◌++◌}
 use Rattle.std.specs.Io.KnownBytes.{Appends}
 use Rattle.std.specs.declared.io.ErrorKind.{ErrorKind}
+use Rattle.l4_commands.specs.Files.{is_input}
+use Rattle.l4_jobs.specs.declared.streams.Opened.{Opened}
+use Rattle.l4_jobs.specs.declared.streams.Opened.TheVariants.{File as FileOpened, Input as InputOpened}
 
 -- The text that a reader gives: its bytes, where they are known.
 abbrev pub IsGiven : (known : Option (List ℕ)) → (text : List ℕ) → Type 0
@@ -34,7 +37,29 @@ IsCreated {Made} creates takes name bytes false =
     ⊎ ((made : Made) × (written : Made) × creates name (Ok made) × takes made written bytes false)
 
 -- What reading the file of a name may come to: it is opened and then read.
-abbrev pub FileGives : {File : Type 0} → (opens : List ℕ → Result File ErrorKind → Type 0) → (gives : File → Result (List ℕ) ErrorKind → Type 0) →
+abbrev pub FileGives : {File : Type 0} → (opens : List ℕ → Result File ErrorKind → Type 0) →
+    (gives : File → Result (List ℕ) ErrorKind → Type 0) →
     (name : List ℕ) → Result (List ℕ) ErrorKind → Type 0
-FileGives {File} opens gives name (Ok text) = (file : File) × opens name (Ok file) × gives file (Ok text)
-FileGives {File} opens gives name (Err kind) = opens name (Err kind) ⊎ ((file : File) × opens name (Ok file) × gives file (Err kind))
+FileGives {File} opens gives name (Ok text) = (file : File) × opens name (Ok file) ×
+    gives file (Ok text)
+FileGives {File} opens gives name (Err kind) = opens name (Err kind) ⊎
+    ((file : File) × opens name (Ok file) × gives file (Err kind))
+
+-- What reading what was opened may come to.
+abbrev pub OpenedGives : {File Input : Type 0} →
+    (file : File → Result (List ℕ) ErrorKind → Type 0) →
+    (input : Input → Result (List ℕ) ErrorKind → Type 0) → Opened File Input →
+    Result (List ℕ) ErrorKind → Type 0
+OpenedGives file input (FileOpened f) read = file f read
+OpenedGives file input (InputOpened i) read = input i read
+
+-- What opening a name may give where `-` is that of an input: this input, which is always there.
+-- All others are those of files.
+abbrev pub OpensWithInput : {File Input : Type 0} →
+    (opens : List ℕ → Result File ErrorKind → Type 0) → Input → (name : List ℕ) →
+    Result (Opened File Input) ErrorKind → Type 0
+OpensWithInput opens input name (Ok (InputOpened given)) =
+    (is_input name ≡ true) × (given ≡ input)
+OpensWithInput opens input name (Ok (FileOpened file)) =
+    (is_input name ≡ false) × opens name (Ok file)
+OpensWithInput opens input name (Err kind) = (is_input name ≡ false) × opens name (Err kind)

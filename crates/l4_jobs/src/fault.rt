@@ -1,7 +1,9 @@
 //! What the program reports on standard error, one line each.
 ghost use Rattle.std.specs.Prelude.{◌≡◌, ◌⊎◌, IfOk, Some};
 ghost use Rattle.std.specs.String.{string_bytes};
-ghost use Rattle.l4_jobs.specs.FaultLines.{kind_word, fault_words, fault_line, IsReported};
+ghost use Rattle.l4_jobs.specs.Expecting.{fault_of_expect};
+ghost use Rattle.l4_jobs.specs.FaultLines.{kind_word, wrong_word, fault_words, fault_line};
+ghost use Rattle.l4_jobs.specs.FaultLines.{IsReported};
 ghost use Rattle.l4_jobs.specs.Jobs.{IsUnread, text_fault, fault_of_run, fault_of_reading};
 ghost use Rattle.l4_jobs.specs.ChartJobs.{fault_of_list};
 ghost use Rattle.l4_jobs.specs.Searches.{fault_of_question};
@@ -9,6 +11,8 @@ ghost use Rattle.l4_jobs.specs.declared.fault.Fault.TheVariants.{NoMemory as Out
 
 use crate::streams::Sink;
 use l4_chart::threads::ThreadsFault;
+use l4_expect::expectations::ExpectFault;
+use l4_expect::judging::Wrong;
 use l4_machine::RunFault;
 use l4_questions::question::QuestionFault;
 use l4_script::text::{TextFault, TextFaultKind};
@@ -46,6 +50,9 @@ pub enum Fault<'a> {
     Trace(usize),
     /// This step of the trace, counted from 1, is the first that is not possible.
     Refused(usize),
+    /// This line of the expectations, counted from 1, is the first that no report can have, and
+    /// why.
+    Expectation(usize, Wrong),
     /// Memory was refused.
     NoMemory,
     /// This file can't be read.
@@ -117,6 +124,17 @@ impl From<QuestionFault> for Fault<'_> {
     }
 }
 
+impl From<ExpectFault> for Fault<'_> {
+    ghost from_gives = { λ of fault. fault ≡ fault_of_expect of };
+
+    fn from(fault: ExpectFault) -> Self {
+        match fault {
+            ExpectFault::NoMemory => Fault::NoMemory,
+            ExpectFault::Line(line, wrong) => Fault::Expectation(line, wrong),
+        }
+    }
+}
+
 impl From<NoMemory> for Fault<'_> {
     ghost from_gives = { λ _ fault. fault ≡ OutOfMemory };
 
@@ -144,6 +162,19 @@ fn spelled_kind(kind: TextFaultKind) -> &'static str
     }
 }
 
+// What is wrong with an expectation, as its fault's line names it.
+fn spelled_wrong(wrong: Wrong) -> &'static str
+    ensures { result.now ≡ wrong_word wrong }
+{
+    match wrong {
+        Wrong::BadLine => "BadLine",
+        Wrong::Unknown => "Unknown",
+        Wrong::BadWord => "BadWord",
+        Wrong::Deleted => "Deleted",
+        Wrong::Number => "Number",
+    }
+}
+
 impl Display for Fault<'_> {
     ghost output = { λ fault. Some (fault_words fault) };
 
@@ -157,6 +188,9 @@ impl Display for Fault<'_> {
             Fault::Threads(number) => write!(f, "threads item {number}"),
             Fault::Trace(line) => write!(f, "trace line {line}"),
             Fault::Refused(step) => write!(f, "refused at step {step}"),
+            Fault::Expectation(line, wrong) => {
+                write!(f, "expectation line {line}: {}", spelled_wrong(*wrong))
+            }
             Fault::NoMemory => f.write_str("no memory"),
             Fault::Read(name) => write!(f, "cannot read {name}"),
             Fault::Unwritten(name) => write!(f, "cannot write {name}"),
@@ -166,7 +200,7 @@ impl Display for Fault<'_> {
 }
 
 // The line of a fault.
-fn line_of(alloc: Global, fault: &Fault<'_>) -> Result<String, AllocError>
+pub(crate) fn line_of(alloc: Global, fault: &Fault<'_>) -> Result<String, AllocError>
     ensures { IfOk result (λ line. string_bytes line ≡ fault_line fault.now) }
 {
     format!(in alloc; "l4run: {fault}\n")

@@ -10,14 +10,15 @@ ghost use Rattle.l4_jobs.specs.Jobs.{IsStatusOf, IsTrulyDone};
 use crate::fault::{report, unread};
 use crate::job::Job;
 use crate::lints::perform_lint;
-use crate::perform::perform;
+use crate::perform::perform_heard;
 use crate::recording::perform_recorded;
 use crate::streams::{Folder, NewFile, Sink, Source};
+use l4_explore::progress::{Progress, Unheard};
 use std::alloc::Global;
 use std::thread::Threads;
 
 // Opens the trace or the list of a job that reads one, and does the job.
-fn on_second_file<R: Threads + Sync, F: Folder, M: Source, W: Sink, E: Sink>(
+fn on_second_file<R: Threads + Sync, F: Folder, M: Source, W: Sink, E: Sink, P: Progress>(
     rt: &R,
     alloc: Global,
     folder: &F,
@@ -25,6 +26,7 @@ fn on_second_file<R: Threads + Sync, F: Folder, M: Source, W: Sink, E: Sink>(
     machine: &mut M,
     out: &mut W,
     faults: &mut E,
+    progress: &mut P,
 ) -> u8
     ensures shown { result ≢ 1 →
         IsDone job.now (M.gives machine.old) (TraceGives (F.opens folder.now) F.File.gives job.now)
@@ -38,16 +40,34 @@ fn on_second_file<R: Threads + Sync, F: Folder, M: Source, W: Sink, E: Sink>(
     ensures statuses { IsStatusOf job.now result }
 {
     let Some(name) = job.second_file() else {
-        return perform(rt, alloc, job, machine, &mut b"".as_slice(), out, faults);
+        return perform_heard(
+            rt,
+            alloc,
+            job,
+            machine,
+            &mut b"".as_slice(),
+            out,
+            faults,
+            progress,
+        );
     };
     match folder.open(name) {
-        Ok(mut second) => perform(rt, alloc, job, machine, &mut second, out, faults),
+        Ok(mut second) => perform_heard(
+            rt,
+            alloc,
+            job,
+            machine,
+            &mut second,
+            out,
+            faults,
+            progress,
+        ),
         Err(kind) => report(alloc, faults, &unread(name, kind)),
     }
 }
 
 // Does a job whose machine text was opened.
-fn on_machine<R: Threads + Sync, F: Folder, M: Source, W: Sink, E: Sink>(
+fn on_machine<R: Threads + Sync, F: Folder, M: Source, W: Sink, E: Sink, P: Progress>(
     rt: &R,
     alloc: Global,
     folder: &F,
@@ -55,6 +75,7 @@ fn on_machine<R: Threads + Sync, F: Folder, M: Source, W: Sink, E: Sink>(
     machine: &mut M,
     out: &mut W,
     faults: &mut E,
+    progress: &mut P,
 ) -> u8
     ensures shown { result ≢ 1 →
         IsDone job.now (M.gives machine.old) (TraceGives (F.opens folder.now) F.File.gives job.now)
@@ -81,12 +102,12 @@ fn on_machine<R: Threads + Sync, F: Folder, M: Source, W: Sink, E: Sink>(
             };
             perform_recorded(rt, alloc, &recording, machine, &mut new_file, out, faults)
         }
-        None => on_second_file(rt, alloc, folder, job, machine, out, faults),
+        None => on_second_file(rt, alloc, folder, job, machine, out, faults, progress),
     }
 }
 
 // Does a job whose machine text was opened, or says what is wrong there.
-fn on_opened<R: Threads + Sync, F: Folder, M: Source, W: Sink, E: Sink>(
+fn on_opened<R: Threads + Sync, F: Folder, M: Source, W: Sink, E: Sink, P: Progress>(
     rt: &R,
     alloc: Global,
     folder: &F,
@@ -94,6 +115,7 @@ fn on_opened<R: Threads + Sync, F: Folder, M: Source, W: Sink, E: Sink>(
     machine: &mut M,
     out: &mut W,
     faults: &mut E,
+    progress: &mut P,
 ) -> u8
     ensures shown { result ≢ 1 →
         IsDone job.now (M.gives machine.old) (TraceGives (F.opens folder.now) F.File.gives job.now)
@@ -115,8 +137,8 @@ fn on_opened<R: Threads + Sync, F: Folder, M: Source, W: Sink, E: Sink>(
     ensures statuses { IsStatusOf job.now result }
 {
     match *job {
-        Job::Lint { file } => perform_lint(alloc, file, machine, out, faults),
-        _ => on_machine(rt, alloc, folder, job, machine, out, faults),
+        Job::Lint { file, .. } => perform_lint(alloc, file, machine, out, faults),
+        _ => on_machine(rt, alloc, folder, job, machine, out, faults, progress),
     }
 }
 
@@ -155,9 +177,45 @@ pub fn perform_on_files<R: Threads + Sync, F: Folder, W: Sink, E: Sink>(
         (W.takes out.old out.new) (faults.new ≡ faults.old) (E.takes faults.old faults.new) }
     ensures statuses { IsStatusOf job.now result }
 {
+    perform_on_files_heard(rt, alloc, folder, job, out, faults, &mut Unheard)
+}
+
+/// Does a job over files as `perform_on_files` does it. Where it is a search for endings, the
+/// listener hears how far it has come, and that it has ended before anything is written.
+pub fn perform_on_files_heard<R: Threads + Sync, F: Folder, W: Sink, E: Sink, P: Progress>(
+    rt: &R,
+    alloc: Global,
+    folder: &F,
+    job: &Job<'_>,
+    out: &mut W,
+    faults: &mut E,
+    progress: &mut P,
+) -> u8
+    ensures shown { result ≢ 1 →
+        IsDone job.now (FileGives (F.opens folder.now) F.File.gives (file_of job.now))
+        (TraceGives (F.opens folder.now) F.File.gives job.now)
+        (W.takes out.old out.new) (faults.new ≡ faults.old) result }
+    ensures headline { result ≢ 1 →
+        IsTrulyDone job.now (FileGives (F.opens folder.now) F.File.gives (file_of job.now))
+        (TraceGives (F.opens folder.now) F.File.gives job.now) (W.takes out.old out.new) result }
+    ensures recorded { result ≢ 1 → IfSome (record_of job.now) (λ name.
+        IsRecordDone job.now (FileGives (F.opens folder.now) F.File.gives (file_of job.now))
+        (IsCreated (F.creates folder.now) F.Made.takes name)
+        (W.takes out.old out.new) (faults.new ≡ faults.old) result) }
+    ensures whole { result ≡ 1 →
+        IsNotDone job.now (FileGives (F.opens folder.now) F.File.gives (file_of job.now))
+        (TraceGives (F.opens folder.now) F.File.gives job.now)
+        (λ f. IsOpenedFault (F.opens folder.now) F.File.gives job.now f ⊎
+        IsRecordFault job.now (FileGives (F.opens folder.now) F.File.gives (file_of job.now))
+        (IsCreated (F.creates folder.now) F.Made.takes) f)
+        (W.takes out.old out.new) (out.new ≡ out.old) (E.takes faults.old faults.new) ⊎
+        IsLintEnded job.now (FileGives (F.opens folder.now) F.File.gives (file_of job.now))
+        (W.takes out.old out.new) (faults.new ≡ faults.old) (E.takes faults.old faults.new) }
+    ensures statuses { IsStatusOf job.now result }
+{
     let file = job.file();
     match folder.open(file) {
-        Ok(mut machine) => on_opened(rt, alloc, folder, job, &mut machine, out, faults),
+        Ok(mut machine) => on_opened(rt, alloc, folder, job, &mut machine, out, faults, progress),
         Err(kind) => report(alloc, faults, &unread(file, kind)),
     }
 }

@@ -1,34 +1,17 @@
 //! Saying all that is wrong in a machine text.
-ghost use Rattle.std.specs.Prelude.{◌≡◌, ◌⊎◌, ℕ, List, IfOk, IfErr, Ok, Err, take};
-ghost use Rattle.std.specs.declared.io.ErrorKind.{ErrorKind as Kind};
-ghost use Rattle.l4_jobs.specs.Jobs.{IsUnread};
+ghost use Rattle.std.specs.Prelude.{◌≡◌, [], ℕ, List, None, IfOk, IfErr, Ok};
+ghost use Rattle.l4_lint.specs.Doubts.{doubts_of, doubts_text};
+ghost use Rattle.l4_lint.specs.Faults.{faults_of};
 ghost use Rattle.l4_jobs.specs.Lints.{IsLintFault, IsLintOf, IsLinted, IsSaid};
 
-use crate::fault::{Fault, report, unread};
+use crate::fault::{Fault, report};
+use crate::perform::Output;
+use crate::reading::read_text;
 use crate::streams::{Sink, Source};
-use l4_lint::lint::lint;
+use l4_lint::lint::lint_with_doubts;
 use l4_lint::printed::Lint;
-use l4_script::text::MOST_BYTES;
+use l4_types::errors::NoMemory;
 use std::alloc::Global;
-
-// The machine text of this name. Of one that is too long, one byte more than a text may have is
-// read.
-fn read_beginning<'a, M: Source>(
-    alloc: Global,
-    name: &'a str,
-    machine: &mut M,
-) -> Result<Vec<u8>, Fault<'a>>
-    ensures ok { IfOk result (λ text.
-        (all : List ℕ) × M.gives machine.old (Ok all) ×
-        ((text.items ≡ all) ⊎ (text.items ≡ take 0x100001 all))) }
-    ensures err { IfErr result (λ fault.
-        (kind : Kind) × M.gives machine.old (Err kind) × IsUnread name.now kind fault) }
-{
-    match machine.read_beginning(alloc, MOST_BYTES as u64 + 1) {
-        Ok(text) => Ok(text),
-        Err(kind) => Err(unread(name, kind)),
-    }
-}
 
 // What is said of what the reader gives.
 fn linted<'a, M: Source>(alloc: Global, name: &'a str, machine: &mut M) -> Result<Lint, Fault<'a>>
@@ -36,12 +19,27 @@ fn linted<'a, M: Source>(alloc: Global, name: &'a str, machine: &mut M) -> Resul
         IsLintOf text lint.lines.items lint.status) }
     ensures err { IfErr result (IsLintFault name.now (M.gives machine.old)) }
 {
-    let text = read_beginning(alloc, name, machine)?;
-    Ok(lint(alloc, text.as_slice())?)
+    let text = read_text(alloc, name, machine)?;
+    Ok(lint_with_doubts(alloc, text.as_slice())?)
+}
+
+// What is printed of a text without a fault: all that is doubtful there.
+pub(crate) fn doubts_output(alloc: Global, text: &[u8]) -> Result<Output, NoMemory>
+    requires { faults_of text.now ≡ [] }
+    ensures lines { IfOk result (λ output.
+        (output.lines.items ≡ doubts_text (doubts_of text.now)) × (output.status ≡ 0)) }
+    ensures whole { IfOk result (λ output. output.refused ≡ None) }
+{
+    let said = lint_with_doubts(alloc, text)?;
+    Ok(Output {
+        lines: said.lines,
+        status: said.status,
+        refused: None,
+    })
 }
 
 // Prints what is said, and returns the exit status.
-fn said<W: Sink, E: Sink>(alloc: Global, lint: &Lint, out: &mut W, faults: &mut E) -> u8
+pub(crate) fn said<W: Sink, E: Sink>(alloc: Global, lint: &Lint, out: &mut W, faults: &mut E) -> u8
     ensures { IsSaid lint.now.lines.items lint.now.status result (W.takes out.old out.new)
         (faults.new ≡ faults.old) (E.takes faults.old faults.new) }
 {
@@ -52,8 +50,9 @@ fn said<W: Sink, E: Sink>(alloc: Global, lint: &Lint, out: &mut W, faults: &mut 
 }
 
 /// Says all that is wrong in a machine text, a line for each fault, and returns the exit status: 0
-/// where nothing is wrong, 1 where something is. The lines are written once. Where the text can't
-/// be read, the output can't be written or memory is refused, that is reported with status 1.
+/// where nothing is wrong, 1 where something is. Where nothing is, it says what is doubtful. The
+/// lines are written once. Where the text can't be read, the output can't be written or memory is
+/// refused, that is reported with status 1.
 pub fn perform_lint<M: Source, W: Sink, E: Sink>(
     alloc: Global,
     file: &str,

@@ -1,19 +1,19 @@
 //! Doing a job over two readers and two writers.
 ghost use Rattle.std.specs.Prelude.{◌≡◌, ◌≢◌, ◌⊎◌, ℕ, List, IfOk, IfErr, Ok, Err, None, Some};
-ghost use Rattle.std.specs.Prelude.{◌+◌, map, take};
-ghost use Rattle.std.specs.declared.io.ErrorKind.{ErrorKind as Kind};
+ghost use Rattle.std.specs.Prelude.{map, option_map};
+ghost use Rattle.std.specs.String.{string_bytes};
 ghost use Rattle.l4_machine.specs.Outcomes.{IsCompactReplay, compact_findings_of, steps_of};
 ghost use Rattle.l4_machine.specs.Entries.{entries_fault, entry_from};
 ghost use Rattle.l4_model.specs.History.{IsHistory};
 ghost use Rattle.l4_script.specs.Texts.{machine_of_text};
-ghost use Rattle.l4_schedules.specs.InFiles.{most_bytes, schedule_in_file};
+ghost use Rattle.l4_schedules.specs.InFiles.{schedule_in_file};
 ghost use Rattle.l4_commands.specs.Files.{file_of, second_file_of, list_name};
-ghost use Rattle.l4_jobs.specs.Jobs.{IsUnread, IsTold, IsShown, IsShownOn};
+ghost use Rattle.l4_jobs.specs.Jobs.{IsTold, IsShown, IsShownOn, refusal_line};
 ghost use Rattle.l4_jobs.specs.Audits.{tells_refusals};
 ghost use Rattle.l4_jobs.specs.Jobs.{IsRunShown, IsAudited, IsAuditFault, IsFaultOn, IsFaultOf};
 ghost use Rattle.l4_jobs.specs.Jobs.{IsJobFault, IsDone, IsNotDone, IsRunAsked, IsReplayAsked};
 ghost use Rattle.l4_jobs.specs.Jobs.{IsEnded, IsListFault, IsRead, IsScheduleFault, IsStatusOf};
-ghost use Rattle.l4_jobs.specs.Jobs.{IsTrulyDone, IsWritten};
+ghost use Rattle.l4_jobs.specs.Jobs.{IsOutcomeOfAny, IsReplayFault, IsTrulyDone, IsWritten, gone_on};
 ghost use Rattle.l4_jobs.specs.Jobs.{asked_schedule, fault_of, fault_of_turns};
 ghost use Rattle.l4_jobs.specs.Jobs.{refused_in, refused_of_audit, refused_on};
 ghost use Rattle.l4_jobs.specs.Jobs.{lines_of_outcome, status_of_ending};
@@ -22,18 +22,21 @@ ghost use Rattle.l4_jobs.specs.declared.fault.Fault.TheVariants.{NoMemory as Out
 use crate::audits::{audited, told_output};
 use crate::charts::chart_output;
 use crate::extras::write_extras;
-use crate::fault::{Fault, report, unread};
+use crate::fault::{Fault, line_of, report, unread};
 use crate::job::{Job, Judged, Printed, list_name};
+use crate::lints::doubts_output;
+use crate::reading::{read_list, read_text};
 use crate::searches::search_output;
 use crate::streams::{Sink, Source};
 use crate::trace_lines::trace_of;
-use l4_machine::{CompactOutcome, Entry, replay_compact, run_compact};
+use l4_explore::progress::{Progress, Unheard};
+use l4_machine::{CompactOutcome, Entry, RunFault, replay_compact, run_compact};
 use l4_proc::gate::Open;
 use l4_reports::report_lines::write_report;
-use l4_schedules::files::{MOST_FILE_BYTES, schedule_in_file};
+use l4_rounds::replay_then_rest;
+use l4_schedules::files::schedule_in_file;
 use l4_schedules::items::schedule_of;
 use l4_script::machine::Machine;
-use l4_script::text::MOST_BYTES;
 use l4_types::errors::NoMemory;
 use l4_types::reports::Ending;
 use std::alloc::Global;
@@ -46,44 +49,6 @@ pub(crate) struct Output {
     pub(crate) lines: Vec<u8>,
     pub(crate) status: u8,
     pub(crate) refused: Option<usize>,
-}
-
-// The machine text of this name. Of one that is too long, one byte more than a text may have is
-// read.
-pub(crate) fn read_text<'a, M: Source>(
-    alloc: Global,
-    name: &'a str,
-    machine: &mut M,
-) -> Result<Vec<u8>, Fault<'a>>
-    ensures ok { IfOk result (λ text.
-        (all : List ℕ) × M.gives machine.old (Ok all) ×
-        (machine_of_text text.items ≡ machine_of_text all)) }
-    ensures err { IfErr result (λ fault.
-        (kind : Kind) × M.gives machine.old (Err kind) × IsUnread name.now kind fault) }
-{
-    match machine.read_beginning(alloc, MOST_BYTES as u64 + 1) {
-        Ok(text) => Ok(text),
-        Err(kind) => Err(unread(name, kind)),
-    }
-}
-
-// The text of the list in the file of this name. Of one that is too long, one byte more than it may
-// have is read.
-fn read_list<'a, L: Source>(
-    alloc: Global,
-    name: &'a str,
-    list: &mut L,
-) -> Result<Vec<u8>, Fault<'a>>
-    ensures ok { IfOk result (λ text.
-        (all : List ℕ) × L.gives list.old (Ok all) ×
-        ((text.items ≡ all) ⊎ (text.items ≡ take (most_bytes + 1) all))) }
-    ensures err { IfErr result (λ fault.
-        (kind : Kind) × L.gives list.old (Err kind) × IsUnread name.now kind fault) }
-{
-    match list.read_beginning(alloc, MOST_FILE_BYTES as u64 + 1) {
-        Ok(text) => Ok(text),
-        Err(kind) => Err(unread(name, kind)),
-    }
 }
 
 // The entries of the schedule in the file of this name.
@@ -106,7 +71,7 @@ fn entries_in_file<'a, L: Source>(
 
 // The entries of the schedule that is asked for: those of the list itself, or of that in the file
 // which it names.
-fn asked_entries<'a, L: Source>(
+pub(crate) fn asked_entries<'a, L: Source>(
     alloc: Global,
     machine: &Machine,
     schedule: &'a str,
@@ -144,7 +109,11 @@ fn replayed<'m>(
 }
 
 // The report of an outcome, or its trace.
-fn lines_of(alloc: Global, report: bool, outcome: &CompactOutcome<'_>) -> Result<Vec<u8>, NoMemory>
+pub(crate) fn lines_of(
+    alloc: Global,
+    report: bool,
+    outcome: &CompactOutcome<'_>,
+) -> Result<Vec<u8>, NoMemory>
     ensures { IfOk result (λ lines.
         lines.items ≡ lines_of_outcome report (compact_findings_of outcome.now)) }
 {
@@ -231,26 +200,46 @@ fn run_output<'a, R: Threads + Sync>(
     Ok(output_of_run(alloc, printed, machine, outcome)?)
 }
 
+// The outcome of the replay of entries of the machine, with the rest where it goes on.
+pub(crate) fn gone_on<'m>(
+    alloc: Global,
+    machine: &'m Machine,
+    entries: &[Entry],
+    rest: Option<u64>,
+) -> Result<CompactOutcome<'m>, RunFault>
+    requires { entries_fault machine.now (map entry_from entries.now) ≡ None }
+    ensures ok { IfOk result (λ o.
+        IsOutcomeOfAny machine.now (gone_on machine.now rest (map entry_from entries.now))
+        (compact_findings_of o)) }
+    ensures err { IfErr result (λ fault. (fault ≡ RunFault.NoMemory) ⊎
+        (gone_on machine.now rest (map entry_from entries.now) ≡ Err fault)) }
+{
+    match rest {
+        None => Ok(replayed(alloc, machine, entries)?),
+        Some(turns) => replay_then_rest(alloc, machine, entries, turns),
+    }
+}
+
 // What a replay prints.
 fn replay_output<'a, L: Source>(
     alloc: Global,
     machine: &Machine,
     schedule: &'a str,
+    rest: Option<u64>,
     printed: Printed,
     list: &mut L,
 ) -> Result<Output, Fault<'a>>
     ensures ok { IfOk result (λ output. (text : List ℕ) ×
         IsRead (list_name schedule.now) (L.gives list.old) text ×
-        IsRunShown printed machine.now (IsReplayAsked machine.now schedule.now text)
+        IsRunShown printed machine.now (IsReplayAsked machine.now rest schedule.now text)
         output.lines.items output.status) }
     ensures whole { IfOk result (λ output. output.refused ≡ None) }
     ensures err { IfErr result (λ fault. (fault ≡ OutOfMemory) ⊎
-        IsScheduleFault machine.now schedule.now (list_name schedule.now) (L.gives list.old)
-        fault) }
+        IsReplayFault machine.now rest schedule.now (L.gives list.old) fault) }
     ensures unread { list_name schedule.now ≡ None → list.new ≡ list.old }
 {
     let entries = asked_entries(alloc, machine, schedule, list)?;
-    let outcome = replayed(alloc, machine, entries.as_slice())?;
+    let outcome = gone_on(alloc, machine, entries.as_slice(), rest)?;
     Ok(output_of_run(alloc, printed, machine, outcome)?)
 }
 
@@ -283,17 +272,20 @@ fn audit_output<'a, T: Source>(
     })
 }
 
-// What a job prints for a machine. Only an audit and a chart read a trace, and only a replay may
-// read a list in its place.
-fn output_on<'a, R: Threads + Sync, T: Source>(
+// What a job prints for a text that declares a machine. Only an audit and a chart read a trace, and
+// only a replay may read a list in its place.
+fn output_on<'a, R: Threads + Sync, T: Source, P: Progress>(
     rt: &R,
     alloc: Global,
     job: &Job<'a>,
+    text: &[u8],
     machine: &Machine,
     trace: &mut T,
+    progress: &mut P,
 ) -> Result<Output, Fault<'a>>
+    requires { machine_of_text text.now ≡ Ok machine.now }
     ensures ok { IfOk result (λ output. (told : List ℕ) × IsTold job.now (T.gives trace.old) told ×
-        IsShownOn job.now machine.now told output.lines.items output.status ×
+        IsShownOn job.now text.now machine.now told output.lines.items output.status ×
         (output.refused ≡ refused_on job.now machine.now told)) }
     ensures err { IfErr result (λ fault. (fault ≡ OutOfMemory) ⊎
         IsFaultOn job.now machine.now (T.gives trace.old) fault) }
@@ -303,32 +295,30 @@ fn output_on<'a, R: Threads + Sync, T: Source>(
         Job::Run { turns, printed, .. } => run_output(rt, alloc, machine, turns, printed),
         Job::Replay {
             schedule,
+            then_rest,
             printed,
             ..
-        } => replay_output(alloc, machine, schedule, printed, trace),
+        } => replay_output(alloc, machine, schedule, then_rest, printed, trace),
         Job::Audit {
             trace: name,
             judged,
             ..
         } => audit_output(alloc, machine, name, judged, trace),
         Job::Chart(chart) => chart_output(alloc, machine, &chart, trace),
-        Job::Endings(search) => search_output(alloc, machine, &search),
+        Job::Endings(search) => search_output(alloc, machine, &search, progress),
         // A text with a fault did not come so far.
-        Job::Lint { .. } => Ok(Output {
-            lines: Vec::new(alloc),
-            status: 0,
-            refused: None,
-        }),
+        Job::Lint { .. } => Ok(doubts_output(alloc, text)?),
     }
 }
 
 // What a job prints for a text. The text is judged before the trace is read.
-fn output_of<'a, R: Threads + Sync, T: Source>(
+fn output_of<'a, R: Threads + Sync, T: Source, P: Progress>(
     rt: &R,
     alloc: Global,
     job: &Job<'a>,
     text: &[u8],
     trace: &mut T,
+    progress: &mut P,
 ) -> Result<Output, Fault<'a>>
     ensures ok { IfOk result (λ output. (told : List ℕ) × IsTold job.now (T.gives trace.old) told ×
         IsShown job.now text.now told output.lines.items output.status ×
@@ -338,16 +328,17 @@ fn output_of<'a, R: Threads + Sync, T: Source>(
     ensures unread { second_file_of job.now ≡ None → trace.new ≡ trace.old }
 {
     let machine = Machine::parse(alloc, text)?;
-    output_on(rt, alloc, job, &machine, trace)
+    output_on(rt, alloc, job, text, &machine, trace, progress)
 }
 
 // What a job prints for what its readers give.
-fn job_output<'a, R: Threads + Sync, M: Source, T: Source>(
+fn job_output<'a, R: Threads + Sync, M: Source, T: Source, P: Progress>(
     rt: &R,
     alloc: Global,
     job: &Job<'a>,
     machine: &mut M,
     trace: &mut T,
+    progress: &mut P,
 ) -> Result<Output, Fault<'a>>
     ensures shown { IfOk result (λ output.
         (text : List ℕ) × (told : List ℕ) × M.gives machine.old (Ok text) ×
@@ -358,17 +349,65 @@ fn job_output<'a, R: Threads + Sync, M: Source, T: Source>(
     ensures unread { second_file_of job.now ≡ None → trace.new ≡ trace.old }
 {
     let text = read_text(alloc, job.file(), machine)?;
-    output_of(rt, alloc, job, text.as_slice(), trace)
+    output_of(rt, alloc, job, text.as_slice(), trace, progress)
+}
+
+// What a job prints, and the line of a step that is not possible: all that is written.
+#[derive(Drop)]
+struct Prepared {
+    output: Output,
+    refusal: Option<String>,
+}
+
+// The line of a step that is not possible, where there is one.
+fn refusal(alloc: Global, refused: Option<usize>) -> Result<Option<String>, NoMemory>
+    ensures { IfOk result (λ line. option_map string_bytes line ≡ refusal_line refused) }
+{
+    match refused {
+        None => Ok(None),
+        Some(step) => Ok(Some(line_of(alloc, &Fault::Refused(step))?)),
+    }
+}
+
+// All that a job writes, for what its readers give.
+fn prepare<'a, R: Threads + Sync, M: Source, T: Source, P: Progress>(
+    rt: &R,
+    alloc: Global,
+    job: &Job<'a>,
+    machine: &mut M,
+    trace: &mut T,
+    progress: &mut P,
+) -> Result<Prepared, Fault<'a>>
+    ensures shown { IfOk result (λ prepared.
+        (text : List ℕ) × (told : List ℕ) × M.gives machine.old (Ok text) ×
+        IsTold job.now (T.gives trace.old) told ×
+        IsShown job.now text told prepared.output.lines.items prepared.output.status ×
+        (prepared.output.refused ≡ refused_in job.now (machine_of_text text) told)) }
+    ensures line { IfOk result (λ prepared.
+        option_map string_bytes prepared.refusal ≡ refusal_line prepared.output.refused) }
+    ensures err { IfErr result (IsJobFault job.now (M.gives machine.old) (T.gives trace.old)) }
+    ensures unread { second_file_of job.now ≡ None → trace.new ≡ trace.old }
+{
+    let output = job_output(rt, alloc, job, machine, trace, progress)?;
+    Ok(Prepared {
+        refusal: refusal(alloc, output.refused)?,
+        output,
+    })
 }
 
 // What is answered once the lines are written. A step that is not possible is reported then.
-fn ended<E: Sink>(alloc: Global, faults: &mut E, output: &Output) -> u8
-    ensures { IsEnded output.now.refused output.now.status result (faults.new ≡ faults.old)
-        (E.takes faults.old faults.new) }
+fn ended<E: Sink>(faults: &mut E, prepared: &Prepared) -> u8
+    requires { option_map string_bytes prepared.now.refusal ≡ refusal_line prepared.now.output.refused }
+    ensures { IsEnded prepared.now.output.refused prepared.now.output.status result
+        (faults.new ≡ faults.old) (E.takes faults.old faults.new) }
 {
-    match output.refused {
-        None => output.status,
-        Some(step) => report(alloc, faults, &Fault::Refused(step)),
+    match &prepared.refusal {
+        None => prepared.output.status,
+        Some(line) => {
+            // Where this can't be written, only the status says so.
+            let _ = faults.put(line.as_bytes());
+            1
+        }
     }
 }
 
@@ -380,7 +419,8 @@ fn ended<E: Sink>(alloc: Global, faults: &mut E, output: &Output) -> u8
 /// is read of the trace. An audit and a chart read a trace, and a replay whose list is in a file
 /// reads that list in its place. The output is made whole before any of it is written, and it is
 /// written once. A fault is reported by its one line. Nothing is recorded: `perform_recorded` does
-/// that. A text is only judged where all that is wrong in it is asked for: `perform_lint` tells it.
+/// that. Nothing is expected: `perform_expected` does that. A text is only judged where all that is
+/// wrong in it is asked for, and what is doubtful is told: `perform_lint` tells the faults.
 ///
 /// In a run several processors may work at the same time, each in a host thread. So two runs of
 /// several processors may differ, and each is lawful. A replay does what the items of its schedule
@@ -410,12 +450,44 @@ pub fn perform<R: Threads + Sync, M: Source, T: Source, W: Sink, E: Sink>(
     ensures statuses { IsStatusOf job.now result }
     ensures unread { second_file_of job.now ≡ None → trace.new ≡ trace.old }
 {
-    let output = match job_output(rt, alloc, job, machine, trace) {
-        Ok(output) => output,
+    perform_heard(rt, alloc, job, machine, trace, out, faults, &mut Unheard)
+}
+
+/// Does a job as `perform` does it. Where it is a search for endings, the listener hears how far it
+/// has come, and that it has ended before anything is written.
+#[tactic(auto, using(crate::proofs::Shown::truly_done))]
+pub fn perform_heard<R: Threads + Sync, M: Source, T: Source, W: Sink, E: Sink, P: Progress>(
+    rt: &R,
+    alloc: Global,
+    job: &Job<'_>,
+    machine: &mut M,
+    trace: &mut T,
+    out: &mut W,
+    faults: &mut E,
+    progress: &mut P,
+) -> u8
+    ensures shown { result ≢ 1 →
+        IsDone job.now (M.gives machine.old) (T.gives trace.old) (W.takes out.old out.new)
+        (faults.new ≡ faults.old) result }
+    ensures headline { result ≢ 1 →
+        IsTrulyDone job.now (M.gives machine.old) (T.gives trace.old) (W.takes out.old out.new)
+        result }
+    ensures whole { result ≡ 1 →
+        IsNotDone job.now (M.gives machine.old) (T.gives trace.old)
+        (IsJobFault job.now (M.gives machine.old) (T.gives trace.old))
+        (W.takes out.old out.new) (out.new ≡ out.old) (E.takes faults.old faults.new) }
+    ensures faulty { ((text told : List ℕ) → M.gives machine.old (Ok text) →
+        IsTold job.now (T.gives trace.old) told →
+        fault_of job.now text told ≢ None) → (result ≡ 1) × (out.new ≡ out.old) }
+    ensures statuses { IsStatusOf job.now result }
+    ensures unread { second_file_of job.now ≡ None → trace.new ≡ trace.old }
+{
+    let prepared = match prepare(rt, alloc, job, machine, trace, progress) {
+        Ok(prepared) => prepared,
         Err(fault) => return report(alloc, faults, &fault),
     };
-    match out.put(output.lines.as_slice()) {
-        Ok(()) => ended(alloc, faults, &output),
+    match out.put(prepared.output.lines.as_slice()) {
+        Ok(()) => ended(faults, &prepared),
         Err(_) => report(alloc, faults, &Fault::Write),
     }
 }

@@ -11,7 +11,8 @@ ghost use Rattle.l4_jobs.specs.declared.fault.Fault.TheVariants.{NoMemory as Out
 
 use crate::fault::{Fault, report};
 use crate::job::Recording;
-use crate::perform::{Output, output_of_run, read_text};
+use crate::perform::{Output, output_of_run};
+use crate::reading::read_text;
 use crate::streams::{Sink, Source};
 use l4_machine::run_recorded;
 use l4_proc::gate::Open;
@@ -123,7 +124,7 @@ pub fn law_recorded()
     ensures { (printed : Printed) (m : ModelMachine) (turns : ℕ) (lines text others : List ℕ)
         (status other : ℕ) (list name : List ℕ) → list_name list ≡ Some name →
         IsRecorded printed m turns lines text status →
-        IsRunShown printed m (IsReplayAsked m list text) lines status ×
-        (IsRunShown printed m (IsReplayAsked m list text) others other →
+        IsRunShown printed m (IsReplayAsked m None list text) lines status ×
+        (IsRunShown printed m (IsReplayAsked m None list text) others other →
         (others ≡ lines) × (other ≡ status)) }
 {}

@@ -4,7 +4,9 @@ ghost use Rattle.std.specs.Prelude.{◌≡◌, ◌⊎◌, ℕ, Bool, List, take,
 ghost use Rattle.std.specs.Prelude.{IfOk, OnErr, MatchResult};
 ghost use Rattle.std.specs.declared.io.ErrorKind.{ErrorKind as Kind};
 ghost use Rattle.l4_jobs.specs.Streams.{IsCreated, MayGive, MayTake, HasAppended};
+ghost use Rattle.l4_jobs.specs.Streams.{OpenedGives, OpensWithInput};
 
+use crate::job::INPUT;
 use std::alloc::Global;
 use std::fs;
 use std::io::{ErrorKind, Read, Write};
@@ -114,6 +116,67 @@ pub trait Folder {
     /// Creates the file of this name. Where there is one, it is emptied.
     fn create(&self, name: &str) -> Result<Self::Made, ErrorKind>
         ensures { creates self.now name.now result };
+}
+
+/// What was opened: a file, or an input that needs no opening.
+#[derive(Drop)]
+pub enum Opened<F, I> {
+    /// The file of a name.
+    File(F),
+    /// The input.
+    Input(I),
+}
+
+impl<F: Source, I: Source> Source for Opened<F, I> {
+    ghost gives = { λ s read. OpenedGives F.gives I.gives s read };
+
+    fn read_whole(&mut self, alloc: Global) -> Result<Vec<u8>, ErrorKind> {
+        match self {
+            Opened::File(file) => file.read_whole(alloc),
+            Opened::Input(input) => input.read_whole(alloc),
+        }
+    }
+
+    fn read_beginning(&mut self, alloc: Global, most: u64) -> Result<Vec<u8>, ErrorKind> {
+        match self {
+            Opened::File(file) => file.read_beginning(alloc, most),
+            Opened::Input(input) => input.read_beginning(alloc, most),
+        }
+    }
+}
+
+/// A folder where the name `-` is that of an input, as the standard input of a program. Words that
+/// name it twice ask for no job.
+#[derive(Clone, Copy)]
+pub struct WithInput<'a, F, I> {
+    /// The folder.
+    pub folder: &'a F,
+    /// The input.
+    pub input: I,
+}
+
+impl<F: Folder, I: Source + Copy + Drop> Folder for WithInput<'_, F, I> {
+    type File = Opened<F::File, I>;
+
+    type Made = F::Made;
+
+    ghost opens = { λ s name opened. OpensWithInput (F.opens s.folder.now) s.input name opened };
+
+    fn open(&self, name: &str) -> Result<Opened<F::File, I>, ErrorKind> {
+        if name == INPUT {
+            return Ok(Opened::Input(self.input));
+        }
+        match self.folder.open(name) {
+            Ok(file) => Ok(Opened::File(file)),
+            Err(kind) => Err(kind),
+        }
+    }
+
+    ghost creates = { λ s name made. F.creates s.folder.now name made };
+
+    fn create(&self, name: &str) -> Result<F::Made, ErrorKind> {
+        self.folder.create(name)
+    }
 }
 
 /// A new file of a folder. It is created where something is put into it, and not before.

@@ -1,12 +1,18 @@
 -- The lines of reports that may be asked for, and the lines that they are.
-use Rattle.std.specs.Prelude.{Bool, true, false, not, ◌&&◌, ◌||◌, if◌then◌else◌, ℕ, Option, None, Some, List, [], ◌∷◌, codes}
+use Rattle.std.specs.Prelude.{Bool, true, false, not, ◌&&◌, ◌||◌, if◌then◌else◌, ℕ, Option, None, Some, is_some, List, [], ◌∷◌, codes}
+use Rattle.std.specs.List.{after_first, before_first}
 use Rattle.std.specs.Str.{bytes_eq}
+use Rattle.l4_model.specs.Words.{GlobalId, same_id}
+use Rattle.l4_model.specs.World.{Name}
 use Rattle.l4_words.specs.Lines.{parts_of}
+use Rattle.l4_words.specs.Names.{is_hash, name_of}
+use Rattle.l4_words.specs.Threads.{thread_of}
 use Rattle.l4_words.specs.Words.{words_in}
 use Rattle.l4_lines.specs.declared.lines.LineFault.{LineFault}
-use Rattle.l4_lines.specs.declared.lines.LineFault.TheVariants.{Unknown, Deleted}
+use Rattle.l4_lines.specs.declared.lines.LineFault.TheVariants.{Unknown, Deleted, Number}
 
--- `*` stands for any one word, and `..` at the end for the words that are left, none or more.
+-- `*` stands for any one word, `N.V#*` for any send of a thread, and `..` at the end for the words
+-- that are left, none or more.
 
 abbrev pub is_any : (asked : List ℕ) → Bool
 is_any asked = bytes_eq asked (codes "*")
@@ -14,8 +20,18 @@ is_any asked = bytes_eq asked (codes "*")
 abbrev pub is_rest : (asked : List ℕ) → Bool
 is_rest asked = bytes_eq asked (codes "..")
 
+-- The thread of which any send is asked for.
+abbrev pub thread_asked : (asked : List ℕ) → Option GlobalId
+thread_asked asked =
+    if is_any (after_first is_hash asked) then thread_of (before_first is_hash asked) else None
+
+abbrev pub is_send_of : Option GlobalId → Option Name → Bool
+is_send_of (Some t) (Some s) = same_id s.thread t
+is_send_of _ _ = false
+
 abbrev pub fits_word : (asked word : List ℕ) → Bool
-fits_word asked word = is_any asked || bytes_eq asked word
+fits_word asked word =
+    is_any asked || bytes_eq asked word || is_send_of (thread_asked asked) (name_of word)
 
 abbrev pub are_rest : (asked : List (List ℕ)) → Bool
 are_rest (asked ∷ []) = is_rest asked
@@ -41,6 +57,16 @@ is_among asked (line ∷ next ∷ parts) = fits_line asked line || is_among aske
 abbrev pub has_line : (asked text : List ℕ) → Bool
 has_line asked text = is_among asked (parts_of text)
 
+-- The lines of a text.
+
+abbrev pub without_last : (parts : List (List ℕ)) → List (List ℕ)
+without_last [] = []
+without_last (last ∷ []) = []
+without_last (line ∷ next ∷ parts) = line ∷ without_last (next ∷ parts)
+
+abbrev pub lines_of : (text : List ℕ) → List (List ℕ)
+lines_of text = without_last (parts_of text)
+
 -- Which lines may be asked for
 
 -- A line of a report begins with one of these.
@@ -49,19 +75,26 @@ may_begin first =
     is_any first || bytes_eq first (codes "thread") || bytes_eq first (codes "waiting")
     || bytes_eq first (codes "ending")
 
--- It may be that of a deleted thread, and asks for more than its state.
-abbrev pub asks_of_deleted : (asked : List (List ℕ)) → Bool
-asks_of_deleted (first ∷ id ∷ state ∷ rest) =
+-- With this word first, and these behind its second, it may be that of a deleted thread, and asks
+-- for more than its state.
+abbrev pub asks_of_deleted : (first : List ℕ) → (others : List (List ℕ)) → Bool
+asks_of_deleted first (state ∷ rest) =
     fits_word first (codes "thread") && fits_word state (codes "deleted") && not (are_rest rest)
-asks_of_deleted _ = false
+asks_of_deleted first [] = false
 
--- Runs that end in one state may differ in the registers of a deleted thread, and in nothing else
--- that a line tells. So a line may not ask for them.
+-- With these words first it may be that of a send that waits, and asks for its number.
+abbrev pub asks_for_number : (first second : List ℕ) → Bool
+asks_for_number first second = fits_word first (codes "waiting") && is_some (name_of second)
+
+-- Runs that end in one state may differ in the registers of a deleted thread, in the numbers of
+-- sends, and in nothing else that a line tells. So a line may not ask for them.
 abbrev pub fault_of_words : (asked : List (List ℕ)) → Option LineFault
 fault_of_words [] = Some Unknown
-fault_of_words (first ∷ rest) =
+fault_of_words (first ∷ []) = if may_begin first then None else Some Unknown
+fault_of_words (first ∷ second ∷ others) =
     if not (may_begin first) then Some Unknown
-    else if asks_of_deleted (first ∷ rest) then Some Deleted else None
+    else if asks_of_deleted first others then Some Deleted
+    else if asks_for_number first second then Some Number else None
 
 abbrev pub line_fault : (asked : List ℕ) → Option LineFault
 line_fault asked = fault_of_words (words_in asked)

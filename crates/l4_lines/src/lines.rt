@@ -1,10 +1,16 @@
 //! Lines, word by word.
-ghost use Rattle.std.specs.Prelude.{◌≡◌, ◌∷◌};
+ghost use Rattle.std.specs.Prelude.{◌≡◌, ◌∷◌, find};
+ghost use Rattle.std.specs.Option.{option_copied};
 ghost use Rattle.std.specs.Str.{bytes_eq};
-ghost use Rattle.l4_lines.specs.Lines.{are_rest, asks_of_deleted, fits_line, fits_word};
-ghost use Rattle.l4_lines.specs.Lines.{has_line, is_any, is_rest, line_fault, may_begin};
+ghost use Rattle.l4_words.specs.Names.{name_of};
+ghost use Rattle.l4_lines.specs.Lines.{are_rest, asks_for_number, asks_of_deleted, fits_line};
+ghost use Rattle.l4_lines.specs.Lines.{fits_word, has_line, is_any, is_rest, is_send_of};
+ghost use Rattle.l4_lines.specs.Lines.{line_fault, lines_of, may_begin, thread_asked};
 
-use l4_words::lines::split_line;
+use l4_types::ids::GlobalId;
+use l4_words::lines::{find_byte, split_line};
+use l4_words::names::name;
+use l4_words::threads::thread;
 use l4_words::words::Words;
 
 /// Why a line may not be asked for.
@@ -15,21 +21,34 @@ pub enum LineFault {
     /// It asks for more than the state of a deleted thread. Runs that end in one state may differ
     /// in its registers.
     Deleted,
+    /// It asks for the number of a send. Runs that end in one state may differ in it.
+    Number,
 }
 
 /// Why a line may not be asked for. None where it may be.
 pub fn line_fault(asked: &str) -> Option<LineFault>
     ensures { result ≡ line_fault asked.now }
 {
-    let mut words = Words::of(asked.as_bytes());
+    fault_of_line(asked.as_bytes())
+}
+
+/// The same of the bytes of a line.
+pub fn fault_of_line(asked: &[u8]) -> Option<LineFault>
+    ensures { result ≡ line_fault asked.now }
+{
+    let mut words = Words::of(asked);
     let Some(first) = words.next() else {
         return Some(LineFault::Unknown);
     };
     if !may_begin(first) {
         return Some(LineFault::Unknown);
     }
+    let second = words.next()?;
     if asks_of_deleted(first, words) {
         return Some(LineFault::Deleted);
+    }
+    if asks_for_number(first, second) {
+        return Some(LineFault::Number);
     }
     None
 }
@@ -41,18 +60,22 @@ fn may_begin(first: &[u8]) -> bool
     is_any(first) || is(first, b"thread") || is(first, b"waiting") || is(first, b"ending")
 }
 
-// Whether a line with this word first may be that of a deleted thread, and asks for more than its
-// state.
+// Whether a line with this word first, and these behind its second, may be that of a deleted
+// thread, and asks for more than its state.
 fn asks_of_deleted(first: &[u8], mut others: Words<'_>) -> bool
-    ensures { result ≡ asks_of_deleted (first.now ∷ others.entry) }
+    ensures { result ≡ asks_of_deleted first.now others.entry }
 {
-    let Some(_) = others.next() else {
-        return false;
-    };
     let Some(state) = others.next() else {
         return false;
     };
     fits_word(first, b"thread") && fits_word(state, b"deleted") && !are_rest(others)
+}
+
+// Whether a line with these words first may be that of a send that waits, and asks for its number.
+fn asks_for_number(first: &[u8], second: &[u8]) -> bool
+    ensures { result ≡ asks_for_number first.now second.now }
+{
+    fits_word(first, b"waiting") && name(second).is_some()
 }
 
 // Whether the words that are left stand for any words.
@@ -65,13 +88,15 @@ fn are_rest(asked: Words<'_>) -> bool
     }
 }
 
-fn is_rest(asked: &[u8]) -> bool
+/// Whether a word that is asked for stands for the words that are left.
+pub fn is_rest(asked: &[u8]) -> bool
     ensures { result ≡ is_rest asked.now }
 {
     matches!(asked, b"..")
 }
 
-fn is_any(asked: &[u8]) -> bool
+/// Whether a word that is asked for stands for any word.
+pub fn is_any(asked: &[u8]) -> bool
     ensures { result ≡ is_any asked.now }
 {
     matches!(asked, b"*")
@@ -83,14 +108,37 @@ fn is(word: &[u8], other: &[u8]) -> bool
     word == other
 }
 
-fn fits_word(asked: &[u8], word: &[u8]) -> bool
-    ensures { result ≡ fits_word asked.now word.now }
+/// The thread of which any send is asked for.
+#[tactic(auto, using(crate::proofs::Sends::at_hash, crate::proofs::Sends::without_hash))]
+pub fn thread_asked(asked: &[u8]) -> Option<GlobalId>
+    ensures { result ≡ thread_asked asked.now }
 {
-    is_any(asked) || is(asked, word)
+    let hash = find_byte(b'#', asked)?;
+    if !is_any(&asked[hash + 1..]) {
+        return None;
+    }
+    thread(&asked[..hash])
 }
 
-// Whether a line is one that is asked for.
-fn fits_line(asked: &[u8], line: &[u8]) -> bool
+// Whether a word names a send of the thread of which any send is asked for.
+fn is_send_of(asked: &[u8], word: &[u8]) -> bool
+    ensures { result ≡ is_send_of (thread_asked asked.now) (name_of word.now) }
+{
+    match (thread_asked(asked), name(word)) {
+        (Some(thread), Some(name)) => name.thread() == thread,
+        _ => false,
+    }
+}
+
+/// Whether a word is one that is asked for.
+pub fn fits_word(asked: &[u8], word: &[u8]) -> bool
+    ensures { result ≡ fits_word asked.now word.now }
+{
+    is_any(asked) || is(asked, word) || is_send_of(asked, word)
+}
+
+/// Whether a line is one that is asked for.
+pub fn fits_line(asked: &[u8], line: &[u8]) -> bool
     ensures { result ≡ fits_line asked.now line.now }
 {
     let mut asked_words = Words::of(asked);
@@ -109,16 +157,23 @@ fn fits_line(asked: &[u8], line: &[u8]) -> bool
     words.is_done()
 }
 
+/// The first line of a text that is asked for. What stands behind the last line end is no line.
+pub fn find_line<'t>(asked: &[u8], text: &'t [u8]) -> Option<&'t [u8]>
+    ensures { option_copied result ≡ find (fits_line asked.now) (lines_of text.now) }
+{
+    let mut left = text;
+    'lines: while let Some((line, rest)) = split_line(left) {
+        if fits_line(asked, line) {
+            return Some(line);
+        }
+        left = rest;
+    }
+    None
+}
+
 /// Whether a text has a line that is asked for.
 pub fn has_line(asked: &str, text: &[u8]) -> bool
     ensures { result ≡ has_line asked.now text.now }
 {
-    let mut left = text;
-    'lines: while let Some((line, rest)) = split_line(left) {
-        if fits_line(asked.as_bytes(), line) {
-            return true;
-        }
-        left = rest;
-    }
-    false
+    find_line(asked.as_bytes(), text).is_some()
 }

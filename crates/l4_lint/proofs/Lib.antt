@@ -1,3 +1,4 @@
+pub mod Doubting
 pub mod First
 pub mod Sizes
 pub mod Steps

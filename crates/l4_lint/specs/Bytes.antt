@@ -1,5 +1,6 @@
 -- The bytes of a line.
-use Rattle.std.specs.Prelude.{ℕ, ◌+◌, Bool, true, not, ◌&&◌, ◌==◌, nat_eq, nat_lt, nat_le, if◌then◌else◌, Option, List, [], ◌∷◌}
+use Rattle.std.specs.Prelude.{ℕ, ◌+◌, Bool, true, not, ◌&&◌, ◌==◌, nat_eq, nat_lt, nat_le}
+use Rattle.std.specs.Prelude.{if◌then◌else◌, Option, List, [], ◌∷◌}
 use Rattle.std.specs.List.{position, before_first, after_first, starts_with}
 use Rattle.l4_lint.specs.declared.hints.Hint.{Hint}
 use Rattle.l4_lint.specs.declared.hints.Hint.TheVariants as hints
@@ -26,7 +27,8 @@ byte_hint number line byte =
     else (if byte == 9 then hints.Tab
     else hints.Unprintable))
 
--- How many bytes stand in front of the first space too many: one that stands in front of all words, behind a space or behind all words.
+-- How many bytes stand in front of the first space too many: one that stands in front of all words,
+-- behind a space or behind all words.
 abbrev pub clear : (spaced : Bool) → (line : List ℕ) → ℕ
 clear spaced [] = 0
 clear spaced (byte ∷ others) = if spaced && byte == 32 then 0 else 1 + clear (byte == 32) others

@@ -14,7 +14,8 @@ instruction_operands name =
     else (if bytes_eq name (codes "add") then Some (operand.Register ∷ operand.Word ∷ [])
     else (if bytes_eq name (codes "tag") then Some (operand.Tag ∷ [])
     else (if bytes_eq name (codes "vs") then Some (operand.Id ∷ [])
-    else (if bytes_eq name (codes "ipc") then Some (operand.Destination ∷ operand.Id ∷ operand.Time ∷ operand.Time ∷ [])
+    else (if bytes_eq name (codes "ipc")
+    then Some (operand.Destination ∷ operand.Id ∷ operand.Time ∷ operand.Time ∷ [])
     else (if bytes_eq name (codes "exregs") then Some (operand.Id ∷ operand.Bits ∷ [])
     else (if bytes_eq name (codes "delete") then Some (operand.Id ∷ [])
     else (if bytes_eq name (codes "jump") then Some (operand.Place ∷ [])
@@ -23,14 +24,18 @@ instruction_operands name =
     else None))))))))))
 
 abbrev pub thread_operands : List Operand
-thread_operands = operand.Thread ∷ operand.CpuKeyword ∷ operand.Processor ∷ operand.SpaceKeyword ∷ operand.Space ∷ []
+thread_operands =
+    operand.Thread ∷ operand.CpuKeyword ∷ operand.Processor ∷ operand.SpaceKeyword ∷ operand.Space
+    ∷ []
 
 abbrev pub operands_behind : (name keyword : List ℕ) → List Operand → Option (List Operand)
 operands_behind name keyword operands = if bytes_eq name keyword then Some operands else None
 
 -- None where no line of these begins with this word.
 abbrev pub operands_of : Lines → (name : List ℕ) → Option (List Operand)
-operands_of these.Format name = operands_behind name (codes "l4") (operand.Profile ∷ operand.Width ∷ [])
+operands_of these.Format name =
+    operands_behind name (codes "l4") (operand.Profile ∷ operand.Width ∷ [])
 operands_of these.Processors name = operands_behind name (codes "cpus") (operand.Processors ∷ [])
 operands_of these.Thread name = operands_behind name (codes "thread") thread_operands
-operands_of these.Script name = if bytes_eq name (codes "thread") then Some thread_operands else instruction_operands name
+operands_of these.Script name =
+    if bytes_eq name (codes "thread") then Some thread_operands else instruction_operands name

@@ -17,8 +17,10 @@ context which format cpus = record { lines = which; format = format; cpus = cpus
 abbrev pub lines_in : (begun : Bool) → Lines
 lines_in begun = if begun then these.Script else these.Thread
 
--- An instruction may stand behind a thread line, also behind a faulty one. Neither the first line nor the second has a word of a format.
+-- An instruction may stand behind a thread line, also behind a faulty one. Neither the first line
+-- nor the second has a word of a format.
 abbrev pub context_at : Stage → (lost : Bool) → Context
 context_at Start lost = context these.Format W64 0
 context_at (Processors heading) lost = context these.Processors heading.format 0
-context_at (Threads r) lost = context (lines_in (lost || not (length r.machine.threads == 0))) r.format r.machine.cpus
+context_at (Threads r) lost =
+    context (lines_in (lost || not (length r.machine.threads == 0))) r.format r.machine.cpus

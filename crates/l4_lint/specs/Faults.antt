@@ -1,5 +1,7 @@
 -- The faults of a text.
-use Rattle.std.specs.Prelude.{ℕ, false, ◌+◌, ◌-◌, Bool, ◌==◌, nat_lt, if◌then◌else◌, Option, Some, None, unwrap_or, Result, Ok, Err, List, [], ◌∷◌, length, map, filter, slice_get}
+use Rattle.std.specs.Prelude.{ℕ, false, ◌+◌, ◌-◌, Bool, ◌==◌, nat_lt, if◌then◌else◌, Option, Some}
+use Rattle.std.specs.Prelude.{None, unwrap_or, Result, Ok, Err, List, [], ◌∷◌, length, map, filter}
+use Rattle.std.specs.Prelude.{slice_get}
 use Rattle.l4_model.specs.Machine.{Machine}
 use Rattle.l4_words.specs.Lines.{parts_of}
 use Rattle.l4_script.specs.declared.text.fault.TextFault.{TextFault}
@@ -17,7 +19,8 @@ use Rattle.l4_lint.specs.Forms.{line_place}
 use Rattle.l4_lint.specs.Places.{Place, placed, place_at}
 use Rattle.l4_lint.specs.Reading.{Reader, reader, judged, led_on, left_out, goes_on}
 
--- Its line, counted from 1 with the skipped ones (0 where it is in no line), its kind and its place.
+-- Its line, counted from 1 with the skipped ones (0 where it is in no line), its kind and its
+-- place.
 pub record Fault : Type 0 where
   pub line : ℕ
   pub kind : TextFaultKind
@@ -28,7 +31,8 @@ fault line k at = record { line = line; kind = k; place = at }
 
 -- The text ends in front of its first line or its second, the line of this number.
 abbrev pub text_ends : (number : ℕ) → Stage → Fault
-text_ends number stage = fault number kinds.BadLine (placed 1 [] (hints.Begins (context_at stage false).lines))
+text_ends number stage =
+    fault number kinds.BadLine (placed 1 [] (hints.Begins (context_at stage false).lines))
 
 -- The last line has no line end.
 abbrev pub unended : (number : ℕ) → (line : List ℕ) → Fault
@@ -39,11 +43,14 @@ abbrev pub line_at : (parts : List (List ℕ)) → (number : ℕ) → List ℕ
 line_at parts number = unwrap_or (slice_get parts (number - 1)) []
 
 abbrev pub missed_fault : (parts : List (List ℕ)) → Target → Fault
-missed_fault parts t = fault t.line kinds.BadTarget (line_place (context_at Start false) t.line (line_at parts t.line) kinds.BadTarget)
+missed_fault parts t =
+    fault t.line kinds.BadTarget
+    (line_place (context_at Start false) t.line (line_at parts t.line) kinds.BadTarget)
 
 -- They are judged where no line is faulty: one that is left out would move the places behind it.
 abbrev pub missed_unless : (faulty : Bool) → (parts : List (List ℕ)) → texts.Reading → List Fault
-missed_unless faulty parts r = if faulty then [] else map (missed_fault parts) (filter (is_missed r.machine) r.targets)
+missed_unless faulty parts r =
+    if faulty then [] else map (missed_fault parts) (filter (is_missed r.machine) r.targets)
 
 -- The faults of a text that ends in front of the line of this number.
 abbrev pub ended : (parts : List (List ℕ)) → Stage → (faulty : Bool) → (number : ℕ) → List Fault
@@ -60,7 +67,8 @@ pub record Step : Type 0 where
 
 abbrev pub step_by : (number : ℕ) → Reader → (line : List ℕ) → Judged Stage → Step
 step_by number r line (Ok after) = record { after = led_on r line after; found = None }
-step_by number r line (Err k) = record { after = left_out r line; found = Some (line_fault number r line k) }
+step_by number r line (Err k) =
+    record { after = left_out r line; found = Some (line_fault number r line k) }
 
 abbrev pub step : (number : ℕ) → Reader → (line : List ℕ) → Step
 step number r line = step_by number r line (judged number r line)
@@ -75,7 +83,8 @@ followed s rest = followed_by s.found s.after rest
 -- The faults of a text from a line on. `whole` are all its parts.
 abbrev pub faults_from : (whole parts : List (List ℕ)) → Reader → (number : ℕ) → List Fault
 faults_from whole [] r number = ended whole r.stage r.faulty number
-faults_from whole (part ∷ []) r number = if length part == 0 then ended whole r.stage r.faulty number else unended number part ∷ []
+faults_from whole (part ∷ []) r number =
+    if length part == 0 then ended whole r.stage r.faulty number else unended number part ∷ []
 faults_from whole (part ∷ next ∷ parts) r number =
     followed (step number r part) (λ after. faults_from whole (next ∷ parts) after (number + 1))
 
@@ -87,7 +96,9 @@ not_read = reader Start false false
 
 -- All faults of a text, in order of their lines.
 abbrev pub faults_of : (text : List ℕ) → List Fault
-faults_of text = if nat_lt 0x100000 (length text) then too_long ∷ [] else faults_from (parts_of text) (parts_of text) not_read 1
+faults_of text =
+    if nat_lt 0x100000 (length text) then too_long ∷ []
+    else faults_from (parts_of text) (parts_of text) not_read 1
 
 -- The first of them, and the fault of what was read.
 abbrev pub first_in : List Fault → Option TextFault

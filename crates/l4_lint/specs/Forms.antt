@@ -1,5 +1,6 @@
 -- The place of a line's fault.
-use Rattle.std.specs.Prelude.{ℕ, ◌+◌, true, ◌||◌, ◌==◌, nat_eq, if◌then◌else◌, Option, Some, None, List, [], ◌∷◌, length, codes, slice_index, slice_range}
+use Rattle.std.specs.Prelude.{ℕ, ◌+◌, true, ◌||◌, ◌==◌, nat_eq, if◌then◌else◌, Option, Some, None}
+use Rattle.std.specs.Prelude.{List, [], ◌∷◌, length, codes, slice_index, slice_range}
 use Rattle.std.specs.List.{starts_with}
 use Rattle.l4_script.specs.declared.text.fault.TextFaultKind.{TextFaultKind}
 use Rattle.l4_script.specs.declared.text.fault.TextFaultKind.TheVariants as kinds
@@ -20,11 +21,13 @@ use Rattle.l4_lint.specs.Walks.{Walked, walk}
 -- What is said of a first word that begins none of these lines.
 abbrev pub first_hint : Lines → (word : List ℕ) → Hint
 first_hint which word =
-    if starts_with nat_eq word (codes "#") || starts_with nat_eq word (codes "//") then hints.OtherComment else hints.Begins which
+    if starts_with nat_eq word (codes "#") || starts_with nat_eq word (codes "//")
+    then hints.OtherComment else hints.Begins which
 
 -- A comment, which begins with `;`, stands on a line of its own.
 abbrev pub surplus_hint : (rest : List ℕ) → Hint
-surplus_hint rest = if starts_with nat_eq rest (codes ";") then hints.CommentBehind else hints.Surplus
+surplus_hint rest =
+    if starts_with nat_eq rest (codes ";") then hints.CommentBehind else hints.Surplus
 
 -- All words are there and no more: a keyword is another word.
 abbrev pub keyword_place : Context → (line rest : List ℕ) → (failed : Option Operand) → Place
@@ -35,39 +38,49 @@ abbrev pub keywords_place : Context → (line : List ℕ) → Walked → Place
 keywords_place c line w = keyword_place c line w.rest w.failed
 
 -- A word is missing, or one is too many, or a keyword is another word.
-abbrev pub count_place : Context → (line : List ℕ) → List Operand → (rest : List ℕ) → (failed : Option Operand) → Place
+abbrev pub count_place : Context → (line : List ℕ) → List Operand → (rest : List ℕ) →
+    (failed : Option Operand) → Place
 count_place c line operands rest (Some wanted) = place_at line rest (hints.Wanted wanted)
 count_place c line operands rest None =
-    if length rest == 0 then keywords_place c line (walk test.Keyword c operands (behind line)) else place_at line rest (surplus_hint rest)
+    if length rest == 0 then keywords_place c line (walk test.Keyword c operands (behind line))
+    else place_at line rest (surplus_hint rest)
 
 abbrev pub counted_place : Context → (line : List ℕ) → List Operand → Walked → Place
 counted_place c line operands w = count_place c line operands w.rest w.failed
 
 abbrev pub words_place : Context → (line : List ℕ) → Option (List Operand) → Place
 words_place c line None = place_at line line (first_hint c.lines (word_of line))
-words_place c line (Some operands) = counted_place c line operands (walk test.Present c operands (behind line))
+words_place c line (Some operands) =
+    counted_place c line operands (walk test.Present c operands (behind line))
 
 -- A space is too many, or the words are wrong.
 abbrev pub spaced_place : Context → (line : List ℕ) → Place
 spaced_place c line =
-    if has_empty_word line then placed (clear true line + 1) [] hints.Space else words_place c line (operands_of c.lines (word_of line))
+    if has_empty_word line then placed (clear true line + 1) [] hints.Space
+    else words_place c line (operands_of c.lines (word_of line))
 
 -- A byte is not printable, or the spaces or the words are wrong.
 abbrev pub form_place : Context → (number : ℕ) → (line : List ℕ) → (bad : Option ℕ) → Place
 form_place c number line None = spaced_place c line
-form_place c number line (Some index) = placed (index + 1) (slice_range line index (index + 1)) (byte_hint number line (slice_index line index))
+form_place c number line (Some index) =
+    placed (index + 1) (slice_range line index (index + 1))
+    (byte_hint number line (slice_index line index))
 
 -- An operand is wrong: the first from the left.
-abbrev pub operand_place : Context → TextFaultKind → (line rest : List ℕ) → (failed : Option Operand) → Place
+abbrev pub operand_place : Context → TextFaultKind → (line rest : List ℕ) →
+    (failed : Option Operand) → Place
 operand_place c k line rest None = place_at line line (hints.Begins c.lines)
-operand_place c k line rest (Some wanted) = place_at line rest (operand_hint k wanted (word_of rest))
+operand_place c k line rest (Some wanted) =
+    place_at line rest (operand_hint k wanted (word_of rest))
 
 abbrev pub walked_place : Context → TextFaultKind → (line : List ℕ) → Walked → Place
 walked_place c k line w = operand_place c k line w.rest w.failed
 
-abbrev pub operands_place : Context → TextFaultKind → (line : List ℕ) → Option (List Operand) → Place
+abbrev pub operands_place : Context → TextFaultKind → (line : List ℕ) → Option (List Operand) →
+    Place
 operands_place c k line None = place_at line line (hints.Begins c.lines)
-operands_place c k line (Some operands) = walked_place c k line (walk test.Right c operands (behind line))
+operands_place c k line (Some operands) =
+    walked_place c k line (walk test.Right c operands (behind line))
 
 -- The place of the fault of this kind, in the line of this number.
 abbrev pub line_place : Context → (number : ℕ) → (line : List ℕ) → TextFaultKind → Place

@@ -1,5 +1,7 @@
 -- Whether a word is right in its place.
-use Rattle.std.specs.Prelude.{ℕ, ◌/◌, ◌%◌, ◌^◌, ◌-◌, Bool, true, false, not, ◌&&◌, ◌||◌, ◌==◌, nat_eq, if◌then◌else◌, Option, Some, None, is_some, Result, Ok, Err, is_ok, List, length, codes}
+use Rattle.std.specs.Prelude.{ℕ, ◌/◌, ◌%◌, ◌^◌, ◌-◌, Bool, true, false, not, ◌&&◌, ◌||◌, ◌==◌}
+use Rattle.std.specs.Prelude.{nat_eq, if◌then◌else◌, Option, Some, None, is_some, Result, Ok, Err}
+use Rattle.std.specs.Prelude.{is_ok, List, length, codes}
 use Rattle.std.specs.List.{starts_with, before_first, after_first}
 use Rattle.std.specs.Str.{bytes_eq}
 use Rattle.l4_model.specs.Words.{last_register}
@@ -60,7 +62,9 @@ is_threadless (Some number) (Some version) = version % 64 == 0
 is_threadless _ _ = false
 
 abbrev pub has_no_thread : (word : List ℕ) → Bool
-has_no_thread word = is_threadless (words.number_of 10 (before_first is_dot word)) (words.number_of 10 (after_first is_dot word))
+has_no_thread word =
+    is_threadless (words.number_of 10 (before_first is_dot word))
+    (words.number_of 10 (after_first is_dot word))
 
 -- What is said of a word that is no id.
 abbrev pub id_hint : Operand → (word : List ℕ) → Hint

@@ -1,6 +1,7 @@
 pub mod Bytes
 pub mod Commands
 pub mod Contexts
+pub mod Doubts
 pub mod Faults
 pub mod Forms
 pub mod Judging

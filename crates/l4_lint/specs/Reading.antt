@@ -1,5 +1,6 @@
 -- How far a text has been read.
-use Rattle.std.specs.Prelude.{ℕ, ◌+◌, Bool, true, false, not, ◌&&◌, ◌||◌, if◌then◌else◌, Option, Some, None, Result, Ok, Err, List, [], ◌∷◌, codes}
+use Rattle.std.specs.Prelude.{ℕ, ◌+◌, Bool, true, false, not, ◌&&◌, ◌||◌, if◌then◌else◌, Option}
+use Rattle.std.specs.Prelude.{Some, None, Result, Ok, Err, List, [], ◌∷◌, codes}
 use Rattle.std.specs.Str.{bytes_eq}
 use Rattle.l4_model.specs.Words.{Format}
 use Rattle.l4_script.specs.Judged.{Judged, ◌>>=◌}
@@ -8,8 +9,8 @@ use Rattle.l4_script.specs.Statements.{instruction_of}
 use Rattle.l4_script.specs.Texts.{Stage, Start, Processors, Threads, after_line}
 use Rattle.l4_lint.specs.Bytes.{word_of}
 
--- What comes next; whether the last line that began with `thread` was faulty, so that what follows is a script of no thread; and whether any
--- line was faulty.
+-- What comes next; whether the last line that began with `thread` was faulty, so that what follows
+-- is a script of no thread; and whether any line was faulty.
 pub record Reader : Type 0 where
   pub stage : Stage
   pub lost : Bool
@@ -42,7 +43,9 @@ abbrev pub is_lost : Reader → (line : List ℕ) → Bool
 is_lost r line = r.lost && not (begins_script line)
 
 abbrev pub judged : (number : ℕ) → Reader → (line : List ℕ) → Judged Stage
-judged number r line = if is_lost r line then lost_form r.stage line >>= (λ said. Ok r.stage) else after_line number r.stage line
+judged number r line =
+    if is_lost r line then lost_form r.stage line >>= (λ said. Ok r.stage)
+    else after_line number r.stage line
 
 -- A line without a fault leads on.
 abbrev pub led_on : Reader → (line : List ℕ) → (after : Stage) → Reader

@@ -1,5 +1,6 @@
 -- The lines that say what was found.
-use Rattle.std.specs.Prelude.{ℕ, ◌==◌, if◌then◌else◌, List, [], ◌∷◌, ◌++◌, length, flat_map, codes, decimal}
+use Rattle.std.specs.Prelude.{ℕ, ◌==◌, if◌then◌else◌, List, [], ◌∷◌, ◌++◌, length, flat_map, codes}
+use Rattle.std.specs.Prelude.{decimal}
 use Rattle.std.specs.Char.Escape.{escape_ascii}
 use Rattle.l4_script.specs.declared.text.fault.TextFaultKind.{TextFaultKind}
 use Rattle.l4_script.specs.declared.text.fault.TextFaultKind.TheVariants as kinds
@@ -37,8 +38,10 @@ operand_text operand.Register = codes "wanted: a register, 1 to 63"
 operand_text operand.Source = codes "wanted: a register, 0 to 63"
 operand_text operand.Word = codes "wanted: a word of the format of line 1"
 operand_text operand.Tag = codes "wanted: a tag, a word of the format of line 1"
-operand_text operand.Id = codes "wanted: nil, any, anylocal, a thread N.V, or # and all digits of a word"
-operand_text operand.Destination = codes "wanted: last, nil, any, anylocal, a thread N.V, or # and all digits of a word"
+operand_text operand.Id =
+    codes "wanted: nil, any, anylocal, a thread N.V, or # and all digits of a word"
+operand_text operand.Destination =
+    codes "wanted: last, nil, any, anylocal, a thread N.V, or # and all digits of a word"
 operand_text operand.Time = codes "wanted: never, zero, or a time, 0 to 0x7fff"
 operand_text operand.Bits = codes "wanted: S, R or SR"
 operand_text operand.Place = codes "wanted: a place of the script, 0 to its number of instructions"
@@ -69,16 +72,20 @@ hint_text hints.DoubleNumber = codes "a thread before has this number"
 hint_text hints.ManyThreads = codes "a machine has at most 1024 threads"
 hint_text hints.ManyInstructions = codes "a script has at most 1024 instructions"
 
--- What stands there, its bytes escaped as Rust escapes them in ASCII. Nothing where nothing stands there.
+-- What stands there, its bytes escaped as Rust escapes them in ASCII. Nothing where nothing stands
+-- there.
 abbrev pub shown_word : (word : List ℕ) → List ℕ
-shown_word word = if length word == 0 then [] else (codes "`" ++ flat_map escape_ascii word ++ codes "`: ")
+shown_word word =
+    if length word == 0 then [] else (codes "`" ++ flat_map escape_ascii word ++ codes "`: ")
 
 abbrev pub place_text : (line column : ℕ) → List ℕ
-place_text line column = codes "line " ++ decimal line ++ codes " column " ++ decimal column ++ codes ": "
+place_text line column =
+    codes "line " ++ decimal line ++ codes " column " ++ decimal column ++ codes ": "
 
 abbrev pub fault_line : Fault → List ℕ
 fault_line f =
-    place_text f.line f.place.column ++ kind_word f.kind ++ codes ": " ++ shown_word f.place.word ++ hint_text f.place.hint ++ codes "\n"
+    place_text f.line f.place.column ++ kind_word f.kind ++ codes ": " ++ shown_word f.place.word
+    ++ hint_text f.place.hint ++ codes "\n"
 
 -- What is printed of a text: a line for each fault. The status is 1 where there is one.
 abbrev pub faults_text : List Fault → List ℕ

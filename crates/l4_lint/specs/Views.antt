@@ -4,11 +4,13 @@ use Rattle.std.specs.Option.{option_map}
 use Rattle.l4_types.specs.FormatView.{format_of}
 use Rattle.l4_script.specs.Stages.{stage_of}
 use Rattle.l4_lint.specs.declared.contexts.Context.{Context}
+use Rattle.l4_lint.specs.declared.doubts.Doubtful.{Doubtful}
 use Rattle.l4_lint.specs.declared.faults.Fault.{Fault}
 use Rattle.l4_lint.specs.declared.places.Place.{Place}
 use Rattle.l4_lint.specs.declared.reading.Reader.{Reader}
 use Rattle.l4_lint.specs.declared.walks.Walked.{Walked}
 use Rattle.l4_lint.specs.Contexts as contexts
+use Rattle.l4_lint.specs.Doubts as doubts
 use Rattle.l4_lint.specs.Faults as faults
 use Rattle.l4_lint.specs.Places as places
 use Rattle.l4_lint.specs.Reading as reading
@@ -31,3 +33,6 @@ reader_of r = reading.reader (stage_of r.stage) r.lost r.faulty
 
 abbrev pub step_of : Reader → Option Fault → faults.Step
 step_of r f = record { after = reader_of r; found = option_map fault_of f }
+
+abbrev pub doubtful_of : Doubtful → doubts.Doubtful
+doubtful_of d = record { line = d.line; column = d.column; word = d.word.now; doubt = d.doubt }

@@ -1,5 +1,6 @@
 -- The operands of a line from left to right.
-use Rattle.std.specs.Prelude.{ℕ, Bool, not, ◌||◌, ◌==◌, if◌then◌else◌, Option, Some, None, List, [], ◌∷◌, length}
+use Rattle.std.specs.Prelude.{ℕ, Bool, not, ◌||◌, ◌==◌, if◌then◌else◌, Option, Some, None, List, []}
+use Rattle.std.specs.Prelude.{◌∷◌, length}
 use Rattle.l4_lint.specs.declared.hints.Operand.{Operand}
 use Rattle.l4_lint.specs.declared.walks.Test.{Test}
 use Rattle.l4_lint.specs.declared.walks.Test.TheVariants as test
@@ -13,7 +14,8 @@ passes test.Present c operand word = not (length word == 0)
 passes test.Keyword c operand word = not (is_keyword operand) || is_right c operand word
 passes test.Right c operand word = is_right c operand word
 
--- The first operand that does not pass and the rest of the line from there, or what stands behind all of them.
+-- The first operand that does not pass and the rest of the line from there, or what stands behind
+-- all of them.
 pub record Walked : Type 0 where
   pub rest : List ℕ
   pub failed : Option Operand
@@ -24,4 +26,5 @@ walked rest failed = record { rest = rest; failed = failed }
 abbrev pub walk : Test → Context → List Operand → (rest : List ℕ) → Walked
 walk t c [] rest = walked rest None
 walk t c (operand ∷ others) rest =
-    if passes t c operand (word_of rest) then walk t c others (behind rest) else walked rest (Some operand)
+    if passes t c operand (word_of rest) then walk t c others (behind rest)
+    else walked rest (Some operand)

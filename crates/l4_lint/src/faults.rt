@@ -1,9 +1,12 @@
 //! The faults of a text.
-ghost use Rattle.std.specs.Prelude.{◌≡◌, ◌≤◌, ◌+◌, ◌++◌, ◌∷◌, [], List, if◌then◌else◌, map, length, IfOk, IfSome, MatchOption, OnOk};
+ghost use Rattle.std.specs.Prelude.{◌≡◌, ◌≤◌, ◌+◌, ◌++◌, ◌∷◌, [], List, if◌then◌else◌, map, length};
+ghost use Rattle.std.specs.Prelude.{IfOk, IfSome, MatchOption, OnOk};
 ghost use Rattle.l4_words.specs.Lines.{parts_of};
 ghost use Rattle.l4_script.specs.Stages.{stage_of};
 ghost use Rattle.l4_script.specs.Texts.{machine_of_text};
-ghost use Rattle.l4_lint.specs.Faults.{Fault as FaultView, step, followed, faults_from, faults_of, too_long, not_read, unended, text_ends, ended, first_in, fault_in};
+ghost use Rattle.l4_lint.specs.Faults.{Fault as FaultView, step, followed, faults_from, faults_of};
+ghost use Rattle.l4_lint.specs.Faults.{too_long, not_read, unended, text_ends, ended, first_in};
+ghost use Rattle.l4_lint.specs.Faults.{fault_in};
 ghost use Rattle.l4_lint.specs.Reading.{Reader as ReaderView};
 ghost use Rattle.l4_lint.specs.Views.{fault_of, reader_of, step_of};
 
@@ -147,7 +150,8 @@ fn read_on<'a>(
     requires { length line.now ≤ 0x10_0000 }
     ensures { IfOk result (λ on. (rest : ReaderView → List FaultView) →
         map fault_of found.new.items ++ (if on then rest (reader_of reader.new) else [])
-        ≡ map fault_of found.old.items ++ followed (step number (reader_of reader.old) line.now) rest) }
+        ≡ map fault_of found.old.items ++
+        followed (step number (reader_of reader.old) line.now) rest) }
 {
     match reader.step(number, alloc, line)? {
         Some(fault) => {

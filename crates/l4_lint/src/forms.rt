@@ -1,7 +1,9 @@
 //! The place of a line's fault.
 ghost use Rattle.std.specs.Prelude.{◌≡◌, ◌≤◌, ◌<◌, length, IfSome};
 ghost use Rattle.std.specs.Option.{option_copied};
-ghost use Rattle.l4_lint.specs.Forms.{first_hint, surplus_hint, keywords_place, counted_place, words_place, spaced_place, form_place, walked_place, operands_place, line_place};
+ghost use Rattle.l4_lint.specs.Forms.{first_hint, surplus_hint, keywords_place, counted_place};
+ghost use Rattle.l4_lint.specs.Forms.{words_place, spaced_place, form_place, walked_place};
+ghost use Rattle.l4_lint.specs.Forms.{operands_place, line_place};
 ghost use Rattle.l4_lint.specs.Views.{context_of, place_of, walked_of};
 
 use crate::bytes::{bad_byte, byte_hint, clear, split_word};

@@ -3,7 +3,7 @@
 //! A line is judged by the reader of `l4_script` itself, so the first fault is the one that
 //! `Machine::parse` answers. A faulty line is left out and the rest is judged on. `Fault` has the
 //! line, the kind, the column and the word that stands there; its `Hint` says what may stand there.
-//! `lint` prints a line for each.
+//! `lint` prints a line for each. Of a text without faults it prints what is doubtful: `doubts`.
 //!
 //! All memory is that of the list of faults and of what is printed.
 //!
@@ -18,6 +18,7 @@
 mod bytes;
 mod commands;
 mod contexts;
+pub mod doubts;
 pub mod faults;
 mod forms;
 pub mod hints;
@@ -27,5 +28,5 @@ mod missed;
 pub mod places;
 pub mod printed;
 mod reading;
-mod spelling;
+pub mod spelling;
 mod walks;

@@ -1,8 +1,10 @@
 //! All that is said of a text.
 ghost use Rattle.std.specs.Prelude.{◌≡◌, IfOk};
+ghost use Rattle.l4_lint.specs.Doubts.{lint_text};
 ghost use Rattle.l4_lint.specs.Faults.{faults_of};
 ghost use Rattle.l4_lint.specs.Spelling.{faults_text, status_of};
 
+use crate::doubts::{doubts, push_doubts};
 use crate::faults::faults;
 use crate::printed::Lint;
 use crate::spelling::push_faults;
@@ -20,4 +22,15 @@ pub fn lint(alloc: Global, text: &[u8]) -> Result<Lint, NoMemory>
     push_faults(found.as_slice(), &mut lines)?;
     let status = if found.is_empty() { 0 } else { 1 };
     Ok(Lint { lines, status })
+}
+
+/// The same, and where the text declares a machine, a line for each doubt, with status 0.
+pub fn lint_with_doubts(alloc: Global, text: &[u8]) -> Result<Lint, NoMemory>
+    ensures lines { IfOk result (λ lint. lint.lines.items ≡ lint_text text.now) }
+    ensures status { IfOk result (λ lint. lint.status ≡ status_of (faults_of text.now)) }
+{
+    let mut said = lint(alloc, text)?;
+    let doubtful = doubts(alloc, text)?;
+    push_doubts(doubtful.as_slice(), &mut said.lines)?;
+    Ok(said)
 }

@@ -4,9 +4,10 @@ ghost use Rattle.l4_types.specs.FormatView.{format_of};
 ghost use Rattle.l4_script.specs.Judged.{Leads};
 ghost use Rattle.l4_script.specs.Stages.{stage_of};
 ghost use Rattle.l4_script.specs.Texts.{Start};
-ghost use Rattle.l4_script.specs.declared.text.fault.TextFaultKind.TheVariants.{NoMemory as OutOfMemory};
+ghost use Rattle.l4_script.specs.declared.text.fault.TextFaultKind.TheVariants as kinds;
 ghost use Rattle.l4_lint.specs.Contexts.{context_at};
-ghost use Rattle.l4_lint.specs.Reading.{reader, goes_on, begins_script, instruction_form, lost_form, is_lost, judged, led_on, left_out};
+ghost use Rattle.l4_lint.specs.Reading.{reader, goes_on, begins_script, instruction_form};
+ghost use Rattle.l4_lint.specs.Reading.{lost_form, is_lost, judged, led_on, left_out};
 ghost use Rattle.l4_lint.specs.Views.{context_of, reader_of};
 
 use crate::bytes::split_word;
@@ -104,7 +105,7 @@ impl Reader {
         ensures same { self.new.lost ≡ self.old.lost }
         ensures faults { self.new.faulty ≡ self.old.faulty }
         ensures kept { IfErr result
-            (λ kind. kind ≢ OutOfMemory → stage_of self.new.stage ≡ stage_of self.old.stage) }
+            (λ kind. kind ≢ kinds.NoMemory → stage_of self.new.stage ≡ stage_of self.old.stage) }
         ensures leads { Leads result (stage_of self.new.stage)
             (judged number (reader_of self.old) line.now) }
     {

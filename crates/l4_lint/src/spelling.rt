@@ -1,7 +1,8 @@
 //! The lines that say what was found.
 ghost use Rattle.std.specs.Prelude.{◌≡◌, ◌++◌, codes, decimal, flat_map, map, OnOk};
 ghost use Rattle.std.specs.Char.Escape.{escape_ascii};
-ghost use Rattle.l4_lint.specs.Spelling.{kind_word, operand_text, lines_text, hint_text, shown_word, place_text, fault_line, faults_text};
+ghost use Rattle.l4_lint.specs.Spelling.{kind_word, operand_text, lines_text, hint_text};
+ghost use Rattle.l4_lint.specs.Spelling.{shown_word, place_text, fault_line, faults_text};
 ghost use Rattle.l4_lint.specs.Views.{fault_of};
 
 use crate::faults::Fault;
@@ -111,7 +112,7 @@ fn push_word(word: &[u8], out: &mut Vec<u8>) -> Result<(), NoMemory>
 }
 
 /// Appends what stands in a place, if anything does.
-fn push_shown(word: &[u8], out: &mut Vec<u8>) -> Result<(), NoMemory>
+pub fn push_shown(word: &[u8], out: &mut Vec<u8>) -> Result<(), NoMemory>
     ensures { OnOk result (out.new.items ≡ out.old.items ++ shown_word word.now) }
 {
     if word.is_empty() {
@@ -124,7 +125,7 @@ fn push_shown(word: &[u8], out: &mut Vec<u8>) -> Result<(), NoMemory>
 }
 
 /// Appends the numbers of a line and a column.
-fn push_place(line: usize, column: usize, out: &mut Vec<u8>) -> Result<(), NoMemory>
+pub(crate) fn push_place(line: usize, column: usize, out: &mut Vec<u8>) -> Result<(), NoMemory>
     ensures { OnOk result (out.new.items ≡ out.old.items ++ place_text line column) }
 {
     let mut place = String::new(*out.allocator());

@@ -16,7 +16,7 @@ use Rattle.l4_model.specs.History.{Report, begun_name, report_of}
 use Rattle.l4_model.proofs.Chains.{some_is}
 use Rattle.l4_core_model.specs.Local.{Local, declared, thread, undeclared}
 use Rattle.l4_core_model.specs.Runs.{Run, System, processors}
-use Rattle.l4_merge.specs.Pasts.{Past}
+use Rattle.l4_merge.specs.LocalTraces.{LocalTrace}
 use Rattle.l4_merge.specs.Merges.{EndsAt}
 use Rattle.l4_merge.proofs.Processors.{of_processor}
 use Rattle.l4_core.specs.Processor.{Processor as Core}
@@ -29,7 +29,7 @@ use Rattle.l4_machine.specs.declared.station.Station as program
 use Rattle.l4_machine.specs.Stations.{Station, station_of}
 use Rattle.l4_machine.specs.UnderWay.{HaveNoMail, IsSystem, letters_at}
 use Rattle.l4_machine.specs.Gathers.{core_of, past_of, pasts_of, with_number, AreOfOne, HaveNumbers}
-use Rattle.l4_machine.specs.declared.homes.AtHome.{AtHome}
+use Rattle.l4_machine.specs.declared.homes.OwnerView.{OwnerView}
 use Rattle.l4_machine.specs.Homes.{last_send, locals_of, sent_to, sent_waiting, AreAllOf, IsAtHome}
 use Rattle.l4_machine.proofs.InOneHand.{all_handled_between, found, nothing_left}
 
@@ -49,7 +49,7 @@ here m ps cpu c all is = by (with_number cpu ps) refl is
         (ap (λ (c : Core). c.machine) (sym same) ∙ (all.each f.at p f.here).machine, ap (λ (c : Core). c.local) same)
 
 locals_from : (m : Machine) (ps : List Processor) (cpus : List ℕ) (cores : List Core) → AreOfOne m ps → map Some cores ≡ map (numbered ps) cpus →
-    locals_of cores ≡ map (λ (past : Past). past.local) (map (λ cpu. past_of m cpu (with_number cpu ps)) cpus)
+    locals_of cores ≡ map (λ (past : LocalTrace). past.local) (map (λ cpu. past_of m cpu (with_number cpu ps)) cpus)
 locals_from m ps [] [] all is = refl
 locals_from m ps [] (c ∷ cores) all is = cc
 locals_from m ps (cpu ∷ cpus) [] all is = cc
@@ -59,7 +59,7 @@ locals_from m ps (cpu ∷ cpus) (c ∷ cores) all is =
     ap₂ (λ (l : Local) (ls : List Local). l ∷ ls) (sym (here m ps cpu c all first).1) (locals_from m ps cpus cores all rest)
 
 pub locals_there : (m : Machine) (ps : List Processor) (cores : List Core) → AreOfOne m ps → map Some cores ≡ map (numbered ps) (processors m) →
-    locals_of cores ≡ map (λ (past : Past). past.local) (pasts_of m ps)
+    locals_of cores ≡ map (λ (past : LocalTrace). past.local) (pasts_of m ps)
 locals_there m ps cores all is = locals_from m ps (processors m) cores all is
 
 pub all_there : (m : Machine) (ps : List Processor) (cores : List Core) → AreOfOne m ps → map Some cores ≡ map (numbered ps) (processors m) → AreAllOf m cores
@@ -114,7 +114,7 @@ stations_handled m g ss i none = λ from to. i.mail from to ∙ by from to (slic
 
 -- The sends that wait
 
-sent_there : (m : Machine) (locals : List Local) (a : AtHome) (i : ℕ) → IsAtHome m locals a → i < length m.threads →
+sent_there : (m : Machine) (locals : List Local) (a : OwnerView) (i : ℕ) → IsAtHome m locals a → i < length m.threads →
     slice_get a.sends.items i ≡ Some (last_send (home_thread m locals i))
 sent_there m locals a i is lt =
     let f = λ (i : ℕ). last_send (home_thread m locals i) in
@@ -135,7 +135,7 @@ sent_is k t = by (t.context.begun == k) t.send
 abbrev named : Name → Id → Option (Name × Id)
 named s to = Some (s, to)
 
-waits_there : (m : Machine) (locals : List Local) (a : AtHome) (step : Step) → IsAtHome m locals a → sent_waiting m a.sends.items step ≡ home_waiting m locals step
+waits_there : (m : Machine) (locals : List Local) (a : OwnerView) (step : Step) → IsAtHome m locals a → sent_waiting m a.sends.items step ≡ home_waiting m locals step
 waits_there m locals a step is = by (begun_name step)
   where
     at : (s : Name) (o : Option ℕ) → place_of m s.thread ≡ o →
@@ -151,7 +151,7 @@ waits_there m locals a step is = by (begun_name step)
     by None = refl
     by (Some s) = at s (place_of m s.thread) refl
 
-pub all_wait_there : (m : Machine) (locals : List Local) (a : AtHome) (h : List Step) → IsAtHome m locals a →
+pub all_wait_there : (m : Machine) (locals : List Local) (a : OwnerView) (h : List Step) → IsAtHome m locals a →
     filter_map (sent_waiting m a.sends.items) h ≡ filter_map (home_waiting m locals) h
 all_wait_there m locals a [] is = refl
 all_wait_there m locals a (step ∷ h) is = ap₂ cons_option (waits_there m locals a step is) (all_wait_there m locals a h is)

@@ -1,7 +1,7 @@
 -- How many events there were before a round and behind it.
 use Rattle.std.proofs.Common.{◌≡◌, ℕ, zero, suc, ◌+◌, ◌*◌, ◌≤◌, Some, List, [], ◌∷◌, length, refl, arith, suc-mul, length-append}
 use Rattle.std.specs.Prelude.{slice_get}
-use Rattle.l4_merge.specs.Pasts.{all_events}
+use Rattle.l4_merge.specs.LocalTraces.{all_events}
 use Rattle.l4_proc.specs.Logs.{all_steps, events}
 use Rattle.l4_proc.specs.Working.{turns_of, HaveWorkedOn}
 use Rattle.l4_proc.specs.declared.processor.Processor.{Processor}

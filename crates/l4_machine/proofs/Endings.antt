@@ -13,7 +13,7 @@ use Rattle.l4_merge.proofs.Lists.{slice_get_none}
 use Rattle.l4_merge.proofs.Processors.{all_processors, each_processor}
 use Rattle.l4_machine.specs.Stations.{Station}
 use Rattle.l4_machine.specs.UnderWay.{letters_at, deadline_at, AreResting, IsSystem}
-use Rattle.l4_machine.proofs.Happening.{local_at, letters_here}
+use Rattle.l4_machine.proofs.Action.{local_at, letters_here}
 
 -- Where no pair has letters, none is under way.
 

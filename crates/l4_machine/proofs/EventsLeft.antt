@@ -13,12 +13,12 @@ use Rattle.l4_core_model.proofs.Lists.{all-map, all-map_with}
 use Rattle.l4_core_model.specs.Local.{Local}
 use Rattle.l4_machine.proofs.InLogs.{all_events_are}
 use Rattle.l4_core_model.specs.Runs.{processors, Event, is_earlier, put_event, merged, told}
-use Rattle.l4_merge.specs.Deeds.{Deed, told_by, Lead}
-use Rattle.l4_merge.proofs.Deeds.{lead_above}
+use Rattle.l4_merge.specs.Transitions.{Transition, told_by, Lead}
+use Rattle.l4_merge.proofs.Transitions.{lead_above}
 use Rattle.l4_merge.proofs.EventOrder.{earlier_flip, earlier_by_stamp, earlier_by_cpu}
 use Rattle.l4_merge.proofs.Lists.{all-append, all-of_map}
 use Rattle.l4_merge.proofs.Permuted.{merged_moves}
-use Rattle.l4_merge.specs.Pasts.{all_events}
+use Rattle.l4_merge.specs.LocalTraces.{all_events}
 use Rattle.l4_proc.specs.Logs.{events}
 use Rattle.l4_proc.specs.declared.processor.Processor.{Processor}
 use Rattle.l4_machine.specs.Gathers.{with_number, events_of, pasts_of, AreOfOne, IsMerge, IsOneOf}
@@ -182,20 +182,20 @@ rise_on cpu (l ∷ ls) (suc place) e es rise here = (rise.0, rise_on (cpu + 1) l
 
 -- Logs of processors
 
-deeds_rise : (m : Machine) (cpu : ℕ) (l now : Local) (ds : List Deed) → Lead m cpu l ds now → AreRising cpu (map told_by ds)
-deeds_rise m cpu l now [] lead = tt
-deeds_rise m cpu l now (d ∷ ds) lead = (
+transitions_rise : (m : Machine) (cpu : ℕ) (l now : Local) (ds : List Transition) → Lead m cpu l ds now → AreRising cpu (map told_by ds)
+transitions_rise m cpu l now [] lead = tt
+transitions_rise m cpu l now (d ∷ ds) lead = (
   lead.0.own,
   (
     all-of_map (λ (x : Event). (told_by d).stamp < x.stamp) told_by ds (lead_above m cpu d.work.local now ds lead.1),
-    deeds_rise m cpu d.work.local now ds lead.1,
+    transitions_rise m cpu d.work.local now ds lead.1,
   ),
 )
 
 log_rises : (m : Machine) (p : Processor) → IsOneOf m p → AreRising p.worker.core.cpu (events p.worker.log)
 log_rises m p o =
     let are = o.worked.are in
-    subst (AreRising p.worker.core.cpu) (sym are.events) (deeds_rise m p.worker.core.cpu _ p.worker.core.local o.worked.deeds are.lead)
+    subst (AreRising p.worker.core.cpu) (sym are.events) (transitions_rise m p.worker.core.cpu _ p.worker.core.local o.worked.transitions are.lead)
 
 rises_of : (m : Machine) (ps : List Processor) (cpu : ℕ) → AreOfOne m ps → (o : Option Processor) → with_number cpu ps ≡ o → AreRising cpu (events_of o)
 rises_of m ps cpu one None is = tt

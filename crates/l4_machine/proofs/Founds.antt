@@ -3,7 +3,7 @@ use Rattle.std.proofs.Common.{◌≡◌, ◌↔◌, ◌⊎◌, ℕ, ◌+◌, ◌
 use Rattle.std.proofs.lemmas.List.Sorted.{length_permutation, IsPermutation-trans}
 use Rattle.l4_model.specs.Machine.{Machine}
 use Rattle.l4_core_model.specs.Runs.{Run, merged, told, at_rest}
-use Rattle.l4_merge.specs.Pasts.{AreWholePasts, all_events}
+use Rattle.l4_merge.specs.LocalTraces.{AreWholePasts, all_events}
 use Rattle.l4_merge.specs.Merges.{AreAtRest, EndsAt}
 use Rattle.l4_merge.specs.Rounds.{IsInRounds}
 use Rattle.l4_merge.proofs.Alone.{alone}

@@ -14,7 +14,7 @@ use Rattle.l4_model.proofs.Places.{and_true}
 use Rattle.l4_core_model.specs.Local.{opening_local}
 use Rattle.l4_core_model.specs.Letters.{Letter}
 use Rattle.l4_core_model.specs.Runs.{Run, processors, told, at_rest}
-use Rattle.l4_merge.specs.Pasts.{Past, empty_past, HasWorked, Begins, posted_in, handled_in, letters_posted, letters_handled, AreWholePasts, all_events}
+use Rattle.l4_merge.specs.LocalTraces.{LocalTrace, empty_past, Extends, Begins, posted_in, handled_in, letters_posted, letters_handled, AreWholePasts, all_events}
 use Rattle.l4_merge.specs.Merges.{is_at_rest, AreAtRest, IsWholeRun, SortAsMerged}
 use Rattle.l4_merge.proofs.Processors.{at_processor, at_none, of_processor}
 use Rattle.l4_merge.proofs.Worked.{worked_none, worked_trans}
@@ -202,15 +202,15 @@ whole_pasts m ps all have whole = record {
   for_each = length-map-range_with_len (λ cpu. past_of m cpu (with_number cpu ps)) 0 m.cpus;
   each = λ cpu done at.
       let is = (of_processor m (λ cpu. past_of m cpu (with_number cpu ps)) cpu done at).1 in
-      subst (HasWorked m cpu (empty_past (opening_local m cpu))) is (worked cpu (with_number cpu ps) refl);
+      subst (Extends m cpu (empty_past (opening_local m cpu))) is (worked cpu (with_number cpu ps) refl);
   in_order = λ from to. in_order m ps from to whole (pair m ps from to all have);
 }
   where
-    worked : (cpu : ℕ) (o : Option Processor) → with_number cpu ps ≡ o → HasWorked m cpu (empty_past (opening_local m cpu)) (past_of m cpu o)
+    worked : (cpu : ℕ) (o : Option Processor) → with_number cpu ps ≡ o → Extends m cpu (empty_past (opening_local m cpu)) (past_of m cpu o)
     worked cpu None is = worked_none m cpu (empty_past (opening_local m cpu))
     worked cpu (Some p) is =
         let f = found cpu ps p is in
-        subst (λ cpu. HasWorked m cpu (empty_past (opening_local m cpu)) (past p)) f.number (all.each f.at p f.here).worked
+        subst (λ cpu. Extends m cpu (empty_past (opening_local m cpu)) (past p)) f.number (all.each f.at p f.here).worked
 
 -- When they are at rest
 
@@ -248,14 +248,14 @@ rests m ps all have whole r = record {
   all_handled = all_handled_between m ps all have whole r.handled;
 }
   where
-    each : (cpu : ℕ) (done : Past) → cpu < m.cpus → (o : Option Processor) → with_number cpu ps ≡ o → slice_get (pasts_of m ps) cpu ≡ Some done →
+    each : (cpu : ℕ) (done : LocalTrace) → cpu < m.cpus → (o : Option Processor) → with_number cpu ps ≡ o → slice_get (pasts_of m ps) cpu ≡ Some done →
         is_at_rest m cpu done.local ≡ true
     each cpu done lt None is at = let h = sym (ap is_some is) ∙ have cpu lt in absurd cc
     each cpu done lt (Some p) is at =
         let f = found cpu ps p is in
         let same : past p ≡ done = some_is (past p) done (sym (past_found m ps cpu p lt is) ∙ at) in
         let o = all.each f.at p f.here in
-        subst (λ (d : Past). is_at_rest m cpu d.local ≡ true) same
+        subst (λ (d : LocalTrace). is_at_rest m cpu d.local ≡ true) same
         (subst (λ m. is_at_rest m cpu p.worker.core.local ≡ true) o.machine
         (subst (λ cpu. is_at_rest p.worker.core.machine cpu p.worker.core.local ≡ true) f.number (r.each f.at p f.here)))
 
@@ -376,8 +376,8 @@ one_same m old new same o = record {
   machine = ap (λ (w : Worker). w.core.machine) same.worker ∙ o.machine;
   number = let cpu = ap (λ (w : Worker). w.core.cpu) same.worker in let lt = o.number in omega arith;
   apart = subst IsApart (sym (ap (λ (a : Account). a.place) same.account)) o.apart;
-  worked = subst (λ cpu. HasWorked m cpu (empty_past (opening_local m cpu)) (past new)) (sym (ap (λ (w : Worker). w.core.cpu) same.worker))
-      (subst (HasWorked m old.worker.core.cpu (empty_past (opening_local m old.worker.core.cpu))) (sym same.past) o.worked);
+  worked = subst (λ cpu. Extends m cpu (empty_past (opening_local m cpu)) (past new)) (sym (ap (λ (w : Worker). w.core.cpu) same.worker))
+      (subst (Extends m old.worker.core.cpu (empty_past (opening_local m old.worker.core.cpu))) (sym same.past) o.worked);
 }
 
 pub all_same : (m : Machine) (olds news : List Processor) → AreAsBefore olds news → AreOfOne m olds → AreOneFabric (map port_of news) → AreOfOne m news
@@ -473,7 +473,7 @@ assembled m ps a = record {
         machine = o.machine;
         number = omega (arith, o.number, a.count);
         apart = o.apart;
-        worked = subst (λ cpu. HasWorked m cpu (empty_past (opening_local m cpu)) (past p)) (sym o.number) o.worked;
+        worked = subst (λ cpu. Extends m cpu (empty_past (opening_local m cpu)) (past p)) (sym o.number) o.worked;
       };
   one = a.one;
 }
@@ -481,12 +481,12 @@ assembled m ps a = record {
 pub gone_on : (m : Machine) (old new : Processor) → HasGoneOn old new → IsOneOf m old → IsOneOf m new
 gone_on m old new on o =
     let cpu = old.worker.core.cpu in
-    let more = subst (λ m. HasWorked m cpu (past old) (past new)) o.machine on.worked in
+    let more = subst (λ m. Extends m cpu (past old) (past new)) o.machine on.worked in
     record {
       machine = on.machine ∙ o.machine;
       number = omega (arith, on.cpu, o.number);
       apart = subst IsApart (sym on.place) o.apart;
-      worked = subst (λ cpu. HasWorked m cpu (empty_past (opening_local m cpu)) (past new)) (sym on.cpu)
+      worked = subst (λ cpu. Extends m cpu (empty_past (opening_local m cpu)) (past new)) (sym on.cpu)
           (worked_trans m cpu (empty_past (opening_local m cpu)) (past old) (past new) o.worked more);
     }
 

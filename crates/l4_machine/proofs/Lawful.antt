@@ -16,7 +16,7 @@ use Rattle.l4_core_model.specs.Letters.{Letter}
 use Rattle.l4_core_model.specs.Local.{Local, opening_local}
 use Rattle.l4_core_model.specs.Mail.{handle}
 use Rattle.l4_core_model.specs.Turns.{turn, advance}
-use Rattle.l4_core_model.specs.Runs.{Posted, System, is_between, letters, without_first, posted, taken, Happening, Handles, Turns, Ticks, Happened, done, happens, Run, core_run, then_event, opening_run}
+use Rattle.l4_core_model.specs.Runs.{Posted, System, is_between, letters, without_first, posted, taken, Action, Handles, Turns, Ticks, Happened, done, happens, Run, core_run, then_event, opening_run}
 use Rattle.l4_choices.specs.Entries.{entry_of}
 use Rattle.l4_merge.proofs.Lists.{all-append, all-of_map}
 use Rattle.l4_machine.specs.Entries.{first_stranger, fault_of, is_entry}
@@ -56,7 +56,7 @@ poster_below from to n (p ∷ ps) letter all at = by (is_between from to p) refl
     by false is at more = more at
 
 -- What happens is an entry of the machine, and the system stays one.
-record IsLawfulHappening (m : Machine) (e : Happening) (h : Happened) : Type 0 where
+record IsLawfulHappening (m : Machine) (e : Action) (h : Happened) : Type 0 where
   pub lawful : is_entry m (entry_of e) ≡ true
   pub peopled : IsPeopled m h.system
 
@@ -82,7 +82,7 @@ may_advance m cpu clock l g h at = by (advance m cpu clock l) refl at
         let above = ltb-true l.clock clock later in
         (lt-ltb 0 clock (omega arith), below)
 
-happens_lawful : (m : Machine) (g : System) (e : Happening) (h : Happened) → IsPeopled m g → happens m g e ≡ Some h → IsLawfulHappening m e h
+happens_lawful : (m : Machine) (g : System) (e : Action) (h : Happened) → IsPeopled m g → happens m g e ≡ Some h → IsLawfulHappening m e h
 happens_lawful m g (Handles cpu from) h is at =
     bind_then (slice_get g.locals cpu) _ h at λ l here at.
     bind_then (slice_get (letters g.mail from cpu) 0) _ h at λ letter first at.
@@ -108,7 +108,7 @@ happens_lawful m g (Ticks cpu clock) h is at =
 
 -- So are all.
 
-run_lawful : (m : Machine) (es : List Happening) (r after : Run) (place : ℕ) → IsPeopled m r.system → core_run m r es ≡ Some after →
+run_lawful : (m : Machine) (es : List Action) (r after : Run) (place : ℕ) → IsPeopled m r.system → core_run m r es ≡ Some after →
     first_stranger m place (map entry_of es) ≡ None
 run_lawful m [] r after place is at = refl
 run_lawful m (e ∷ es) r after place is at =
@@ -116,14 +116,14 @@ run_lawful m (e ∷ es) r after place is at =
     let l = happens_lawful m r.system e h is may in
     rw l.lawful (run_lawful m es (then_event r h) after (place + 1) l.peopled at)
 
-run_length : (m : Machine) (es : List Happening) (r after : Run) → core_run m r es ≡ Some after → length after.events ≡ length r.events + length es
+run_length : (m : Machine) (es : List Action) (r after : Run) → core_run m r es ≡ Some after → length after.events ≡ length r.events + length es
 run_length m [] r after at = let same = some_is r after at in omega (arith, ap (λ (r : Run). length r.events) same)
 run_length m (e ∷ es) r after at =
     bind_then (happens m r.system e) _ after at λ h may at.
     let rest = run_length m es (then_event r h) after at in
     omega (arith, rest, length-append r.events (h.event ∷ []))
 
-pub no_strangers : (m : Machine) (es : List Happening) (r : Run) (most : ℕ) → core_run m (opening_run m) es ≡ Some r → length r.events ≤ most →
+pub no_strangers : (m : Machine) (es : List Action) (r : Run) (most : ℕ) → core_run m (opening_run m) es ≡ Some r → length r.events ≤ most →
     fault_of most m (map entry_of es) ≡ None
 no_strangers m es r most at few =
     let size = run_length m es (opening_run m) r at in

@@ -3,7 +3,7 @@ pub mod Endings
 pub mod EventsLeft
 pub mod Founds
 pub mod InOneHand
-pub mod Happening
+pub mod Action
 pub mod Cores
 pub mod InLogs
 pub mod Inboxes

@@ -9,7 +9,7 @@ use Rattle.std.proofs.lemmas.List.Sorted.{IsPermutation-refl}
 use Rattle.l4_model.specs.Machine.{Machine}
 use Rattle.l4_core_model.specs.Local.{Local, opening_local}
 use Rattle.l4_core_model.specs.Runs.{Run, opening_run}
-use Rattle.l4_merge.specs.Pasts.{Past, posted_in, handled_in, letters_posted, letters_handled, all_events}
+use Rattle.l4_merge.specs.LocalTraces.{LocalTrace, posted_in, handled_in, letters_posted, letters_handled, all_events}
 use Rattle.l4_merge.specs.Merges.{EndsAt}
 use Rattle.l4_merge.proofs.InRounds.{opening_in_rounds, is_core_run}
 use Rattle.l4_types.specs.LetterView.{letter_of}
@@ -29,7 +29,7 @@ no_events : (ps : List Processor) → ((i : ℕ) (p : Processor) → slice_get p
 no_events [] none = refl
 no_events (p ∷ ps) none = ap₂ (λ xs ys. xs ++ ys) (none 0 p refl) (no_events ps (λ i q at. none (suc i) q at))
 
-locals_of : (ps : List Processor) → map (λ (d : Past). d.local) (pasts ps) ≡ map (λ (p : Processor). p.worker.core.local) ps
+locals_of : (ps : List Processor) → map (λ (d : LocalTrace). d.local) (pasts ps) ≡ map (λ (p : Processor). p.worker.core.local) ps
 locals_of [] = refl
 locals_of (p ∷ ps) = ap (λ ls. p.worker.core.local ∷ ls) (locals_of ps)
 
@@ -37,17 +37,17 @@ none_carried : {room : ℕ} (m : Machine) (ps : List Processor) → AreAssembled
     (letters_posted (pasts ps) from to ≡ []) × (letters_handled (pasts ps) from to ≡ [])
 none_carried m ps a from to = (posted (slice_get (pasts ps) from) refl, handled (slice_get (pasts ps) to) refl)
   where
-    posted : (o : Option Past) → slice_get (pasts ps) from ≡ o → posted_in to o ≡ []
+    posted : (o : Option LocalTrace) → slice_get (pasts ps) from ≡ o → posted_in to o ≡ []
     posted None at = refl
     posted (Some done) at =
         let p = past_at ps from done at in
-        ap (λ (d : Past). d.posted to) (sym p.1.1) ∙ ap (map letter_of) ((a.each from p.0 p.1.0).posted to)
+        ap (λ (d : LocalTrace). d.posted to) (sym p.1.1) ∙ ap (map letter_of) ((a.each from p.0 p.1.0).posted to)
 
-    handled : (o : Option Past) → slice_get (pasts ps) to ≡ o → handled_in from o ≡ []
+    handled : (o : Option LocalTrace) → slice_get (pasts ps) to ≡ o → handled_in from o ≡ []
     handled None at = refl
     handled (Some done) at =
         let p = past_at ps to done at in
-        ap (λ (d : Past). d.handled from) (sym p.1.1) ∙ none_handled p.0 from ((a.each to p.0 p.1.0).taken from)
+        ap (λ (d : LocalTrace). d.handled from) (sym p.1.1) ∙ none_handled p.0 from ((a.each to p.0 p.1.0).taken from)
 
 pub opening_come : {room : ℕ} (m : Machine) (ps : List Processor) → AreAssembled room m ps → HaveCome m ps (opening_run m)
 opening_come m ps a =

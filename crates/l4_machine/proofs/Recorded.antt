@@ -8,13 +8,13 @@ use Rattle.std.proofs.lemmas.Option.{slice_get-map, slice_get-get_or, slice_get_
 use Rattle.l4_model.specs.Machine.{Machine}
 use Rattle.l4_model.specs.World.{changed}
 use Rattle.l4_model.proofs.Chains.{get-map, set_changed, some_is}
-use Rattle.l4_core_model.specs.Runs.{Event, Happening, Run, merged, opening_run, processors}
+use Rattle.l4_core_model.specs.Runs.{Event, Action, Run, merged, opening_run, processors}
 use Rattle.l4_choices.specs.Entries.{Entry, entry_of, replay_entries}
 use Rattle.l4_choices.proofs.Replayed.{replayed}
-use Rattle.l4_merge.specs.Pasts.{Past, all_events}
+use Rattle.l4_merge.specs.LocalTraces.{LocalTrace, all_events}
 use Rattle.l4_merge.proofs.Sorted.{length-merged}
-use Rattle.l4_merge.specs.Recorded.{then_others, happenings_in, recorded}
-use Rattle.l4_proc.specs.Logs.{happenings}
+use Rattle.l4_merge.specs.Recorded.{then_others, actions_in, recorded}
+use Rattle.l4_proc.specs.Logs.{actions}
 use Rattle.l4_proc.specs.declared.log.Log.{Log}
 use Rattle.l4_proc.specs.declared.processor.Processor.{Processor}
 use Rattle.l4_machine.specs.Entries.{entries_fault, most_events}
@@ -25,7 +25,7 @@ use Rattle.l4_machine.specs.EventsLeft.{all_left, least_place, left, HasTakenFir
 use Rattle.l4_machine.specs.Gathered.{IsGathered}
 use Rattle.l4_machine.specs.Gathers.{events_of, past_of, pasts_of, with_number}
 use Rattle.l4_machine.specs.Outcomes.{Findings, IsOutcomeOf}
-use Rattle.l4_machine.specs.Recorded.{entries_left, happened_left, happenings_of, recorded_entries, HasTakenEntry}
+use Rattle.l4_machine.specs.Recorded.{entries_left, happened_left, actions_of, recorded_entries, HasTakenEntry}
 use Rattle.l4_machine.specs.Rising.{RiseFrom}
 use Rattle.l4_machine.specs.declared.unmerged.Unmerged.{Unmerged}
 use Rattle.l4_machine.proofs.EventsLeft.{all_joined, all_left_are, at_place, chosen, joined, taken}
@@ -49,11 +49,11 @@ one_less (y ∷ xs) (suc n) x at =
     one_less xs n x at ∙ ap (λ k. x ∷ drop k (y ∷ xs)) next
 
 -- What happened to the processor at a place.
-pub happened_at : (ps : List Processor) (place : ℕ) (p : Processor) (log : Log) (i : ℕ) (h : Happening) → place < length ps → p ≡ get_or ps place p →
-    log ≡ p.worker.log → slice_get (happenings log) i ≡ Some h → slice_get (happenings_of (slice_get ps place)) i ≡ Some h
+pub happened_at : (ps : List Processor) (place : ℕ) (p : Processor) (log : Log) (i : ℕ) (h : Action) → place < length ps → p ≡ get_or ps place p →
+    log ≡ p.worker.log → slice_get (actions log) i ≡ Some h → slice_get (actions_of (slice_get ps place)) i ≡ Some h
 happened_at ps place p log i h lt is same at =
-    ap (λ o. slice_get (happenings_of o) i) (slice_get-get_or ps place p lt)
-    ∙ ap (λ (q : Processor). slice_get (happenings q.worker.log) i) (sym is) ∙ ap (λ (log : Log). slice_get (happenings log) i) (sym same) ∙ at
+    ap (λ o. slice_get (actions_of o) i) (slice_get-get_or ps place p lt)
+    ∙ ap (λ (q : Processor). slice_get (actions q.worker.log) i) (sym is) ∙ ap (λ (log : Log). slice_get (actions log) i) (sym same) ∙ at
 
 -- The next event is taken, as this entry.
 pub record IsTakenEntry (ps : List Processor) (olds news : List Unmerged) (entry : Entry) : Type 0 where
@@ -63,12 +63,12 @@ pub record IsTakenEntry (ps : List Processor) (olds news : List Unmerged) (entry
   pub entries : entries_left ps olds ≡ entry ∷ entries_left ps news
 
 -- The first that happened to the processor of the next event is what happened in it.
-first_happens : (order : List ℕ) (place : ℕ) (each : List (List Happening)) (h : Happening) (hs : List Happening) → slice_get each place ≡ Some (h ∷ hs) →
-    happenings_in (place ∷ order) each ≡ h ∷ happenings_in order (set each place hs)
+first_happens : (order : List ℕ) (place : ℕ) (each : List (List Action)) (h : Action) (hs : List Action) → slice_get each place ≡ Some (h ∷ hs) →
+    actions_in (place ∷ order) each ≡ h ∷ actions_in order (set each place hs)
 first_happens order place each h hs here =
     let is : get_or each place [] ≡ h ∷ hs = get_or_from_slice_get each place (h ∷ hs) [] here in
     let within = slice_get_within each place (h ∷ hs) here in
-    ap₂ (λ first each. then_others first (happenings_in order each)) is (sym (set_changed (drop 1) each place [] hs within (sym (ap (drop 1) is))))
+    ap₂ (λ first each. then_others first (actions_in order each)) is (sym (set_changed (drop 1) each place [] hs within (sym (ap (drop 1) is))))
 
 pub taken_entry : (ps : List Processor) (us : List Unmerged) (place : ℕ) (d new : Unmerged) (entry : Entry) → AllByRecursion (IsUnmerged ps) us →
     RiseFrom 0 (map (left ps) us) → option_map (λ (first : ℕ × ℕ). first.0) (least_place (map (λ (u : Unmerged). u.stamp) us)) ≡ Some place →
@@ -88,34 +88,34 @@ taken_entry ps us place d new entry all rise is has =
     let order : map (λ (e : Event). e.cpu) (merged (all_left ps us)) ≡ place ∷ map (λ (e : Event). e.cpu) (merged (all_left ps (set us place new))) =
     ap (λ es. map (λ (e : Event). e.cpu) (merged es)) (all_joined ps us) ∙ ap (map (λ (e : Event). e.cpu)) next.merges
     ∙ ap₂ (λ c es. c ∷ map (λ (e : Event). e.cpu) (merged es)) own (sym left_over) in
-    let here : slice_get (map (happened_left ps) us) place ≡ Some (has.happening ∷ happened_left ps new) =
+    let here : slice_get (map (happened_left ps) us) place ≡ Some (has.action ∷ happened_left ps new) =
     get-map (happened_left ps) us place (slice_index_or us place d) (slice_get-get_or us place d there.0) ∙ ap Some has.happened in
     record {
       whole = t.whole;
       rising = t.rising;
       less = t.less;
-      entries = ap (λ order. map entry_of (happenings_in order (map (happened_left ps) us))) order
-          ∙ ap (map entry_of) (first_happens (map (λ (e : Event). e.cpu) (merged (all_left ps (set us place new)))) place (map (happened_left ps) us) has.happening (happened_left ps new) here)
-          ∙ ap₂ (λ e each. e ∷ map entry_of (happenings_in (map (λ (e : Event). e.cpu) (merged (all_left ps (set us place new)))) each)) (sym has.is) (sym (map-set (happened_left ps) us place new));
+      entries = ap (λ order. map entry_of (actions_in order (map (happened_left ps) us))) order
+          ∙ ap (map entry_of) (first_happens (map (λ (e : Event). e.cpu) (merged (all_left ps (set us place new)))) place (map (happened_left ps) us) has.action (happened_left ps new) here)
+          ∙ ap₂ (λ e each. e ∷ map entry_of (actions_in (map (λ (e : Event). e.cpu) (merged (all_left ps (set us place new)))) each)) (sym has.is) (sym (map-set (happened_left ps) us place new));
     }
 
 -- Where nothing is told yet, all that is left is what the processors did.
 
-happenings_past : (m : Machine) (cpu : ℕ) (o : Option Processor) → (past_of m cpu o).happenings ≡ happenings_of o
-happenings_past m cpu None = refl
-happenings_past m cpu (Some p) = refl
+actions_past : (m : Machine) (cpu : ℕ) (o : Option Processor) → (past_of m cpu o).actions ≡ actions_of o
+actions_past m cpu None = refl
+actions_past m cpu (Some p) = refl
 
 each_happened : (m : Machine) (ps : List Processor) (cpus : List ℕ) →
-    map (λ (past : Past). past.happenings) (map (λ cpu. past_of m cpu (with_number cpu ps)) cpus) ≡ map (λ cpu. happenings_of (with_number cpu ps)) cpus
+    map (λ (past : LocalTrace). past.actions) (map (λ cpu. past_of m cpu (with_number cpu ps)) cpus) ≡ map (λ cpu. actions_of (with_number cpu ps)) cpus
 each_happened m ps [] = refl
-each_happened m ps (cpu ∷ cpus) = ap₂ (λ h hs. h ∷ hs) (happenings_past m cpu (with_number cpu ps)) (each_happened m ps cpus)
+each_happened m ps (cpu ∷ cpus) = ap₂ (λ h hs. h ∷ hs) (actions_past m cpu (with_number cpu ps)) (each_happened m ps cpus)
 
 pub all_entries_left : (m : Machine) (ps : List Processor) (cpus : ℕ) (us : List Unmerged) → cpus ≡ m.cpus →
     map (left ps) us ≡ map (λ cpu. events_of (with_number cpu ps)) (range_with_len 0 cpus) →
-    map (happened_left ps) us ≡ map (λ cpu. happenings_of (with_number cpu ps)) (range_with_len 0 cpus) → entries_left ps us ≡ recorded_entries m ps
+    map (happened_left ps) us ≡ map (λ cpu. actions_of (with_number cpu ps)) (range_with_len 0 cpus) → entries_left ps us ≡ recorded_entries m ps
 all_entries_left m ps cpus us count are happened =
-    ap₂ (λ es each. map entry_of (happenings_in (map (λ (e : Event). e.cpu) (merged es)) each)) (all_left_are m ps cpus us count are)
-    (happened ∙ ap (λ n. map (λ cpu. happenings_of (with_number cpu ps)) (range_with_len 0 n)) count ∙ sym (each_happened m ps (processors m)))
+    ap₂ (λ es each. map entry_of (actions_in (map (λ (e : Event). e.cpu) (merged es)) each)) (all_left_are m ps cpus us count are)
+    (happened ∙ ap (λ n. map (λ cpu. actions_of (with_number cpu ps)) (range_with_len 0 n)) count ∙ sym (each_happened m ps (processors m)))
 
 -- A replay of them has the outcome that the processors came to together.
 pub is_replayed : (m : Machine) (ps : List Processor) (entries : List Entry) (o : Findings) → entries ≡ recorded_entries m ps → IsGathered m ps o →

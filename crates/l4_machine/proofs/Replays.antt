@@ -7,7 +7,7 @@ use Rattle.std.proofs.lemmas.Bool.Decides.{nat_tests}
 use Rattle.std.proofs.lemmas.List.{length-map}
 use Rattle.l4_model.specs.Machine.{Machine}
 use Rattle.l4_model.specs.Conditions.{◌>>=◌}
-use Rattle.l4_core_model.specs.Runs.{Event, Happening, Happened, Ticks, happens, Run, opening_run}
+use Rattle.l4_core_model.specs.Runs.{Event, Action, Happened, Ticks, happens, Run, opening_run}
 use Rattle.l4_core_model.specs.Schedules.{attempts, entry_of, or_stays, replay}
 use Rattle.l4_choices.specs.Entries.{Entry, TickOf, entry_event, replays, replay_entries, widened}
 use Rattle.l4_choices.proofs.Widened.{widened_replays}
@@ -17,7 +17,7 @@ use Rattle.l4_machine.specs.declared.outcome.RunFault.TheVariants.{Turns, Schedu
 use Rattle.l4_machine.specs.declared.station.Choice.{Choice}
 use Rattle.l4_machine.specs.Entries.{after_entry, entries_fault, entry_from, fault_of, is_entry, first_stranger, most_entries, most_events, numbered, processor_of, schedule_fault}
 use Rattle.l4_machine.specs.UnderWay.{UnderWay, deadline_at, IsSystem, IsRun, GoesOn}
-use Rattle.l4_machine.specs.Stations.{Station, happening}
+use Rattle.l4_machine.specs.Stations.{Station, action}
 use Rattle.l4_machine.proofs.Endings.{deadline_here}
 
 -- The order has as many as there are events.
@@ -25,7 +25,7 @@ pub as_many : (m : Machine) (r : Run) (u : UnderWay) → IsRun m r u → length 
 as_many m r u i = ap length i.events.order ∙ length-map r.events (λ (e : Event). e.cpu)
 
 -- What is tried adds one event at most.
-one_more : (m : Machine) (r : Run) (e : Happening) → length (attempts m r e).events ≤ length r.events + 1
+one_more : (m : Machine) (r : Run) (e : Action) → length (attempts m r e).events ≤ length r.events + 1
 one_more m r e = by (happens m r.system e)
   where
     by : (o : Option Happened) → length (or_stays r o).events ≤ length r.events + 1
@@ -62,7 +62,7 @@ entry_at [] place other within = absurd (omega (arith, within))
 entry_at (first ∷ others) zero other within = refl
 entry_at (first ∷ others) (suc place) other within = entry_at others place other (omega (arith, within))
 
-entry_count : (m : Machine) (r : Run) (o : Option Happening) → length (or_stays r (o >>= happens m r.system)).events ≤ length r.events + 1
+entry_count : (m : Machine) (r : Run) (o : Option Action) → length (or_stays r (o >>= happens m r.system)).events ≤ length r.events + 1
 entry_count m r None = omega arith
 entry_count m r (Some e) = one_more m r e
 
@@ -110,21 +110,21 @@ tick_asks m r ss cpu d i is = ap (option_map (Ticks cpu)) (deadline_here m r.sys
 abbrev pub Asks : UnderWay → Entry → Option Choice → Type 0
 Asks u entry c =
     (m : Machine) (r : Run) → IsRun m r u →
-    entry_event m r.system entry ≡ option_map (happening m r.system (processor_of entry)) c
+    entry_event m r.system entry ≡ option_map (action m r.system (processor_of entry)) c
 
 pub entry_tried : (entry : Entry) (cpu : ℕ) (c : Choice) (u v : UnderWay) → cpu ≡ processor_of entry →
-    Asks u entry (Some c) → GoesOn (λ m r. attempts m r (happening m r.system cpu c)) u v →
+    Asks u entry (Some c) → GoesOn (λ m r. attempts m r (action m r.system cpu c)) u v →
     GoesOn (after_entry entry) u v
 entry_tried entry cpu c u v same asks goes = λ m r is.
     subst (λ q. IsRun m q v)
-    (ap (λ n. attempts m r (happening m r.system n c)) same
-    ∙ sym (ap (λ (o : Option Happening). or_stays r (o >>= happens m r.system)) (asks m r is)))
+    (ap (λ n. attempts m r (action m r.system n c)) same
+    ∙ sym (ap (λ (o : Option Action). or_stays r (o >>= happens m r.system)) (asks m r is)))
     (goes m r is)
 
 pub entry_untried : (entry : Entry) (u : UnderWay) → Asks u entry None → GoesOn (after_entry entry) u u
 entry_untried entry u asks = λ m r is.
     subst (λ q. IsRun m q u)
-    (sym (ap (λ (o : Option Happening). or_stays r (o >>= happens m r.system)) (asks m r is))) is
+    (sym (ap (λ (o : Option Action). or_stays r (o >>= happens m r.system)) (asks m r is))) is
 
 pub on_ok : {A E : Type 0} (r : Result A E) (P Q : Type 0) → (P → Q) → OnOk r P → OnOk r Q
 on_ok (Ok x) P Q f h = f h

@@ -8,9 +8,9 @@ use Rattle.std.proofs.lemmas.List.{append-nil}
 use Rattle.l4_model.specs.Machine.{Machine}
 use Rattle.l4_core_model.specs.Local.{Local}
 use Rattle.l4_core_model.specs.Runs.{Event, is_earlier, put_event, merged, told}
-use Rattle.l4_merge.specs.Deeds.{Deed, told_by, Lead}
-use Rattle.l4_merge.specs.Pasts.{all_events}
-use Rattle.l4_merge.proofs.Deeds.{lead_above}
+use Rattle.l4_merge.specs.Transitions.{Transition, told_by, Lead}
+use Rattle.l4_merge.specs.LocalTraces.{all_events}
+use Rattle.l4_merge.proofs.Transitions.{lead_above}
 use Rattle.l4_merge.proofs.EventOrder.{earlier_flip, earlier_by_stamp}
 use Rattle.l4_proc.specs.Logs.{events}
 use Rattle.l4_proc.specs.declared.processor.Processor.{Processor}
@@ -59,17 +59,17 @@ merged_sorted es = sorted (merged es) (merged_rises es)
 
 -- A log stands in that order.
 
-deeds_rise : (m : Machine) (cpu : ℕ) (l now : Local) (ds : List Deed) → Lead m cpu l ds now → IsRising (map told_by ds)
-deeds_rise m cpu l now [] lead = tt
-deeds_rise m cpu l now (d ∷ []) lead = tt
-deeds_rise m cpu l now (d ∷ e ∷ ds) lead =
+transitions_rise : (m : Machine) (cpu : ℕ) (l now : Local) (ds : List Transition) → Lead m cpu l ds now → IsRising (map told_by ds)
+transitions_rise m cpu l now [] lead = tt
+transitions_rise m cpu l now (d ∷ []) lead = tt
+transitions_rise m cpu l now (d ∷ e ∷ ds) lead =
     let above = (lead_above m cpu d.work.local now (e ∷ ds) lead.1).0 in
-    (earlier_flip (told_by d) (told_by e) (earlier_by_stamp (told_by d) (told_by e) above), deeds_rise m cpu d.work.local now (e ∷ ds) lead.1)
+    (earlier_flip (told_by d) (told_by e) (earlier_by_stamp (told_by d) (told_by e) above), transitions_rise m cpu d.work.local now (e ∷ ds) lead.1)
 
 log_sorted : (m : Machine) (p : Processor) → IsOneOf m p → IsSortedBy is_earlier (events p.worker.log)
 log_sorted m p o =
     let are = o.worked.are in
-    subst (IsSortedBy is_earlier) (sym are.events) (sorted (map told_by o.worked.deeds) (deeds_rise m p.worker.core.cpu _ p.worker.core.local o.worked.deeds are.lead))
+    subst (IsSortedBy is_earlier) (sym are.events) (sorted (map told_by o.worked.transitions) (transitions_rise m p.worker.core.cpu _ p.worker.core.local o.worked.transitions are.lead))
 
 -- So the log of a processor that is alone is the merge of all.
 

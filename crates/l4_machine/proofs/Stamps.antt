@@ -11,7 +11,7 @@ use Rattle.l4_core_model.specs.Local.{Local, opening_local}
 use Rattle.l4_core_model.specs.Acts.{Work}
 use Rattle.l4_core_model.specs.Turns.{next_stamp, opened, turn, advance}
 use Rattle.l4_core_model.specs.Mail.{handle}
-use Rattle.l4_core_model.specs.Runs.{Posted, System, is_between, letters, without_first, posted, taken, processors, Happening, Handles, Turns, Ticks, Happened, done, happens, Run, then_event, core_run, opening_run}
+use Rattle.l4_core_model.specs.Runs.{Posted, System, is_between, letters, without_first, posted, taken, processors, Action, Handles, Turns, Ticks, Happened, done, happens, Run, then_event, core_run, opening_run}
 use Rattle.l4_core_model.specs.Laws.{IsCoreRun}
 use Rattle.l4_merge.proofs.Lists.{all-append}
 use Rattle.l4_merge.proofs.StampsOfActs.{IsStamped}
@@ -81,7 +81,7 @@ map_then : {A B P : Type 0} (f : A → B) (o : Option A) (y : B) → option_map 
 map_then f None y h rest = cc
 map_then f (Some x) y h rest = rest x refl (some_is (f x) y h)
 
-happened_stamped : (m : Machine) (n : ℕ) (g : System) (e : Happening) (h : Happened) → happens m g e ≡ Some h → AreStamped n g → AreStamped (n + 1) h.system
+happened_stamped : (m : Machine) (n : ℕ) (g : System) (e : Action) (h : Happened) → happens m g e ≡ Some h → AreStamped n g → AreStamped (n + 1) h.system
 happened_stamped m n g (Handles cpu from) h is a =
     bind_then (slice_get g.locals cpu) _ h is λ l at is.
     bind_then (slice_get (letters g.mail from cpu) 0) _ h is λ letter first is.
@@ -106,7 +106,7 @@ happened_stamped m n g (Ticks cpu clock) h is a =
 
 -- All events
 
-all_stamped : (m : Machine) (es : List Happening) (first last : Run) → core_run m first es ≡ Some last →
+all_stamped : (m : Machine) (es : List Action) (first last : Run) → core_run m first es ≡ Some last →
     AreStamped (length first.events) first.system → AreStamped (length last.events) last.system
 all_stamped m [] first last is a = subst (λ (r : Run). AreStamped (length r.events) r.system) (some_is first last is) a
 all_stamped m (e ∷ es) first last is a =

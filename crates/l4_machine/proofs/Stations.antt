@@ -8,7 +8,7 @@ use Rattle.l4_core_model.specs.Letters.{Letter}
 use Rattle.l4_core_model.specs.Mail.{handle}
 use Rattle.l4_core_model.specs.Runs.{Event}
 use Rattle.l4_core_model.specs.Turns.{can_stamp, turn}
-use Rattle.l4_merge.specs.Deeds.{work_of}
+use Rattle.l4_merge.specs.Transitions.{work_of}
 use Rattle.l4_types.specs.declared.letters.Letter as letters
 use Rattle.l4_types.specs.LetterView.{letter_of}
 use Rattle.l4_core.specs.Processor.{Processor}

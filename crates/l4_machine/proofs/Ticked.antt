@@ -19,8 +19,8 @@ use Rattle.l4_core_model.specs.Runs.{Run, Ticks, is_empty}
 use Rattle.l4_core_model.specs.Schedules.{attempts, attempts_all, least_deadline, earliest, earliest_of, earliest_deadline, ticks, ticks_to}
 use Rattle.l4_core_model.specs.Acts.{Work, ◌▷◌, does, tells}
 use Rattle.l4_core_model.specs.Turns.{ByDue, ByReady, advance, clock_is, first_duty, first_some, is_busy, opened}
-use Rattle.l4_merge.specs.Pasts.{Past, letters_posted, letters_handled, all_events}
-use Rattle.l4_merge.specs.Pasts as deeds
+use Rattle.l4_merge.specs.LocalTraces.{LocalTrace, letters_posted, letters_handled, all_events}
+use Rattle.l4_merge.specs.LocalTraces as transitions
 use Rattle.l4_merge.specs.Merges.{EndsAt}
 use Rattle.l4_merge.specs.Rounds.{IsInRounds}
 use Rattle.l4_merge.proofs.Ticking.{ends_ticked, permuted_ticked}
@@ -113,7 +113,7 @@ before_deadline p deadline idle is =
 -- One clock after the other
 
 -- A run that ends where they are, and has their events.
-record Is (r : Run) (done : List Past) : Type 0 where
+record Is (r : Run) (done : List LocalTrace) : Type 0 where
   ends : EndsAt r done
   events : IsPermutation (all_events done) r.events
 
@@ -132,7 +132,7 @@ pub record AreNumbered (m : Machine) (start : ℕ) (ps : List Processor) : Type 
   pub machine : (i : ℕ) (p : Processor) → slice_get ps i ≡ Some p → p.worker.core.machine ≡ m
   pub number : (i : ℕ) (p : Processor) → slice_get ps i ≡ Some p → p.worker.core.cpu ≡ start + i
 
-one_tick : (m : Machine) (r : Run) (clock : ℕ) (done more : List Past) (old new : Processor) → Is r (done ++ past old ∷ more) →
+one_tick : (m : Machine) (r : Run) (clock : ℕ) (done more : List LocalTrace) (old new : Processor) → Is r (done ++ past old ∷ more) →
     old.worker.core.machine ≡ m → old.worker.core.cpu ≡ length done → HasComeTo clock old new →
     Is (attempts m r (Ticks (length done) clock)) (done ++ past new ∷ more)
 one_tick m r clock done more old new is same number come = ⊎_elim stays goes come
@@ -141,7 +141,7 @@ one_tick m r clock done more old new is same number come = ⊎_elim stays goes c
     at = at_middle done (past old) more
 
     here : slice_get r.system.locals (length done) ≡ Some old.worker.core.local
-    here = ap (λ ls. slice_get ls (length done)) is.ends.locals ∙ get-map (λ (d : Past). d.local) (done ++ past old ∷ more) (length done) (past old) at
+    here = ap (λ ls. slice_get ls (length done)) is.ends.locals ∙ get-map (λ (d : LocalTrace). d.local) (done ++ past old ∷ more) (length done) (past old) at
 
     stays : (clock ≤ old.worker.core.local.clock) × (new ≡ old) → Is (attempts m r (Ticks (length done) clock)) (done ++ past new ∷ more)
     stays t = subst (λ r. Is r (done ++ past new ∷ more)) (sym (late m r (length done) clock old.worker.core.local here t.0))
@@ -149,14 +149,14 @@ one_tick m r clock done more old new is same number come = ⊎_elim stays goes c
 
     goes : HasTicked clock old new → Is (attempts m r (Ticks (length done) clock)) (done ++ past new ∷ more)
     goes t =
-        let h : deeds.HasTicked m (length done) clock (past old) (past new) = subst (λ m. deeds.HasTicked m (length done) clock (past old) (past new)) same
-        (subst (λ cpu. deeds.HasTicked old.worker.core.machine cpu clock (past old) (past new)) number t.past) in
+        let h : transitions.HasTicked m (length done) clock (past old) (past new) = subst (λ m. transitions.HasTicked m (length done) clock (past old) (past new)) same
+        (subst (λ cpu. transitions.HasTicked old.worker.core.machine cpu clock (past old) (past new)) number t.past) in
         subst (Is (attempts m r (Ticks (length done) clock))) (changed_middle done (past old) (past new) more) (record {
           ends = ends_ticked m r (length done) clock (done ++ past old ∷ more) (past old) (past new) is.ends at h;
           events = permuted_ticked m r (length done) clock (done ++ past old ∷ more) (past old) (past new) is.ends at h is.events;
         })
 
-all_ticks : (m : Machine) (clock : ℕ) (olds news : List Processor) (r : Run) (done : List Past) → Is r (done ++ pasts olds) → AreNumbered m (length done) olds →
+all_ticks : (m : Machine) (clock : ℕ) (olds news : List Processor) (r : Run) (done : List LocalTrace) → Is r (done ++ pasts olds) → AreNumbered m (length done) olds →
     HaveComeTo clock olds news → Is (attempts_all m r (map (λ cpu. Ticks cpu clock) (range_with_len (length done) (length olds)))) (done ++ pasts news)
 all_ticks m clock [] [] r done is numbered come = is
 all_ticks m clock [] (new ∷ news) r done is numbered come = absurd (let size = come.for_each in omega arith)
@@ -289,7 +289,7 @@ tick_in_rounds m turns olds r rounds was whole idle handled =
     let all = was.in_order in
     ticked_in_rounds m turns r rounds (idles m (pasts olds) r was.ends
     (λ cpu done at. let p = past_at olds cpu done at in
-    subst (λ (d : Past). is_busy m cpu d.local ≡ false) p.1.1
+    subst (λ (d : LocalTrace). is_busy m cpu d.local ≡ false) p.1.1
     (subst (λ m. is_busy m cpu p.0.worker.core.local ≡ false) (all.of_one.each cpu p.0 p.1.0).machine
     (subst (λ n. is_busy p.0.worker.core.machine n p.0.worker.core.local ≡ false) (all.numbers cpu p.0 p.1.0) (idle cpu p.0 p.1.0))))
     (subst (λ done. (from to : ℕ) → letters_posted done from to ≡ letters_handled done from to) (pasts_are m olds all)

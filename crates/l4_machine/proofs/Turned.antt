@@ -17,7 +17,7 @@ use Rattle.l4_core_model.specs.Turns.{Choice, choice, turn, is_busy, can_stamp}
 use Rattle.l4_core_model.specs.Mail.{handle}
 use Rattle.l4_merge.specs.Merges.{IsTurnedRun}
 use Rattle.l4_merge.specs.Rounds.{IsInRounds}
-use Rattle.l4_merge.specs.Pasts.{Past, AddAtMost, HasTurned, HaveTurned, HaveWorked, Begins, posted_in, handled_in, letters_posted, letters_handled, all_events, added_events}
+use Rattle.l4_merge.specs.LocalTraces.{LocalTrace, AddAtMost, HasTurned, HaveTurned, HaveWorked, Begins, posted_in, handled_in, letters_posted, letters_handled, all_events, added_events}
 use Rattle.l4_merge.proofs.GoingOn.{merge_turns}
 use Rattle.l4_merge.proofs.ClocksOfEvents.{turned_clock}
 use Rattle.l4_merge.proofs.Permuted.{permuted}
@@ -54,7 +54,7 @@ round_in_order m turns olds mids news all r =
     (in_order_gone_on m olds mids r.worked.for_each (λ i old new was is. (r.worked.each i old new was is).on)
     (one_of_worked turns olds mids r.worked all.of_one.one) all)
 
-pub past_at : (ps : List Processor) (i : ℕ) (done : Past) → slice_get (pasts ps) i ≡ Some done → (p : Processor) × ((slice_get ps i ≡ Some p) × (past p ≡ done))
+pub past_at : (ps : List Processor) (i : ℕ) (done : LocalTrace) → slice_get (pasts ps) i ≡ Some done → (p : Processor) × ((slice_get ps i ≡ Some p) × (past p ≡ done))
 past_at [] i done at = absurd cc
 past_at (p ∷ ps) zero done at = (p, (refl, some_is (past p) done at))
 past_at (p ∷ ps) (suc i) done at = past_at ps i done at
@@ -79,7 +79,7 @@ round_turned m turns olds mids news all r = record {
   in_order = begun_in_order m news (round_in_order m turns olds mids news all r) r.whole;
 }
 
-worked_of : (m : Machine) (olds news : List Past) → HaveTurned m olds news → HaveWorked m olds news
+worked_of : (m : Machine) (olds news : List LocalTrace) → HaveTurned m olds news → HaveWorked m olds news
 worked_of m olds news t = record { for_each = t.for_each; each = λ i old new was is. (t.each i old new was is).worked; in_order = t.in_order }
 
 pub count_same : (olds news : List Processor) → AreAsBefore olds news → count_events news ≡ count_events olds
@@ -118,7 +118,7 @@ round_come m turns olds mids news r was round =
             let a = past_at olds i old.0 old.1 in
             let stays : p.worker.core.local.clock ≡ old.0.local.clock =
             turned_clock m i old.0 (past p) (turned.each i old.0 (past p) old.1 (get-map past news i p at)) in
-            let here : old.0.local.clock ≡ a.0.worker.core.local.clock = ap (λ (d : Past). d.local.clock) (sym a.1.1) in
+            let here : old.0.local.clock ≡ a.0.worker.core.local.clock = ap (λ (d : LocalTrace). d.local.clock) (sym a.1.1) in
             let low = was.clocks i a.0 a.1.0 in
             omega arith;
       };
@@ -134,8 +134,8 @@ few_each m turns olds mids news round i old new was is =
     let ticks = worked.ticks in
     let before = turns_and_ticks a.0 in
     let behind = turns_and_ticks b.0 in
-    let first = ap (λ (done : Past). length done.events) a.1.1 in
-    let last = ap (λ (done : Past). length done.events) b.1.1 in
+    let first = ap (λ (done : LocalTrace). length done.events) a.1.1 in
+    let last = ap (λ (done : LocalTrace). length done.events) b.1.1 in
     omega arith
 
 pub round_in_rounds : (m : Machine) (asked turns left cpus : ℕ) (olds mids news : List Processor) (r : Run) → IsInRounds m asked r →
@@ -210,7 +210,7 @@ in_hand_first m ps r i p x come whole at hand = ⊎_elim within beyond (cases_lt
 pub local_at : (m : Machine) (ps : List Processor) (r : Run) (i : ℕ) (p : Processor) → HaveCome m ps r → slice_get ps i ≡ Some p →
     slice_get r.system.locals i ≡ Some p.worker.core.local
 local_at m ps r i p come at =
-    ap (λ ls. slice_get ls i) come.ends.locals ∙ get-map (λ (d : Past). d.local) (pasts ps) i (past p) (get-map past ps i p at)
+    ap (λ ls. slice_get ls i) come.ends.locals ∙ get-map (λ (d : LocalTrace). d.local) (pasts ps) i (past p) (get-map past ps i p at)
 
 low_stamp : (l : ℕ) (k n : ℕ) → l ≤ n → k ≤ n → n < 2 ^ 61 → nat_lt (max l k + 1) (2 ^ 62) ≡ true
 low_stamp l k n a b low = grind (arith, nat_tests)

@@ -8,7 +8,7 @@ use Rattle.l4_core.specs.Processor.{Processor}
 use Rattle.l4_machine.specs.Stations.{Station, letters_from}
 use Rattle.l4_machine.specs.UnderWay.{UnderWay, AreResting, HasRun, IsProcessorOf, IsRun}
 use Rattle.l4_machine.proofs.Endings.{rests, are_resting}
-use Rattle.l4_machine.proofs.Happening.{letters_here, local_at}
+use Rattle.l4_machine.proofs.Action.{letters_here, local_at}
 
 pub processor_here : (m : Machine) (r : Run) (u : UnderWay) (cpu : ℕ) (s : Station) (p : Processor) →
     IsRun m r u → slice_get u.stations cpu ≡ Some s → p ≡ s.core → IsProcessorOf m r.system cpu p

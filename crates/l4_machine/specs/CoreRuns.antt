@@ -4,8 +4,8 @@ use Rattle.l4_core_model.specs.Runs.{Run}
 use Rattle.l4_merge.specs.Merges.{IsReorderedRun}
 use Rattle.l4_split.specs.Laws.{IsLawfulRun}
 
--- The merge of a run's events by stamp and processor is told by a core run that ends as it does, and all is true of that run that is
--- true of each.
+-- The other run is the first with its events in order of stamp and processor, and ends as the first
+-- does. All is true of it that is true of each core run.
 pub record IsLawfulMergedRun (m : Machine) (r other : Run) : Type 0 where
   pub reordered : IsReorderedRun m r other
   pub lawful : IsLawfulRun m other

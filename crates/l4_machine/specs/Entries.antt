@@ -12,7 +12,7 @@ use Rattle.l4_machine.specs.declared.entries.Entry.TheVariants as variant
 use Rattle.l4_machine.specs.declared.outcome.RunFault.{RunFault}
 use Rattle.l4_machine.specs.declared.outcome.RunFault.TheVariants.{Turns, Schedule}
 
--- A run has at most so many turns, and a schedule of numbers so many entries.
+-- A run has at most this many turns, and a schedule of numbers at most this many entries.
 abbrev pub most_turns : ℕ
 most_turns = 1000000
 
@@ -28,7 +28,7 @@ most_events = 1000015
 abbrev pub turns_fault : (turns : ℕ) → Option RunFault
 turns_fault turns = if turns == 0 || nat_lt most_turns turns then Some Turns else None
 
--- The entry that one of the code is, that a number is, and of which processor one is.
+-- Entries of the program and numbers as entries, and the processor of an entry.
 
 abbrev pub entry_from : code.Entry → Entry
 entry_from (variant.Turn cpu) = TurnOf cpu
@@ -51,8 +51,8 @@ processor_of (TickTo cpu clock) = cpu
 abbrev pub after_entry : Entry → Machine → Run → Run
 after_entry entry m r = or_stays r (entry_event m r.system entry >>= happens m r.system)
 
--- An entry is one of so many processors where these have its own and that of its letter, and where
--- a clock may go on to its value.
+-- An entry is one of a machine of `cpus` processors: the machine has its processor and that of its
+-- letter, and a clock may go on to its value.
 abbrev pub is_entry_of : (cpus : ℕ) → Entry → Bool
 is_entry_of cpus (TurnOf cpu) = nat_lt cpu cpus
 is_entry_of cpus (TickOf cpu) = nat_lt cpu cpus
@@ -63,14 +63,15 @@ is_entry_of cpus (TickTo cpu clock) = nat_lt cpu cpus && nat_lt 0 clock && nat_l
 abbrev pub is_entry : Machine → Entry → Bool
 is_entry m entry = is_entry_of m.cpus entry
 
--- The place of the first entry that is none, where the first of these entries has this place.
+-- The place of the first entry that is none of the machine. The first of these entries has the
+-- place `place`.
 abbrev pub first_stranger : Machine → (place : ℕ) → List Entry → Option ℕ
 first_stranger m place [] = None
 first_stranger m place (entry ∷ entries) =
     if is_entry m entry then first_stranger m (place + 1) entries else Some place
 
--- Why these are no entries of the machine: they are more than there may be, or else one is none of
--- it, by its place counted from 1.
+-- Why these are no entries of the machine: there are too many, or else the first that is none of
+-- the machine, by its place counted from 1.
 abbrev pub fault_of : (most : ℕ) → Machine → List Entry → Option RunFault
 fault_of most m entries =
     if nat_lt most (length entries) then Some Turns
@@ -79,6 +80,6 @@ fault_of most m entries =
 abbrev pub entries_fault : Machine → List Entry → Option RunFault
 entries_fault m entries = fault_of most_events m entries
 
--- The same of a schedule that has the entries as numbers.
+-- Why the numbers of a schedule are no entries of the machine.
 abbrev pub schedule_fault : Machine → List ℕ → Option RunFault
 schedule_fault m schedule = fault_of most_entries m (map numbered schedule)

@@ -11,7 +11,7 @@ use Rattle.l4_machine.specs.declared.unmerged.Unmerged.{Unmerged}
 abbrev pub left : List Processor → Unmerged → List Event
 left ps u = drop (u.count - u.left) (events_of (slice_get ps u.place))
 
--- Those of all logs, one log behind the other.
+-- The events of all logs that are still to be told, one log behind the other.
 abbrev pub all_left : List Processor → List Unmerged → List Event
 all_left ps us = flat_map (left ps) us
 
@@ -26,13 +26,15 @@ pub record IsUnmerged (ps : List Processor) (u : Unmerged) : Type 0 where
   pub stamp : u.stamp ≡ first_stamp (left ps u)
 
 -- The first event that was left is taken. These are its steps.
-pub record HasTakenFirst (ps : List Processor) (old new : Unmerged) (steps : List Step) : Type 0 where
+pub record HasTakenFirst (ps : List Processor) (old new : Unmerged) (steps : List Step) :
+    Type 0 where
   pub event : Event
   pub first : left ps old ≡ event ∷ left ps new
   pub whole : IsUnmerged ps new
   pub told : steps ≡ event.steps
 
--- Of a first stamp and of what is the least of the others, with its place among these.
+-- The lower of the first stamp and the least of the others, with its place; of equal ones the
+-- first.
 abbrev pub lower : Option ℕ → Option (ℕ × ℕ) → Option (ℕ × ℕ)
 lower None None = None
 lower None (Some least) = Some (suc least.0, least.1)

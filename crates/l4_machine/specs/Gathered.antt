@@ -7,7 +7,8 @@ use Rattle.l4_proc.specs.declared.processor.Processor.{Processor}
 use Rattle.l4_machine.specs.Gathers.{pasts_of}
 use Rattle.l4_machine.specs.Outcomes.{Findings, IsOutcomeOf}
 
--- What they came to together: the outcome of the core run whose events are those of all their logs, in order of stamp and processor.
+-- What the processors came to together: the outcome of the core run whose events are those of all
+-- their logs, in order of stamp and processor.
 pub record IsGathered (m : Machine) (ps : List Processor) (o : Findings) : Type 0 where
   pub run : Run
   pub whole : IsWholeRun m (pasts_of m ps) run

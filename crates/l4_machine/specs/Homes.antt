@@ -14,7 +14,7 @@ use Rattle.l4_types.specs.ReportView.{report_of_view}
 use Rattle.l4_core.specs.Processor.{Processor}
 use Rattle.l4_split.specs.Laws.{AreAllHandled, home_reports, home_thread}
 use Rattle.l4_machine.specs.declared.homes.LastSend.{LastSend}
-use Rattle.l4_machine.specs.declared.homes.AtHome.{AtHome}
+use Rattle.l4_machine.specs.declared.homes.OwnerView.{OwnerView}
 
 abbrev pub locals_of : List Processor → List Local
 locals_of cores = map (λ c. c.local) cores
@@ -30,7 +30,8 @@ last_send t = record { k = t.context.begun; to = option_map (λ send. send.to) t
 
 -- The last sends of all threads, as their own processors have them.
 abbrev pub sent_at_home : Machine → List Local → List LastSend
-sent_at_home m locals = map (λ i. last_send (home_thread m locals i)) (range_with_len 0 (length m.threads))
+sent_at_home m locals = map (λ i. last_send (home_thread m locals i))
+    (range_with_len 0 (length m.threads))
 
 -- Where a send of this number goes, if it is the last one that its sender began and is undecided.
 abbrev pub sent_to : (k : ℕ) → Option LastSend → Option Id
@@ -49,11 +50,11 @@ sent_waiting m sends step = do
   to ← sent_to s.k (slice_get sends i)
   Some (s, to)
 
-pub record IsAtHome (m : Machine) (locals : List Local) (a : AtHome) : Type 0 where
+pub record IsAtHome (m : Machine) (locals : List Local) (a : OwnerView) : Type 0 where
   pub threads : map report_of_view a.threads.items ≡ home_reports m locals
   pub sends : a.sends.items ≡ sent_at_home m locals
 
--- A core run ends in these local states, and where this is said with all letters handled.
+-- A core run ends in these local states. If `all_handled`, all its letters are handled.
 pub record EndsIn (r : Run) (locals : List Local) (all_handled : Bool) : Type 0 where
   pub here : r.system.locals ≡ locals
   pub handled : IsTrue all_handled → AreAllHandled r.system

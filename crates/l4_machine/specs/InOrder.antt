@@ -9,7 +9,7 @@ abbrev pub then_others : (log others : List Event) → List Event
 then_others [] others = others
 then_others (e ∷ es) others = e ∷ others
 
--- The events by the processors of each, the first of each log first.
+-- The events in this order: each number stands for the next event in the log of that processor.
 abbrev pub events_in_order : (order : List ℕ) → (logs : List (List Event)) → List Event
 events_in_order [] logs = []
 events_in_order (cpu ∷ cpus) logs =

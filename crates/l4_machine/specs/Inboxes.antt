@@ -29,13 +29,14 @@ pub record IsTakenFrom (from : ℕ) (old : List (List Letter)) (letter : Letter)
   pub first : slice_get (slice_index_or old from []) 0 ≡ Some letter
   pub rest : new ≡ changed (drop 1) old from
 
--- It is the one that is taken, where there is any.
+-- The first letter of this poster was taken out, or there is none and nothing has changed.
 abbrev pub TakesFrom : (from : ℕ) → (old : List (List Letter)) → Option program.Letter →
     (new : List (List Letter)) → Type 0
 TakesFrom from old None new = (slice_index_or old from [] ≡ []) × (new ≡ old)
 TakesFrom from old (Some letter) new = IsTakenFrom from old (letter_of letter) new
 
--- So it is of the lowest poster.
+-- The first letter of the lowest poster was taken out, or there is no letter and nothing has
+-- changed.
 abbrev pub TakesFirst : (old : List (List Letter)) → Option (ℕ × program.Letter) →
     (new : List (List Letter)) → Type 0
 TakesFirst old None new = AreEmpty old × (new ≡ old)

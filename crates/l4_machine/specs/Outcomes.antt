@@ -64,10 +64,11 @@ pub record IsTrueOf (m : Machine) (o : Findings) : Type 0 where
   -- nothing, and every other begun send is refused, dropped or waiting
   pub lawful : IsLawful m o.history
   -- the undecided sends are those of the world that the history reaches, in order of beginning
-  pub waiting : (w : World) → reached m o.history ≡ Some w → o.waiting ≡ undecided_sends m w o.history
+  pub waiting : (w : World) → reached m o.history ≡ Some w →
+      o.waiting ≡ undecided_sends m w o.history
   -- the threads are those of that world, in order of declaration
   pub threads : (w : World) → reached m o.history ≡ Some w → o.threads ≡ view m w
-  -- where it is quiet, nothing but clocks can go on in that world
+  -- if the ending is quiet, nothing but clocks can go on in that world
   pub still : o.ending ≡ Quiet → (w : World) → reached m o.history ≡ Some w → IsStill m w
 
 -- These are the findings of this core run of the machine.
@@ -78,21 +79,21 @@ pub record IsOutcomeOf (m : Machine) (r : Run) (o : Findings) : Type 0 where
   pub history : o.history ≡ told r.events
   -- the turns are the events of the run
   pub turns : o.turns ≡ length r.events
-  -- it is quiet exactly where the run ends at rest, and else spent
+  -- the ending is quiet exactly if the run ends at rest, and else spent
   pub quiet : (o.ending ≡ Quiet) ↔ (at_rest m r.system ≡ true)
 
 -- A core run with its events in order of stamp, and of equal ones by processor.
 abbrev pub in_order : Run → Run
 in_order r = record r { events = merged r.events }
 
--- A run of a machine for so many turns, however its processors come to one another.
+-- A run of a machine for this many turns, whichever processor goes first.
 pub record IsRunFor (m : Machine) (most : ℕ) (r : Run) : Type 0 where
-  -- it goes in rounds of turns in any order, of which none has more than its share; the clocks go on, to the least deadline, only where
-  -- nothing else is to be done
+  -- it goes in rounds: turns in any order, of each processor at most its share; the clocks go on,
+  -- to the least deadline, only if nothing else is to be done
   pub rounds : IsInRounds m most r
   -- it ends at rest, or has used up its turns
   pub least : (most ≤ length r.events) ⊎ (at_rest m r.system ≡ true)
-  -- of which it has fewer than so many and one for each processor
+  -- it has fewer turns than these and one more for each processor
   pub fewer : length r.events < most + m.cpus
   -- on one processor there is one such run
   pub alone : m.cpus ≡ 1 → r ≡ run m most
@@ -113,7 +114,8 @@ IsCompactOutcome m most o = IsFoundFor m most (compact_findings_of o)
 abbrev pub IsReplayed : Machine → (schedule : List ℕ) → Outcome → Type 0
 IsReplayed m schedule o = IsOutcomeOf m (replay m schedule) (findings_of o)
 
--- The same of entries, which may name each choice.
+-- The outcome of a run of this machine by entries, which may name each choice. Its history is in
+-- the order told.
 abbrev pub IsCompactReplay : Machine → List Entry → CompactOutcome → Type 0
 IsCompactReplay m entries o = IsOutcomeOf m (replay_entries m entries) (compact_findings_of o)
 
@@ -122,4 +124,5 @@ pub record IsSound (m : Machine) (r : Run) : Type 0 where
   pub at_home : IsKnownAtHome m r
   pub possible : IsHistory m (told r.events)
   pub lawful : IsLawful m (told r.events)
-  pub still : at_rest m r.system ≡ true → (w : World) → reached m (told r.events) ≡ Some w → IsStill m w
+  pub still : at_rest m r.system ≡ true → (w : World) →
+      reached m (told r.events) ≡ Some w → IsStill m w

@@ -1,10 +1,10 @@
 -- What the processors of a machine did together, as entries of a schedule.
 use Rattle.std.specs.Prelude.{◌≡◌, ◌-◌, Option, Some, None, List, [], ◌∷◌, map, drop, slice_get}
 use Rattle.l4_model.specs.Machine.{Machine}
-use Rattle.l4_core_model.specs.Runs.{Event, Happening, merged}
+use Rattle.l4_core_model.specs.Runs.{Event, Action, merged}
 use Rattle.l4_choices.specs.Entries.{Entry, entry_of}
-use Rattle.l4_merge.specs.Recorded.{happenings_in, recorded}
-use Rattle.l4_proc.specs.Logs.{happenings}
+use Rattle.l4_merge.specs.Recorded.{actions_in, recorded}
+use Rattle.l4_proc.specs.Logs.{actions}
 use Rattle.l4_proc.specs.declared.processor.Processor.{Processor}
 use Rattle.l4_machine.specs.EventsLeft.{all_left, left, IsUnmerged}
 use Rattle.l4_machine.specs.Gathers.{pasts_of}
@@ -15,24 +15,25 @@ abbrev pub recorded_entries : Machine → List Processor → List Entry
 recorded_entries m ps = map entry_of (recorded (pasts_of m ps))
 
 -- What happened to a processor.
-abbrev pub happenings_of : Option Processor → List Happening
-happenings_of None = []
-happenings_of (Some p) = happenings p.worker.log
+abbrev pub actions_of : Option Processor → List Action
+actions_of None = []
+actions_of (Some p) = actions p.worker.log
 
--- Of a log what is still to be told.
-abbrev pub happened_left : List Processor → Unmerged → List Happening
-happened_left ps u = drop (u.count - u.left) (happenings_of (slice_get ps u.place))
+-- What happened in the events of a log that are still to be told.
+abbrev pub happened_left : List Processor → Unmerged → List Action
+happened_left ps u = drop (u.count - u.left) (actions_of (slice_get ps u.place))
 
--- Of several logs, in order of stamp and processor.
+-- The entries of several logs that are still to be told, in order of stamp and processor.
 abbrev pub entries_left : List Processor → List Unmerged → List Entry
 entries_left ps us =
-    map entry_of (happenings_in (map (λ e. e.cpu) (merged (all_left ps us))) (map (happened_left ps) us))
+    map entry_of (actions_in (map (λ e. e.cpu) (merged (all_left ps us)))
+    (map (happened_left ps) us))
 
 -- The first event that was left is taken, as this entry.
 pub record HasTakenEntry (ps : List Processor) (old new : Unmerged) (entry : Entry) : Type 0 where
   pub event : Event
-  pub happening : Happening
+  pub action : Action
   pub first : left ps old ≡ event ∷ left ps new
-  pub happened : happened_left ps old ≡ happening ∷ happened_left ps new
+  pub happened : happened_left ps old ≡ action ∷ happened_left ps new
   pub whole : IsUnmerged ps new
-  pub is : entry ≡ entry_of happening
+  pub is : entry ≡ entry_of action

@@ -6,7 +6,7 @@ use Rattle.l4_model.specs.World.{changed}
 use Rattle.l4_core_model.specs.Acts.{Work}
 use Rattle.l4_core_model.specs.Letters.{Letter}
 use Rattle.l4_core_model.specs.Mail.{handle}
-use Rattle.l4_core_model.specs.Runs.{Event, System, Happening, Handles, Turns, Ticks}
+use Rattle.l4_core_model.specs.Runs.{Event, System, Action, Handles, Turns, Ticks}
 use Rattle.l4_core_model.specs.Schedules.{next_turn}
 use Rattle.l4_core_model.specs.Turns.{advance, can_stamp, is_busy, turn}
 use Rattle.l4_core.specs.Processor.{Processor}
@@ -21,12 +21,13 @@ use Rattle.l4_machine.specs.declared.station.Choice.{Choice}
 use Rattle.l4_machine.specs.declared.station.Choice.TheVariants as choice
 use Rattle.l4_machine.specs.declared.station.Station as program
 
--- A processor, and for each processor the letters that came from it and are not handled yet, of which the first is handled first.
+-- A processor, and for each processor the letters that came from it and are not handled yet, of
+-- which the first is handled first.
 pub record Station : Type 0 where
   pub core : Processor
   pub inbox : List (List Letter)
 
--- What the program's station is.
+-- A station of the program as one of the definitions.
 abbrev pub station_of : program.Station → Station
 station_of s = record { core = s.worker.core; inbox = letters_in s.inbox }
 
@@ -37,7 +38,7 @@ events_at s = events s.worker.log
 abbrev pub letters_out : program.Station → List (ℕ × Letter)
 letters_out s = s.worker.log.told.letters
 
--- The same station, with as many events.
+-- The same station, with the same events.
 pub record IsSameStation (old new : program.Station) : Type 0 where
   pub station : station_of new ≡ station_of old
   pub events : events_at new ≡ events_at old
@@ -48,7 +49,10 @@ letters_from from s = slice_index_or s.inbox from []
 
 -- A letter has come.
 abbrev pub with_letter : (from : ℕ) → Letter → Station → Station
-with_letter from letter s = record s { inbox = changed (λ letters. letters ++ letter ∷ []) s.inbox from }
+with_letter from letter s = record s {
+  inbox =
+      changed (λ letters. letters ++ letter ∷ []) s.inbox from;
+}
 
 -- The first letter of one poster is taken out.
 abbrev pub without_letter : (from : ℕ) → Station → Station
@@ -66,10 +70,11 @@ pub record CanHandle (p : Processor) (letter : Letter) : Type 0 where
   pub lawful : is_some (handle p.machine p.cpu p.local letter) ≡ true
   pub stamp : can_stamp p.local letter.stamp ≡ true
 
--- So it is for each letter that is the first of its poster, and the core's turn can have a stamp.
+-- Each letter that is the first of its poster can be handled, and the core's turn can have a stamp.
 pub record CanGoOn (s : Station) : Type 0 where
   pub own : can_stamp s.core.local 0 ≡ true
-  pub letters : (from : ℕ) (letter : Letter) → slice_get (letters_from from s) 0 ≡ Some letter → CanHandle s.core letter
+  pub letters : (from : ℕ) (letter : Letter) → slice_get (letters_from from s) 0 ≡ Some letter →
+      CanHandle s.core letter
 
 -- A worker that stops at a turn has nothing to do.
 abbrev pub CanTurn : Worker → Type 0
@@ -86,7 +91,11 @@ event_of p x = record { cpu = p.cpu; stamp = x.local.stamp; steps = x.steps }
 
 -- An event has done this work, and its letters are still to be taken.
 pub record HasDone (x : Work) (old new : program.Station) : Type 0 where
-  pub core : new.worker.core ≡ record { machine = old.worker.core.machine; cpu = old.worker.core.cpu; local = x.local }
+  pub core : new.worker.core ≡ record {
+    machine = old.worker.core.machine;
+    cpu = old.worker.core.cpu;
+    local = x.local;
+  }
   pub events : events_at new ≡ events_at old ++ event_of old.worker.core x ∷ []
   pub letters : letters_out new ≡ x.letters
 
@@ -95,16 +104,17 @@ pub record IsHandling (from : ℕ) (old new : program.Station) : Type 0 where
   pub letter : Letter
   pub work : Work
   pub first : slice_get (letters_from from (station_of old)) 0 ≡ Some letter
-  pub is : handle old.worker.core.machine old.worker.core.cpu old.worker.core.local letter ≡ Some work
+  pub is : handle old.worker.core.machine old.worker.core.cpu old.worker.core.local letter ≡
+      Some work
   pub done : HasDone work old new
   pub rest : (station_of new).inbox ≡ (without_letter from (station_of old)).inbox
 
--- So it was where there is one.
+-- The first letter of one poster was handled, or there is none and nothing has changed.
 abbrev pub HandlesFrom : (from : ℕ) → Bool → (old new : program.Station) → Type 0
 HandlesFrom from true old new = IsHandling from old new
 HandlesFrom from false old new = (letters_from from (station_of old) ≡ []) × IsSameStation old new
 
--- It was the core's turn.
+-- The core took its turn.
 pub record IsOwnTurn (old new : program.Station) : Type 0 where
   pub work : Work
   pub is : turn old.worker.core.machine old.worker.core.cpu old.worker.core.local ≡ Some work
@@ -134,7 +144,8 @@ TakesTurn false old new = HasNoMail (station_of old) × IsNoTurn old new
 -- The clock went on, or it could not.
 pub record IsTick (clock : ℕ) (old new : program.Station) : Type 0 where
   pub work : Work
-  pub is : advance old.worker.core.machine old.worker.core.cpu clock old.worker.core.local ≡ Some work
+  pub is : advance old.worker.core.machine old.worker.core.cpu clock old.worker.core.local ≡
+      Some work
   pub done : HasDone work old new
   pub rest : (station_of new).inbox ≡ (station_of old).inbox
 
@@ -153,14 +164,14 @@ HasChosen (choice.Letter from) done old new = HandlesFrom from done old new
 HasChosen choice.Core done old new = TakesCoreTurn done old new
 HasChosen (choice.Tick clock) done old new = GoesOnTo clock done old new
 
--- What it is that may happen.
-abbrev pub happening : Machine → System → (cpu : ℕ) → Choice → Happening
-happening m g cpu choice.Turn = next_turn m g cpu
-happening m g cpu (choice.Letter from) = Handles cpu from
-happening m g cpu choice.Core = Turns cpu
-happening m g cpu (choice.Tick clock) = Ticks cpu clock
+-- What happens if this is chosen.
+abbrev pub action : Machine → System → (cpu : ℕ) → Choice → Action
+action m g cpu choice.Turn = next_turn m g cpu
+action m g cpu (choice.Letter from) = Handles cpu from
+action m g cpu choice.Core = Turns cpu
+action m g cpu (choice.Tick clock) = Ticks cpu clock
 
--- The poster of a letter that is chosen is one of so many processors.
+-- The poster of a letter that is chosen has a number below `cpus`.
 abbrev pub KnowsPoster : (cpus : ℕ) → Choice → Type 0
 KnowsPoster cpus (choice.Letter from) = from < cpus
 KnowsPoster cpus _ = Unit {0}

@@ -11,7 +11,8 @@ use Rattle.l4_machine.specs.declared.scheduler.Scheduler.{Scheduler}
 use Rattle.l4_machine.specs.declared.station.Station as program
 use Rattle.l4_machine.specs.Stations.{Station, events_at, letters_from, letters_out, station_of, with_letter, deadline_of, HasNoMail, IsResting}
 
--- The processors with the letters that have come to them, the log of each, and the processor of each event in the order told.
+-- The processors with the letters that have come to them, the log of each, and the processor of
+-- each event in the order told.
 pub record UnderWay : Type 0 where
   pub machine : Machine
   pub stations : List Station
@@ -35,7 +36,8 @@ with_letters from (p ∷ ps) ss = with_letters from ps (changed (with_letter fro
 abbrev pub KnowPoster : (from : ℕ) → List Station → Type 0
 KnowPoster from ss = (to : ℕ) (s : Station) → slice_get ss to ≡ Some s → from < length s.inbox
 
--- Each goes to a processor that there is, and that has a place for those of this one.
+-- Each letter goes to a processor that there is, and each processor has a place for the letters of
+-- this one.
 abbrev pub CanPost : (from : ℕ) → List (ℕ × Letter) → List Station → Type 0
 CanPost from ps ss = AllByRecursion (λ p. p.0 < length ss) ps × KnowPoster from ss
 
@@ -48,12 +50,13 @@ letters_at from (Some s) = letters_from from s
 abbrev pub letters_of : List program.Station → (cpu : ℕ) → List (ℕ × Letter)
 letters_of ss cpu = slice_index_or (map letters_out ss) cpu []
 
--- All of them have come to the others, and nothing else has changed.
+-- The letters of a processor's last event have come to the others, and nothing else has changed.
 pub record HasDelivered (from : ℕ) (old new : List program.Station) : Type 0 where
   pub stations : map station_of new ≡ with_letters from (letters_of old from) (map station_of old)
   pub events : map events_at new ≡ map events_at old
 
--- The event of a processor has ended: it is the last one, and what it posted has come to the others.
+-- The event of a processor has ended: it is the last in the order told, and what it posted has come
+-- to the others.
 pub record HasEndedEvent (cpu : ℕ) (old new : Scheduler) : Type 0 where
   pub machine : new.machine.now ≡ old.machine.now
   pub order : new.order.items ≡ old.order.items ++ cpu ∷ []
@@ -68,7 +71,7 @@ deadline_at (Some s) = deadline_of s
 abbrev pub AreResting : List Station → Type 0
 AreResting ss = (cpu : ℕ) (s : Station) → slice_get ss cpu ≡ Some s → IsResting s
 
--- None of them has a letter.
+-- No processor has a letter.
 abbrev pub HaveNoMail : List Station → Type 0
 HaveNoMail ss = (cpu : ℕ) (s : Station) → slice_get ss cpu ≡ Some s → HasNoMail s
 
@@ -78,26 +81,29 @@ pub record IsStation (m : Machine) (cpu : ℕ) (s : Station) : Type 0 where
   pub cpu_is : s.core.cpu ≡ cpu
   pub inbox : length s.inbox ≡ m.cpus
 
--- The stations are the processors of the machine, with the same local states and the same letters under way of each pair.
+-- The stations are the processors of the machine, with the same local states and the same letters
+-- under way of each pair.
 pub record IsSystem (m : Machine) (g : System) (ss : List Station) : Type 0 where
   pub for_each : length ss ≡ m.cpus
   pub each : (cpu : ℕ) (s : Station) → slice_get ss cpu ≡ Some s → IsStation m cpu s
   pub locals : g.locals ≡ map (λ s. s.core.local) ss
   pub mail : (from to : ℕ) → letters g.mail from to ≡ letters_at from (slice_get ss to)
 
--- It is a processor of the machine, as this state has it.
+-- This is the processor `cpu` of the machine, with the local state that `g` has of it.
 pub record IsProcessorOf (m : Machine) (g : System) (cpu : ℕ) (p : Processor) : Type 0 where
   pub machine : p.machine ≡ m
   pub cpu_is : p.cpu ≡ cpu
   pub local : slice_get g.locals cpu ≡ Some p.local
 
--- Each event stands in the log of its processor, in order, and these are the processors.
+-- Each event stands in the log of its processor, in order, and `cpus` are the processors of the
+-- events.
 pub record AreLogsOf (events : List Event) (cpus : List ℕ) (logs : List (List Event)) : Type 0 where
   pub order : cpus ≡ map (λ e. e.cpu) events
   pub within : AllByRecursion (λ e. e.cpu < length logs) events
-  pub each : (cpu : ℕ) (log : List Event) → slice_get logs cpu ≡ Some log → log ≡ filter (λ e. e.cpu == cpu) events
+  pub each : (cpu : ℕ) (log : List Event) → slice_get logs cpu ≡ Some log →
+      log ≡ filter (λ e. e.cpu == cpu) events
 
--- It is this core run of the machine.
+-- What is under way is this core run of the machine.
 pub record IsRun (m : Machine) (r : Run) (u : UnderWay) : Type 0 where
   pub machine : u.machine ≡ m
   pub lawful : IsMachine m
@@ -105,7 +111,7 @@ pub record IsRun (m : Machine) (r : Run) (u : UnderWay) : Type 0 where
   pub system : IsSystem m r.system u.stations
   pub events : AreLogsOf r.events u.order u.logs
 
--- It is some core run.
+-- What is under way is some core run.
 abbrev pub HasRun : UnderWay → Type 0
 HasRun u = (m : Machine) × ((r : Run) × IsRun m r u)
 

@@ -24,13 +24,14 @@ count_undecided sends = length (filter_map (λ send. send.to) sends)
 
 -- What a search knows of the last sends.
 abbrev pub IsSearch : Search → Type 0
-IsSearch s = AllByRecursion (IsNotBelow s.least) s.at_home.now.sends.items × (s.count ≡ count_undecided s.at_home.now.sends.items)
+IsSearch s = AllByRecursion (IsNotBelow s.least) s.at_home.now.sends.items ×
+    (s.count ≡ count_undecided s.at_home.now.sends.items)
 
 -- No send is begun twice.
 abbrev pub AreBegunOnce : List Step → Type 0
 AreBegunOnce h = (s : Name) → begins_of s h ≤ 1
 
--- The last of these, so many.
+-- The last `most` of these, or all if there are fewer.
 abbrev pub at_end : {A : Type 0} → (most : ℕ) → List A → List A
 at_end most xs = drop (length xs - most) xs
 
@@ -38,27 +39,30 @@ at_end most xs = drop (length xs - most) xs
 abbrev pub count_sought : {A : Type 0} → (Step → Option A) → List Event → ℕ
 count_sought f es = length (filter_map f (told es))
 
--- The last events left of each log, so many, one log behind the other.
+-- The last `most` events left of each log, one log behind the other.
 abbrev pub all_at_end : List Processor → (most : ℕ) → List Unmerged → List Event
 all_at_end ps most us = flat_map (λ u. at_end most (left ps u)) us
 
--- None of what is sought is in the event.
+-- No step of the event is what is sought.
 abbrev pub IsSilent : {A : Type 0} → (Step → Option A) → Event → Type 0
 IsSilent f e = filter_map f e.steps ≡ []
 
--- Silent events stand between where a log was and where it is now.
+-- The events that a log has passed are silent: none of their steps is sought.
 pub record HasPassed {A : Type 0} (f : Step → Option A) (olds news : List Event) : Type 0 where
   pub passed : List Event
   pub are : olds ≡ passed ++ news
   pub silent : AllByRecursion (IsSilent f) passed
 
--- Of what is left of all logs now, as much is sought as of what was.
-pub record ArePassed {A : Type 0} (f : Step → Option A) (ps : List Processor) (olds news : List Unmerged) : Type 0 where
+-- What is left of all logs has the same sought values as what was left before.
+pub record ArePassed {A : Type 0} (f : Step →
+    Option A) (ps : List Processor) (olds news : List Unmerged) : Type 0 where
   pub rising : RiseFrom 0 (map (left ps) news)
-  pub found : filter_map f (told (merged (all_left ps news))) ≡ filter_map f (told (merged (all_left ps olds)))
+  pub found : filter_map f (told (merged (all_left ps news))) ≡
+      filter_map f (told (merged (all_left ps olds)))
 
 -- What is sought of the first event that was left is found, and silent ones behind it are passed.
-pub record HasFoundFirst {A : Type 0} (f : Step → Option A) (ps : List Processor) (old new : Unmerged) (before after : List A) : Type 0 where
+pub record HasFoundFirst {A : Type 0} (f : Step →
+    Option A) (ps : List Processor) (old new : Unmerged) (before after : List A) : Type 0 where
   pub event : Event
   pub behind : List Event
   pub first : left ps old ≡ event ∷ behind

@@ -7,7 +7,7 @@ use l4_types::errors::NoMemory;
 use l4_types::steps::{CLOCKS, MOST_PROCESSORS};
 use std::alloc::Global;
 
-/// An entry of a schedule. Where what it asks for can't be done, there is no event.
+/// An entry of a schedule. If what it asks for can't be done, there is no event.
 #[derive(Clone, Copy, PartialEq, Eq, Debug)]
 pub enum Entry {
     /// A turn of this processor: it handles the first letter of the lowest poster, else it is the
@@ -34,8 +34,8 @@ pub enum Entry {
 }
 
 impl Entry {
-    /// The entry that a number stands for: below 16 a turn of this processor, else a tick of that
-    /// of the number less 16.
+    /// The entry that a number stands for: below 16 a turn of the processor of that number, else a
+    /// tick of the processor of the number less 16.
     pub fn of_number(number: u8) -> Entry
         ensures { entry_from result ≡ numbered number }
     {
@@ -46,7 +46,7 @@ impl Entry {
         }
     }
 
-    /// The processor that it is of.
+    /// The processor of the entry.
     pub fn processor(self) -> u8
         ensures { result ≡ processor_of (entry_from self) }
     {
@@ -59,8 +59,8 @@ impl Entry {
         }
     }
 
-    /// Whether it is one of a machine: this has its processor and that of its letter, and a clock
-    /// may go on to its value.
+    /// Whether the entry is one of a machine: the machine has its processor and that of its letter,
+    /// and a clock may go on to its value.
     pub fn is_of(self, machine: &Machine) -> bool
         ensures { result ≡ is_entry machine.now (entry_from self) }
     {

@@ -15,7 +15,7 @@ ghost use Rattle.l4_machine.specs.Gathered.{IsGathered};
 ghost use Rattle.l4_machine.specs.Homes.{IsAtHome};
 ghost use Rattle.l4_machine.specs.Outcomes.{IsTrueOf, compact_findings_of, findings_of};
 
-use crate::homes::AtHome;
+use crate::homes::OwnerView;
 use crate::laws::law_core_run;
 use crate::merging::{merged_history, place_of};
 use crate::outcome::{CompactOutcome, Outcome, RunFault, outcome_of};
@@ -129,14 +129,14 @@ pub(crate) fn at_home(
     alloc: Global,
     machine: &Machine,
     processors: &[Processor<'_>],
-) -> Result<AtHome, NoMemory>
+) -> Result<OwnerView, NoMemory>
     requires one { AreOfOne machine.now processors.now }
     requires numbers { HaveNumbers machine.now.cpus processors.now }
     ensures { IfOk result (IsAtHome machine.now
         (map (λ past. past.local) (pasts_of machine.now processors.now))) }
 {
     let cores = cores_of(alloc, processors, machine.cpus())?;
-    AtHome::new(alloc, machine, cores.as_slice())
+    OwnerView::new(alloc, machine, cores.as_slice())
 }
 
 // The cores of these processors, in the order of their numbers.

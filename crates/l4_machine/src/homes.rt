@@ -23,23 +23,23 @@ pub(crate) struct LastSend {
 /// The reports of a machine's threads, in order of declaration, and their last sends, as their own
 /// processors have them.
 #[derive(Drop)]
-pub(crate) struct AtHome {
+pub(crate) struct OwnerView {
     pub(crate) threads: Vec<ThreadView>,
     pub(crate) sends: Vec<LastSend>,
 }
 
-impl AtHome {
+impl OwnerView {
     /// The threads and their last sends on these processors, which are all of the machine, in the
     /// order of their numbers.
     pub(crate) fn new(
         alloc: Global,
         machine: &Machine,
         cores: &[&Core<'_>],
-    ) -> Result<AtHome, NoMemory>
+    ) -> Result<OwnerView, NoMemory>
         requires { AreAllOf machine.now (map (λ c. c.now) cores.now) }
         ensures { IfOk result (IsAtHome machine.now (locals_of (map (λ c. c.now) cores.now))) }
     {
-        Ok(AtHome {
+        Ok(OwnerView {
             threads: threads(alloc, machine, cores)?,
             sends: last_sends(alloc, machine, cores)?,
         })

@@ -31,7 +31,8 @@ impl Inbox {
         })
     }
 
-    /// The first letter of the lowest processor that letters have come from, and that processor.
+    /// Takes out the first letter of the lowest processor that letters have come from. Returns it
+    /// with the number of that processor.
     pub(crate) fn take(&mut self) -> Option<(u8, Letter)>
         ensures { TakesFirst (letters_in self.old) result (letters_in self.new) }
     {
@@ -40,7 +41,7 @@ impl Inbox {
         Some((from, letter))
     }
 
-    /// The first of the letters that came from this processor.
+    /// Takes out the first of the letters that came from this processor.
     pub(crate) fn take_from(&mut self, from: u8) -> Option<Letter>
         requires { from < length (letters_in self.old) }
         ensures { TakesFrom from (letters_in self.old) result (letters_in self.new) }
@@ -48,7 +49,7 @@ impl Inbox {
         self.queues[usize::from(from)].pop_front()
     }
 
-    /// Appends a letter from a processor. Where memory is refused, the letter is lost.
+    /// Appends a letter from a processor. If memory is refused, the letter is lost.
     pub(crate) fn put(&mut self, from: u8, letter: Letter) -> Result<(), AllocError>
         requires { from < length (letters_in self.old) }
         ensures { OnOk result (letters_in self.new ≡

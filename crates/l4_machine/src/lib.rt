@@ -8,9 +8,8 @@
 //!
 //! Which of its histories a run of several processors takes is up to the host; a replay has one.
 //! Each history that a run may have is that of some entries of a replay (`l4_choices`), and
-//! `run_recorded` answers these entries too.
-//! That a run succeeds where memory is ample, and that processors work at the same time, is tested
-//! (`l4_host_tests`), in no clause.
+//! `run_recorded` answers these entries too. That a run succeeds where memory is ample, and that
+//! processors work at the same time, the tests see; no clause says it.
 //!
 //! ```rust
 //! let outcome = replay(alloc, &machine, &[0, 1, 0, 16])?; // turns of 0, 1, 0; then a tick of 0

@@ -18,15 +18,15 @@ pub trait Listener {
     fn hear(&mut self, steps: Steps<'_>) -> Result<(), NoMemory>
         ensures { OnOk result (hears self.old steps.entry self.new) };
 
-    /// No step changes nothing.
+    /// Hearing no steps changes nothing.
     ghost heard_none: { (old : Self) → hears old [] old };
 
-    /// Steps that it hears one part behind the other are heard as one.
+    /// Steps heard in two parts, one behind the other, are heard as one part.
     ghost heard_both: { (old between new : Self) (first second : List ModelStep) →
         hears old first between → hears between second new → hears old (first ++ second) new };
 }
 
-/// A history keeps them behind its own.
+/// A history appends the steps that it hears.
 impl Listener for History {
     ghost hears = { λ old steps new. new.steps ≡ old.steps ++ steps };
 
@@ -41,7 +41,7 @@ impl Listener for History {
     }
 }
 
-/// So does a plain vector.
+/// A vector appends the steps that it hears.
 impl Listener for Vec<Step> {
     ghost hears = { λ old steps new. map step_of new.items ≡ map step_of old.items ++ steps };
 

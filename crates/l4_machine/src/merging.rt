@@ -2,13 +2,13 @@
 ghost use Rattle.std.specs.Prelude.{◌≡◌, IfOk, OnOk, is_some, length, map, slice_get, true};
 ghost use Rattle.std.specs.List.{AllByRecursion, range_with_len};
 ghost use Rattle.l4_core_model.specs.Runs.{told};
-ghost use Rattle.l4_merge.specs.Pasts.{all_events};
+ghost use Rattle.l4_merge.specs.LocalTraces.{all_events};
 ghost use Rattle.l4_proc.specs.Logs.{events};
 ghost use Rattle.l4_machine.specs.Gathers.{events_of, merged_steps, pasts_of, with_number};
 ghost use Rattle.l4_machine.specs.Gathers.{AreOfOne, HaveNumbers, IsMerge};
 ghost use Rattle.l4_machine.specs.Outcomes.{steps_of};
 ghost use Rattle.l4_machine.specs.EventsLeft.{left, IsUnmerged};
-ghost use Rattle.l4_machine.specs.Recorded.{happened_left, happenings_of};
+ghost use Rattle.l4_machine.specs.Recorded.{happened_left, actions_of};
 ghost use Rattle.l4_machine.specs.Rising.{HaveRisingLogs};
 
 use crate::listener::Listener;
@@ -121,7 +121,7 @@ pub(crate) fn unmerged_logs(
         map (λ cpu. events_of (with_number cpu processors.now)) (range_with_len 0 cpus)) }
     ensures happened { IfOk result (λ logs.
         map (happened_left processors.now) logs.items ≡
-        map (λ cpu. happenings_of (with_number cpu processors.now)) (range_with_len 0 cpus)) }
+        map (λ cpu. actions_of (with_number cpu processors.now)) (range_with_len 0 cpus)) }
 {
     let mut logs = Vec::new(alloc);
     for cpu in 0..cpus {

@@ -59,7 +59,7 @@ impl<'m> OrderedLogs<'m> {
         Ok(history)
     }
 
-    /// The undecided sends that they begin, in their order.
+    /// The undecided sends that these steps begin, in their order.
     pub(crate) fn waiting(
         &self,
         alloc: Global,

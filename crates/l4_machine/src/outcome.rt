@@ -9,7 +9,7 @@ ghost use Rattle.l4_machine.specs.Outcomes.{IsOutcomeOf, IsSound, compact_findin
 ghost use Rattle.l4_machine.specs.Outcomes.{steps_of};
 ghost use Rattle.l4_machine.specs.declared.outcome.RunFault.TheVariants.{NoMemory as RunNoMemory};
 
-use crate::homes::AtHome;
+use crate::homes::OwnerView;
 use crate::run_history::RunHistory;
 use crate::waiting::Search;
 use l4_audit::audit::{AuditFault, check_history};
@@ -97,7 +97,7 @@ impl From<NoMemory> for RunFault {
     }
 }
 
-/// The outcome of a run with this history, ending and number of turns. Where no letter is under way
+/// The outcome of a run with this history, ending and number of turns. If no letter is under way
 /// and no thread is deleted, the reports are those of the threads' own processors. Else an audit of
 /// the history finds them: a processor may differ from the history in a deleted thread, and in one
 /// that a letter is still to reach.
@@ -105,7 +105,7 @@ pub(crate) fn outcome_of<'m>(
     alloc: Global,
     machine: &Machine,
     history: RunHistory<'m>,
-    at_home: AtHome,
+    at_home: OwnerView,
     all_handled: bool,
     ending: Ending,
     turns: u64,

@@ -2,7 +2,7 @@
 ghost use Rattle.std.specs.Prelude.{◌≡◌, IfOk, is_some, map, true};
 ghost use Rattle.std.specs.List.{AllByRecursion};
 ghost use Rattle.l4_choices.specs.Entries.{entry_of};
-ghost use Rattle.l4_proc.specs.Choices.{happening_of};
+ghost use Rattle.l4_proc.specs.Choices.{action_of};
 ghost use Rattle.l4_machine.specs.Entries.{entry_from};
 ghost use Rattle.l4_machine.specs.EventsLeft.{left, IsUnmerged};
 ghost use Rattle.l4_machine.specs.Gathers.{HaveNumbers};
@@ -68,7 +68,7 @@ fn take_first(processors: &[Processor<'_>], log: &mut Unmerged) -> Entry
 
 // The entry that names what a processor did.
 fn entry(cpu: u8, choice: Choice) -> Entry
-    ensures { entry_from result ≡ entry_of (happening_of cpu choice) }
+    ensures { entry_from result ≡ entry_of (action_of cpu choice) }
 {
     match choice {
         Choice::Letter(from) => Entry::Letter { cpu, from },

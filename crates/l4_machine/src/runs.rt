@@ -22,8 +22,8 @@ pub const MOST_TURNS: u64 = 1_000_000;
 /// a round each processor takes at most the turns that are left divided by the number of
 /// processors, rounded up: mail first, else its core's turn. In rounds where two processors or more
 /// have something to do, they may work at the same time, each in a host thread of its own
-/// (`work_together`). Where all are idle and no letter is under way, each clock below the least
-/// deadline of all advances to it; each such tick counts as a turn. Where there is no deadline, the
+/// (`work_together`). If all are idle and no letter is under way, each clock below the least
+/// deadline of all advances to it; each such tick counts as a turn. If there is no deadline, the
 /// run ends. It also ends after the round, or the ticks, that use up its turns; these may be one
 /// more for each processor but one. The gate is asked before each attempt at a turn. The history is
 /// in order of stamp, and of equal ones by processor.

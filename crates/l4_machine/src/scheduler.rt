@@ -7,13 +7,13 @@ ghost use Rattle.l4_core_model.specs.Runs.{Event, IsMachine, Run, opening_run, o
 ghost use Rattle.l4_core_model.specs.Runs.{told};
 ghost use Rattle.l4_core_model.specs.Schedules.{attempts};
 ghost use Rattle.l4_types.specs.declared.reports.Ending.TheVariants.{Quiet};
-ghost use Rattle.l4_machine.specs.Stations.{events_at, happening, station_of, KnowsPoster};
+ghost use Rattle.l4_machine.specs.Stations.{events_at, action, station_of, KnowsPoster};
 ghost use Rattle.l4_machine.specs.Homes.{IsAtHome};
 ghost use Rattle.l4_machine.specs.Ordered.{told_steps};
 ghost use Rattle.l4_machine.specs.UnderWay.{deadline_at, letters_of, AreResting, CanPost};
 ghost use Rattle.l4_machine.specs.UnderWay.{HasDelivered, HaveNoMail, IsSystem};
 
-use crate::homes::AtHome;
+use crate::homes::OwnerView;
 use crate::laws::law_core_run;
 use crate::ordered::OrderedLogs;
 use crate::station::{Choice, Station};
@@ -55,13 +55,13 @@ impl<'m> Scheduler<'m> {
         self.order.len()
     }
 
-    /// Tries what is chosen for a processor. Where it can't be done, there is no event.
+    /// Tries what is chosen for a processor. If it can't be done, there is no event.
     pub(crate) fn attempt(&mut self, cpu: u8, choice: Choice) -> Result<(), NoMemory>
         requires run { HasRun (under_way self.old) }
         requires cpu { cpu < self.old.machine.now.cpus }
         requires poster { KnowsPoster self.old.machine.now.cpus choice }
         requires few { length (under_way self.old).order < 2 ^ 61 }
-        ensures { OnOk result (GoesOn (λ m r. attempts m r (happening m r.system cpu choice))
+        ensures { OnOk result (GoesOn (λ m r. attempts m r (action m r.system cpu choice))
             (under_way self.old) (under_way self.new)) }
     {
         law_core_run();
@@ -126,14 +126,14 @@ impl<'m> Scheduler<'m> {
     }
 
     /// The threads and their last sends, as their own processors have them.
-    pub(crate) fn at_home(&self, alloc: Global) -> Result<AtHome, NoMemory>
+    pub(crate) fn at_home(&self, alloc: Global) -> Result<OwnerView, NoMemory>
         requires { HasRun (under_way self.now) }
         ensures { (m : MachineOfModel) (r : Run) → IsRun m r (under_way self.now) →
             IfOk result (IsAtHome m r.system.locals) }
     {
         let _ = self.machine.cpus();
         let cores = cores_of(alloc, self.stations.as_slice())?;
-        AtHome::new(alloc, self.machine, cores.as_slice())
+        OwnerView::new(alloc, self.machine, cores.as_slice())
     }
 
     /// What the processors have in their logs, with the order of their events. Nothing is copied.

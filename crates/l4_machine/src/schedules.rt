@@ -10,7 +10,7 @@ ghost use Rattle.l4_machine.specs.Entries.{is_entry, most_entries, most_events, 
 ghost use Rattle.l4_machine.specs.Entries.{schedule_fault};
 ghost use Rattle.l4_machine.specs.Outcomes.{IsCompactReplay, IsReplayed, IsTrueOf};
 ghost use Rattle.l4_machine.specs.Outcomes.{compact_findings_of, findings_of};
-ghost use Rattle.l4_machine.specs.Stations.{happening, KnowsPoster};
+ghost use Rattle.l4_machine.specs.Stations.{action, KnowsPoster};
 ghost use Rattle.l4_machine.specs.UnderWay.{under_way, GoesOn, HasRun, IsRun};
 
 use crate::entries::{Entry, entries_of};
@@ -29,13 +29,13 @@ pub const MOST_ENTRIES: usize = 1_000_000;
 /// A list of entries has at most as many as the longest run has events.
 pub const MOST_EVENTS: usize = 1_000_015;
 
-// What an entry asks its processor for. None where it asks for a tick and no deadline is armed.
+// What an entry asks its processor for. None if it asks for a tick and no deadline is armed.
 fn choice_of(run: &Scheduler<'_>, entry: Entry) -> Option<Choice>
     requires run { HasRun (under_way run.now) }
     requires lawful { is_entry run.now.machine.now (entry_from entry) ≡ true }
     ensures asks { (m : MachineOfModel) (r : Run) → IsRun m r (under_way run.now) →
         entry_event m r.system (entry_from entry) ≡
-        option_map (happening m r.system (processor_of (entry_from entry))) result }
+        option_map (action m r.system (processor_of (entry_from entry))) result }
     ensures poster { IfSome result (KnowsPoster run.now.machine.now.cpus) }
 {
     match entry {
@@ -47,7 +47,7 @@ fn choice_of(run: &Scheduler<'_>, entry: Entry) -> Option<Choice>
     }
 }
 
-/// Does what an entry asks for, where it can be done.
+/// Does what an entry asks for, if it can be done.
 pub(crate) fn take(run: &mut Scheduler<'_>, entry: Entry) -> Result<(), NoMemory>
     requires run { HasRun (under_way run.old) }
     requires few { length (under_way run.old).order < 2 ^ 61 }
@@ -61,7 +61,7 @@ pub(crate) fn take(run: &mut Scheduler<'_>, entry: Entry) -> Result<(), NoMemory
     }
 }
 
-// Does what the entries of a schedule ask for, one by one, where it can be done.
+// Does what the entries of a schedule ask for, one by one, if it can be done.
 fn take_all(run: &mut Scheduler<'_>, machine: &Machine, entries: &[Entry]) -> Result<(), RunFault>
     requires run { HasRun (under_way run.old) }
     requires machine { run.old.machine.now ≡ machine.now }
@@ -124,9 +124,10 @@ fn are_too_many(entries: usize, most: usize) -> bool
 
 /// Replays a schedule of at most 1,000,000 entries on a machine, on one thread of the host. The
 /// number of a processor, 0 to 15, is an entry for a turn of it: it handles the first letter of the
-/// lowest poster, else it is the core's turn. 16 more is one that advances its clock to its least
-/// deadline. Where a processor has nothing to do, or no deadline above its clock, there is no
-/// event. The empty schedule is lawful. The history is in the order of the schedule.
+/// lowest poster, else it is the core's turn. That number plus 16 is an entry that advances its
+/// clock to its least deadline. Where a processor has nothing to do, or no deadline above its
+/// clock, there is no event. The empty schedule is lawful. The history is in the order of the
+/// schedule.
 ///
 /// `Turns`: there are more entries. `Schedule`: this entry, counted from 1, is the first whose
 /// processor the machine does not have. `NoMemory`: memory was refused, which may come in the place

@@ -69,7 +69,7 @@ fn begin_all(
     missing == 0
 }
 
-// How many of the last events of each log are enough. None where the largest number tried is not
+// How many of the last events of each log are enough. None if the largest number tried is not
 // enough.
 fn enough(search: &Search<'_>, processors: &[Processor<'_>], logs: &[Unmerged]) -> Option<usize>
     requires search { IsSearch search.now }
@@ -143,7 +143,7 @@ fn without_early(
     }
 }
 
-// The first event of a log from this one on that begins a send that is sought. Where none does, the
+// The first event of a log from this one on that begins a send that is sought. If none does, the
 // one after the last.
 fn next_sought(search: &Search<'_>, log: &Log, from: usize) -> usize
     requires search { IsSearch search.now }

@@ -19,7 +19,7 @@ use std::collections::VecDeque;
 pub(crate) enum Choice {
     /// A turn: mail first, and of it that of the lowest poster, else the core's turn.
     Turn,
-    /// The first letter of this poster is handled.
+    /// Handles the first letter of this poster.
     Letter(u8),
     /// The core's turn, though mail may be there.
     Core,
@@ -44,7 +44,7 @@ impl<'m> Station<'m> {
     ghost use Rattle.l4_core_model.specs.Local.{opening_local};
     ghost use Rattle.l4_core_model.specs.Turns.{can_stamp};
     ghost use Rattle.l4_types.specs.LetterView.{letter_of};
-    ghost use Rattle.l4_core.specs.Tellings.{posted_of};
+    ghost use Rattle.l4_core.specs.EventBuffers.{posted_of};
     ghost use Rattle.l4_proc.specs.Logs.{IsClosed};
     ghost use Rattle.l4_machine.specs.Stations.{deadline_of, events_at, letters_from, letters_out};
     ghost use Rattle.l4_machine.specs.Stations.{station_of, with_letter, CanGoOn, GoesOnTo};
@@ -67,8 +67,7 @@ impl<'m> Station<'m> {
         })
     }
 
-    /// Does what is chosen. Answers whether it could be done. Where it could not, nothing is
-    /// changed.
+    /// Does what is chosen. Answers whether it could be done. If it could not, nothing is changed.
     pub(crate) fn choose(&mut self, choice: Choice) -> Result<bool, NoMemory>
         requires can { CanGoOn (station_of self.old) }
         requires poster { KnowsPoster (length (station_of self.old).inbox) choice }
@@ -82,7 +81,7 @@ impl<'m> Station<'m> {
         }
     }
 
-    // The first letter of the lowest poster is handled; where there is none, it is the core's turn.
+    // Handles the first letter of the lowest poster; if there is none, takes the core's turn.
     fn take_turn(&mut self) -> Result<bool, NoMemory>
         requires { CanGoOn (station_of self.old) }
         ensures { IfOk result (λ taken. TakesTurn taken self.old self.new) }
@@ -92,7 +91,7 @@ impl<'m> Station<'m> {
         Ok(take_turn(&mut self.worker))
     }
 
-    // The first letter of this poster is handled.
+    // Handles the first letter of this poster.
     fn handle_letter(&mut self, from: u8) -> Result<bool, NoMemory>
         requires can { CanGoOn (station_of self.old) }
         requires poster { from < length (station_of self.old).inbox }
@@ -108,7 +107,7 @@ impl<'m> Station<'m> {
         }
     }
 
-    // It is the core's turn, though letters may have come.
+    // Takes the core's turn, though letters may have come.
     fn take_core_turn(&mut self) -> Result<bool, NoMemory>
         requires { CanGoOn (station_of self.old) }
         ensures { IfOk result (λ taken. TakesCoreTurn taken self.old self.new) }
@@ -118,7 +117,7 @@ impl<'m> Station<'m> {
         Ok(take_turn(&mut self.worker))
     }
 
-    // The clock goes on to this value, in ticks, where it may.
+    // Advances the clock to this value, in ticks, if it may.
     fn tick(&mut self, clock: u64) -> Result<bool, NoMemory>
         requires { can_stamp self.old.worker.core.local 0 ≡ true }
         ensures { IfOk result (λ ticked. GoesOnTo clock ticked self.old self.new) }
@@ -132,8 +131,8 @@ impl<'m> Station<'m> {
         }
     }
 
-    /// The next letter that its last event posted, with the processor that it goes to. Each is
-    /// given once.
+    /// Takes out the next letter that the last event posted, with the processor that it goes to.
+    /// Each is given once.
     pub(crate) fn take_letter(&mut self) -> Option<(u8, Letter)>
         ensures letters { letters_out self.old ≡
             option_to_list (option_map posted_of result) ++ letters_out self.new }
@@ -144,7 +143,7 @@ impl<'m> Station<'m> {
         self.worker.take_letter()
     }
 
-    /// Appends a letter from a processor. Where memory is refused, it is lost.
+    /// Appends a letter from a processor. If memory is refused, the letter is lost.
     pub(crate) fn put(&mut self, from: u8, letter: Letter) -> Result<(), NoMemory>
         requires { from < length (station_of self.old).inbox }
         ensures station { OnOk result

@@ -129,8 +129,8 @@ impl<'m> Team<'m> {
         )
     }
 
-    // Does a round of turns, or, where there is nothing else to do, advances the clocks to the
-    // least deadline. Returns whether it did one of these.
+    // Does a round of turns, or, if there is nothing else to do, advances the clocks to the least
+    // deadline. Returns whether it did one of these.
     fn go_on<R: Threads + Sync, G: Gate + Sync>(
         &mut self,
         rt: &R,
@@ -292,7 +292,7 @@ fn first_deadline(processors: &[Processor<'_>]) -> Option<u64>
     first
 }
 
-// The earlier of two deadlines, where there are any.
+// The earlier of two deadlines, if there are any.
 pub(crate) fn earliest(a: Option<u64>, b: Option<u64>) -> Option<u64>
     ensures { result ≡ earliest a b }
 {

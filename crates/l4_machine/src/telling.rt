@@ -51,8 +51,8 @@ pub(crate) fn sends_in_order(
     Ok(sends)
 }
 
-// The same from the last to the first. Each is begun once, so a look from the back ends where as
-// many were found as there are.
+// The undecided sends that the events begin, from the last to the first. Each is begun once, so a
+// look from the back ends where as many were found as there are.
 fn sends_from_back(
     alloc: Global,
     stations: &[Station<'_>],

@@ -8,7 +8,7 @@ ghost use Rattle.l4_proc.specs.Logs.{events};
 ghost use Rattle.l4_proc.specs.declared.processor.Processor.{Processor as ProcessorOfMachine};
 ghost use Rattle.l4_machine.specs.EventsLeft.{all_left, least_place, left, HasTakenFirst};
 ghost use Rattle.l4_machine.specs.EventsLeft.{IsUnmerged};
-ghost use Rattle.l4_machine.specs.Recorded.{happened_left, happenings_of};
+ghost use Rattle.l4_machine.specs.Recorded.{happened_left, actions_of};
 ghost use Rattle.l4_machine.specs.Rising.{RiseFrom};
 ghost use Rattle.l4_machine.specs.Gathers.{events_of};
 
@@ -37,7 +37,7 @@ pub(crate) fn untold(processors: &[Processor<'_>], place: usize) -> Unmerged
     ensures whole { IsUnmerged processors.now result }
     ensures left { left processors.now result ≡ events_of (slice_get processors.now place) }
     ensures happened { happened_left processors.now result ≡
-        happenings_of (slice_get processors.now place) }
+        actions_of (slice_get processors.now place) }
 {
     let log = processors[place].log();
     let count = log.len();
@@ -49,7 +49,7 @@ pub(crate) fn untold(processors: &[Processor<'_>], place: usize) -> Unmerged
     }
 }
 
-/// The stamp of the i-th event of a log, counted from 0. None where there are no more.
+/// The stamp of the i-th event of a log, counted from 0. None if there are no more.
 pub(crate) fn stamp_of(log: &Log, i: usize) -> Option<u64>
     ensures { result ≡ option_map (λ e. e.stamp) (slice_get (events log.now) i) }
 {

@@ -5,7 +5,7 @@ ghost use Rattle.std.specs.List.{AllByRecursion};
 ghost use Rattle.l4_machine.specs.Homes.{sent_to, IsNotBelow};
 ghost use Rattle.l4_machine.specs.Waiting.{count_undecided, sought, AreBegunOnce, IsSearch};
 
-use crate::homes::{AtHome, LastSend};
+use crate::homes::{LastSend, OwnerView};
 use l4_history::history::History;
 use l4_script::machine::Machine;
 use l4_types::errors::NoMemory;
@@ -17,7 +17,7 @@ use std::alloc::Global;
 #[derive(Clone, Copy)]
 pub(crate) struct Search<'a> {
     machine: &'a Machine,
-    at_home: &'a AtHome,
+    at_home: &'a OwnerView,
     // No undecided send has a lower number. Most sends of a long history have one, and need no
     // look-up.
     least: u64,
@@ -27,7 +27,7 @@ pub(crate) struct Search<'a> {
 
 impl<'a> Search<'a> {
     /// A search for what these threads have begun.
-    pub(crate) fn new(machine: &'a Machine, at_home: &'a AtHome) -> Search<'a>
+    pub(crate) fn new(machine: &'a Machine, at_home: &'a OwnerView) -> Search<'a>
         ensures search { IsSearch result }
         ensures machine { result.machine.now ≡ machine.now }
         ensures threads { result.at_home.now ≡ at_home.now }
@@ -129,7 +129,8 @@ impl<'a> Search<'a> {
         Ok(())
     }
 
-    /// The same, but that it puts them from the last to the first.
+    /// Appends the undecided sends that the steps from `start` to `end` begin, from the last to the
+    /// first.
     pub(crate) fn push_from_back(
         &self,
         history: &History,
@@ -152,7 +153,7 @@ impl<'a> Search<'a> {
         Ok(())
     }
 
-    /// Whether the steps from `start` to `end` begin one.
+    /// Whether the steps from `start` to `end` begin an undecided send.
     pub(crate) fn finds_between(&self, history: &History, start: usize, end: usize) -> bool
         requires search { IsSearch self.now }
         requires within { end ≤ length history.now.steps }
@@ -167,7 +168,7 @@ impl<'a> Search<'a> {
         false
     }
 
-    // The one that the step at a place begins, and its destination.
+    // The undecided send that the step at a place begins, and its destination.
     fn send_at(&self, history: &History, place: usize) -> Option<(Name, ThreadId)>
         requires search { IsSearch self.now }
         requires within { place < length history.now.steps }
@@ -207,7 +208,7 @@ fn count_undecided(sends: &[LastSend]) -> usize
     count
 }
 
-// The least number of those of these sends that are undecided, the greatest of all where none is.
+// The least number of those of these sends that are undecided, the greatest of all if none is.
 fn least_undecided(sends: &[LastSend]) -> u64
     ensures { AllByRecursion (IsNotBelow result) sends.now }
 {

@@ -33,7 +33,7 @@ impl<'m> Model for Walk<'m> {
 }
 
 impl<'m> Walk<'m> {
-    /// Of a machine where nothing has happened.
+    /// A core run of a machine where nothing has happened.
     ///
     /// `NoMemory`: memory was refused.
     pub fn new(alloc: Global, machine: &'m Machine) -> Result<Walk<'m>, NoMemory>
@@ -51,9 +51,9 @@ impl<'m> Walk<'m> {
         self.scheduler.events()
     }
 
-    /// Does what an entry of the machine asks for, where it can be done.
+    /// Does what an entry of the machine asks for, if it can be done.
     ///
-    /// `NoMemory`: memory was refused, and it is no core run any more.
+    /// `NoMemory`: memory was refused, and what is under way is no core run any more.
     pub fn take(&mut self, entry: Entry) -> Result<(), NoMemory>
         requires run { HasRun self.old }
         requires few { length self.old.order < 2 ^ 61 }

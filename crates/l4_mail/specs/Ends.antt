@@ -37,7 +37,8 @@ inlet_ring i = record {
   capacity = consumer_capacity i.ring;
 }
 
--- Every letter that was posted here, in order: those that went into the ring, and those that wait for a place there.
+-- Every letter that was posted here, in order: those that went into the ring, and those that wait
+-- for a place there.
 abbrev pub outlet_posted : Outlet → List Letter
 outlet_posted o = sent o.ring ++ o.outbox.items
 
@@ -57,15 +58,16 @@ outlet_room o = deque_capacity o.outbox - deque_len o.outbox
 abbrev pub inlet_taken : Inlet → List Letter
 inlet_taken i = given i.ring i.kept.items
 
--- The letters that a rest put by for the next takes.
+-- The letters that a rest popped and that are kept for the next takes.
 abbrev pub inlet_kept : Inlet → List Letter
 inlet_kept i = i.kept.items
 
--- The letters that are here as far as the inlet has looked: those that a rest put by, then those that it has seen in the ring.
+-- The letters that are here as far as the inlet has looked: those kept, then those that it has seen
+-- in the ring.
 abbrev pub inlet_here : Inlet → List Letter
 inlet_here i = i.kept.items ++ known_items i.ring
 
--- The same of an end that may be none.
+-- As above, for a slot that may hold no end.
 abbrev pub ring_out : Option Outlet → Option RingId
 ring_out None = None
 ring_out (Some o) = Some (outlet_ring o)
@@ -102,6 +104,6 @@ abbrev pub here : Option Inlet → List Letter
 here None = []
 here (Some i) = inlet_here i
 
--- Whether a letter is put by here.
+-- Whether a letter is kept here.
 abbrev pub keeps : Option Inlet → Bool
 keeps end = not (is_empty (kept end))

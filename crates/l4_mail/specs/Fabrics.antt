@@ -10,16 +10,18 @@ most_room = 65536
 
 -- Each ring of a row has room for so many letters.
 abbrev pub HaveRooms : (room : ℕ) → List (Option RingId) → Type 0
-HaveRooms room rings = (k : ℕ) (ring : RingId) → slice_index_or rings k None ≡ Some ring → ring.capacity ≡ room
+HaveRooms room rings = (k : ℕ) (ring : RingId) → slice_index_or rings k None ≡ Some ring →
+    ring.capacity ≡ room
 
--- The ports of all processors of a new fabric, in the order of their numbers, of which none has carried a letter. Each of its rings has
--- room for so many.
+-- The ports of all processors of a new fabric, in the order of their numbers, of which none has
+-- carried a letter. Each of its rings has room for so many.
 pub record AreFresh (room n : ℕ) (ports : List Port) : Type 0 where
   pub count : length ports ≡ n
   pub one : AreOneFabric ports
   pub cpu : (i : ℕ) (p : Port) → slice_get ports i ≡ Some p → p.cpu ≡ i
   pub size : (i : ℕ) (p : Port) → slice_get ports i ≡ Some p → fabric_size p ≡ n
-  pub ways : (i : ℕ) (p : Port) → slice_get ports i ≡ Some p → (to : ℕ) → to < n → to ≢ i → HasWayTo p to
+  pub ways : (i : ℕ) (p : Port) → slice_get ports i ≡ Some p → (to : ℕ) → to < n → to ≢ i →
+      HasWayTo p to
   pub apart : (i : ℕ) (p : Port) → slice_get ports i ≡ Some p → IsApart (place p)
   pub rooms : (i : ℕ) (p : Port) → slice_get ports i ≡ Some p → HaveRooms room (place p).outs
   pub posted : (i : ℕ) (p : Port) → slice_get ports i ≡ Some p → (to : ℕ) → posted_to p to ≡ []
@@ -54,7 +56,8 @@ pub record IsMember (room n i : ℕ) (p : Port) : Type 0 where
   pub kept : (from : ℕ) → kept_from p from ≡ []
 
 abbrev pub AreWays : List Port → Type 0
-AreWays ports = (i j : ℕ) (p q : Port) → slice_get ports i ≡ Some p → slice_get ports j ≡ Some q → i ≢ j → IsWay (place p) (place q)
+AreWays ports = (i j : ℕ) (p q : Port) → slice_get ports i ≡ Some p → slice_get ports j ≡ Some q →
+    i ≢ j → IsWay (place p) (place q)
 
 -- The ports of the first processors.
 pub record AreMembers (room n : ℕ) (ports : List Port) : Type 0 where
@@ -66,6 +69,7 @@ pub record AreMembers (room n : ℕ) (ports : List Port) : Type 0 where
 pub record AreJoined (room n k : ℕ) (ports : List Port) (q : Port) : Type 0 where
   pub count : length ports ≡ n
   pub next : IsMember room k n q
-  pub joined : (i : ℕ) (p : Port) → slice_get ports i ≡ Some p → i < k → IsMember room (n + 1) i p × IsWay (place p) (place q) × IsWay (place q) (place p)
+  pub joined : (i : ℕ) (p : Port) → slice_get ports i ≡ Some p → i < k →
+      IsMember room (n + 1) i p × IsWay (place p) (place q) × IsWay (place q) (place p)
   pub later : (i : ℕ) (p : Port) → slice_get ports i ≡ Some p → k ≤ i → IsMember room n i p
   pub ways : AreWays ports

@@ -12,11 +12,13 @@ posted_to p to = slice_index_or (map posted p.outlets.items) to []
 abbrev pub taken_from : Port → (from : ℕ) → List Letter
 taken_from p from = slice_index_or (map taken p.inlets.items) from []
 
--- The letters of a processor that a rest put by here, and that `take` has not given since.
+-- The letters of a processor that are kept here: a rest popped them, and `take` has not given them
+-- since.
 abbrev pub kept_from : Port → (from : ℕ) → List Letter
 kept_from p from = slice_index_or (map kept p.inlets.items) from []
 
--- The letters of a processor that are here as far as the port has looked: those kept, then those seen in the ring.
+-- The letters of a processor that are here as far as the port has looked: those kept, then those
+-- seen in the ring.
 abbrev pub here_from : Port → (from : ℕ) → List Letter
 here_from p from = slice_index_or (map here p.inlets.items) from []
 
@@ -24,7 +26,8 @@ here_from p from = slice_index_or (map here p.inlets.items) from []
 abbrev pub waiting_to : Port → (to : ℕ) → List Letter
 waiting_to p to = slice_index_or (map waiting p.outlets.items) to []
 
--- How many places of the ring to a processor were free when the port last looked, less those filled since.
+-- How many places of the ring to a processor were free when the port last looked, less those filled
+-- since.
 abbrev pub free_to : Port → (to : ℕ) → ℕ
 free_to p to = slice_index_or (map free p.outlets.items) to 0
 
@@ -36,16 +39,21 @@ room_to p to = slice_index_or (map room p.outlets.items) to 0
 abbrev pub fabric_size : Port → ℕ
 fabric_size p = length p.outlets.items
 
--- Where a port stands in its fabric: its number, and the rings that it posts to and takes from, by the other processor.
+-- Where a port stands in its fabric: its number, and the rings that it posts to and takes from, by
+-- the other processor.
 pub record Place : Type 0 where
   pub cpu : ℕ
   pub outs : List (Option RingId)
   pub ins : List (Option RingId)
 
 abbrev pub place : Port → Place
-place p = record { cpu = p.cpu; outs = map ring_out p.outlets.items; ins = map ring_in p.inlets.items }
+place p = record {
+  cpu = p.cpu;
+  outs = map ring_out p.outlets.items;
+  ins = map ring_in p.inlets.items;
+}
 
--- It has no way to itself, and as many ends of each kind.
+-- It has no ring to or from itself, and as many inlets as outlets.
 pub record IsApart (p : Place) : Type 0 where
   pub out : slice_index_or p.outs p.cpu None ≡ None
   pub in_ : slice_index_or p.ins p.cpu None ≡ None
@@ -57,11 +65,13 @@ HasWayTo p to = (ring : RingId) × (slice_index_or (place p).outs to None ≡ So
 
 -- What is posted at the one is taken at the other.
 abbrev pub IsWay : (from to : Place) → Type 0
-IsWay from to = (ring : RingId) × (slice_index_or from.outs to.cpu None ≡ Some ring) × (slice_index_or to.ins from.cpu None ≡ Some ring)
+IsWay from to = (ring : RingId) × (slice_index_or from.outs to.cpu None ≡ Some ring) ×
+    (slice_index_or to.ins from.cpu None ≡ Some ring)
 
 -- Any two of them are different processors, with a way from the one to the other.
 abbrev pub AreLinked : List Place → Type 0
-AreLinked places = (i j : ℕ) (from to : Place) → slice_get places i ≡ Some from → slice_get places j ≡ Some to
+AreLinked places = (i j : ℕ) (from to : Place) → slice_get places i ≡ Some from →
+    slice_get places j ≡ Some to
     → i ≢ j → (from.cpu ≢ to.cpu) × IsWay from to
 
 -- Ports of one fabric, in any order.
@@ -87,16 +97,18 @@ carried p = record { account = account p; kept = kept_from p }
 
 -- All that was posted at the one for the other was taken there or is kept there.
 abbrev pub IsWhole : (from to : Carried) → Type 0
-IsWhole from to = from.account.posted to.account.place.cpu ≡ to.account.taken from.account.place.cpu ++ to.kept from.account.place.cpu
+IsWhole from to = from.account.posted to.account.place.cpu ≡
+    to.account.taken from.account.place.cpu ++ to.kept from.account.place.cpu
 
 abbrev pub IsWholeAt : List Carried → (i j : ℕ) → Type 0
-IsWholeAt ports i j = i ≢ j → (from to : Carried) → slice_get ports i ≡ Some from → slice_get ports j ≡ Some to → IsWhole from to
+IsWholeAt ports i j = i ≢ j → (from to : Carried) → slice_get ports i ≡ Some from →
+    slice_get ports j ≡ Some to → IsWhole from to
 
 -- Nothing that was posted is missing, for each pair of different ports.
 abbrev pub AreWhole : List Port → Type 0
 AreWhole ports = (i j : ℕ) → IsWholeAt (map carried ports) i j
 
--- A letter, as far as it is of one processor.
+-- Of a letter of the processor `at`: the letter if `at` is `cpu`, else nothing.
 abbrev pub only : (cpu at : ℕ) → Letter → List Letter
 only cpu at letter = if nat_eq at cpu then letter ∷ [] else []
 
@@ -117,9 +129,10 @@ pub record HasPosted (old new : Port) (to : ℕ) (letter : Letter) : Type 0 wher
   pub room : (k : ℕ) → k ≢ to → room_to new k ≡ room_to old k
   pub used : room_to new to + 1 ≡ room_to old to
 
--- Nothing was kept, or the letter was the first that was kept of its processor.
+-- Either nothing was kept, or the letter was the first one kept from its poster.
 abbrev pub HasLeft : (old new : Port) (from : ℕ) (letter : Letter) → Type 0
-HasLeft old new from letter = ((k : ℕ) → kept_from old k ≡ only k from letter ++ kept_from new k) ⊎ ((k : ℕ) → (kept_from old k ≡ []) × (kept_from new k ≡ []))
+HasLeft old new from letter = ((k : ℕ) → kept_from old k ≡ only k from letter ++ kept_from new k) ⊎
+    ((k : ℕ) → (kept_from old k ≡ []) × (kept_from new k ≡ []))
 
 -- One letter more was taken.
 pub record HasTaken (old new : Port) (from : ℕ) (letter : Letter) : Type 0 where

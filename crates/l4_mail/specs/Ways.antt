@@ -1,4 +1,4 @@
--- What came out of a ring, and what of it was given on.
+-- The letters popped from a ring, and those of them that were taken.
 use Rattle.std.specs.Prelude.{◌-◌, List, length, take}
 use Rattle.rtrb.specs.Ring.{received}
 use Rattle.rtrb.specs.declared.consumer.Consumer.{Consumer}

@@ -38,7 +38,7 @@ impl Inlet {
         !self.kept.is_empty() || !self.ring.is_empty()
     }
 
-    /// The first letter that is kept.
+    /// Takes the first kept letter.
     pub fn take_kept(&mut self) -> Option<Letter>
         ensures ring { inlet_ring self.new ≡ inlet_ring self.old }
         ensures some { IfSome result (λ x. (inlet_taken self.new ≡ inlet_taken self.old ++ x ∷ []) ×
@@ -49,7 +49,7 @@ impl Inlet {
         self.kept.pop_front()
     }
 
-    /// The first letter in the ring, where no letter is kept.
+    /// Takes the first letter in the ring. The caller knows that none is kept.
     pub fn take_come(&mut self) -> Option<Letter>
         requires { inlet_kept self.old ≡ [] }
         ensures ring { inlet_ring self.new ≡ inlet_ring self.old }

@@ -97,9 +97,9 @@ impl Port {
         takes::has_mail(&mut self.inlets)
     }
 
-    /// The next letter, and the processor that posted it: first those that a rest left here, then
-    /// those in the rings, and of each kind first that of the lowest processor. The letters of one
-    /// processor come in the order in which it posted them.
+    /// Takes the next letter, and gives it with the processor that posted it: kept letters first,
+    /// then those in the rings, each in order of the posters' numbers. The letters of one processor
+    /// come in the order in which it posted them.
     pub fn take(&mut self) -> Option<(u8, Letter)>
         ensures some { IfSome result (λ r. HasTaken self.old self.new r.0 r.1) }
         ensures none { IfNone result (IsAsBefore self.old self.new) }

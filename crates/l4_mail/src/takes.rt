@@ -31,7 +31,7 @@ pub fn has_mail(inlets: &mut [Option<Inlet>]) -> bool
     false
 }
 
-// The first letter that is kept, and the processor that posted it.
+// Takes the first kept letter, and gives it with the processor that posted it.
 fn first_kept(inlets: &mut [Option<Inlet>]) -> Option<(u8, Letter)>
     requires { length inlets.old ≤ most_processors }
     ensures some { IfSome result (λ r. IsTaken inlets.old inlets.new r.0 r.1 ×
@@ -47,7 +47,7 @@ fn first_kept(inlets: &mut [Option<Inlet>]) -> Option<(u8, Letter)>
     None
 }
 
-// The first letter in a ring, and the processor that posted it.
+// Takes the first letter in a ring, and gives it with the processor that posted it.
 fn first_come(inlets: &mut [Option<Inlet>]) -> Option<(u8, Letter)>
     requires few { length inlets.old ≤ most_processors }
     requires none_kept { NoneIsKept inlets.old }
@@ -63,7 +63,8 @@ fn first_come(inlets: &mut [Option<Inlet>]) -> Option<(u8, Letter)>
     None
 }
 
-/// The first letter that is kept, or else the first in a ring, and the processor that posted it.
+/// Takes the first kept letter, or else the first in a ring, and gives it with the processor that
+/// posted it.
 pub fn first(inlets: &mut [Option<Inlet>]) -> Option<(u8, Letter)>
     requires { length inlets.old ≤ most_processors }
     ensures some { IfSome result (λ r. IsTaken inlets.old inlets.new r.0 r.1 ×

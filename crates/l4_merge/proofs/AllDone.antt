@@ -1,4 +1,4 @@
--- The deeds of all processors, in the order of their events, are done one after another.
+-- The transitions of all processors, in the order of their events, are done one after another.
 use Rattle.std.proofs.Common.{◌≡◌, ℕ, ◌<◌, ◌≤◌, true, cond, Some, List, [], ◌∷◌, ◌++◌, map, length, get_or, refl, ap, sym, ◌∙◌, subst, append_assoc, arith}
 use Rattle.std.specs.Prelude.{slice_get, ◌==◌, filter}
 use Rattle.std.specs.List.{AllByRecursion, list_all}
@@ -8,32 +8,32 @@ use Rattle.std.proofs.lemmas.Option.{slice_get-get_or, get_or_from_slice_get}
 use Rattle.l4_model.specs.Machine.{Machine}
 use Rattle.l4_core_model.specs.Letters.{Letter}
 use Rattle.l4_core_model.specs.Local.{Local, opening_local}
-use Rattle.l4_core_model.specs.Runs.{System, letters, Happening, Run, then_event, core_run}
+use Rattle.l4_core_model.specs.Runs.{System, letters, Action, Run, then_event, core_run}
 use Rattle.l4_core_model.proofs.Lists.{all-map, all-map_with, all-filter}
-use Rattle.l4_merge.specs.Deeds.{LocalEvent, Handled, Turned, Ticked, is_turn, happening_of, letter_of, Deed, told_by, happened_by, posted_by, handled_by, letters_with, Lead}
-use Rattle.l4_merge.specs.Pasts.{Begins}
+use Rattle.l4_merge.specs.Transitions.{LocalEvent, Handled, Turned, Ticked, is_turn, action_of, letter_of, Transition, told_by, happened_by, posted_by, handled_by, letters_with, Lead}
+use Rattle.l4_merge.specs.LocalTraces.{Begins}
 use Rattle.l4_merge.specs.Rounds.{is_no_tick}
 use Rattle.l4_merge.proofs.Lists.{all-of_map, all-flat_map}
-use Rattle.l4_merge.proofs.Deeds.{stamp_of, HasStamps}
+use Rattle.l4_merge.proofs.Transitions.{stamp_of, HasStamps}
 use Rattle.l4_merge.proofs.Own.{own, own_first, handled_own}
 use Rattle.l4_merge.proofs.Arranged.{AreArranged, rising}
 use Rattle.l4_merge.proofs.OneDeed.{IsGiven, done_by, happens_so}
 use Rattle.l4_merge.proofs.Ahead.{AreAhead, ahead_next}
 
--- The letters that are still to be posted have at least the first deed's stamp. The letter that it handles has a lower one: it is under way
+-- The letters that are still to be posted have at least the first transition's stamp. The letter that it handles has a lower one: it is under way
 
-late_letters : (n : ℕ) (ds : List Deed) → AllByRecursion (λ d. n ≤ stamp_of d) ds → AllByRecursion HasStamps ds →
+late_letters : (n : ℕ) (ds : List Transition) → AllByRecursion (λ d. n ≤ stamp_of d) ds → AllByRecursion HasStamps ds →
     AllByRecursion (λ p. n ≤ p.1.stamp) (posted_by ds)
 late_letters n ds late stamps =
-    all-flat_map (λ (p : ℕ × Letter). n ≤ p.1.stamp) (λ (d : Deed). d.work.letters) ds
-    (all-map_with (λ (d : Deed). n ≤ stamp_of d) HasStamps (λ (d : Deed). AllByRecursion (λ p. n ≤ p.1.stamp) d.work.letters)
+    all-flat_map (λ (p : ℕ × Letter). n ≤ p.1.stamp) (λ (d : Transition). d.work.letters) ds
+    (all-map_with (λ (d : Transition). n ≤ stamp_of d) HasStamps (λ (d : Transition). AllByRecursion (λ p. n ≤ p.1.stamp) d.work.letters)
     (λ d le s. all-map (λ (p : ℕ × Letter). p.1.stamp ≡ stamp_of d) (λ (p : ℕ × Letter). n ≤ p.1.stamp) (λ p e. omega arith) d.work.letters s.letters)
     ds late stamps)
 
-late_of_pair : (n from to : ℕ) (ds : List Deed) → AllByRecursion (λ d. n ≤ stamp_of d) ds → AllByRecursion HasStamps ds →
+late_of_pair : (n from to : ℕ) (ds : List Transition) → AllByRecursion (λ d. n ≤ stamp_of d) ds → AllByRecursion HasStamps ds →
     AllByRecursion (λ l. n ≤ l.stamp) (letters_with to (posted_by (own from ds)))
 late_of_pair n from to ds late stamps =
-    let own_late = all-filter (λ (d : Deed). n ≤ stamp_of d) (λ d. d.cpu == from) ds late in
+    let own_late = all-filter (λ (d : Transition). n ≤ stamp_of d) (λ d. d.cpu == from) ds late in
     let own_stamps = all-filter HasStamps (λ d. d.cpu == from) ds stamps in
     all-of_map (λ (l : Letter). n ≤ l.stamp) (λ (p : ℕ × Letter). p.1) (filter (λ p. p.0 == to) (posted_by (own from ds)))
     (all-filter (λ (p : ℕ × Letter). n ≤ p.1.stamp) (λ p. p.0 == to) (posted_by (own from ds)) (late_letters n (own from ds) own_late own_stamps))
@@ -47,8 +47,8 @@ first_under_way n [] (x ∷ xs) letter rest is late lt =
     absurd (omega arith)
 first_under_way n (u ∷ us) more letter rest is late lt = let same : u ≡ letter = cc in record { rest = us; is = ap (λ l. l ∷ us) same }
 
--- The first of all deeds in order is given the letter that it handles.
-is_given : (m : Machine) (g : System) (d : Deed) (ds : List Deed) (ends : List Local) (left : (from to : ℕ) → List Letter) →
+-- The first of all transitions in order is given the letter that it handles.
+is_given : (m : Machine) (g : System) (d : Transition) (ds : List Transition) (ends : List Local) (left : (from to : ℕ) → List Letter) →
     AreAhead m g (d ∷ ds) ends left → AreArranged (d ∷ ds) → IsGiven d.cpu d.event g
 is_given m g d ds ends left ahead order = by d.event ahead.stamps.0.above_letter all
   where
@@ -81,26 +81,26 @@ is_given m g d ds ends left ahead order = by d.event ahead.stamps.0.above_letter
 
 -- One after another
 
--- A run goes on by these deeds to where each processor ends, and some letters are left under way.
-pub record AreDone (m : Machine) (before : Run) (ds : List Deed) (ends : List Local) (left : (from to : ℕ) → List Letter) : Type 0 where
-  pub happenings : List Happening
+-- A run goes on by these transitions to where each processor ends, and some letters are left under way.
+pub record AreDone (m : Machine) (before : Run) (ds : List Transition) (ends : List Local) (left : (from to : ℕ) → List Letter) : Type 0 where
+  pub actions : List Action
   pub run : Run
-  pub is : core_run m before happenings ≡ Some run
-  pub by : happenings ≡ map happened_by ds
+  pub is : core_run m before actions ≡ Some run
+  pub by : actions ≡ map happened_by ds
   pub events : run.events ≡ before.events ++ map told_by ds
   pub locals : run.system.locals ≡ ends
   pub mail : (from to : ℕ) → letters run.system.mail from to ≡ left from to
-  pub turns : AllByRecursion (λ d. is_turn d.event ≡ true) ds → list_all is_no_tick happenings ≡ true
+  pub turns : AllByRecursion (λ d. is_turn d.event ≡ true) ds → list_all is_no_tick actions ≡ true
 
-no_tick : (cpu : ℕ) (event : LocalEvent) → is_turn event ≡ true → is_no_tick (happening_of cpu event) ≡ true
+no_tick : (cpu : ℕ) (event : LocalEvent) → is_turn event ≡ true → is_no_tick (action_of cpu event) ≡ true
 no_tick cpu (Handled from letter) h = refl
 no_tick cpu Turned h = refl
 no_tick cpu (Ticked clock) h = cc
 
-pub all_done : (m : Machine) (ds : List Deed) (r : Run) (ends : List Local) (left : (from to : ℕ) → List Letter) →
+pub all_done : (m : Machine) (ds : List Transition) (r : Run) (ends : List Local) (left : (from to : ℕ) → List Letter) →
     AreAhead m r.system ds ends left → AreArranged ds → AreDone m r ds ends left
 all_done m [] r ends left ahead order = record {
-  happenings = [];
+  actions = [];
   run = r;
   is = refl;
   by = refl;
@@ -123,13 +123,13 @@ all_done m (d ∷ ds) r ends left ahead order =
     let first = is_given m g d ds ends left ahead order in
     let rest = all_done m ds (then_event r (done_by d g)) ends left (ahead_next m g d ds ends left l at first ahead) order.1 in
     record {
-      happenings = happening_of d.cpu d.event ∷ rest.happenings;
+      actions = action_of d.cpu d.event ∷ rest.actions;
       run = rest.run;
       is = rw (happens_so m g d l at lead.0 first) rest.is;
-      by = ap (λ hs. happening_of d.cpu d.event ∷ hs) rest.by;
+      by = ap (λ hs. action_of d.cpu d.event ∷ hs) rest.by;
       events = rest.events ∙ append_assoc r.events (told_by d ∷ []) (map told_by ds);
       locals = rest.locals;
       mail = rest.mail;
       turns = λ a.
-          and_from (is_no_tick (happening_of d.cpu d.event)) (list_all is_no_tick rest.happenings) (no_tick d.cpu d.event a.0) (rest.turns a.1);
+          and_from (is_no_tick (action_of d.cpu d.event)) (list_all is_no_tick rest.actions) (no_tick d.cpu d.event a.0) (rest.turns a.1);
     }

@@ -10,10 +10,10 @@ use Rattle.l4_model.proofs.Chains.{bind_then, some_is}
 use Rattle.l4_core_model.specs.Letters.{Letter}
 use Rattle.l4_core_model.specs.Local.{Local, opening_local}
 use Rattle.l4_core_model.specs.Turns.{Choice, choice, is_busy}
-use Rattle.l4_core_model.specs.Runs.{System, processors, letters, Happening, Handles, Turns, Ticks, Happened, happens, Run, then_event, core_run, opening_run, is_empty, local_at_rest, at_rest}
+use Rattle.l4_core_model.specs.Runs.{System, processors, letters, Action, Handles, Turns, Ticks, Happened, happens, Run, then_event, core_run, opening_run, is_empty, local_at_rest, at_rest}
 use Rattle.l4_core_model.specs.Schedules.{first_poster, turn_of, or_stays, attempts, attempts_all, least_deadline, earliest, earliest_of, turns_in_order, round, ticks, ticks_to, turns_of, has_gone_on, round_or_ticks, unless_ended, rounds, run}
 use Rattle.l4_core_model.proofs.Lists.{all-map}
-use Rattle.l4_merge.specs.Deeds.{LocalEvent, Handled, Turned, Ticked, letters_with}
+use Rattle.l4_merge.specs.Transitions.{LocalEvent, Handled, Turned, Ticked, letters_with}
 use Rattle.l4_merge.specs.Rounds.{Round, Turning, Ticking, is_no_tick, local_is_idle, is_idle, after_round, after_rounds, IsInRounds}
 use Rattle.l4_merge.proofs.Lists.{filter-none}
 use Rattle.l4_merge.proofs.Mail.{no_letters}
@@ -21,7 +21,7 @@ use Rattle.l4_merge.proofs.Own.{if_own}
 use Rattle.l4_merge.proofs.Destinations.{no_letter_stays}
 use Rattle.l4_merge.proofs.OneDeed.{given, IsGiven, locals_then, mail_then}
 use Rattle.l4_merge.proofs.Processors.{each_processor}
-use Rattle.l4_merge.proofs.RunDeeds.{deed_of}
+use Rattle.l4_merge.proofs.RunDeeds.{transition_of}
 use Rattle.l4_merge.proofs.InRounds.{if_then, turns_then}
 
 -- There is one processor, and no letter for it is under way.
@@ -59,11 +59,11 @@ none_posted cpu ls elsewhere =
     ap (map (λ (p : ℕ × Letter). p.1)) (filter-none (λ (p : ℕ × Letter). p.0 == cpu) ls
     (all-map (λ (p : ℕ × Letter). p.0 ≢ cpu) (λ p. (p.0 == cpu) ≡ false) (λ p ne. ne_eqb p.0 cpu ne) ls elsewhere))
 
-stays_alone : (m : Machine) (r : Run) (e : Happening) (h : Happened) → IsAlone r → happens m r.system e ≡ Some h → IsAlone (then_event r h)
+stays_alone : (m : Machine) (r : Run) (e : Action) (h : Happened) → IsAlone r → happens m r.system e ≡ Some h → IsAlone (then_event r h)
 stays_alone m r e h alone is =
     let g = r.system in
-    let of = deed_of m g e h is in
-    let d = of.deed in
+    let of = transition_of m g e h is in
+    let d = of.transition in
     let own : d.cpu ≡ 0 = only_in r d.cpu of.local alone of.at in
     let none : (from : ℕ) → letters g.mail from d.cpu ≡ [] = subst (λ cpu. (from : ℕ) → letters g.mail from cpu ≡ []) (sym own) alone.none in
     let posted : letters_with 0 d.work.letters ≡ [] =
@@ -151,7 +151,7 @@ lead_before m most last r h next lead =
     by false used = refl
 
 -- What is attempted next adds the next event, or none.
-attempt_leads : (m : Machine) (most : ℕ) (last r : Run) (e : Happening) → next_run m r ≡ attempts m r e → IsAlone r →
+attempt_leads : (m : Machine) (most : ℕ) (last r : Run) (e : Action) → next_run m r ≡ attempts m r e → IsAlone r →
     (IsAlone (attempts m r e) → Leads m most last (attempts m r e)) → Leads m most last r
 attempt_leads m most last r e next alone goes = by (happens m r.system e) refl next goes
   where
@@ -162,7 +162,7 @@ attempt_leads m most last r e next alone goes = by (happens m r.system e) refl n
 
 -- Turns: no letter is handled, so each is the core's own
 
-next_happened : (m : Machine) (r : Run) (e : Happening) (h : Happened) → m.cpus ≡ 1 → IsAlone r → is_no_tick e ≡ true → happens m r.system e ≡ Some h →
+next_happened : (m : Machine) (r : Run) (e : Action) (h : Happened) → m.cpus ≡ 1 → IsAlone r → is_no_tick e ≡ true → happens m r.system e ≡ Some h →
     next_run m r ≡ then_event r h
 next_happened m r (Handles cpu from) h one alone turn is =
     bind_then (slice_get r.system.locals cpu) _ h is λ l at is.
@@ -174,7 +174,7 @@ next_happened m r (Turns cpu) h one alone turn is =
     next_turned m r h one alone (subst (λ cpu. happens m r.system (Turns cpu) ≡ Some h) (only_in r cpu l alone at) is)
 next_happened m r (Ticks cpu clock) h one alone turn is = cc
 
-turns_lead : (m : Machine) (most : ℕ) (last : Run) (es : List Happening) (r after : Run) → m.cpus ≡ 1 → list_all is_no_tick es ≡ true →
+turns_lead : (m : Machine) (most : ℕ) (last : Run) (es : List Action) (r after : Run) → m.cpus ≡ 1 → list_all is_no_tick es ≡ true →
     core_run m r es ≡ Some after → IsAlone r → (IsAlone after → Leads m most last after) → Leads m most last r
 turns_lead m most last [] r after one turns is alone goes = subst (λ q. IsAlone q → Leads m most last q) (sym (some_is r after is)) goes alone
 turns_lead m most last (e ∷ es) r after one turns is alone goes =

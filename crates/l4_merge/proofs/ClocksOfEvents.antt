@@ -16,8 +16,8 @@ use Rattle.l4_core_model.specs.Acts.{Work, ◌▷◌, does, split_place}
 use Rattle.l4_core_model.specs.Turns.{Duty, DropsOwn, RefusesFirst, TellsGone, CancelsOwn, CancelsReceive, DeliversFirst, ClosesReceive, RefusesZero, Retargets}
 use Rattle.l4_core_model.specs.Turns.{Choice, ByDuty, ByDue, ByReady, choice, does_duty, times_out, does_choice, opened, turn}
 use Rattle.l4_core_model.specs.Mail.{own_place, foreign_place, waits_here, is_ordering, withdraws_here, handled}
-use Rattle.l4_merge.specs.Deeds.{LocalEvent, Handled, Turned, Ticked, is_turn, work_of, Deed, Lead}
-use Rattle.l4_merge.specs.Pasts.{Past, HasTurned}
+use Rattle.l4_merge.specs.Transitions.{LocalEvent, Handled, Turned, Ticked, is_turn, work_of, Transition, Lead}
+use Rattle.l4_merge.specs.LocalTraces.{LocalTrace, HasTurned}
 use Rattle.l4_merge.proofs.ClocksOfActs.{HasClock, KeepsClock, refuses_clock, delivers_clock, arrives_clock, withdraws_clock, obeys_clock, acts_clock, retargets_clock}
 
 -- What has the value of a chain is what the chain ends in.
@@ -105,11 +105,11 @@ work_clock m cpu l (Ticked clock) x turns is = cc
 
 -- turns one after the other
 
-lead_clock : (m : Machine) (cpu : ℕ) (l now : Local) (ds : List Deed) → AllByRecursion (λ d. is_turn d.event ≡ true) ds → Lead m cpu l ds now →
+lead_clock : (m : Machine) (cpu : ℕ) (l now : Local) (ds : List Transition) → AllByRecursion (λ d. is_turn d.event ≡ true) ds → Lead m cpu l ds now →
     now.clock ≡ l.clock
 lead_clock m cpu l now [] turns lead = ap (λ (l : Local). l.clock) (sym lead)
 lead_clock m cpu l now (d ∷ ds) turns lead =
     lead_clock m cpu d.work.local now ds turns.1 lead.1 ∙ work_clock m cpu l d.event d.work turns.0 lead.0.work
 
-pub turned_clock : (m : Machine) (cpu : ℕ) (old new : Past) → HasTurned m cpu old new → new.local.clock ≡ old.local.clock
-turned_clock m cpu old new turned = lead_clock m cpu old.local new.local turned.worked.deeds turned.turns turned.worked.are.lead
+pub turned_clock : (m : Machine) (cpu : ℕ) (old new : LocalTrace) → HasTurned m cpu old new → new.local.clock ≡ old.local.clock
+turned_clock m cpu old new turned = lead_clock m cpu old.local new.local turned.worked.transitions turned.turns turned.worked.are.lead

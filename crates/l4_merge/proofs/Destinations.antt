@@ -21,7 +21,7 @@ use Rattle.l4_core_model.specs.Turns.{Choice, ByDuty, ByDue, ByReady, choice, do
 use Rattle.l4_core_model.specs.Turns.{opened, turn, advance}
 use Rattle.l4_core_model.specs.Mail.{own_place, foreign_place, waits_here, is_ordering, withdraws_here, handled}
 use Rattle.l4_core_model.proofs.Lists.{all-map}
-use Rattle.l4_merge.specs.Deeds.{LocalEvent, Handled, Turned, Ticked, work_of}
+use Rattle.l4_merge.specs.Transitions.{LocalEvent, Handled, Turned, Ticked, work_of}
 use Rattle.l4_merge.proofs.Aims.{IsElsewhere, IsAimed, IsChoiceAimed, choice_aimed}
 use Rattle.l4_merge.proofs.RoomOfActs.{all_homed, IsForeign, home_elsewhere, split_is_foreign, HasRoom, Fits, with_local, less, at_end, retargets_fits}
 use Rattle.l4_merge.proofs.RoomOfActs.{posts_fits, refuses_fits, delivers_fits, arrives_fits, withdraws_fits, fails_receive_fits, obeys_fits, acts_fits}

@@ -6,7 +6,7 @@ use Rattle.std.proofs.lemmas.List.{map-append}
 use Rattle.std.proofs.lemmas.List.Elements.{filter-append}
 use Rattle.l4_core_model.specs.Letters.{Letter}
 use Rattle.l4_core_model.specs.Runs.{Posted, is_between, letters, without_first, posted}
-use Rattle.l4_merge.specs.Deeds.{letters_with}
+use Rattle.l4_merge.specs.Transitions.{letters_with}
 
 pub letters_with-append : (cpu : ℕ) (xs ys : List (ℕ × Letter)) → letters_with cpu (xs ++ ys) ≡ letters_with cpu xs ++ letters_with cpu ys
 letters_with-append cpu xs ys =

@@ -6,8 +6,8 @@ use Rattle.std.proofs.lemmas.List.Prefix.{front_rest}
 use Rattle.std.proofs.lemmas.List.Sorted.{IsPermutation-refl, IsPermutation-sym, IsPermutation-trans, IsPermutation-cons, IsPermutation-middle, IsPermutation-append, IsPermutation-append_comm, IsPermutation-append_left, IsPermutation-append_right}
 use Rattle.l4_model.specs.Machine.{Machine}
 use Rattle.l4_core_model.specs.Runs.{Event, is_earlier, put_event, merged}
-use Rattle.l4_merge.specs.Deeds.{told_by}
-use Rattle.l4_merge.specs.Pasts.{Past, HasWorked, HaveWorked, all_events, added_events}
+use Rattle.l4_merge.specs.Transitions.{told_by}
+use Rattle.l4_merge.specs.LocalTraces.{LocalTrace, Extends, HaveWorked, all_events, added_events}
 
 put_moves : (e : Event) (xs : List Event) → IsPermutation (e ∷ xs) (put_event e xs)
 put_moves e [] = IsPermutation-refl (e ∷ [])
@@ -36,15 +36,15 @@ both_move a b c d =
     subst (λ xs. IsPermutation xs ((a ++ b) ++ (c ++ d))) (sym left) (subst (IsPermutation (a ++ (c ++ (b ++ d)))) right whole)
 
 -- To the events of earlier pasts come those that were added.
-added : (m : Machine) (from : ℕ) (olds news : List Past) → length news ≡ length olds →
-    ((i cpu : ℕ) (old new : Past) → from + i ≡ cpu → slice_get olds i ≡ Some old → slice_get news i ≡ Some new → HasWorked m cpu old new) →
+added : (m : Machine) (from : ℕ) (olds news : List LocalTrace) → length news ≡ length olds →
+    ((i cpu : ℕ) (old new : LocalTrace) → from + i ≡ cpu → slice_get olds i ≡ Some old → slice_get news i ≡ Some new → Extends m cpu old new) →
     IsPermutation (all_events olds ++ added_events olds news) (all_events news)
 added m from [] [] size work = IsPermutation-refl []
 added m from [] (new ∷ news) size work = absurd (omega arith)
 added m from (old ∷ olds) [] size work = absurd (omega arith)
 added m from (old ∷ olds) (new ∷ news) size work =
     let first = work 0 from old new (omega arith) refl refl in
-    let more = map told_by first.deeds in
+    let more = map told_by first.transitions in
     let is : old.events ++ drop (length old.events) new.events ≡ new.events =
     ap (λ es. old.events ++ es) (front_rest new.events old.events more first.are.events) ∙ sym first.are.events in
     let rest = added m (from + 1) olds news (omega arith) (λ i cpu old new e was now. work (suc i) cpu old new (omega arith) was now) in
@@ -52,7 +52,7 @@ added m from (old ∷ olds) (new ∷ news) size work =
     (IsPermutation-append (old.events ++ drop (length old.events) new.events) new.events (all_events olds ++ added_events olds news) (all_events news)
     (subst (IsPermutation (old.events ++ drop (length old.events) new.events)) is (IsPermutation-refl (old.events ++ drop (length old.events) new.events))) rest)
 
-pub permuted : (m : Machine) (olds news : List Past) → HaveWorked m olds news →
+pub permuted : (m : Machine) (olds news : List LocalTrace) → HaveWorked m olds news →
     IsPermutation (all_events olds ++ merged (added_events olds news)) (all_events news)
 permuted m olds news w =
     IsPermutation-trans _ _ _

@@ -8,7 +8,7 @@ use Rattle.std.proofs.lemmas.List.FromFn.{length-range_with_len, get_or-range_wi
 use Rattle.l4_model.specs.Machine.{Machine}
 use Rattle.l4_core_model.specs.Local.{Local}
 use Rattle.l4_core_model.specs.Runs.{processors}
-use Rattle.l4_merge.specs.Pasts.{Past}
+use Rattle.l4_merge.specs.LocalTraces.{LocalTrace}
 
 pub at_processor : {A : Type 0} (m : Machine) (f : ℕ → A) (cpu : ℕ) → cpu < m.cpus → slice_get (map f (processors m)) cpu ≡ Some (f cpu)
 at_processor m f cpu lt =
@@ -27,7 +27,7 @@ of_processor m f cpu x at =
     let lt : cpu < m.cpus = omega arith in
     (lt, sym (get_or_from_slice_get (map f (processors m)) cpu (f cpu) x (at_processor m f cpu lt)) ∙ get_or_from_slice_get (map f (processors m)) cpu x x at)
 
-pub locals-map : (f : ℕ → Past) (cpus : List ℕ) → map (λ cpu. (f cpu).local) cpus ≡ map (λ past. past.local) (map f cpus)
+pub locals-map : (f : ℕ → LocalTrace) (cpus : List ℕ) → map (λ cpu. (f cpu).local) cpus ≡ map (λ past. past.local) (map f cpus)
 locals-map f [] = refl
 locals-map f (cpu ∷ cpus) = ap (λ (ls : List Local). (f cpu).local ∷ ls) (locals-map f cpus)
 

@@ -8,7 +8,7 @@ use Rattle.std.proofs.lemmas.Option.{slice_get-map}
 use Rattle.std.proofs.lemmas.List.{append-nil, append_cancel_left}
 use Rattle.l4_model.specs.Machine.{Machine}
 use Rattle.l4_core_model.specs.Runs.{Posted, System, Run, processors, letters, is_between, is_empty, local_at_rest, at_rest}
-use Rattle.l4_merge.specs.Pasts.{Past, letters_handled}
+use Rattle.l4_merge.specs.LocalTraces.{LocalTrace, letters_handled}
 use Rattle.l4_merge.specs.Merges.{EndsAt, is_at_rest, AreAtRest}
 use Rattle.l4_merge.proofs.Processors.{all_processors, each_processor}
 
@@ -32,22 +32,22 @@ no_letters_then (p ∷ ps) none from to = cc
 
 -- Each processor
 
-local_rest : (m : Machine) (r : Run) (pasts : List Past) (cpu : ℕ) (past : Past) → EndsAt r pasts → slice_get pasts cpu ≡ Some past →
+local_rest : (m : Machine) (r : Run) (pasts : List LocalTrace) (cpu : ℕ) (past : LocalTrace) → EndsAt r pasts → slice_get pasts cpu ≡ Some past →
     local_at_rest m r.system cpu ≡ is_at_rest m cpu past.local
 local_rest m r pasts cpu past ends at =
     let here : slice_get r.system.locals cpu ≡ Some past.local =
-    ap (λ ls. slice_get ls cpu) ends.locals ∙ slice_get-map (λ (past : Past). past.local) pasts cpu ∙ ap (option_map (λ (past : Past). past.local)) at in
+    ap (λ ls. slice_get ls cpu) ends.locals ∙ slice_get-map (λ (past : LocalTrace). past.local) pasts cpu ∙ ap (option_map (λ (past : LocalTrace). past.local)) at in
     rw here
 
-no_local_rest : (m : Machine) (r : Run) (pasts : List Past) (cpu : ℕ) → EndsAt r pasts → slice_get pasts cpu ≡ None → local_at_rest m r.system cpu ≡ true
+no_local_rest : (m : Machine) (r : Run) (pasts : List LocalTrace) (cpu : ℕ) → EndsAt r pasts → slice_get pasts cpu ≡ None → local_at_rest m r.system cpu ≡ true
 no_local_rest m r pasts cpu ends at =
     let here : slice_get r.system.locals cpu ≡ None =
-    ap (λ ls. slice_get ls cpu) ends.locals ∙ slice_get-map (λ (past : Past). past.local) pasts cpu ∙ ap (option_map (λ (past : Past). past.local)) at in
+    ap (λ ls. slice_get ls cpu) ends.locals ∙ slice_get-map (λ (past : LocalTrace). past.local) pasts cpu ∙ ap (option_map (λ (past : LocalTrace). past.local)) at in
     rw here
 
 -- The whole run
 
-pub rests : (m : Machine) (pasts : List Past) (r : Run) → EndsAt r pasts → AreAtRest m pasts → at_rest m r.system ≡ true
+pub rests : (m : Machine) (pasts : List LocalTrace) (r : Run) → EndsAt r pasts → AreAtRest m pasts → at_rest m r.system ≡ true
 rests m pasts r ends rest =
     and_from (list_all (local_at_rest m r.system) (processors m)) (is_empty r.system.mail)
     (all_processors m (local_at_rest m r.system) (λ cpu lt. by cpu lt (slice_get pasts cpu) refl))
@@ -55,11 +55,11 @@ rests m pasts r ends rest =
     append_cancel_left (letters_handled pasts from to) (letters r.system.mail from to) []
     (sym (ends.mail from to) ∙ rest.all_handled from to ∙ sym (append-nil (letters_handled pasts from to)))))
   where
-    by : (cpu : ℕ) → cpu < m.cpus → (o : Option Past) → slice_get pasts cpu ≡ o → local_at_rest m r.system cpu ≡ true
+    by : (cpu : ℕ) → cpu < m.cpus → (o : Option LocalTrace) → slice_get pasts cpu ≡ o → local_at_rest m r.system cpu ≡ true
     by cpu lt None at = no_local_rest m r pasts cpu ends at
     by cpu lt (Some past) at = local_rest m r pasts cpu past ends at ∙ rest.each cpu past lt at
 
-pub rested : (m : Machine) (pasts : List Past) (r : Run) → EndsAt r pasts → at_rest m r.system ≡ true → AreAtRest m pasts
+pub rested : (m : Machine) (pasts : List LocalTrace) (r : Run) → EndsAt r pasts → at_rest m r.system ≡ true → AreAtRest m pasts
 rested m pasts r ends rest =
     let parts = and_parts (list_all (local_at_rest m r.system) (processors m)) (is_empty r.system.mail) rest in
     record {

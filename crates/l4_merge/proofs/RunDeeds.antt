@@ -1,4 +1,4 @@
--- The deeds of a core run, in its order.
+-- The transitions of a core run, in its order.
 use Rattle.std.proofs.Common.{◌≡◌, ℕ, Option, Some, None, List, [], ◌∷◌, ◌++◌, map, refl, ap, sym, ◌∙◌, subst, append_assoc}
 use Rattle.std.specs.Prelude.{slice_get}
 use Rattle.std.specs.Option.{option_map}
@@ -8,29 +8,29 @@ use Rattle.l4_model.proofs.Chains.{bind_then, some_is}
 use Rattle.l4_core_model.specs.Letters.{Letter}
 use Rattle.l4_core_model.specs.Local.{Local}
 use Rattle.l4_core_model.specs.Acts.{Work}
-use Rattle.l4_core_model.specs.Runs.{System, letters, Happening, Handles, Turns, Ticks, Happened, done, happens, Run, then_event, core_run}
-use Rattle.l4_merge.specs.Deeds.{LocalEvent, Handled, Turned, Ticked, work_of, Deed, told_by, Does}
-use Rattle.l4_merge.specs.Pasts.{Begins}
+use Rattle.l4_core_model.specs.Runs.{System, letters, Action, Handles, Turns, Ticks, Happened, done, happens, Run, then_event, core_run}
+use Rattle.l4_merge.specs.Transitions.{LocalEvent, Handled, Turned, Ticked, work_of, Transition, told_by, Does}
+use Rattle.l4_merge.specs.LocalTraces.{Begins}
 use Rattle.l4_merge.proofs.OneDeed.{given, IsGiven, done_by}
 use Rattle.l4_merge.proofs.Ahead.{AreAhead, ahead_before}
 
--- What happens is a processor's deed.
+-- What happens is a processor's transition.
 pub record IsDeed (m : Machine) (g : System) (h : Happened) : Type 0 where
-  pub deed : Deed
+  pub transition : Transition
   pub local : Local
-  pub at : slice_get g.locals deed.cpu ≡ Some local
-  pub does : Does m deed.cpu local deed
-  pub first : IsGiven deed.cpu deed.event g
-  pub is : done_by deed g ≡ h
+  pub at : slice_get g.locals transition.cpu ≡ Some local
+  pub does : Does m transition.cpu local transition
+  pub first : IsGiven transition.cpu transition.event g
+  pub is : done_by transition g ≡ h
 
-is_deed : (m : Machine) (g : System) (h : Happened) (cpu : ℕ) (event : LocalEvent) (l : Local) → slice_get g.locals cpu ≡ Some l → IsGiven cpu event g →
+is_transition : (m : Machine) (g : System) (h : Happened) (cpu : ℕ) (event : LocalEvent) (l : Local) → slice_get g.locals cpu ≡ Some l → IsGiven cpu event g →
     option_map (done cpu (given cpu event g)) (work_of m cpu l event) ≡ Some h → IsDeed m g h
-is_deed m g h cpu event l at first is = by (work_of m cpu l event) refl is
+is_transition m g h cpu event l at first is = by (work_of m cpu l event) refl is
   where
     by : (o : Option Work) → work_of m cpu l event ≡ o → option_map (done cpu (given cpu event g)) o ≡ Some h → IsDeed m g h
     by None works is = absurd cc
     by (Some x) works is = record {
-      deed = record { cpu = cpu; event = event; work = x };
+      transition = record { cpu = cpu; event = event; work = x };
       local = l;
       at = at;
       does = record { own = refl; work = works };
@@ -43,28 +43,28 @@ first_of : (ls : List Letter) (letter : Letter) → slice_get ls 0 ≡ Some lett
 first_of [] letter h = absurd cc
 first_of (l ∷ ls) letter h = record { rest = ls; is = ap (λ l. l ∷ ls) (some_is l letter h) }
 
-pub deed_of : (m : Machine) (g : System) (e : Happening) (h : Happened) → happens m g e ≡ Some h → IsDeed m g h
-deed_of m g (Handles cpu from) h is =
+pub transition_of : (m : Machine) (g : System) (e : Action) (h : Happened) → happens m g e ≡ Some h → IsDeed m g h
+transition_of m g (Handles cpu from) h is =
     bind_then (slice_get g.locals cpu) _ h is λ l at is.
     bind_then (slice_get (letters g.mail from cpu) 0) _ h is λ letter first is.
-    is_deed m g h cpu (Handled from letter) l at (first_of (letters g.mail from cpu) letter first) is
-deed_of m g (Turns cpu) h is =
+    is_transition m g h cpu (Handled from letter) l at (first_of (letters g.mail from cpu) letter first) is
+transition_of m g (Turns cpu) h is =
     bind_then (slice_get g.locals cpu) _ h is λ l at is.
-    is_deed m g h cpu Turned l at tt is
-deed_of m g (Ticks cpu clock) h is =
+    is_transition m g h cpu Turned l at tt is
+transition_of m g (Ticks cpu clock) h is =
     bind_then (slice_get g.locals cpu) _ h is λ l at is.
-    is_deed m g h cpu (Ticked clock) l at tt is
+    is_transition m g h cpu (Ticked clock) l at tt is
 
--- A core run's events are told by deeds that were to be done at its beginning, and have led to its end.
+-- A core run's events are told by transitions that were to be done at its beginning, and have led to its end.
 pub record HasDeeds (m : Machine) (before after : Run) : Type 0 where
-  pub deeds : List Deed
-  pub events : after.events ≡ before.events ++ map told_by deeds
-  pub ahead : AreAhead m before.system deeds after.system.locals (letters after.system.mail)
+  pub transitions : List Transition
+  pub events : after.events ≡ before.events ++ map told_by transitions
+  pub ahead : AreAhead m before.system transitions after.system.locals (letters after.system.mail)
 
-pub has_deeds : (m : Machine) (es : List Happening) (before after : Run) → core_run m before es ≡ Some after → HasDeeds m before after
-has_deeds m [] before after is =
+pub has_transitions : (m : Machine) (es : List Action) (before after : Run) → core_run m before es ≡ Some after → HasDeeds m before after
+has_transitions m [] before after is =
     subst (HasDeeds m before) (some_is before after is) (record {
-      deeds = [];
+      transitions = [];
       events = sym (append-nil before.events);
       ahead = record {
         size = refl;
@@ -74,15 +74,15 @@ has_deeds m [] before after is =
         stamps = tt;
       };
     })
-has_deeds m (e ∷ es) before after is =
+has_transitions m (e ∷ es) before after is =
     bind_then (happens m before.system e) _ after is λ h may is.
     let g = before.system in
-    let of = deed_of m g e h may in
-    let d = of.deed in
+    let of = transition_of m g e h may in
+    let d = of.transition in
     let rest : HasDeeds m (then_event before (done_by d g)) after =
-    subst (λ h. HasDeeds m (then_event before h) after) (sym of.is) (has_deeds m es (then_event before h) after is) in
+    subst (λ h. HasDeeds m (then_event before h) after) (sym of.is) (has_transitions m es (then_event before h) after is) in
     record {
-      deeds = d ∷ rest.deeds;
-      events = rest.events ∙ append_assoc before.events (told_by d ∷ []) (map told_by rest.deeds);
-      ahead = ahead_before m g d rest.deeds after.system.locals (letters after.system.mail) of.local of.at of.does of.first rest.ahead;
+      transitions = d ∷ rest.transitions;
+      events = rest.events ∙ append_assoc before.events (told_by d ∷ []) (map told_by rest.transitions);
+      ahead = ahead_before m g d rest.transitions after.system.locals (letters after.system.mail) of.local of.at of.does of.first rest.ahead;
     }

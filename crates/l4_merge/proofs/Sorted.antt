@@ -8,7 +8,7 @@ use Rattle.l4_model.specs.Machine.{Machine}
 use Rattle.l4_core_model.specs.Letters.{Letter}
 use Rattle.l4_core_model.specs.Local.{Local}
 use Rattle.l4_core_model.specs.Runs.{System, Event, is_earlier, put_event, merged}
-use Rattle.l4_merge.specs.Deeds.{Deed, told_by}
+use Rattle.l4_merge.specs.Transitions.{Transition, told_by}
 use Rattle.l4_merge.specs.Merges.{SortAsMerged}
 use Rattle.l4_merge.proofs.Lists.{all-of_map}
 use Rattle.l4_merge.proofs.EventOrder.{earlier_is_order, ties_when, ties_means, ties_itself}
@@ -45,7 +45,7 @@ in_order_of (x ∷ xs) far = (
   in_order_of xs (λ i j d le lt. far (suc i) (suc j) d (omega arith) (omega arith)),
 )
 
-told_in_order : (ds : List Deed) → AreArranged ds → InOrder (map told_by ds)
+told_in_order : (ds : List Transition) → AreArranged ds → InOrder (map told_by ds)
 told_in_order [] a = tt
 told_in_order (d ∷ ds) a = (all-of_map (λ x. is_earlier x (told_by d) ≡ false) told_by ds a.0, told_in_order ds a.1)
 
@@ -90,8 +90,8 @@ same_order (x ∷ xs) (y ∷ ys) a b same =
     λ e. cancel (ties is_earlier e x) x (tying e xs) (tying e ys) (same e ∙ ap (λ z. cond (ties is_earlier e z) (z ∷ tying e ys) (tying e ys)) first) in
     ap (λ z. z ∷ xs) (sym first) ∙ ap (λ zs. y ∷ zs) (same_order xs ys a.1 b.1 rest)
 
--- The events of deeds that are still to be done, in any order: those of one processor rise, so no two tie.
-pub sort_as_merged : (m : Machine) (g : System) (ds : List Deed) (ends : List Local) (left : (from to : ℕ) → List Letter) → AreAhead m g ds ends left →
+-- The events of transitions that are still to be done, in any order: those of one processor rise, so no two tie.
+pub sort_as_merged : (m : Machine) (g : System) (ds : List Transition) (ends : List Local) (left : (from to : ℕ) → List Letter) → AreAhead m g ds ends left →
     SortAsMerged (map told_by ds)
 sort_as_merged m g ds ends left ahead sorted moved is_sorted =
     same_order sorted (map told_by (arranged ds)) (in_order_of sorted (sorted_far is_earlier earlier_is_order sorted is_sorted))

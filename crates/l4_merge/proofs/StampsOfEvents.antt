@@ -19,7 +19,7 @@ use Rattle.l4_core_model.specs.Turns.{Duty, DropsOwn, RefusesFirst, TellsGone, C
 use Rattle.l4_core_model.specs.Turns.{Choice, ByDuty, ByDue, ByReady, choice, does_duty, times_out, does_choice}
 use Rattle.l4_core_model.specs.Turns.{next_stamp, opened, turn, advance, clock_is}
 use Rattle.l4_core_model.specs.Mail.{own_place, foreign_place, waits_here, is_ordering, withdraws_here, handled}
-use Rattle.l4_merge.specs.Deeds.{LocalEvent, Handled, Turned, Ticked, work_of, letter_of}
+use Rattle.l4_merge.specs.Transitions.{LocalEvent, Handled, Turned, Ticked, work_of, letter_of}
 use Rattle.l4_merge.proofs.StampsOfActs.{IsStamped, KeepsStamp, posts_stamped, refuses_stamped, delivers_stamped, arrives_stamped, retargets_stamped}
 use Rattle.l4_merge.proofs.StampsOfActs.{withdraws_stamped, fails_receive_stamped, obeys_stamped, acts_stamped}
 

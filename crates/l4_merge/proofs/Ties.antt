@@ -10,9 +10,9 @@ use Rattle.std.proofs.lemmas.List.Sums.{length-filter}
 use Rattle.l4_model.specs.Machine.{Machine}
 use Rattle.l4_core_model.specs.Local.{Local}
 use Rattle.l4_core_model.specs.Runs.{Event, is_earlier}
-use Rattle.l4_merge.specs.Deeds.{Deed, told_by, Lead}
+use Rattle.l4_merge.specs.Transitions.{Transition, told_by, Lead}
 use Rattle.l4_merge.proofs.Lists.{filter-none}
-use Rattle.l4_merge.proofs.Deeds.{stamp_of, lead_above}
+use Rattle.l4_merge.proofs.Transitions.{stamp_of, lead_above}
 use Rattle.l4_merge.proofs.EventOrder.{ties_stamp, ties_cpu}
 use Rattle.l4_merge.proofs.Own.{own}
 
@@ -59,11 +59,11 @@ same_passed {A} p xs ys moved few = by (filter p xs) refl
 abbrev pub tying : Event → List Event → List Event
 tying e = filter (ties is_earlier e)
 
-pub tying_own : (e : Event) (ds : List Deed) → tying e (map told_by ds) ≡ tying e (map told_by (own e.cpu ds))
+pub tying_own : (e : Event) (ds : List Transition) → tying e (map told_by ds) ≡ tying e (map told_by (own e.cpu ds))
 tying_own e [] = refl
 tying_own e (d ∷ ds) = by (d.cpu == e.cpu) (ties is_earlier e (told_by d)) refl refl (tying_own e ds)
   where
-    told : List Deed → List Event
+    told : List Transition → List Event
     told ds = tying e (map told_by ds)
 
     by : (b c : Bool) → (d.cpu == e.cpu) ≡ b → ties is_earlier e (told_by d) ≡ c → told ds ≡ told (own e.cpu ds) →
@@ -74,7 +74,7 @@ tying_own e (d ∷ ds) = by (d.cpu == e.cpu) (ties is_earlier e (told_by d)) ref
     by false false s t rest = rest
 
 -- So in one log at most one event ties with it.
-pub one_ties : (m : Machine) (cpu : ℕ) (e : Event) (l now : Local) (ds : List Deed) → Lead m cpu l ds now →
+pub one_ties : (m : Machine) (cpu : ℕ) (e : Event) (l now : Local) (ds : List Transition) → Lead m cpu l ds now →
     length (tying e (map told_by ds)) ≤ 1
 one_ties m cpu e l now [] lead = omega arith
 one_ties m cpu e l now (d ∷ ds) lead = by (ties is_earlier e (told_by d)) refl (one_ties m cpu e d.work.local now ds lead.1)
@@ -82,7 +82,7 @@ one_ties m cpu e l now (d ∷ ds) lead = by (ties is_earlier e (told_by d)) refl
     rest : List Event
     rest = tying e (map told_by ds)
 
-    apart : (xs : List Deed) → ties is_earlier e (told_by d) ≡ true → AllByRecursion (λ x. stamp_of d < stamp_of x) xs →
+    apart : (xs : List Transition) → ties is_earlier e (told_by d) ≡ true → AllByRecursion (λ x. stamp_of d < stamp_of x) xs →
         AllByRecursion (λ x. ties is_earlier e x ≡ false) (map told_by xs)
     apart [] tie above = tt
     apart (x ∷ xs) tie above = (no_tie (ties is_earlier e (told_by x)) refl, apart xs tie above.1)

@@ -22,57 +22,57 @@ ghost use Rattle.l4_model.specs.World.{changed};
 ghost use Rattle.l4_core_model.specs.Runs.{Event, Run, Ticks, opening_run, at_rest, merged};
 ghost use Rattle.l4_core_model.specs.Schedules.{attempts, run};
 ghost use Rattle.l4_core_model.specs.Laws.{IsCoreRun};
-ghost use Rattle.l4_merge.specs.Pasts.{Past, AddAtMost, AreWholePasts, HasTicked, HasTurned};
-ghost use Rattle.l4_merge.specs.Pasts.{HaveWorked, HaveTurned, opening_pasts, all_events};
-ghost use Rattle.l4_merge.specs.Pasts.{added_events};
+ghost use Rattle.l4_merge.specs.LocalTraces.{LocalTrace, AddAtMost, AreWholePasts, HasTicked, HasTurned};
+ghost use Rattle.l4_merge.specs.LocalTraces.{HaveWorked, HaveTurned, opening_pasts, all_events};
+ghost use Rattle.l4_merge.specs.LocalTraces.{added_events};
 ghost use Rattle.l4_merge.specs.Merges.{EndsAt, IsMergedRun, HasMergedRun, HasTurnedRun};
 ghost use Rattle.l4_merge.specs.Merges.{HaveWholeRun, HasPasts, SortAsMerged, AreAtRest};
 ghost use Rattle.l4_merge.specs.Merges.{HasReorderedRun};
 ghost use Rattle.l4_merge.specs.Rounds.{IsInRounds, events_of};
 
-/// Let each processor keep a log, and handle the letters of each pair in the order of posting. Then
-/// the events of all logs, in order of stamp and processor, are those of a core run, and in each of
-/// them happened what its processor knows of it. The same holds of the events that they add to the
-/// end of a core run. The run is at rest exactly where each of them is and
-/// all letters are handled. Where they took only turns, the run goes on by turns, and no clock
-/// changes. Where one clock advanced, the run goes on by that tick. A bound on what each processor
-/// adds is a bound on its events in the run.
+/// Let each processor keep a log, and handle the letters from each other one in the order of
+/// posting. Then the events of all logs, in order of stamp and processor, are those of a core run.
+/// In each of them happened what its processor knows of it. The same holds of the events that the
+/// processors add to the end of a core run. The run is at rest exactly where each processor is and
+/// all letters are handled. Where the processors took only turns, the run goes on by turns, and no
+/// clock changes. Where one clock advanced, the run goes on by that tick. A bound on what each
+/// processor adds is a bound on its events in the run.
 pub fn law_merge()
-    ensures whole { (m : Machine) (pasts : List Past) → AreWholePasts m pasts →
+    ensures whole { (m : Machine) (pasts : List LocalTrace) → AreWholePasts m pasts →
         HaveWholeRun m pasts }
-    ensures sorted { (m : Machine) (pasts : List Past) → AreWholePasts m pasts →
+    ensures sorted { (m : Machine) (pasts : List LocalTrace) → AreWholePasts m pasts →
         SortAsMerged (all_events pasts) }
     ensures count { (es : List Event) → length (merged es) ≡ length es }
 
-    // No more is asked of them than is true of each core run.
+    // Each core run has pasts such as the laws here ask for.
     ensures pasts { (m : Machine) (r : Run) → IsCoreRun m r → HasPasts m r }
 
     ensures opening { (m : Machine) → EndsAt (opening_run m) (opening_pasts m) }
-    ensures goes_on { (m : Machine) (before : Run) (olds news : List Past) →
+    ensures goes_on { (m : Machine) (before : Run) (olds news : List LocalTrace) →
         EndsAt before olds → HaveWorked m olds news → HasMergedRun m before olds news }
-    ensures turns { (m : Machine) (before : Run) (olds news : List Past) →
+    ensures turns { (m : Machine) (before : Run) (olds news : List LocalTrace) →
         EndsAt before olds → HaveTurned m olds news → HasTurnedRun m before olds news }
-    ensures ticks { (m : Machine) (before : Run) (cpu clock : ℕ) (olds : List Past)
-        (old new : Past) → EndsAt before olds →
+    ensures ticks { (m : Machine) (before : Run) (cpu clock : ℕ) (olds : List LocalTrace)
+        (old new : LocalTrace) → EndsAt before olds →
         slice_get olds cpu ≡ Some old → HasTicked m cpu clock old new →
         EndsAt (attempts m before (Ticks cpu clock)) (changed (λ p. new) olds cpu) }
-    ensures clocks { (m : Machine) (cpu : ℕ) (old new : Past) → HasTurned m cpu old new →
+    ensures clocks { (m : Machine) (cpu : ℕ) (old new : LocalTrace) → HasTurned m cpu old new →
         new.local.clock ≡ old.local.clock }
-    ensures permuted { (m : Machine) (olds news : List Past) → HaveWorked m olds news →
+    ensures permuted { (m : Machine) (olds news : List LocalTrace) → HaveWorked m olds news →
         IsPermutation (all_events olds ++ merged (added_events olds news)) (all_events news) }
     ensures in_rounds { (m : Machine) (turns : ℕ) (r : Run) → IsInRounds m turns r → IsCoreRun m r }
-    ensures shares { (m : Machine) (most : ℕ) (before after : Run) (olds news : List Past) →
+    ensures shares { (m : Machine) (most : ℕ) (before after : Run) (olds news : List LocalTrace) →
         HaveWorked m olds news → IsMergedRun m before olds news after → AddAtMost most olds news →
         (cpu : ℕ) → events_of cpu after.events ≤ events_of cpu before.events + most }
-    ensures core_run { (m : Machine) (before after : Run) (olds news : List Past) →
+    ensures core_run { (m : Machine) (before after : Run) (olds news : List LocalTrace) →
         IsCoreRun m before → IsMergedRun m before olds news after → IsCoreRun m after }
-    ensures rest { (m : Machine) (pasts : List Past) (r : Run) → EndsAt r pasts →
+    ensures rest { (m : Machine) (pasts : List LocalTrace) (r : Run) → EndsAt r pasts →
         (at_rest m r.system ≡ true) ↔ AreAtRest m pasts }
 {}
 
-/// The events of any core run in order of stamp, however they are sorted, are those of a core run
-/// that ends in the same local states, with the same letters under way of each pair, and is at rest
-/// exactly where the first one is.
+/// The events of any core run in order of stamp, however they are sorted, are those of a core run.
+/// It ends in the same local states, with the same letters of each pair under way. It is at rest
+/// exactly where the first run is.
 pub fn law_reorder()
     ensures whole { (m : Machine) (r : Run) → IsCoreRun m r → HasReorderedRun m r }
     ensures sorted { (m : Machine) (r : Run) → IsCoreRun m r → SortAsMerged r.events }

@@ -8,8 +8,8 @@ use Rattle.l4_model.specs.Rules.{accepts, Act, act}
 
 -- Looking a thread or a send up
 
--- A thread: its place in the order of declaration, what the machine declares of it, what it is now, and
--- the clock of its processor.
+-- A thread: its place in the order of declaration, what the machine declares of it, what it is now,
+-- and the clock of its processor.
 pub record Found : Type 0 where
   pub at : ℕ
   pub declared : Declaration
@@ -20,7 +20,12 @@ abbrev pub found_at : Machine → World → ℕ → Option Found
 found_at m w i = do
   declared ← slice_get m.threads i
   now ← slice_get w.threads i
-  Some (record { at = i; declared = declared; now = now; clock = slice_index w.clocks declared.cpu })
+  Some (record {
+    at = i;
+    declared = declared;
+    now = now;
+    clock = slice_index w.clocks declared.cpu;
+  })
 
 -- A declared thread.
 abbrev pub found : Machine → World → GlobalId → Option Found
@@ -71,20 +76,23 @@ shows_accepted m from receiver (Some t) = shown_accepted t.send
 
 -- The first waiting send that a receive phase of this thread would accept, by its sender's place.
 abbrev pub first_accepted : Machine → World → Found → Id → Option ℕ
-first_accepted m w r from = find (λ i. shows_accepted m from r.declared.id (slice_get w.threads i)) (list_at w.waiting r.at)
+first_accepted m w r from = find (λ i. shows_accepted m from r.declared.id (slice_get w.threads i))
+    (list_at w.waiting r.at)
 
 -- It is not declared, or deleted.
 abbrev pub is_gone : Option Found → Bool
 is_gone None = true
 is_gone (Some t) = is_deleted t.now.phase
 
--- Non-existing partners (manual: Ipc, ErrorCode). Own: a local or undeclared id is one, and so is a deleted thread.
+-- Non-existing partners (manual: Ipc, ErrorCode). Own: a local or undeclared id is one, and so is a
+-- deleted thread.
 abbrev pub is_nobody : Id → Option Found → Bool
 is_nobody (LocalThread word) t = true
 is_nobody (GlobalThread id) t = is_gone t
 is_nobody _ t = false
 
--- Nobody can be sent to by anythread (manual: Ipc) or anylocalthread (own) either.
+-- An id is no destination where it is a non-existing partner, anythread (manual: Ipc) or
+-- anylocalthread (own).
 abbrev pub is_no_destination : Id → Option Found → Bool
 is_no_destination AnyThread t = true
 is_no_destination AnyLocalThread t = true
@@ -109,10 +117,12 @@ abbrev pub is_elsewhere : Machine → (caller : GlobalId) → Id → Bool
 is_elsewhere m caller (GlobalThread t) = is_declared m t && not (same_cpu m t caller)
 is_elsewhere m caller _ = false
 
--- The call that a receiver is in goes to another processor, and its receive phase would accept this sender.
+-- The call that a receiver is in goes to another processor, and its receive phase would accept this
+-- sender.
 abbrev pub call_accepts : Machine → Found → Option Send → GlobalId → Bool
 call_accepts m r None shown = false
-call_accepts m r (Some call) shown = is_elsewhere m r.declared.id call.to && receive_accepts m call.receive shown r.declared.id
+call_accepts m r (Some call) shown = is_elsewhere m r.declared.id call.to &&
+    receive_accepts m call.receive shown r.declared.id
 
 -- A receiver accepts this sender now, or may once its call is decided.
 abbrev pub may_still_accept : Machine → Found → GlobalId → Phase → Bool
@@ -120,13 +130,16 @@ may_still_accept m r shown (Receiving receive since) = accepts m receive.from sh
 may_still_accept m r shown Sending = call_accepts m r r.now.send shown
 may_still_accept m r shown _ = false
 
--- A send of timeout zero may be refused (manual: Ipc, send timeout; where is own): its receiver is alive, and neither waits and
--- accepts it nor is in a call between processors that would still accept it.
+-- A send of timeout zero may be refused (manual: Ipc, send timeout; the condition is own): its
+-- receiver is alive, and neither waits and accepts it nor is in a call between processors that
+-- would still accept it.
 abbrev pub is_refusable : Machine → Send → Option Found → Bool
 is_refusable m send None = false
-is_refusable m send (Some r) = is_alive r.now.phase && not (may_still_accept m r send.message.shown r.now.phase)
+is_refusable m send (Some r) = is_alive r.now.phase &&
+    not (may_still_accept m r send.message.shown r.now.phase)
 
--- A send may time out: of timeout zero where it may be refused, else where its period has passed and it waits in a list (own).
+-- A send may time out: of timeout zero where it may be refused, else where its period has passed
+-- and it waits in a list (own).
 abbrev pub is_timed_out : Machine → World → Pending → Bool
 is_timed_out m w p =
     has_passed p.send.period p.send.since p.sender.clock

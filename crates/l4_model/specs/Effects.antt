@@ -16,7 +16,11 @@ runs i t = record t { context = ran i t.context; phase = phase_after i }
 
 -- It begins a send (manual: Ipc, send phase).
 abbrev pub begins : Send → Thread → Thread
-begins send t = record t { context = record (advanced t.context) { begun = t.context.begun + 1 }; phase = Sending; send = Some send }
+begins send t = record t {
+  context = record (advanced t.context) { begun = t.context.begun + 1 };
+  phase = Sending;
+  send = Some send;
+}
 
 -- It begins a receive phase without a send (manual: Ipc, receive phase).
 abbrev pub waits : Receive → (now : ℕ) → Thread → Thread
@@ -24,7 +28,11 @@ waits receive now t = record t { context = advanced t.context; phase = Receiving
 
 -- Its ipc has failed (manual: Ipc). A deleted thread stays as it is (own).
 abbrev pub fails : ℕ → Thread → Thread
-fails code t = if is_alive t.phase then record t { context = failed code t.context; phase = Ready; cancel_receive = false } else t
+fails code t = if is_alive t.phase then record t {
+  context = failed code t.context;
+  phase = Ready;
+  cancel_receive = false;
+} else t
 
 -- Its send is decided, and no receive phase follows: no wish is left.
 abbrev pub decided : Thread → Thread
@@ -35,12 +43,20 @@ refused code t = fails code (decided t)
 
 -- It receives a message (manual: Ipc, receive phase).
 abbrev pub receives : Message → (tag : ℕ) → Thread → Thread
-receives message tag t = record t { context = received message tag t.context; phase = Ready; cancel_receive = false }
+receives message tag t = record t {
+  context = received message tag t.context;
+  phase = Ready;
+  cancel_receive = false;
+}
 
--- Its send was delivered: the receive phase of the same call begins at once (manual: Ipc, the switch from the one phase to the
--- other is atomic), with a wish that its receive phase be cancelled kept (own); or the ipc has ended.
+-- Its send was delivered. A call's receive phase begins at once (manual: Ipc, the switch from the
+-- one phase to the other is atomic) and keeps a wish `R` (own). Otherwise the ipc has ended.
 abbrev pub goes_on : Option Receive → (now : ℕ) → Thread → Thread
-goes_on (Some receive) now t = record t { phase = Receiving receive now; send = None; cancel_send = false }
+goes_on (Some receive) now t = record t {
+  phase = Receiving receive now;
+  send = None;
+  cancel_send = false;
+}
 goes_on None now t = record (decided t) { context = sent t.context; phase = Ready }
 
 abbrev pub delivered : Send → (now : ℕ) → Thread → Thread
@@ -55,41 +71,54 @@ has_receive_phase (Receiving receive since) send = true
 has_receive_phase Sending send = calls_to_receive send
 has_receive_phase _ send = false
 
--- It is asked for a cancellation (manual: ExchangeRegisters, `S` and `R`). Own: `S` makes a wish in a send phase; `R` makes one in a
--- receive phase and in the send phase of a call that has one. Else there is no effect.
+-- An order to cancel it is done (manual: ExchangeRegisters, `S` and `R`). Own: `S` leaves a wish in
+-- a send phase; `R` leaves one in a receive phase and in the send phase of a call. Else there is no
+-- effect.
+
 abbrev pub asked_send : Thread → Thread
 asked_send t = record t { cancel_send = t.cancel_send || is_sending t.phase }
 
 abbrev pub asked_receive : Thread → Thread
 asked_receive t = record t { cancel_receive = t.cancel_receive || has_receive_phase t.phase t.send }
 
--- It is asked for a cancellation, or it is deleted (manual: ThreadControl). Own: its registers stay, and its send goes on.
+-- An order to cancel it or to delete it (manual: ThreadControl) is done. Own: a deleted thread's
+-- registers stay, and its send goes on.
 abbrev pub asked : What → Thread → Thread
 asked CancelSend t = asked_send t
 asked CancelReceive t = asked_receive t
 asked CancelBoth t = asked_receive (asked_send t)
 asked Delete t = record t { phase = Deleted; cancel_receive = false }
 
--- It is the originator of a propagated message that was delivered (own, profile 2). A receive phase for the old partner alone, which it is in
--- or which follows the send that it is in, is then one for the new partner. Nothing else changes, and nothing where it is deleted.
+-- It is the originator of a propagated message that was delivered (own, profile 2). Its current
+-- receive phase, or the one after its send phase, turns to the new partner if it named the old one
+-- alone. Nothing else changes, and nothing where it is deleted.
+
 abbrev pub turned_receive : Owed → Receive → Receive
-turned_receive o receive = if is_id_of receive.from o.old_partner then record receive { from = GlobalThread o.new_partner } else receive
+turned_receive o receive = if is_id_of receive.from o.old_partner
+    then record receive { from = GlobalThread o.new_partner } else receive
 
 abbrev pub turned_send : Owed → Send → Send
 turned_send o send = record send { receive = option_map (turned_receive o) send.receive }
 
 abbrev pub turns_in : Phase → Owed → Thread → Thread
-turns_in (Receiving receive since) o t = record t { phase = Receiving (turned_receive o receive) since }
+turns_in (Receiving receive since) o t = record t {
+  phase =
+      Receiving (turned_receive o receive) since;
+}
 turns_in Sending o t = record t { send = option_map (turned_send o) t.send }
 turns_in _ o t = t
 
 abbrev pub turns : Owed → Thread → Thread
 turns o t = turns_in t.phase o t
 
--- It has asked for something, and waits until it is done.
+-- It has given an order, and waits until it is done.
 abbrev pub orders : Asked → Thread → Thread
 orders order t = record t { phase = Ordering; order = Some order }
 
--- What it asked for is done.
+-- The order that it gave is done.
 abbrev pub obeyed : Thread → Thread
-obeyed t = if is_alive t.phase then record t { context = ordered 0 t.context; phase = Ready; order = None } else record t { order = None }
+obeyed t = if is_alive t.phase then record t {
+  context = ordered 0 t.context;
+  phase = Ready;
+  order = None;
+} else record t { order = None }

@@ -1,4 +1,5 @@
--- A machine whose script writes words of a format alone has no other words, in any register or message.
+-- A machine whose script writes words of a format alone has no other words, in any register or
+-- message.
 use Rattle.std.specs.Prelude.{ℕ, ◌≡◌, Bool, true, ◌&&◌, Some, List, slice_get}
 use Rattle.std.specs.List.{list_all}
 use Rattle.l4_model.specs.Words.{Format, is_word_in, same_format}
@@ -6,7 +7,8 @@ use Rattle.l4_model.specs.Machine.{Instr, Set, Add, Tag, Declaration, Machine}
 use Rattle.l4_model.specs.World.{Thread, World}
 use Rattle.l4_model.specs.Steps.{Step, Deliver}
 
--- What an instruction writes into a register is a word of the format. All others write what is in a register already, or a tag.
+-- Whether an instruction writes only words of the format: `set` and `tag` write one, `add` adds in
+-- the format. All others write what is in a register already, or the tag of an ipc.
 abbrev pub writes_words : Format → Instr → Bool
 writes_words f (Set a word) = is_word_in f word
 writes_words f (Add format a word) = same_format format f
@@ -18,7 +20,8 @@ is_of_format f m = list_all (λ d. list_all (writes_words f) d.script) m.threads
 
 -- What a delivery tells are words of the format, its label with them.
 abbrev pub tells_words : Format → Step → Bool
-tells_words f (Deliver s receiver shown actual tag words) = is_word_in f tag && list_all (is_word_in f) words
+tells_words f (Deliver s receiver shown actual tag words) = is_word_in f tag &&
+    list_all (is_word_in f) words
 tells_words f _ = true
 
 abbrev pub has_words : Format → Thread → Bool
@@ -27,4 +30,5 @@ has_words f t = list_all (is_word_in f) t.context.words
 -- What a history tells, and the registers of the world that it reaches, are words of the format.
 pub record StaysIn (f : Format) (m : Machine) (h : List Step) (w : World) : Type 0 where
   pub told : list_all (tells_words f) h ≡ true
-  pub registers : (i : ℕ) (d : Declaration) (t : Thread) → slice_get m.threads i ≡ Some d → slice_get w.threads i ≡ Some t → has_words f t ≡ true
+  pub registers : (i : ℕ) (d : Declaration) (t : Thread) → slice_get m.threads i ≡ Some d →
+      slice_get w.threads i ≡ Some t → has_words f t ≡ true

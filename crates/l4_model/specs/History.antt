@@ -18,13 +18,15 @@ abbrev pub IsHistory : Machine → List Step → Type 0
 IsHistory m h = (w : World) × (reached m h ≡ Some w)
 
 -- The place, counted from 1, of the first step that is not possible.
+
 abbrev pub place_or_rest : Option World → ℕ → (World → Option ℕ) → Option ℕ
 place_or_rest None place rest = Some place
 place_or_rest (Some w) place rest = rest w
 
 abbrev pub refused_from : Machine → World → (place : ℕ) → List Step → Option ℕ
 refused_from m w place [] = None
-refused_from m w place (step ∷ steps) = place_or_rest (next m w step) place (λ v. refused_from m v (place + 1) steps)
+refused_from m w place (step ∷ steps) = place_or_rest (next m w step) place (λ v.
+    refused_from m v (place + 1) steps)
 
 abbrev pub refused_place : Machine → List Step → Option ℕ
 refused_place m h = refused_from m (opening m) 1 h
@@ -54,7 +56,7 @@ waiting_name m w step = do
   p ← undecided m w s
   Some (s, p.send.to)
 
--- The undecided sends of a world that these steps reach, in order of beginning.
+-- The undecided sends of a world that these steps reach, in a list or not, in order of beginning.
 abbrev pub waiting : Machine → World → List Step → List (Name × Id)
 waiting m w h = filter_map (waiting_name m w) h
 
@@ -85,7 +87,14 @@ pub record Report : Type 0 where
 
 abbrev pub report_of : GlobalId → Thread → Report
 report_of id t =
-    record { id = id; state = state_of t.phase; error = t.context.error; from = t.context.from; actual = t.context.actual; words = t.context.words }
+    record {
+      id = id;
+      state = state_of t.phase;
+      error = t.context.error;
+      from = t.context.from;
+      actual = t.context.actual;
+      words = t.context.words;
+    }
 
 abbrev pub view : Machine → World → List Report
 view m w = map (λ p. report_of p.0 p.1) (zip (map (λ d. d.id) m.threads) w.threads)

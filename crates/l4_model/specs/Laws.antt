@@ -15,6 +15,7 @@ names s None = false
 names s (Some t) = same_name s t
 
 -- The send that a step delivers, refuses, drops or queues.
+
 abbrev pub delivered_name : Step → Option Name
 delivered_name (Deliver s receiver shown actual tag words) = Some s
 delivered_name _ = None
@@ -34,6 +35,7 @@ queued_name (Queue s) = Some s
 queued_name _ = None
 
 -- In how many steps a send is begun, delivered, refused or dropped.
+
 abbrev pub begins_of : Name → List Step → ℕ
 begins_of s h = count_by (λ step. names s (begun_name step)) h
 
@@ -56,7 +58,8 @@ AtMostOnce h = (s : Name) → deliveries_of s h ≤ 1
 
 -- The numbers of the sends of one thread that one receiver gets, in order of delivery.
 abbrev pub number_between : GlobalId → GlobalId → Step → Option ℕ
-number_between from to (Deliver s receiver shown actual tag words) = if same_id from s.thread && same_id to receiver then Some s.k else None
+number_between from to (Deliver s receiver shown actual tag words) = if same_id from s.thread &&
+    same_id to receiver then Some s.k else None
 number_between from to _ = None
 
 abbrev pub IsRising : List ℕ → Type 0
@@ -72,30 +75,36 @@ abbrev pub message_at : Machine → World → GlobalId → Option Message
 message_at m w id = found m w id >>= λ t. Some (message_of m id t.now.context)
 
 -- What a delivery shows is this message: its label, its words, and its senders.
-pub record Carries (message : Message) (shown actual : GlobalId) (tag : ℕ) (words : List ℕ) : Type 0 where
+pub record Carries (message : Message) (shown actual : GlobalId) (tag : ℕ) (words : List ℕ) :
+    Type 0 where
   pub same_label : (tag_of_word tag).label ≡ message.label
   pub same_words : words ≡ message.words
   pub same_shown : shown ≡ message.shown
   pub same_actual : actual ≡ message.actual
 
--- The message of a send: what stands in its thread's registers at the step that begins it. None where no such step is reached.
+-- The message of a send: what stands in its thread's registers at the step that begins it. None
+-- where no such step is reached.
 abbrev pub message_begun : Machine → World → Name → List Step → Option Message
 message_begun m w s [] = None
 message_begun m w s (step ∷ steps) =
-    if names s (begun_name step) then message_at m w s.thread else (next m w step >>= λ v. message_begun m v s steps)
+    if names s (begun_name step) then message_at m w s.thread
+    else (next m w step >>= λ v. message_begun m v s steps)
 
--- Before each delivery stands the step that began its send, and what is delivered is what stood in the sender's registers there.
+-- Before each delivery stands the step that began its send, and what is delivered is what stood in
+-- the sender's registers there.
 abbrev pub IsUnaltered : Machine → List Step → Type 0
 IsUnaltered m h =
-    (before after : List Step) (s : Name) (receiver shown actual : GlobalId) (tag : ℕ) (words : List ℕ) →
+    (before after : List Step) (s : Name) (receiver shown actual : GlobalId) (tag : ℕ)
+    (words : List ℕ) →
     h ≡ before ++ Deliver s receiver shown actual tag words ∷ after →
-    IsSomeAnd (message_begun m (opening m) s before) (λ message. Carries message shown actual tag words)
+    IsSomeAnd (message_begun m (opening m) s before) (λ message.
+    Carries message shown actual tag words)
 
 -- The sends that were queued before this one.
 abbrev pub queued_before : Name → List Step → List Name
 queued_before s h = before_first (same_name s) (filter_map queued_name h)
 
--- A send is undecided, was sent to this thread, and is one that it waits for.
+-- An undecided send to this thread that its current receive phase accepts.
 abbrev pub is_awaited : Machine → World → GlobalId → Name → Bool
 is_awaited m w receiver s = is_some (do
   p ← undecided m w s
@@ -108,7 +117,8 @@ is_awaited m w receiver s = is_some (do
 -- A receiver takes the first that it accepts, in order of arrival.
 abbrev pub TakesTurns : Machine → List Step → Type 0
 TakesTurns m h =
-    (before after : List Step) (s : Name) (receiver shown actual : GlobalId) (tag : ℕ) (words : List ℕ) (w : World) →
+    (before after : List Step) (s : Name) (receiver shown actual : GlobalId) (tag : ℕ)
+    (words : List ℕ) (w : World) →
     h ≡ before ++ Deliver s receiver shown actual tag words ∷ after → reached m before ≡ Some w →
     AllByRecursion (λ t. is_awaited m w receiver t ≡ false) (queued_before s before)
 
@@ -124,28 +134,31 @@ undone m w caller = found m w caller >>= λ t. t.now.order
 abbrev pub NoneAfterDelete : Machine → List Step → Type 0
 NoneAfterDelete m h =
     (before after : List Step) (caller target : GlobalId) (w : World) →
-    h ≡ before ++ Obey caller ∷ after → reached m before ≡ Some w → undone m w caller ≡ Some (record { target = target; what = Delete }) →
+    h ≡ before ++ Obey caller ∷ after → reached m before ≡ Some w →
+    undone m w caller ≡ Some (record { target = target; what = Delete }) →
     AllByRecursion (λ step. is_delivered_to target step ≡ false) after
 
 -- A declared thread begins a send, at most once; it ends at most once, and not before it began.
 pub record IsBegunThenEnded (m : Machine) (h : List Step) (s : Name) : Type 0 where
   pub begun_once : begins_of s h ≤ 1
   pub by_declared : 0 < begins_of s h → is_declared m s.thread ≡ true
-  pub begun_first : (before after : List Step) → h ≡ before ++ after → ends_of s before ≤ begins_of s before
+  pub begun_first : (before after : List Step) → h ≡ before ++ after →
+      ends_of s before ≤ begins_of s before
 
 abbrev pub AreBegunThenEnded : Machine → List Step → Type 0
 AreBegunThenEnded m h = (s : Name) → IsBegunThenEnded m h s
 
--- A send that began has ended or waits: one of these, and once.
+-- A begun send either has ended, exactly once, or is undecided.
 abbrev pub IsAccounted : Machine → List Step → World → Name → Type 0
 IsAccounted m h w s = ends_of s h + count_by (λ p. same_name s p.0) (waiting m w h) ≡ begins_of s h
 
 abbrev pub AreAccounted : Machine → List Step → Type 0
 AreAccounted m h = (w : World) → reached m h ≡ Some w → (s : Name) → IsAccounted m h w s
 
--- The laws of a history. What is delivered was begun, and each send is delivered at most once and unaltered, one sender's messages
--- reach one receiver in sending order, a receive takes its first acceptable waiting sender, a deleted thread receives nothing, and
--- every other begun send is refused, dropped with its deleted sender, or listed waiting.
+-- The laws of a history. What is delivered was begun. Each send is delivered at most once and
+-- unaltered. One sender's messages reach one receiver in sending order. A receive takes its first
+-- acceptable waiting sender. A deleted thread receives nothing. Every other begun send is refused,
+-- dropped with its deleted sender, or undecided.
 pub record IsLawful (m : Machine) (h : List Step) : Type 0 where
   pub delivered_at_most_once : AtMostOnce h
   pub delivered_unaltered : IsUnaltered m h

@@ -7,16 +7,16 @@ pub data To : Type 0 where
   ToId : Id → To
   ToLast : To
 
--- What one thread may ask of another: a cancellation, by the bits S and R of the control word (manual: ExchangeRegisters), or a
--- deletion (manual: ThreadControl).
+-- What one thread may ask of another: a cancellation, by the bits S and R of the control word
+-- (manual: ExchangeRegisters), or a deletion (manual: ThreadControl).
 pub data What : Type 0 where
   CancelSend : What
   CancelReceive : What
   CancelBoth : What
   Delete : What
 
--- One instruction of a script. `Add` has the format of its text, whose words it counts by. `Vs` writes VirtualSender, `Ask` is an
--- ExchangeRegisters or a deletion.
+-- One instruction of a script. `Add` has the format of its text, whose words it counts by. `Vs`
+-- writes VirtualSender, `Ask` is an ExchangeRegisters or a deletion.
 pub data Instr : Type 0 where
   Set : (a word : ℕ) → Instr
   Copy : (a b : ℕ) → Instr
@@ -36,14 +36,15 @@ pub record Declaration : Type 0 where
   pub space : ℕ
   pub script : List Instr
 
--- A machine: whether its profile is 2, where an originator's waiting follows its message (own); the number of its processors; and its threads
--- in order of declaration.
+-- A machine: whether its profile is 2, with retargets (own); the number of its processors; and its
+-- threads in order of declaration.
 pub record Machine : Type 0 where
   pub retargeting : Bool
   pub cpus : ℕ
   pub threads : List Declaration
 
 -- A machine of profile 1, and one of profile 2.
+
 abbrev pub machine_of : (cpus : ℕ) → List Declaration → Machine
 machine_of cpus threads = record { retargeting = false; cpus = cpus; threads = threads }
 
@@ -51,6 +52,7 @@ abbrev pub retargeting_machine_of : (cpus : ℕ) → List Declaration → Machin
 retargeting_machine_of cpus threads = record { retargeting = true; cpus = cpus; threads = threads }
 
 -- How many processors and threads a machine has at most, and how many instructions a script (own).
+
 abbrev pub most_processors : ℕ
 most_processors = 16
 

@@ -1,7 +1,8 @@
 -- Going on with a value that may not be there.
 use Rattle.std.specs.Prelude.{Bool, true, false, Option, Some, None}
 
--- In a `do` block a line `x ← o` goes on where o has a value, and a line that is a test goes on where it is true.
+-- In a `do` block a line `x ← o` goes on where o has a value, and a line that is a test goes on
+-- where it is true.
 infixl 10 ◌>>=◌
 abbrev pub ◌>>=◌ : {A B : Type 0} → Option A → (A → Option B) → Option B
 None >>= f = None

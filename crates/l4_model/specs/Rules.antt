@@ -1,13 +1,16 @@
--- What an instruction, a message and a failure do to the registers of a thread, and what an instruction asks for.
+-- What an instruction, a message and a failure do to the registers of a thread, and what an
+-- instruction asks for.
 use Rattle.std.specs.Prelude.{ℕ, ◌+◌, ◌*◌, ◌/◌, ◌%◌, ◌^◌, Bool, if◌then◌else◌, ◌==◌, not, ◌&&◌, false, Option, Some, None, is_some, unwrap_or, true, ◌∷◌, ◌++◌, take, drop, length, slice_index, slice_set}
 use Rattle.l4_model.specs.Words.{word_limit, GlobalId, Id, NilThread, AnyThread, AnyLocalThread, LocalThread, GlobalThread, same_id, Period}
 use Rattle.l4_model.specs.Machine.{Tag, To, ToId, ToLast, What, Delete, Instr, Set, Copy, Add, Vs, Ipc, Ask, Jump, OnErr, End, Machine, is_declared, same_space, same_cpu}
 use Rattle.l4_model.specs.World.{Name, Context, Receive, Message, Send, Asked, Owed}
 
--- Who is accepted (manual: Ipc, `FromSpecifier`): anythread takes every sender, anylocalthread those of the receiver's address
--- space, a global id that sender alone. What is compared is the sender that the message shows.
+-- Who is accepted (manual: Ipc, `FromSpecifier`): anythread takes every sender, anylocalthread
+-- those of the receiver's address space, a global id that sender alone. What is compared is the
+-- sender that the message shows.
 
--- A receive phase with this specifier takes a sender that is shown so, of the receiver's space or not.
+-- A receive phase with this specifier takes a sender that is shown so, of the receiver's space or
+-- not.
 abbrev pub takes : Id → (shown : GlobalId) → (local : Bool) → Bool
 takes AnyThread shown local = true
 takes AnyLocalThread shown local = local
@@ -19,7 +22,8 @@ takes (LocalThread word) shown local = false
 abbrev pub accepts : Machine → Id → (shown receiver : GlobalId) → Bool
 accepts m from shown receiver = takes from shown (same_space m shown receiver)
 
--- What happens to a context (manual: Ipc, output parameters). Registers change only when the operation ends (own).
+-- What happens to a context (manual: Ipc, output parameters). Registers change only when the
+-- operation ends (own).
 
 abbrev pub register : Context → ℕ → ℕ
 register c a = slice_index c.words a
@@ -27,12 +31,13 @@ register c a = slice_index c.words a
 abbrev pub with_register : ℕ → ℕ → Context → Context
 with_register a word c = record c { words = slice_set c.words a word }
 
--- The next instruction is at hand.
+-- The script goes on at the next instruction.
 abbrev pub advanced : Context → Context
 advanced c = record c { place = c.place + 1 }
 
--- The ErrorCodes (manual: Ipc, ErrorCode). Bit 0 is the phase that failed, 0 for send and 1 for receive; bits 1 to 3 are the cause:
--- 1 timeout, 2 non-existing partner, 3 cancelled.
+-- The ErrorCodes (manual: Ipc, ErrorCode). Bit 0 is the phase that failed, 0 for send and 1 for
+-- receive; bits 1 to 3 are the cause: 1 timeout, 2 non-existing partner, 3 cancelled.
+
 abbrev pub send_timeout_code : ℕ
 send_timeout_code = 2
 
@@ -51,7 +56,7 @@ send_cancelled_code = 6
 abbrev pub receive_cancelled_code : ℕ
 receive_cancelled_code = 7
 
--- Of an order that is not done (own).
+-- The ErrorCode of an order that is not admitted (own).
 abbrev pub order_refused_code : ℕ
 order_refused_code = 2
 
@@ -63,17 +68,25 @@ failed code c = record c { words = slice_set c.words 0 0x8000; error = code; fro
 abbrev pub sent : Context → Context
 sent c = record c { words = slice_set c.words 0 0; error = 0; from = NilThread }
 
--- An ipc received a message: `from` is the sender that it shows, ActualSender the one that sent it. Own: this is written of an
--- ordinary message too, and registers past its words keep their contents.
+-- An ipc received a message: `from` is the sender that it shows, ActualSender the one that sent it.
+-- Own: this is written of an ordinary message too, and registers past its words keep their
+-- contents.
 abbrev pub received : Message → (mr0 : ℕ) → Context → Context
 received message mr0 c =
-    record c { words = mr0 ∷ message.words ++ drop (1 + length message.words) c.words; error = 0; from = GlobalThread message.shown; actual = GlobalThread message.actual }
+    record c {
+      words = mr0 ∷ message.words ++ drop (1 + length message.words) c.words;
+      error = 0;
+      from = GlobalThread message.shown;
+      actual = GlobalThread message.actual;
+    }
 
--- An order (manual: ExchangeRegisters, ThreadControl) was done, ErrorCode 0, or refused (the codes are own).
+-- An order (manual: ExchangeRegisters, ThreadControl) was done, ErrorCode 0, or refused (the codes
+-- are own).
 abbrev pub ordered : ℕ → Context → Context
 ordered code c = advanced (record c { error = code })
 
--- An instruction was run that concerns nobody else. An ipc is then one without phases (manual: Ipc), and an order is refused.
+-- An instruction was run that concerns nobody else. An ipc is then one without phases (manual:
+-- Ipc), and an order is refused.
 abbrev pub ran : Instr → Context → Context
 ran (Set a word) c = advanced (with_register a word c)
 ran (Copy a b) c = advanced (with_register a (register c b) c)
@@ -104,19 +117,23 @@ abbrev pub receive_phase : Id → Period → Option Receive
 receive_phase NilThread period = None
 receive_phase from period = Some (record { from = from; period = period })
 
--- Propagation (manual: Messages and Message Registers, `p`; Ipc, VirtualSender). An originator is permitted where it is a declared thread of
--- the sender's space, on no other ground (own).
+-- Propagation (manual: Messages and Message Registers, `p`; Ipc, VirtualSender)
+
+-- An originator is permitted where it is a declared thread of the sender's space, on no other
+-- ground (own).
 abbrev pub permitted : Machine → GlobalId → Id → Option GlobalId
 permitted m sender (GlobalThread t) = if same_space m t sender then Some t else None
 permitted m sender _ = None
 
--- The originator of a propagated send: bit 12 of MR0 asks for propagation, VirtualSender names the originator. The other flags
--- of a tag that is sent, bits 13 to 15, are ignored (own).
+-- The originator of a propagated send: bit 12 of MR0 asks for propagation, VirtualSender names the
+-- originator. The other flags of a tag that is sent, bits 13 to 15, are ignored (own).
 abbrev pub originator : Machine → GlobalId → Context → Option GlobalId
-originator m sender c = if (register c 0 / 2 ^ 12) % 2 == 1 then permitted m sender c.actual else None
+originator m sender c = if (register c 0 / 2 ^ 12) % 2 == 1
+    then permitted m sender c.actual else None
 
--- The message of a send that begins now (manual: Messages and Message Registers). Where propagation is not asked for or not permitted, the
--- sender is shown; that it then goes as an ordinary message is own.
+-- The message of a send that begins now (manual: Messages and Message Registers). Where propagation
+-- is not asked for or not permitted, the sender is shown; that it then goes as an ordinary message
+-- is own.
 abbrev pub message_of : Machine → GlobalId → Context → Message
 message_of m sender c =
     record {
@@ -130,27 +147,35 @@ message_of m sender c =
 -- The request of a send that begins now.
 abbrev pub request : Machine → GlobalId → (now : ℕ) → Context → Id → Period → Option Receive → Send
 request m sender now c to period receive =
-    record { to = to; message = message_of m sender c; period = period; since = now; receive = receive }
+    record {
+      to = to;
+      message = message_of m sender c;
+      period = period;
+      since = now;
+      receive = receive;
+    }
 
--- An ipc has a send phase unless its destination is nilthread, and then a receive phase unless its specifier is nilthread
--- (manual: Ipc).
+-- An ipc has a send phase unless its destination is nilthread, and then a receive phase unless its
+-- specifier is nilthread (manual: Ipc).
 abbrev pub ipc_act : Machine → GlobalId → (now : ℕ) → Context → Id → Period → Option Receive → Act
 ipc_act m sender now c NilThread period None = RunsAlone
 ipc_act m sender now c NilThread period (Some receive) = Receives receive
 ipc_act m sender now c to period receive = Sends (request m sender now c to period receive)
 
--- An order is admitted where its target is declared, and for a cancellation of the caller's space. Own: any thread may delete (in
--- the manual, ThreadControl, a privileged one alone).
+-- An order is admitted where its target is declared, and for a cancellation of the caller's space.
+-- Own: any thread may delete (in the manual, ThreadControl, a privileged one alone).
 abbrev pub is_admitted : Machine → GlobalId → GlobalId → What → Bool
 is_admitted m caller target Delete = is_declared m target
 is_admitted m caller target _ = same_space m caller target
 
 abbrev pub ask_act : Machine → GlobalId → Id → What → Act
-ask_act m caller (GlobalThread t) what = if is_admitted m caller t what then Orders (record { target = t; what = what }) else RunsAlone
+ask_act m caller (GlobalThread t) what = if is_admitted m caller t what
+    then Orders (record { target = t; what = what }) else RunsAlone
 ask_act m caller _ what = RunsAlone
 
 abbrev pub act : Machine → GlobalId → (now : ℕ) → Context → Instr → Act
-act m t now c (Ipc to from send_period receive_period) = ipc_act m t now c (destination c to) send_period (receive_phase from receive_period)
+act m t now c (Ipc to from send_period receive_period) =
+    ipc_act m t now c (destination c to) send_period (receive_phase from receive_period)
 act m t now c (Ask target what) = ask_act m t target what
 act m t now c _ = RunsAlone
 
@@ -159,19 +184,27 @@ act m t now c _ = RunsAlone
 abbrev pub bit : Bool → ℕ
 bit b = if b then 1 else 0
 
--- The tag that a receiver gets (manual: Messages and Message Registers, MsgTag): the label, `p` and `u` of the message, and `X`
--- where it comes from another processor. `r` and `E` are clear.
+-- The tag that a receiver gets (manual: Messages and Message Registers, MsgTag): the label, `p` and
+-- `u` of the message, and `X` where it comes from another processor. `r` and `E` are clear.
 abbrev pub received_tag : (cross : Bool) → Message → ℕ
 received_tag cross message =
-    message.label * 2 ^ 16 + bit cross * 2 ^ 14 + bit message.propagated * 2 ^ 12 + length message.words
+    message.label * 2 ^ 16 + bit cross * 2 ^ 14 + bit message.propagated * 2 ^ 12 +
+    length message.words
 
--- The retarget that the delivery of a send leaves owed: at a machine of profile 2, of a propagated message (own).
+-- The retarget that the delivery of a send leaves owed: at a machine of profile 2, of a propagated
+-- message (own).
 abbrev pub owed_by : Machine → Name → Message → (receiver : GlobalId) → Option Owed
 owed_by m s message receiver =
     if m.retargeting && message.propagated
-    then Some (record { send = s; originator = message.shown; old_partner = message.actual; new_partner = receiver })
+    then Some (record {
+      send = s;
+      originator = message.shown;
+      old_partner = message.actual;
+      new_partner = receiver;
+    })
     else None
 
--- A message comes from another processor: the one that sent it, and not the originator, is on another (own).
+-- Whether the actual sender, not the originator, belongs to another processor than the receiver
+-- (own).
 abbrev pub is_cross : Machine → GlobalId → Message → Bool
 is_cross m receiver message = not (same_cpu m message.actual receiver)

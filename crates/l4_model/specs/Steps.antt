@@ -8,8 +8,8 @@ use Rattle.l4_model.specs.Rules.{Act, RunsAlone, Sends, Receives, Orders, receiv
 use Rattle.l4_model.specs.Effects.{runs, begins, waits, fails, decided, refused, receives, delivered, asked, orders, obeyed, turns}
 use Rattle.l4_model.specs.Conditions.{◌>>=◌, ◌>>◌, Found, found, found_by, Pending, undecided, receiver_of, instruction, act_of, is_waiting, first_accepted, is_nobody, is_no_destination, has_passed, is_timed_out}
 
--- What a history tells: a step for each change of a phase, a send, an order or a clock, and `Local` where a thread runs an
--- instruction that has none of these.
+-- What a history tells: a step for each change of a phase, a send, an order or a clock, and `Local`
+-- where a thread runs an instruction that has none of these.
 pub data Step : Type 0 where
   Local : GlobalId → Step
   Begin : Name → Step
@@ -68,7 +68,8 @@ after_begin m w s = do
   send ← send_of (act_of m t)
   Some (change w t.at (begins send))
 
--- An undecided send is appended to the list of its destination. Not while the destination owes it to turn to the sender (own, profile 2).
+-- An undecided send is appended to the list of its destination. Not while a retarget of the
+-- destination to this sender is owed (own, profile 2).
 abbrev pub after_queue : Machine → World → Name → Option World
 after_queue m w s = do
   p ← undecided m w s
@@ -82,9 +83,11 @@ after_queue m w s = do
 abbrev pub owing : Option Owed → World → World
 owing o w = record w { owed = one_more o w.owed }
 
--- The receiver waits, the send is the first in its list that it accepts, and the message is as it was sent (manual: Ipc). In the same
--- step the sender goes on, and a retarget may be owed (own, profile 2).
-abbrev pub after_deliver : Machine → World → Name → (receiver shown actual : GlobalId) → (tag : ℕ) → (words : List ℕ) → Option World
+-- The receiver waits, the send is the first in its list that it accepts, and the message is as it
+-- was sent (manual: Ipc). In the same step the sender goes on, and a retarget may be owed (own,
+-- profile 2).
+abbrev pub after_deliver : Machine → World → Name → (receiver shown actual : GlobalId) → (tag : ℕ) →
+    (words : List ℕ) → Option World
 after_deliver m w s receiver shown actual tag words = do
   p ← undecided m w s
   r ← receiver_of m w p
@@ -96,7 +99,9 @@ after_deliver m w s receiver shown actual tag words = do
   same_id actual p.send.message.actual
   tag == received_tag (is_cross m receiver p.send.message) p.send.message
   bytes_eq words p.send.message.words
-  Some (owing (owed_by m s p.send.message receiver) (change (change (unqueued w p.sender.at) r.at (receives p.send.message tag)) p.sender.at (delivered p.send p.sender.clock)))
+  Some (owing (owed_by m s p.send.message receiver)
+      (change (change (unqueued w p.sender.at) r.at (receives p.send.message tag)) p.sender.at
+      (delivered p.send p.sender.clock)))
 
 -- A thread begins a receive phase without a send phase (manual: Ipc, receive phase).
 abbrev pub after_wait : Machine → World → GlobalId → Option World
@@ -106,11 +111,12 @@ after_wait m w id = do
   receive ← receive_of (act_of m t)
   Some (change w t.at (waits receive t.clock))
 
--- A send is decided without a delivery: it leaves its list, and this becomes of its sender.
+-- A send ends without delivery: it leaves its list, and the function given changes its sender.
 abbrev pub without_send : World → Pending → (Thread → Thread) → World
 without_send w p f = change (unqueued w p.sender.at) p.sender.at f
 
--- A send is refused since its time is over (manual: Ipc, Time). Like `queue`, not while it must wait (own, profile 2).
+-- A send is refused since its time is over (manual: Ipc, Time). Like `queue`, not while a retarget
+-- holds it back (own, profile 2).
 abbrev pub after_send_timeout : Machine → World → Name → Option World
 after_send_timeout m w s = do
   p ← undecided m w s
@@ -118,7 +124,7 @@ after_send_timeout m w s = do
   not (must_wait w.owed s.thread p.send.to)
   Some (without_send w p (refused send_timeout_code))
 
--- A send is refused since nobody is there. Not while it must wait (own, profile 2).
+-- A send is refused since nobody is there. Not while a retarget holds it back (own, profile 2).
 abbrev pub after_send_nobody : Machine → World → Name → Option World
 after_send_nobody m w s = do
   p ← undecided m w s
@@ -147,7 +153,8 @@ abbrev pub receive_passed : Found → Phase → Bool
 receive_passed t (Receiving receive since) = has_passed receive.period since t.clock
 receive_passed t _ = false
 
--- A receive phase is over since its time is (manual: Ipc, Time), and no message that it accepts waits (own).
+-- A receive phase is over since its time is (manual: Ipc, Time), and no message that it accepts
+-- waits (own).
 abbrev pub after_receive_timeout : Machine → World → GlobalId → Option World
 after_receive_timeout m w id = do
   t ← found m w id
@@ -173,7 +180,8 @@ after_receive_cancel m w id = do
   t.now.cancel_receive
   Some (change w t.at (fails receive_cancelled_code))
 
--- A thread asks for a cancellation or a deletion (manual: ExchangeRegisters, ThreadControl), and waits until it is done.
+-- A thread asks for a cancellation or a deletion (manual: ExchangeRegisters, ThreadControl), and
+-- waits until it is done.
 abbrev pub after_order : Machine → World → (caller target : GlobalId) → What → Option World
 after_order m w caller target what = do
   t ← found m w caller
@@ -190,7 +198,8 @@ after_obey m w caller = do
   target ← place_of m order.target
   Some (change (change w target (asked order.what)) t.at obeyed)
 
--- The originator of a delivered send turns to the thread that received it, and no longer owes it (own, profile 2). It is always declared.
+-- The originator of a delivered send turns to the thread that received it, and no longer owes it
+-- (own, profile 2). It is always declared.
 abbrev pub after_retarget : Machine → World → Name → Option World
 after_retarget m w s = do
   o ← owed_of w.owed s
@@ -209,7 +218,8 @@ abbrev pub next : Machine → World → Step → Option World
 next m w (Local t) = after_local m w t
 next m w (Begin s) = after_begin m w s
 next m w (Queue s) = after_queue m w s
-next m w (Deliver s receiver shown actual tag words) = after_deliver m w s receiver shown actual tag words
+next m w (Deliver s receiver shown actual tag words) =
+    after_deliver m w s receiver shown actual tag words
 next m w (Wait t) = after_wait m w t
 next m w (SendTimeout s) = after_send_timeout m w s
 next m w (ReceiveTimeout t) = after_receive_timeout m w t

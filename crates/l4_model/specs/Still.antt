@@ -17,10 +17,12 @@ is_tick _ = false
 abbrev pub IsStill : Machine → World → Type 0
 IsStill m w =
     (ticks : List Step) (later : World) (step : Step) →
-    AllByRecursion (λ tick. is_tick tick ≡ true) ticks → run m w ticks ≡ Some later → is_tick step ≡ false →
+    AllByRecursion (λ tick. is_tick tick ≡ true) ticks → run m w ticks ≡ Some later →
+    is_tick step ≡ false →
     next m later step ≡ None
 
--- A test of it: with every clock at its last value, none of the steps that a thread could be in for is possible, and no owed retarget.
+-- A test of it: with every clock at its last value, no candidate step of a thread and no owed
+-- retarget is possible.
 
 abbrev pub deliveries : Machine → World → Option Pending → Name → List Step
 deliveries m w None s = []
@@ -28,7 +30,9 @@ deliveries m w (Some p) s = at (receiver_of m w p)
   where
     at : Option Found → List Step
     at None = []
-    at (Some r) = Deliver s r.declared.id p.send.message.shown p.send.message.actual (received_tag (is_cross m r.declared.id p.send.message) p.send.message) p.send.message.words ∷ []
+    at (Some r) = Deliver s r.declared.id p.send.message.shown p.send.message.actual
+        (received_tag (is_cross m r.declared.id p.send.message) p.send.message)
+        p.send.message.words ∷ []
 
 abbrev pub orders : GlobalId → Option Asked → List Step
 orders caller None = []
@@ -36,7 +40,10 @@ orders caller (Some order) = Order caller order.target order.what ∷ []
 
 abbrev pub candidates : Machine → World → Option Found → List Step
 candidates m w None = []
-candidates m w (Some t) = all t.declared.id (record { thread = t.declared.id; k = t.now.context.begun })
+candidates m w (Some t) = all t.declared.id (record {
+  thread = t.declared.id;
+  k = t.now.context.begun;
+})
   where
     all : GlobalId → Name → List Step
     all id last =
@@ -52,4 +59,5 @@ abbrev pub is_still_thread : Machine → World → GlobalId → Bool
 is_still_thread m w id = list_all (λ step. is_none (next m w step)) (candidates m w (found m w id))
 
 abbrev pub is_still : Machine → World → Bool
-is_still m w = list_all (λ d. is_still_thread m (late w) d.id) m.threads && list_all (λ o. is_none (next m (late w) (Retarget o.send))) w.owed
+is_still m w = list_all (λ d. is_still_thread m (late w) d.id) m.threads &&
+    list_all (λ o. is_none (next m (late w) (Retarget o.send))) w.owed

@@ -1,5 +1,6 @@
--- The ids, tags and times of the manual (X.2), and the words that stand for them in its two formats. A section of the
--- manual is named by its title; a rule that names none is this project's own, and so is what is marked own beside one.
+-- The ids, tags and times of the manual (X.2), and the words that stand for them in its two
+-- formats. A section of the manual is named by its title; a rule that names none is this project's
+-- own, and so is what is marked own beside one.
 use Rattle.std.specs.Prelude.{ℕ, ◌+◌, ◌*◌, ◌/◌, ◌%◌, ◌^◌, ◌-◌, Bool, true, false, if◌then◌else◌, ◌==◌, not, ◌&&◌, nat_lt, Option, Some, None}
 
 -- The formats of words (manual: ThreadId, MsgTag): of 64 bits, and of 32.
@@ -20,8 +21,9 @@ same_format W64 W64 = true
 same_format W32 W32 = true
 same_format f g = false
 
--- In the word of a global id the thread number stands above the version (manual: ThreadId), each below these limits: 32 bits and 32 bits,
--- or 18 bits and 14 bits.
+-- In the word of a global id the thread number stands above the version (manual: ThreadId), each
+-- below these limits: 32 bits and 32 bits, or 18 bits and 14 bits.
+
 abbrev pub number_limit : Format → ℕ
 number_limit W64 = 2 ^ 32
 number_limit W32 = 2 ^ 18
@@ -35,8 +37,8 @@ pub record GlobalId : Type 0 where
   pub number : ℕ
   pub version : ℕ
 
--- Any thread id (manual: ThreadId), one value whatever the format of words. A local id has no other meaning here than
--- its word: it names nobody, and has the same word in both formats.
+-- Any thread id (manual: ThreadId), one value whatever the format of words. A local id has no other
+-- meaning here than its word: it names nobody, and has the same word in both formats.
 pub data Id : Type 0 where
   NilThread : Id
   AnyThread : Id
@@ -55,21 +57,23 @@ is_id_of _ thread = false
 abbrev pub global_id : (number version : ℕ) → GlobalId
 global_id number version = record { number = number; version = version }
 
--- Which numbers make a global id of a format (manual: ThreadId): those that have room in its word, where the low six bits of the
--- version are not all zero. The word of all ones is anythread.
+-- Which numbers make a global id of a format (manual: ThreadId): those that have room in its word,
+-- where the low six bits of the version are not all zero. The word of all ones is anythread.
 abbrev pub is_global_in : Format → GlobalId → Bool
 is_global_in f t =
-    nat_lt t.number (number_limit f) && nat_lt t.version (version_limit f) && not (t.version % 64 == 0)
+    nat_lt t.number (number_limit f) && nat_lt t.version (version_limit f) &&
+    not (t.version % 64 == 0)
     && not (t.number == number_limit f - 1 && t.version == version_limit f - 1)
 
--- Those of 32 bits are some of those of 64 bits, which are all that there are.
+-- Every global id of 32 bits is one of 64 bits, so the 64-bit rule defines them all.
 abbrev pub is_global : GlobalId → Bool
 is_global t = is_global_in W64 t
 
--- Which ids have a word of a format. The words of 0xffffffc0 and of all ones are no local and no global id of 32 bits, though both are ids of
--- 64 bits: they are anylocalthread and anythread.
+-- Which ids have a word of a format. In 32 bits 0xffffffc0 is anylocalthread and 0xffffffff is
+-- anythread. So the local id 0xffffffc0 and the global id 262143.16383 have no word there.
 abbrev pub has_word_in : Format → Id → Bool
-has_word_in f (LocalThread word) = nat_lt word (word_limit f) && not (word == 0) && not (word == word_limit f - 64) && word % 64 == 0
+has_word_in f (LocalThread word) = nat_lt word (word_limit f) && not (word == 0) &&
+    not (word == word_limit f - 64) && word % 64 == 0
 has_word_in f (GlobalThread t) = is_global_in f t
 has_word_in f id = true
 
@@ -103,29 +107,35 @@ id_in f word = if nat_lt word (word_limit f) then Some (id_by f word) else None
 abbrev pub id_of_word : ℕ → Id
 id_of_word word = id_by W64 word
 
--- A message tag (manual: Messages and Message Registers, MsgTag): its label, of 48 bits or of 16, its four flags, and the number of its
--- untyped words. The number of typed words, bits 6 to 11, is 0. Of the flags bit 0 is `p`, 1 `r`, 2 `X` and 3 `E`. Its word has the same
--- bits in both formats, so it is below their limit exactly where the label is.
+-- A message tag (manual: Messages and Message Registers, MsgTag): its label, of 48 bits or of 16,
+-- its four flags, and the number of its untyped words. The number of typed words, bits 6 to 11, is
+-- 0. Of the flags bit 0 is `p`, 1 `r`, 2 `X` and 3 `E`. Its word has the same bits in both formats,
+-- so a tag fits a format exactly where its label does.
 pub record MessageTag : Type 0 where
   pub label : ℕ
   pub flags : ℕ
   pub untyped : ℕ
 
 abbrev pub tag_of_word : ℕ → MessageTag
-tag_of_word word = record { label = word / 2 ^ 16; flags = (word / 2 ^ 12) % 16; untyped = word % 64 }
+tag_of_word word = record {
+  label = word / 2 ^ 16;
+  flags = (word / 2 ^ 12) % 16;
+  untyped = word % 64;
+}
 
 abbrev pub word_of_tag : MessageTag → ℕ
 word_of_tag tag = tag.label * 2 ^ 16 + tag.flags * 2 ^ 12 + tag.untyped
 
--- A thread has message registers 0 to 63 (manual: Messages and Message Registers). The first has the tag, so a message has at most 63
--- untyped words.
+-- A thread has message registers 0 to 63 (manual: Messages and Message Registers). The first has
+-- the tag, so a message has at most 63 untyped words.
 abbrev pub register_count : ℕ
 register_count = 64
 
 abbrev pub last_register : ℕ
 last_register = register_count - 1
 
--- Labels have the bits of a word from bit 16 on (manual: Messages and Message Registers, MsgTag): 48 of them or 16. Each is below its limit.
+-- Labels have the bits of a word from bit 16 on (manual: Messages and Message Registers, MsgTag):
+-- 48 of them or 16. Each is below its limit.
 abbrev pub label_limit_in : Format → ℕ
 label_limit_in W64 = 2 ^ 48
 label_limit_in W32 = 2 ^ 16
@@ -141,16 +151,19 @@ clock_limit = 2 ^ 62
 abbrev pub period_limit : ℕ
 period_limit = 2 ^ 42
 
--- A period in ticks of a processor's clock, of a microsecond each (manual: Time; the ticks are own). None is never.
+-- A period in ticks of a processor's clock, of a microsecond each (manual: Time; the ticks are
+-- own). None is never.
 abbrev pub Period : Type 0
 Period = Option ℕ
 
--- What a time of 16 bits means where bit 15 is zero (manual: Time): 0 never, else the mantissa, bits 0 to 9, times the power of
--- two of the exponent, bits 10 to 14. A mantissa of 0 with another exponent than 0 means zero (own, but for exponent 1).
+-- What a time of 16 bits means where bit 15 is zero (manual: Time): 0 never, else the mantissa,
+-- bits 0 to 9, times the power of two of the exponent, bits 10 to 14. A mantissa of 0 with another
+-- exponent than 0 means zero (own, but for exponent 1).
 abbrev pub period_of : ℕ → Period
 period_of time = if time == 0 then None else Some (2 ^ (time / 1024) * (time % 1024))
 
--- Bits 6 to 11 of a tag (manual: Messages and Message Registers, MsgTag) count typed words, which are left out.
+-- Bits 6 to 11 of a tag (manual: Messages and Message Registers, MsgTag) count typed words, which
+-- are left out.
 abbrev pub has_typed_words : ℕ → Bool
 has_typed_words word = not ((word / 2 ^ 6) % 64 == 0)
 
@@ -158,7 +171,9 @@ has_typed_words word = not ((word / 2 ^ 6) % 64 == 0)
 abbrev pub time_of : ℕ → Option Period
 time_of time = if nat_lt time (2 ^ 15) then Some (period_of time) else None
 
--- A word of timeouts (manual: Ipc): the send time in bits 16 to 31, the receive time in bits 0 to 15.
+-- A word of timeouts (manual: Ipc): the send time in bits 16 to 31, the receive time in bits 0 to
+-- 15.
+
 abbrev pub send_time : ℕ → ℕ
 send_time timeouts = timeouts / 2 ^ 16
 

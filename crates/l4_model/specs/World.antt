@@ -12,9 +12,10 @@ pub record Name : Type 0 where
 abbrev pub same_name : Name → Name → Bool
 same_name a b = same_id a.thread b.thread && (a.k == b.k)
 
--- The part of a thread that its own instructions read and write: MR0 to MR63 (manual: Messages and Message Registers), ErrorCode
--- (manual: Thread Control Registers), the register `from` (manual: Ipc), VirtualSender and ActualSender (manual: Thread Control
--- Registers; that they are one register is own), its place in its script, and how many sends it began.
+-- The part of a thread that its own instructions read and write: MR0 to MR63 (manual: Messages and
+-- Message Registers), ErrorCode (manual: Thread Control Registers), the register `from` (manual:
+-- Ipc), VirtualSender and ActualSender (manual: Thread Control Registers; that they are one
+-- register is own), its place in its script, and how many sends it began.
 pub record Context : Type 0 where
   pub words : List ℕ
   pub error : ℕ
@@ -23,13 +24,14 @@ pub record Context : Type 0 where
   pub place : ℕ
   pub begun : ℕ
 
--- Whom a receive phase accepts, and how long it lasts (manual: Ipc, `FromSpecifier` and the receive timeout).
+-- Whom a receive phase accepts, and how long it lasts (manual: Ipc, `FromSpecifier` and the receive
+-- timeout).
 pub record Receive : Type 0 where
   pub from : Id
   pub period : Period
 
--- What a message carries (manual: Messages and Message Registers; Ipc): its label and words, whether it is propagated, and the senders that
--- it shows and has.
+-- What a message carries (manual: Messages and Message Registers; Ipc): its label and words,
+-- whether it is propagated, and the senders that it shows and has.
 pub record Message : Type 0 where
   pub label : ℕ
   pub words : List ℕ
@@ -37,8 +39,8 @@ pub record Message : Type 0 where
   pub shown : GlobalId
   pub actual : GlobalId
 
--- What a send asks for, fixed when it begins (own): its destination, its message, its period, the clock at its
--- beginning, and the receive phase that follows it, or none.
+-- What a send asks for, fixed when it begins (own): its destination, its message, its period, the
+-- clock at its beginning, and the receive phase that follows it, or none.
 pub record Send : Type 0 where
   pub to : Id
   pub message : Message
@@ -46,13 +48,13 @@ pub record Send : Type 0 where
   pub since : ℕ
   pub receive : Option Receive
 
--- What a thread has asked of another, and is not done yet.
+-- An order that a thread gave and that is not done yet.
 pub record Asked : Type 0 where
   pub target : GlobalId
   pub what : What
 
--- What a thread is about. A receive phase has the clock of its processor at its beginning. A deleted thread has no phase, but
--- its undecided send and its undone order go on.
+-- What a thread is about. A receive phase has the clock of its processor at its beginning. A
+-- deleted thread has no phase, but its undecided send and its undone order go on.
 pub data Phase : Type 0 where
   Ready : Phase
   Sending : Phase
@@ -61,8 +63,9 @@ pub data Phase : Type 0 where
   Ended : Phase
   Deleted : Phase
 
--- A thread. It has at most one undecided send, the last one that it began, and at most one undone order. The wishes are those of
--- ExchangeRegisters: that its send be cancelled, and that its receive phase be.
+-- A thread. It has at most one undecided send, the last one that it began, and at most one undone
+-- order. The wishes are those of ExchangeRegisters: that its send be cancelled, and that its
+-- receive phase be.
 pub record Thread : Type 0 where
   pub context : Context
   pub phase : Phase
@@ -71,16 +74,18 @@ pub record Thread : Type 0 where
   pub cancel_send : Bool
   pub cancel_receive : Bool
 
--- An owed retarget (own, profile 2), named by a propagated send that was delivered: where its originator waits for the thread that sent
--- it, the old partner, it is to wait for the one that received it, the new partner.
+-- An owed retarget (own, profile 2), named by a propagated send that was delivered: where its
+-- originator waits for the thread that sent it, the old partner, it is to wait for the one that
+-- received it, the new partner.
 pub record Owed : Type 0 where
   pub send : Name
   pub originator : GlobalId
   pub old_partner : GlobalId
   pub new_partner : GlobalId
 
--- All threads in order of declaration; for each the threads whose sends wait at it, by their places; the clocks of the
--- processors; and the owed retargets in order of delivery. In profile 1 none is ever owed.
+-- All threads in order of declaration; for each the threads whose sends wait at it, by their
+-- places; the clocks of the processors; and the owed retargets in order of delivery. In profile 1
+-- none is ever owed.
 pub record World : Type 0 where
   pub threads : List Thread
   pub waiting : List (List ℕ)
@@ -88,14 +93,33 @@ pub record World : Type 0 where
   pub owed : List Owed
 
 abbrev pub opening_context : Context
-opening_context = record { words = replicate register_count 0; error = 0; from = NilThread; actual = NilThread; place = 0; begun = 0 }
+opening_context = record {
+  words = replicate register_count 0;
+  error = 0;
+  from = NilThread;
+  actual = NilThread;
+  place = 0;
+  begun = 0;
+}
 
 abbrev pub opening_thread : Thread
 opening_thread =
-    record { context = opening_context; phase = Ready; send = None; order = None; cancel_send = false; cancel_receive = false }
+    record {
+      context = opening_context;
+      phase = Ready;
+      send = None;
+      order = None;
+      cancel_send = false;
+      cancel_receive = false;
+    }
 
 abbrev pub opening : Machine → World
-opening m = record { threads = map (λ d. opening_thread) m.threads; waiting = map (λ d. []) m.threads; clocks = replicate m.cpus 0; owed = [] }
+opening m = record {
+  threads = map (λ d. opening_thread) m.threads;
+  waiting = map (λ d. []) m.threads;
+  clocks = replicate m.cpus 0;
+  owed = [];
+}
 
 -- A list with one element changed.
 abbrev pub changed : {A : Type 0} → (A → A) → List A → ℕ → List A
@@ -115,8 +139,9 @@ is_in i xs = list_any (λ x. i == x) xs
 abbrev pub list_at : List (List ℕ) → ℕ → List ℕ
 list_at lists j = slice_index_or lists j []
 
--- Lists of waiting senders: whether a sender stands in one of them, the lists after it was appended to one, and
--- after it was taken out.
+-- Lists of waiting senders: whether a sender stands in one of them, the lists after it was appended
+-- to one, and after it was taken out.
+
 abbrev pub is_queued : List (List ℕ) → ℕ → Bool
 is_queued lists i = list_any (is_in i) lists
 
@@ -126,8 +151,10 @@ queued w r i = record w { waiting = changed (λ xs. xs ++ i ∷ []) w.waiting r 
 abbrev pub unqueued : World → ℕ → World
 unqueued w i = record w { waiting = map (filter (λ x. not (i == x))) w.waiting }
 
--- Owed retargets: the one of a name, the others, one more where a delivery leaves one, and whether a send of this thread to this
--- destination must wait, since that one is an originator which may not have turned to the thread yet.
+-- Owed retargets: the one of a name, the others, and one more where a delivery leaves one.
+-- `must_wait`: a send of the new partner to the originator is held back until that retarget is
+-- done.
+
 abbrev pub owed_of : List Owed → Name → Option Owed
 owed_of owed s = find (λ o. same_name s o.send) owed
 
@@ -139,7 +166,8 @@ one_more None owed = owed
 one_more (Some o) owed = owed ++ o ∷ []
 
 abbrev pub must_wait : List Owed → (sender : GlobalId) → (to : Id) → Bool
-must_wait owed sender to = list_any (λ o. same_id sender o.new_partner && is_id_of to o.originator) owed
+must_wait owed sender to = list_any (λ o. same_id sender o.new_partner &&
+    is_id_of to o.originator) owed
 
 abbrev pub is_ready : Phase → Bool
 is_ready Ready = true

@@ -24,7 +24,7 @@ fn has_steps(alloc: Global, history: &History, steps: &[Step]) -> Option<bool> {
     Some(history.len() == steps.len() && given.as_slice() == steps)
 }
 
-// Whether the first three steps are seen as they are, where they stay.
+// Whether a history shows its first three steps as they are, where they stay.
 fn shows_its_steps(history: &History) -> Option<bool> {
     if history.len() != 7 {
         return None;
@@ -63,7 +63,8 @@ fn sinks_are_told_the_same(rt: HostRuntime) {
     assert!(rt; are_told_the_same(rt.alloc()) == Some(true));
 }
 
-// A history of the fifth step, to which the second to the fourth of another one are appended.
+// The steps of a history of the fifth step, after the second to fourth steps of another history
+// were appended.
 fn appended(alloc: Global, steps: &[Step]) -> Option<Vec<Step>> {
     let other = History::from_steps(alloc, steps).ok()?;
     if steps.len() != 7 || other.len() != 7 {
@@ -89,7 +90,7 @@ fn steps_of_another_history_are_appended(rt: HostRuntime) {
     assert!(rt; are_appended(rt.alloc()) == Some(true));
 }
 
-// Whether a history has a step more, or where memory is refused, as many as before.
+// Whether a history has one more step, or if memory is refused, as many as before.
 fn grows_or_stays(history: &mut History) -> bool {
     let before = history.len();
     match history.reserve() {
@@ -101,7 +102,7 @@ fn grows_or_stays(history: &mut History) -> bool {
     }
 }
 
-// To be run with each allocation refused in turn.
+// Run this with each allocation refused in turn.
 #[test]
 fn steps_stay_where_memory_is_refused(rt: HostRuntime) {
     let mut history = History::new(rt.alloc());

@@ -5,8 +5,8 @@
 //! several processors, retargets, clocks and stamps at 2^62. The others try ports, histories,
 //! values, texts and traces. `refused` marks calls in which bench/refusals.sh refuses memory.
 //!
-//! What a contract says needs no test. These show what none says: that a call succeeds where memory
-//! is ample, and that a definition says what was meant.
+//! What a contract says needs no test. These tests show what no contract says: that a call succeeds
+//! if memory is ample, and that a definition says what was meant.
 //!
 //! ```text
 //! ./x try l4_part_tests

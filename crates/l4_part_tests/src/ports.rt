@@ -21,7 +21,7 @@ pub(crate) fn send(port: &mut Port, to: u8, stamp: u64) -> bool
     true
 }
 
-/// Whether the next letter is this one of that processor.
+/// Whether the next letter is the one with this stamp, posted by `poster`.
 pub(crate) fn gives(port: &mut Port, poster: u8, stamp: u64) -> bool {
     match port.take() {
         Some((from, letter)) => from == poster && letter.stamp == stamp,
@@ -40,7 +40,7 @@ fn arrives(poster: &mut Port, receiver: &mut Port, stamp: u64) -> bool {
     receiver.has_mail() && gives(receiver, 0, stamp)
 }
 
-// Whether a port of two has room only to the other one, once that was reserved, and posts two
+// Whether one of two ports has room only to the other one, once that was reserved, and posts two
 // letters.
 fn posts_two(poster: &mut Port) -> bool {
     if poster.has_room(1) || !send(poster, 1, 7) {

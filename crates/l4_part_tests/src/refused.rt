@@ -1,4 +1,4 @@
-// Calls to which memory may be refused. Each call is made, and made again where memory was refused.
+// Calls to which memory may be refused. Each call is made, and made again if memory was refused.
 // The refused call changes nothing; the second gives what the first would have given.
 ghost use Rattle.std.specs.Prelude.{◌≡◌, map};
 ghost use Rattle.l4_mail.specs.Ports.{AreOneFabric, place};
@@ -33,7 +33,7 @@ fn long_text(alloc: Global) -> Result<String, AllocError> {
     Ok(text)
 }
 
-// The machine of a text, read again where memory was refused.
+// The machine of a text, read again if memory was refused.
 fn parsed(rt: &HostRuntime, text: &[u8]) -> Result<Machine, TextFault> {
     call_begins(rt, "parse");
     let read = Machine::parse(rt.alloc(), text);
@@ -45,7 +45,7 @@ fn parsed(rt: &HostRuntime, text: &[u8]) -> Result<Machine, TextFault> {
     }
 }
 
-// Whether it has these threads.
+// Whether a machine has the threads of that text.
 fn is_long(machine: &Machine) -> bool {
     for (place, thread) in machine.threads().iter().enumerate() {
         if thread.id().number() as usize != place || thread.script().len() != 20 {
@@ -63,7 +63,7 @@ fn a_text_is_parsed(rt: HostRuntime) -> Result<(), Fail> {
     Ok(())
 }
 
-// The second processor of a machine, made again where memory was refused.
+// The second processor of a machine, made again if memory was refused.
 fn made<'m>(rt: &HostRuntime, machine: &'m Machine) -> Option<Core<'m>> {
     if machine.cpus() < 2 {
         return None;
@@ -77,7 +77,7 @@ fn made<'m>(rt: &HostRuntime, machine: &'m Machine) -> Option<Core<'m>> {
     }
 }
 
-// Its answers to two questions.
+// The answers of a processor to two questions.
 fn said(alloc: Global, core: &mut Core<'_>) -> Result<String, Fail> {
     let mut out = String::new(alloc);
     push_answer(alloc, &mut out, core, "turn")?;
@@ -85,7 +85,7 @@ fn said(alloc: Global, core: &mut Core<'_>) -> Result<String, Fail> {
     Ok(out)
 }
 
-// Its one thread begins to wait.
+// The one thread of the processor begins to wait.
 #[test]
 fn a_processor_is_made(rt: HostRuntime) -> Result<(), Fail> {
     let machine = Machine::parse(rt.alloc(), ACROSS.as_bytes())?;
@@ -95,7 +95,7 @@ fn a_processor_is_made(rt: HostRuntime) -> Result<(), Fail> {
     Ok(())
 }
 
-// The steps of lines, read again where memory was refused.
+// The steps of lines, read again if memory was refused.
 fn steps_read(rt: &HostRuntime, lines: &[u8]) -> Result<Vec<Step>, TraceFault> {
     call_begins(rt, "read_events");
     let read = read_events(rt.alloc(), lines);
@@ -106,8 +106,8 @@ fn steps_read(rt: &HostRuntime, lines: &[u8]) -> Result<Vec<Step>, TraceFault> {
     }
 }
 
-// Whether the line of a step is appended, by a second call where memory was refused. The refused
-// one appends nothing.
+// Whether the line of a step is appended, by a second call if memory was refused. The refused call
+// appends nothing.
 fn is_written(rt: &HostRuntime, step: &Step, out: &mut Vec<u8>) -> bool {
     let before = out.len();
     call_begins(rt, "write_event");
@@ -149,7 +149,7 @@ fn a_fabric_is_made(rt: HostRuntime) -> Result<(), Fail> {
     Ok(())
 }
 
-// Whether room for a letter is made, by a second call where memory was refused, and the letter is
+// Whether room for a letter is made, by a second call if memory was refused, and the letter is
 // posted.
 fn is_posted(rt: &HostRuntime, poster: &mut Port, stamp: u64) -> bool {
     call_begins(rt, "reserve");
@@ -176,7 +176,7 @@ fn room_for_letters_is_made(rt: HostRuntime) -> Result<(), Fail> {
     Ok(())
 }
 
-// What is under way between ports, looked for again where memory was refused.
+// What is under way between ports, looked for again if memory was refused.
 fn rests<R: AllocGlobal + Abort + Print>(
     rt: &R,
     ports: &mut Vec<Port>,
@@ -195,7 +195,7 @@ fn rests<R: AllocGlobal + Abort + Print>(
     }
 }
 
-// One letter is in the ring, and one in the outbox.
+// Posts two letters: one gets into the ring, the other stays in the outbox.
 fn send_two(port: &mut Port) -> bool
     ensures { place port.new ≡ place port.old }
 {
@@ -204,8 +204,8 @@ fn send_two(port: &mut Port) -> bool
     sent
 }
 
-// Whether of the ways between three processors, the one from 2 to 0 has two letters, and the next
-// one none.
+// Whether, of the pairs of three processors, the one from 2 to 0 has two letters, and the next one
+// none.
 fn are_on_one_way(list: &[(u8, u8, Vec<Letter>)]) -> bool {
     if list.len() != 6 || list[4].2.len() != 2 {
         return false;

@@ -18,7 +18,7 @@ ipc nil any never never
 ipc last nil never never
 ";
 
-// The same on one processor.
+// The three threads on one processor.
 const TOGETHER: &str = "l4 2 64
 cpus 1
 thread 1.1 cpu 0 space 1
@@ -33,9 +33,9 @@ ipc nil any never never
 ipc last nil never never
 ";
 
-// The worker is handed the message: its processor decides the send, and then tells of whom the
-// originator is to wait for. The client turns to the worker before its call is decided, and after
-// it.
+// The message is handed to the worker. The worker's processor decides the send, and then tells for
+// which thread the originator is to wait. In one section the client turns to the worker after its
+// call is decided, in the other one before.
 const BY_LETTERS: &str = "cpu 2
 turn
   at 1
@@ -80,7 +80,7 @@ letter 3 waits deliver 3.1#1 1.1 3.1 3.1 0
   to 2 at 4 done 3.1#1 Delivered
 ";
 
-// Here it is the next turn.
+// On one processor the client turns in the next turn.
 const IN_TURNS: &str = "cpu 0
 turn
   at 1

@@ -10,11 +10,11 @@
 //     stands            whether there is something to do, the clock and the least deadline
 //     can STAMP         whether it has a stamp for the event of a letter of this one, or 0
 //
-// Questions that begin with `? ` are alternatives: each is asked of a processor of its own, after
-// the questions before them and before those after them.
+// Questions that begin with `? ` are alternatives. Each is asked of a processor of its own, between
+// the questions that come before all of them and those that come after.
 //
-// An answer is `at` and the stamp of the event, a line for each of its steps, and
-// `to CPU at STAMP ..` for each letter that it posts, or else why nothing was done. A letter is
+// An answer is `at` and the stamp of the event, a line for each step of the event, and `to CPU at
+// STAMP ..` for each letter that the event posts. Or it says why nothing was done. A letter is
 // spelled as in `read_content`. Rows that begin with `#` are remarks.
 use l4_core::processor::values::Turn;
 use l4_core::processor::{Core, Fault};
@@ -121,7 +121,8 @@ fn retarget(words: &str) -> Option<Content> {
     }))
 }
 
-// The content of a letter with this first word and these others, but for a send that has begun.
+// The content of a letter with this first word and these other words. None if it is a send that has
+// begun.
 fn told(first: &str, words: &str) -> Option<Content> {
     match first {
         "done" => done(words),
@@ -183,7 +184,7 @@ fn push_send(
     push_step(alloc, out, &Step::Deliver(delivery))
 }
 
-// Appends a word, the name of a send where there is one, and threads.
+// Appends a word, the name of a send if there is one, and threads.
 fn push_told(
     out: &mut String,
     word: &str,
@@ -250,7 +251,7 @@ fn what_word(what: What) -> &'static str {
     }
 }
 
-// The last word of a letter's content, where it is no name and no thread, with the space before it.
+// The last word of a letter's content, if it is no name and no thread, with the space before it.
 fn last_word(content: &Content) -> &'static str {
     match content {
         Content::Done { decision, .. } => decision_word(*decision),
@@ -323,7 +324,7 @@ fn push_handled(
     }
 }
 
-// The next turn, where a stamp is left for it.
+// Takes the next turn, if a stamp is left for it.
 fn next_turn(core: &mut Core<'_>) -> Option<Turn> {
     if !core.can_stamp(0) {
         return None;
@@ -365,8 +366,8 @@ pub(crate) fn push_answer(
     }
 }
 
-// The rows as they are asked where of several questions the one of this number is, counted from 0:
-// without the others and their answers.
+// The rows with one of several alternative questions, that of this number, counted from 0. The
+// other questions and their answers are left out.
 fn chosen(alloc: Global, rows: &str, number: usize) -> Result<String, Fail> {
     let mut out = String::new(alloc);
     let mut several = 0usize;
@@ -385,7 +386,7 @@ fn chosen(alloc: Global, rows: &str, number: usize) -> Result<String, Fail> {
     Ok(out)
 }
 
-// Appends the questions of these rows, each with the answer that it is given.
+// Appends the questions of these rows, each with the answer that it gets.
 fn push_answers(
     alloc: Global,
     out: &mut String,
@@ -410,7 +411,7 @@ fn named<'m>(alloc: Global, machine: &'m Machine, row: &str) -> Result<Core<'m>,
     Ok(Core::new(alloc, machine, cpu)?)
 }
 
-// The questions of these rows, each with the answer that it is given.
+// The questions of these rows, each with the answer that it gets.
 fn answered(alloc: Global, machine: &Machine, rows: &str) -> Result<String, Fail> {
     let (first, rows) = rows.split_once('\n').ok_or("a first row")?;
     let mut core = named(alloc, machine, first)?;
@@ -419,8 +420,9 @@ fn answered(alloc: Global, machine: &Machine, rows: &str) -> Result<String, Fail
     Ok(out)
 }
 
-/// Whether the questions of these rows are answered on the machine of a text as the rows say, each
-/// section, which an empty row ends, by itself. Prints the first one that is not.
+/// Whether the machine of a text answers the questions of these rows as the rows say. An empty row
+/// ends a section; each section is asked by itself. Prints the first section that is answered
+/// otherwise.
 pub(crate) fn are_answered<R: AllocGlobal + Print>(
     rt: &R,
     text: &str,

@@ -3,8 +3,8 @@ use crate::rows::are_answered;
 use l4_samples::ACROSS;
 use std::test::Fail;
 
-// Two processors. On the first one a thread that calls, one that sends, one that orders and one
-// that goes on for ever; on the second one two threads without a script.
+// Two processors. The first has a thread that calls, one that sends, one that orders and one that
+// goes on for ever. The second has two threads without a script.
 pub(crate) const BUSY: &str = "l4 1 64
 cpus 2
 thread 1.1 cpu 0 space 1
@@ -26,7 +26,7 @@ thread 1.1 cpu 0 space 1
 ipc nil any never 5
 ";
 
-// It begins and is timed out.
+// The thread begins to receive and is timed out.
 const WAITS_FOR_ITS_CLOCK: &str = "cpu 0
 stands
   busy 0 None
@@ -58,9 +58,9 @@ fn a_processor_waits_for_its_clock(rt: HostRuntime) -> Result<(), Fail> {
     Ok(())
 }
 
-// Clocks and stamps are below 2^62. In the second section a processor is as busy as it can be: it
-// knows of a send under way to another one, of a send that waits here, of an order under way, and
-// of a send from elsewhere that waits here. Then its stamps are used up.
+// Clocks and stamps are below 2^62. In the second section a processor is as busy as it can be. It
+// knows of a send under way to another processor, of a send that waits here, and of an order under
+// way. It also knows of a send from elsewhere that waits here. Then its stamps are used up.
 const CLOCKS_AND_STAMPS_END: &str = "cpu 0
 can 4611686018427387902
   true
@@ -119,8 +119,8 @@ fn clocks_and_stamps_end_below_two_to_the_62nd(rt: HostRuntime) -> Result<(), Fa
     Ok(())
 }
 
-// In the first section each letter is handled by a processor of its own: the stamp is one more than
-// those of the letter and of the last event. In the second one letters find nothing left to do.
+// In the first section a processor of its own handles each letter. The stamp is one more than those
+// of the letter and of the last event. In the second section letters find nothing left to do.
 const LETTERS_ARE_ANSWERED: &str = "cpu 0
 turn
   at 1
@@ -270,8 +270,8 @@ fn each_lawful_letter_has_its_steps_and_its_answers(rt: HostRuntime) -> Result<(
     Ok(())
 }
 
-// A thread begins a send to another processor, waits for its end, and learns of it. There it is
-// taken by the thread that waits for it.
+// A thread begins a send to another processor, waits for the end of the send, and learns of it. On
+// the other processor, the thread that waits for the send takes it.
 const TWO_PROCESSORS_TALK: &str = "cpu 0
 turn
   at 1
@@ -320,8 +320,8 @@ thread 2.1 cpu 1 space 2
 delete 1.1
 ";
 
-// The order of a thread goes to the processor of the other one, from which one comes about the
-// thread itself. It is done, and both are gone.
+// The order of a thread goes to the processor of the other thread. An order about the thread itself
+// comes from there. This order is done, and both threads are gone.
 const TWO_DELETIONS_MEET: &str = "cpu 0
 turn
   at 1

@@ -28,9 +28,9 @@ fn fault_with_return_at(alloc: Global, place: usize) -> Option<TextFault> {
     fault_of(alloc, text.as_slice())
 }
 
-// Whether the text with a carriage return in the place of this byte, and the beginning up to it,
-// are both faulty in this line: the one that is not whole. The beginning is a text where it ends
-// with a line, after both header lines.
+// Whether two texts are faulty in this line, which is not whole. One is the text with a carriage
+// return in place of this byte, the other its beginning up to this byte. The beginning is a whole
+// text if it ends with a line, after both header lines.
 fn names_its_line(alloc: Global, place: usize, line: usize, is_start: bool) -> bool {
     let Some(beginning) = PING.as_bytes().get(..place) else {
         return false;

@@ -89,7 +89,7 @@ fn longest_delivery() -> Option<Step> {
     delivered(last, last, (1 << 48) - 1, ArrayVec::from([u64::MAX; 63]))
 }
 
-// Its line.
+// The line of this delivery.
 fn longest_line(alloc: Global) -> Result<String, AllocError> {
     let thread = "4294967295.4294967294";
     let words = " ffffffffffffffff".repeat(alloc, 63)?;

@@ -1,5 +1,5 @@
-// Letters that are not lawful where they come, each by itself: a processor refuses them, and goes
-// on as one that was not asked.
+// Letters that are not lawful for the processor that they come to, each by itself. The processor
+// refuses them, and goes on as one that was not asked.
 use crate::rows::are_answered;
 use crate::sessions::BUSY;
 use std::test::Fail;

@@ -106,7 +106,7 @@ fn long_message(id: GlobalId) -> Option<Message> {
     Message::new(7, false, ArrayVec::from([10; 63]), id, id)
 }
 
-// Whether a message is that of this thread, and its copy the same.
+// Whether a message is that of this thread, and its copy is equal.
 fn is_long_message(message: &Message, id: GlobalId) -> bool {
     message.shown() == id
         && message.actual() == id
@@ -116,7 +116,7 @@ fn is_long_message(message: &Message, id: GlobalId) -> bool {
         && [message.label(), message.tag().raw()] == [7, 0x7003f]
 }
 
-// It is in the third send of its thread.
+// Whether the delivery of a long message, the third send of its thread, has the received tag.
 fn has_received_tag() -> Option<bool> {
     let id = GlobalId::new(1, 1)?;
     let name = Name::new(id, 3)?;

@@ -6,7 +6,7 @@ use Rattle.std.proofs.lemmas.Option.{slice_get-map}
 use Rattle.std.proofs.lemmas.List.{append-nil, length-append, length-map, map-append}
 use Rattle.l4_model.specs.Machine.{Machine}
 use Rattle.l4_core_model.specs.Local.{opening_local}
-use Rattle.l4_merge.specs.Pasts.{empty_past, HasWorked}
+use Rattle.l4_merge.specs.LocalTraces.{empty_past, Extends}
 use Rattle.l4_core.specs.Processor as cores
 use Rattle.l4_mail.specs.Fabrics.{HaveRooms, AreFresh}
 use Rattle.l4_mail.specs.Ports.{AreOneFabric, place, kept_from, HasWayTo, IsApart}
@@ -68,7 +68,7 @@ pub one_more : (m : Machine) (ps : List Processor) (p : Processor) → ((cpu : �
 one_more m ps p each last = pushed_at (IsOpening m) ps p each last
 
 opened : (m : Machine) (n k : ℕ) (p : Processor) (c : cores.Processor) → p.worker.core ≡ c → c ≡ record { machine = m; cpu = k; local = opening_local m k } → k ≡ n →
-    HasWorked c.machine c.cpu (empty_past c.local) (past p) → p.worker.hand ≡ None → turns_of p ≡ 0 → p.worker.stop ≡ stop.Used → IsApart (place p.port) →
+    Extends c.machine c.cpu (empty_past c.local) (past p) → p.worker.hand ≡ None → turns_of p ≡ 0 → p.worker.stop ≡ stop.Used → IsApart (place p.port) →
     IsFreshPort p.port → ((from : ℕ) → kept_from p.port from ≡ []) → events p.worker.log ≡ [] → IsOpening m n p
 opened m n k p c core is number worked hand turns used apart fresh kept none =
     let at : c ≡ record { machine = m; cpu = n; local = opening_local m n } = is
@@ -76,7 +76,7 @@ opened m n k p c core is number worked hand turns used apart fresh kept none =
     record {
       machine = ap (λ (x : cores.Processor). x.machine) (core ∙ at);
       number = ap (λ (x : cores.Processor). x.cpu) (core ∙ at);
-      worked = subst (λ (x : cores.Processor). HasWorked x.machine x.cpu (empty_past x.local) (past p)) at worked;
+      worked = subst (λ (x : cores.Processor). Extends x.machine x.cpu (empty_past x.local) (past p)) at worked;
       local = ap (λ (x : cores.Processor). x.local) (core ∙ at);
       events = none;
       posted = fresh.posted;
@@ -97,7 +97,7 @@ pub record HaveProcessors (room : ℕ) (m : Machine) (done rest : List Port) (ps
 pub next_has : (room : ℕ) (m : Machine) (done rest all : List Port) (ps news : List Processor) (port : Port) (p : Processor) (c : cores.Processor) (k : ℕ) →
     HaveProcessors room m done all ps → all ≡ port ∷ rest → news ≡ ps ++ p ∷ [] →
     p.port ≡ port → p.worker.core ≡ c → c ≡ record { machine = m; cpu = k; local = opening_local m k } → k ≡ port.cpu →
-    HasWorked c.machine c.cpu (empty_past c.local) (past p) → p.worker.hand ≡ None → turns_of p ≡ 0 →
+    Extends c.machine c.cpu (empty_past c.local) (past p) → p.worker.hand ≡ None → turns_of p ≡ 0 →
     p.worker.stop ≡ stop.Used → events p.worker.log ≡ [] → HaveProcessors room m (done ++ port ∷ []) rest news
 next_has room m done rest all ps news port p c k h is more same core at number worked hand turns used none =
     let fresh = subst (λ (ls : List Port). AreFresh room m.cpus (done ++ ls)) is h.fresh in

@@ -9,16 +9,16 @@ use Rattle.l4_core_model.specs.Local.{Local}
 use Rattle.l4_core_model.specs.Acts.{Work}
 use Rattle.l4_core_model.specs.Runs.{Event}
 use Rattle.l4_core_model.specs.Turns.{advance}
-use Rattle.l4_merge.specs.Deeds.{Deed, Ticked, letters_with}
-use Rattle.l4_merge.specs.Pasts.{AreDeedsBetween, empty_past, HasWorked, HasTurned}
-use Rattle.l4_merge.proofs.Worked.{worked_none, worked_one, worked_trans, turned_none, turned_trans, deeds_of_none, deeds_of_both}
+use Rattle.l4_merge.specs.Transitions.{Transition, Ticked, letters_with}
+use Rattle.l4_merge.specs.LocalTraces.{AreDeedsBetween, empty_past, Extends, HasTurned}
+use Rattle.l4_merge.proofs.Worked.{worked_none, worked_one, worked_trans, turned_none, turned_trans, transitions_of_none, transitions_of_both}
 use Rattle.l4_types.specs.LetterView.{letter_of}
 use Rattle.l4_core.specs.Processor.{Processor as Core}
 use Rattle.l4_core.specs.Turning.{work}
 use Rattle.l4_mail.specs.Ports.{posted_to, place}
 use Rattle.l4_mail.specs.declared.ports.Port.{Port}
-use Rattle.l4_proc.specs.Logs.{all_steps, events, happenings, IsClosed}
-use Rattle.l4_proc.specs.Choices.{happening_in}
+use Rattle.l4_proc.specs.Logs.{all_steps, events, actions, IsClosed}
+use Rattle.l4_proc.specs.Choices.{action_in}
 use Rattle.l4_proc.specs.Whole.{past_with, handled_from, IsFreshPort, IsPortOf, IsWhole}
 use Rattle.l4_proc.specs.Working.{past, BeginWithMail, HasGoneOn, HasStayed, HasTaken, HasTakenUpTo, HasTicked, HasTickedTo, IsIdle, IsSameWorker, IsStopped, IsTicking}
 use Rattle.l4_proc.specs.declared.stops.Stop.{Stop}
@@ -27,19 +27,19 @@ use Rattle.l4_proc.specs.declared.log.End.{End}
 use Rattle.l4_proc.specs.declared.log.Log.{Log}
 use Rattle.l4_proc.specs.declared.processor.Processor.{Processor}
 use Rattle.l4_proc.specs.declared.worker.Worker.{Worker}
-use Rattle.l4_proc.proofs.Logging.{logged, same_closed, same_events, same_happenings, IsLogged}
+use Rattle.l4_proc.proofs.Logging.{logged, same_closed, same_events, same_actions, IsLogged}
 
 -- The opening
 
 -- A processor that has neither told, posted nor taken anything has done nothing.
 pub opened_past : (port : Port) (w : Worker) → IsFreshPort port → w.log.ends.items ≡ [] → w.hand ≡ None →
-    HasWorked w.core.machine w.core.cpu (empty_past w.core.local) (past_with port w)
+    Extends w.core.machine w.core.cpu (empty_past w.core.local) (past_with port w)
 opened_past port w fresh ends hand = record {
-  deeds = [];
+  transitions = [];
   are = record {
     lead = refl;
     events = rw (ends) refl;
-    happenings = rw (ends) refl;
+    actions = rw (ends) refl;
     posted = λ to. ap (map letter_of) (fresh.posted to);
     handled = λ from. rw (hand, fresh.taken from) refl;
   };
@@ -73,20 +73,20 @@ tick_posts_none m cpu to l x is =
     sym (ap (λ (x : Work). x.letters) (some_is _ x is))
 
 tick_worked : (to : ℕ) (port : Port) (old new : Worker) (before after : Log) (stamp choice : ℕ) → IsWhole port old → IsTicking to old new before after stamp choice →
-    HasWorked old.core.machine old.core.cpu (past_with port old) (past_with port new)
+    Extends old.core.machine old.core.cpu (past_with port old) (past_with port new)
 tick_worked to port old new before after stamp choice whole t =
     let m = old.core.machine in
     let cpu = old.core.cpu in
-    let deed : Deed = record { cpu = cpu; event = Ticked to; work = work new.core.local after.told } in
+    let transition : Transition = record { cpu = cpu; event = Ticked to; work = work new.core.local after.told } in
     let event : ℕ → ℕ → List Event = λ c s. record { cpu = c; stamp = s; steps = after.told.steps } ∷ [] in
     let none = tick_posts_none m cpu to old.core.local _ t.event.is in
-    worked_one m cpu (past_with port old) (past_with port new) deed record {
+    worked_one m cpu (past_with port old) (past_with port new) transition record {
       does = record { own = refl; work = t.event.is };
       events = (tick_logged to old new before after stamp choice whole.closed t).events
           ∙ ap (λ c. events old.log ++ event c stamp) whole.log_of
           ∙ ap (λ s. events old.log ++ event cpu s) t.event.stamped;
-      happenings = (tick_logged to old new before after stamp choice whole.closed t).happenings
-          ∙ ap (λ c. happenings old.log ++ happening_in c choice ∷ []) whole.log_of ∙ ap (λ h. happenings old.log ++ h ∷ []) (t.happened cpu);
+      actions = (tick_logged to old new before after stamp choice whole.closed t).actions
+          ∙ ap (λ c. actions old.log ++ action_in c choice ∷ []) whole.log_of ∙ ap (λ h. actions old.log ++ h ∷ []) (t.happened cpu);
       posted = λ to. sym (ap (λ ls. map letter_of (posted_to port to) ++ letters_with to ls) none ∙ append-nil (map letter_of (posted_to port to)));
       handled = λ from. ap (λ hand. map letter_of (handled_from port hand from)) t.hand ∙ sym (append-nil (map letter_of (handled_from port old.hand from)));
       local = refl;
@@ -108,7 +108,7 @@ has_ticked to old new before after stamp choice port whole t =
         machine = t.event.machine;
         cpu = t.event.cpu;
         place = ap place port;
-        worked = subst (λ p. HasWorked old.worker.core.machine old.worker.core.cpu (past old) (past_with p new.worker)) (sym port) worked;
+        worked = subst (λ p. Extends old.worker.core.machine old.worker.core.cpu (past old) (past_with p new.worker)) (sym port) worked;
       };
       port = port;
       hand = t.hand;
@@ -116,8 +116,8 @@ has_ticked to old new before after stamp choice port whole t =
         work = work new.worker.core.local after.told;
         advances = t.event.is;
         events = l.events ∙ ap (λ c. events old.worker.log ++ event c stamp) whole.log_of ∙ ap (λ s. events old.worker.log ++ event old.worker.core.cpu s) t.event.stamped;
-        happenings = l.happenings ∙ ap (λ c. happenings old.worker.log ++ happening_in c choice ∷ []) whole.log_of
-            ∙ ap (λ h. happenings old.worker.log ++ h ∷ []) (t.happened old.worker.core.cpu);
+        actions = l.actions ∙ ap (λ c. actions old.worker.log ++ action_in c choice ∷ []) whole.log_of
+            ∙ ap (λ h. actions old.worker.log ++ h ∷ []) (t.happened old.worker.core.cpu);
         posted = λ to. ap (λ (p : Port). map letter_of (posted_to p to)) port;
         handled = λ from. ap (λ (p : Port). map letter_of (handled_from p new.worker.hand from)) port
             ∙ ap (λ hand. map letter_of (handled_from old.port hand from)) t.hand;
@@ -157,7 +157,7 @@ has_stayed old new (Err e) port stopped same = record {
   core = same.core;
   hand = same.hand;
   events = same_events old.worker.log new.worker.log same.log;
-  happenings = same_happenings old.worker.log new.worker.log same.log;
+  actions = same_actions old.worker.log new.worker.log same.log;
   turns = rw (same.log.ends, same.log.ticks) refl;
   stop = stopped;
 }
@@ -168,9 +168,9 @@ pub gone_trans : (old middle new : Processor) → HasGoneOn old middle → HasGo
 gone_trans old middle new first then =
     let m = old.worker.core.machine in
     let cpu = old.worker.core.cpu in
-    let next : HasWorked m cpu (past middle) (past new) =
-    subst (λ m. HasWorked m cpu (past middle) (past new)) first.machine
-    (subst (λ cpu. HasWorked middle.worker.core.machine cpu (past middle) (past new)) first.cpu then.worked) in
+    let next : Extends m cpu (past middle) (past new) =
+    subst (λ m. Extends m cpu (past middle) (past new)) first.machine
+    (subst (λ cpu. Extends middle.worker.core.machine cpu (past middle) (past new)) first.cpu then.worked) in
     record {
       machine = then.machine ∙ first.machine;
       cpu = then.cpu ∙ first.cpu;
@@ -183,31 +183,31 @@ pub next_turned : (old middle new : Processor) → HasGoneOn old middle →
     HasTurned old.worker.core.machine old.worker.core.cpu (past middle) (past new)
 next_turned old middle new on then = record {
   worked = record {
-    deeds = then.worked.deeds;
-    are = subst (λ m. AreDeedsBetween m old.worker.core.cpu (past middle) (past new) then.worked.deeds) on.machine
-        (subst (λ cpu. AreDeedsBetween middle.worker.core.machine cpu (past middle) (past new) then.worked.deeds) on.cpu then.worked.are);
+    transitions = then.worked.transitions;
+    are = subst (λ m. AreDeedsBetween m old.worker.core.cpu (past middle) (past new) then.worked.transitions) on.machine
+        (subst (λ cpu. AreDeedsBetween middle.worker.core.machine cpu (past middle) (past new) then.worked.transitions) on.cpu then.worked.are);
   };
   turns = then.turns;
 }
 
-pub deeds_of_next : (old middle new : Processor) (on : HasGoneOn old middle)
+pub transitions_of_next : (old middle new : Processor) (on : HasGoneOn old middle)
     (then : HasTurned middle.worker.core.machine middle.worker.core.cpu (past middle) (past new)) →
-    (next_turned old middle new on then).worked.deeds ≡ then.worked.deeds
+    (next_turned old middle new on then).worked.transitions ≡ then.worked.transitions
 unfolding next_turned
-deeds_of_next old middle new on then = refl
+transitions_of_next old middle new on then = refl
 
--- It has gone on twice by turns: which deeds these are.
-pub deeds_of_all : (old middle new : Processor) (on : HasGoneOn old middle)
+-- It has gone on twice by turns: which transitions these are.
+pub transitions_of_all : (old middle new : Processor) (on : HasGoneOn old middle)
     (first : HasTurned old.worker.core.machine old.worker.core.cpu (past old) (past middle))
     (then : HasTurned middle.worker.core.machine middle.worker.core.cpu (past middle) (past new)) →
-    (turned_trans old.worker.core.machine old.worker.core.cpu (past old) (past middle) (past new) first (next_turned old middle new on then)).worked.deeds
-    ≡ first.worked.deeds ++ then.worked.deeds
-deeds_of_all old middle new on first then =
-    deeds_of_both old.worker.core.machine old.worker.core.cpu (past old) (past middle) (past new) first (next_turned old middle new on then)
-    ∙ ap (λ ds. first.worked.deeds ++ ds) (deeds_of_next old middle new on then)
+    (turned_trans old.worker.core.machine old.worker.core.cpu (past old) (past middle) (past new) first (next_turned old middle new on then)).worked.transitions
+    ≡ first.worked.transitions ++ then.worked.transitions
+transitions_of_all old middle new on first then =
+    transitions_of_both old.worker.core.machine old.worker.core.cpu (past old) (past middle) (past new) first (next_turned old middle new on then)
+    ∙ ap (λ ds. first.worked.transitions ++ ds) (transitions_of_next old middle new on then)
 
--- Two lists of deeds, the second from where the first has led. Where the first has none, the processor is where it was.
-begin_both : (n : ℕ) (old middle : Processor) (ds es : List Deed) → length ds ≡ n → (n ≡ 0 → middle ≡ old) → BeginWithMail old ds →
+-- Two lists of transitions, the second from where the first has led. Where the first has none, the processor is where it was.
+begin_both : (n : ℕ) (old middle : Processor) (ds es : List Transition) → length ds ≡ n → (n ≡ 0 → middle ≡ old) → BeginWithMail old ds →
     BeginWithMail middle es → BeginWithMail old (ds ++ es)
 begin_both n old middle [] es many start first then = subst (λ p. BeginWithMail p es) (start (sym many)) then
 begin_both n old middle (d ∷ ds) es many start first then = first
@@ -219,8 +219,8 @@ taken_none p = record {
   turned = turned_none p.worker.core.machine p.worker.core.cpu (past p);
   turns = omega arith;
   ticks = refl;
-  many = ap length (deeds_of_none p.worker.core.machine p.worker.core.cpu (past p));
-  first = subst (BeginWithMail p) (sym (deeds_of_none p.worker.core.machine p.worker.core.cpu (past p))) tt;
+  many = ap length (transitions_of_none p.worker.core.machine p.worker.core.cpu (past p));
+  first = subst (BeginWithMail p) (sym (transitions_of_none p.worker.core.machine p.worker.core.cpu (past p))) tt;
   hand = λ none x is. is;
 }
 
@@ -231,15 +231,15 @@ taken_more n k old middle new start first then = record {
       (next_turned old middle new first.on then.turned);
   turns = let a = first.turns in let b = then.turns in omega arith;
   ticks = then.ticks ∙ first.ticks;
-  many = ap length deeds ∙ length-append first.turned.worked.deeds then.turned.worked.deeds ∙ sum_of _ _ n k first.many then.many;
-  first = subst (BeginWithMail old) (sym deeds)
-      (begin_both n old middle first.turned.worked.deeds then.turned.worked.deeds first.many start first.first then.first);
+  many = ap length transitions ∙ length-append first.turned.worked.transitions then.turned.worked.transitions ∙ sum_of _ _ n k first.many then.many;
+  first = subst (BeginWithMail old) (sym transitions)
+      (begin_both n old middle first.turned.worked.transitions then.turned.worked.transitions first.many start first.first then.first);
   hand = λ none x is. then.hand (omega arith) x (first.hand (omega arith) x is);
 }
   where
-    deeds : (turned_trans old.worker.core.machine old.worker.core.cpu (past old) (past middle) (past new) first.turned
-        (next_turned old middle new first.on then.turned)).worked.deeds ≡ first.turned.worked.deeds ++ then.turned.worked.deeds
-    deeds = deeds_of_all old middle new first.on first.turned then.turned
+    transitions : (turned_trans old.worker.core.machine old.worker.core.cpu (past old) (past middle) (past new) first.turned
+        (next_turned old middle new first.on then.turned)).worked.transitions ≡ first.turned.worked.transitions ++ then.turned.worked.transitions
+    transitions = transitions_of_all old middle new first.on first.turned then.turned
 
     sum_of : (a b n k : ℕ) → a ≡ n → b ≡ k → a + b ≡ n + k
     sum_of a b n k same also = omega arith

@@ -1,15 +1,15 @@
 -- Turns that a processor takes among others: those of several calls, with looks between them.
 use Rattle.std.proofs.Common.{◌≡◌, ℕ, ◌+◌, ◌<◌, ◌≤◌, Some, List, [], ◌∷◌, ◌++◌, length, refl, ap, ◌∙◌, subst, sym, arith, length-append}
 use Rattle.std.specs.Prelude.{◌≢◌}
-use Rattle.l4_merge.specs.Deeds.{Deed}
-use Rattle.l4_merge.specs.Pasts.{HasTurned}
+use Rattle.l4_merge.specs.Transitions.{Transition}
+use Rattle.l4_merge.specs.LocalTraces.{HasTurned}
 use Rattle.l4_types.specs.declared.letters.Letter.{Letter}
 use Rattle.l4_merge.proofs.Worked.{turned_trans}
-use Rattle.l4_proc.specs.Working.{BeginWithMail, IsIdle, past, turns_of, HasGoneOn, HasTakenUpTo, HasTurnedMailFirst, HasWorkedOn, IsStopped}
+use Rattle.l4_proc.specs.Working.{BeginWithMail, IsIdle, past, turns_of, HasGoneOn, HasTakenUpTo, HasTurnedMailFirst, ExtendsOn, IsStopped}
 use Rattle.l4_proc.specs.declared.processor.Processor.{Processor}
 use Rattle.l4_proc.specs.declared.stops.Stop.{Stop}
 use Rattle.l4_proc.specs.declared.stops.Stop.TheVariants as stop
-use Rattle.l4_proc.proofs.Going.{gone_trans, next_turned, deeds_of_all, taken_none}
+use Rattle.l4_proc.proofs.Going.{gone_trans, next_turned, transitions_of_all, taken_none}
 
 -- It has gone on by turns, however many and whyever it stopped.
 record IsOnward (old new : Processor) : Type 0 where
@@ -25,7 +25,7 @@ onward turns old new why up = record { on = up.on; mail = up.first; least = up.l
 idle_had_none : (old : Processor) → IsIdle old → (x : ℕ × Letter) → old.worker.hand ≡ Some x → ⊥
 idle_had_none old idle x is = absurd (let none = sym idle.refused.empty ∙ is in cc)
 
-begin_idle : (old : Processor) (ds es : List Deed) → (length ds ≡ 0 → IsIdle old) → BeginWithMail old ds → BeginWithMail old (ds ++ es)
+begin_idle : (old : Processor) (ds es : List Transition) → (length ds ≡ 0 → IsIdle old) → BeginWithMail old ds → BeginWithMail old (ds ++ es)
 begin_idle old [] [] idle first = tt
 begin_idle old [] (e ∷ es) idle first = record {
   hand = λ x is. absurd (idle_had_none old (idle refl) x is);
@@ -42,18 +42,18 @@ onward_trans old middle new nothing first then = record {
     many =
         let a = first.mail.many in
         let b = then.mail.many in
-        let size = ap length deeds ∙ length-append first.mail.turned.worked.deeds then.mail.turned.worked.deeds in
+        let size = ap length transitions ∙ length-append first.mail.turned.worked.transitions then.mail.turned.worked.transitions in
         omega arith;
-    first = subst (BeginWithMail old) (sym deeds) (begin_idle old first.mail.turned.worked.deeds then.mail.turned.worked.deeds
+    first = subst (BeginWithMail old) (sym transitions) (begin_idle old first.mail.turned.worked.transitions then.mail.turned.worked.transitions
         (λ none. nothing (let a = first.mail.many in omega arith)) first.mail.first);
   };
   least = let a = first.least in let b = then.least in omega arith;
   ticks = then.ticks ∙ first.ticks;
 }
   where
-    deeds : (turned_trans old.worker.core.machine old.worker.core.cpu (past old) (past middle) (past new) first.mail.turned
-        (next_turned old middle new first.on then.mail.turned)).worked.deeds ≡ first.mail.turned.worked.deeds ++ then.mail.turned.worked.deeds
-    deeds = deeds_of_all old middle new first.on first.mail.turned then.mail.turned
+    transitions : (turned_trans old.worker.core.machine old.worker.core.cpu (past old) (past middle) (past new) first.mail.turned
+        (next_turned old middle new first.on then.mail.turned)).worked.transitions ≡ first.mail.turned.worked.transitions ++ then.mail.turned.worked.transitions
+    transitions = transitions_of_all old middle new first.on first.mail.turned then.mail.turned
 
 -- The turns that are left were its last.
 ended : (turns left : ℕ) (old middle new : Processor) (why : Stop) → IsOnward old middle → turns_of middle + left ≡ turns_of old + turns →
@@ -74,7 +74,7 @@ ended turns left old middle new why first all nothing last =
     }
 
 -- What is left where it has found nothing.
-pub some_left : (turns left : ℕ) (old new : Processor) → HasWorkedOn turns old new → new.worker.stop ≡ stop.Idle → turns_of new + left ≡ turns_of old + turns →
+pub some_left : (turns left : ℕ) (old new : Processor) → ExtendsOn turns old new → new.worker.stop ≡ stop.Idle → turns_of new + left ≡ turns_of old + turns →
     0 < left
 some_left turns left old new worked idle all =
     let unused : turns_of new ≢ turns_of old + turns = λ is. absurd (let used = worked.used.1 is in cc) in
@@ -83,7 +83,7 @@ some_left turns left old new worked idle all =
 
 -- It has looked on
 
-pub looks_none : (p : Processor) → p.worker.stop ≡ stop.Idle → IsStopped p stop.Idle → HasWorkedOn 1 p p
+pub looks_none : (p : Processor) → p.worker.stop ≡ stop.Idle → IsStopped p stop.Idle → ExtendsOn 1 p p
 looks_none p idle stopped =
     let taken = taken_none p in
     record {
@@ -99,7 +99,7 @@ looks_none p idle stopped =
       hand = λ same x is. is;
     }
 
-pub no_turn_yet : (old new : Processor) → HasWorkedOn 1 old new → new.worker.stop ≡ stop.Idle → turns_of new ≡ turns_of old
+pub no_turn_yet : (old new : Processor) → ExtendsOn 1 old new → new.worker.stop ≡ stop.Idle → turns_of new ≡ turns_of old
 no_turn_yet old new worked idle =
     let unused : turns_of new ≢ turns_of old + 1 = λ is. absurd (let used = worked.used.1 is in cc) in
     let most = worked.most in
@@ -107,8 +107,8 @@ no_turn_yet old new worked idle =
     omega arith
 
 -- It looks once more.
-pub looks_more : (old middle new : Processor) (why : Stop) → HasWorkedOn 1 old middle → middle.worker.stop ≡ stop.Idle → HasTakenUpTo 1 middle new why →
-    new.worker.stop ≡ why → HasWorkedOn 1 old new
+pub looks_more : (old middle new : Processor) (why : Stop) → ExtendsOn 1 old middle → middle.worker.stop ≡ stop.Idle → HasTakenUpTo 1 middle new why →
+    new.worker.stop ≡ why → ExtendsOn 1 old new
 looks_more old middle new why worked idle look is =
     let none = no_turn_yet old middle worked idle in
     subst (HasTakenUpTo 1 old new) (sym is) (ended 1 1 old middle new why (onward 1 old middle _ worked) (omega arith) (worked.nothing idle) look)
@@ -116,8 +116,8 @@ looks_more old middle new why worked idle look is =
 -- It works on
 
 -- It found nothing where it looked on, and stops there.
-pub looked_in_vain : (turns : ℕ) (old middle new : Processor) → HasWorkedOn turns old middle → middle.worker.stop ≡ stop.Idle → HasWorkedOn 1 middle new →
-    (new.worker.stop ≡ stop.Used → ⊥) → HasWorkedOn turns old new
+pub looked_in_vain : (turns : ℕ) (old middle new : Processor) → ExtendsOn turns old middle → middle.worker.stop ≡ stop.Idle → ExtendsOn 1 middle new →
+    (new.worker.stop ≡ stop.Used → ⊥) → ExtendsOn turns old new
 looked_in_vain turns old middle new worked idle look unused =
     let both = onward_trans old middle new (worked.nothing idle) (onward turns old middle _ worked) (onward 1 middle new _ look) in
     let no_turn : turns_of new ≢ turns_of middle + 1 = λ is. unused (look.used.1 is) in
@@ -137,8 +137,8 @@ looked_in_vain turns old middle new worked idle look unused =
     }
 
 -- It found something, and took the turns that were left.
-pub looked_and_worked : (turns left : ℕ) (old middle seen new : Processor) → HasWorkedOn turns old middle → HasWorkedOn 1 middle seen →
-    seen.worker.stop ≡ stop.Used → middle.worker.stop ≡ stop.Idle → turns_of middle + left ≡ turns_of old + turns → 0 < left → (rest : ℕ) → rest + 1 ≡ left → HasWorkedOn rest seen new → HasWorkedOn turns old new
+pub looked_and_worked : (turns left : ℕ) (old middle seen new : Processor) → ExtendsOn turns old middle → ExtendsOn 1 middle seen →
+    seen.worker.stop ≡ stop.Used → middle.worker.stop ≡ stop.Idle → turns_of middle + left ≡ turns_of old + turns → 0 < left → (rest : ℕ) → rest + 1 ≡ left → ExtendsOn rest seen new → ExtendsOn turns old new
 looked_and_worked turns left old middle seen new worked look found idle all some rest is more =
     let one = look.used.0 found in
     ended turns rest old seen new new.worker.stop

@@ -6,9 +6,9 @@ use Rattle.l4_model.specs.Steps.{Step}
 use Rattle.l4_core_model.specs.Runs.{Event}
 use Rattle.l4_proc.specs.declared.log.End.{End}
 use Rattle.l4_proc.specs.declared.log.Log.{Log}
-use Rattle.l4_proc.specs.Choices.{happening_in}
+use Rattle.l4_proc.specs.Choices.{action_in}
 use Rattle.l4_proc.specs.Ends.{are_ends, events_between}
-use Rattle.l4_proc.specs.Logs.{all_steps, events, happenings, HasBegun, HasEnded, IsClosed, IsSameLog}
+use Rattle.l4_proc.specs.Logs.{all_steps, events, actions, HasBegun, HasEnded, IsClosed, IsSameLog}
 use Rattle.l4_proc.proofs.Ends.{are_pushed, events_pushed, events_kept}
 
 pub begun_steps : (old new : Log) → HasBegun old new → all_steps new.told ≡ all_steps old.told
@@ -17,8 +17,8 @@ begun_steps old new h = rw (h.told.opened.steps, h.told.before) (append-nil (all
 pub begun_events : (old new : Log) → HasBegun old new → events new ≡ events old
 begun_events old new h = rw (begun_steps old new h, h.ends, h.cpu) refl
 
-pub begun_happenings : (old new : Log) → HasBegun old new → happenings new ≡ happenings old
-begun_happenings old new h = rw (h.ends, h.cpu) refl
+pub begun_actions : (old new : Log) → HasBegun old new → actions new ≡ actions old
+begun_actions old new h = rw (h.ends, h.cpu) refl
 
 pub begun_closed : (old new : Log) → HasBegun old new → IsClosed old → IsClosed new
 begun_closed old new h closed = rw (begun_steps old new h, h.ends) closed
@@ -26,8 +26,8 @@ begun_closed old new h closed = rw (begun_steps old new h, h.ends) closed
 pub same_events : (old new : Log) → IsSameLog old new → events new ≡ events old
 same_events old new h = rw (h.told, h.ends, h.cpu) refl
 
-pub same_happenings : (old new : Log) → IsSameLog old new → happenings new ≡ happenings old
-same_happenings old new h = rw (h.ends, h.cpu) refl
+pub same_actions : (old new : Log) → IsSameLog old new → actions new ≡ actions old
+same_actions old new h = rw (h.ends, h.cpu) refl
 
 pub same_closed : (old new : Log) → IsSameLog old new → IsClosed old → IsClosed new
 same_closed old new h closed = rw (h.told, h.ends) closed
@@ -35,7 +35,7 @@ same_closed old new h closed = rw (h.told, h.ends) closed
 -- An event of so many steps has begun behind a closed log, and ended: it is the last event, and the log is closed again.
 pub record IsLogged (old new : Log) (stamp choice : ℕ) (steps : List Step) : Type 0 where
   pub events : events new ≡ events old ++ record { cpu = old.cpu; stamp = stamp; steps = steps } ∷ []
-  pub happenings : happenings new ≡ happenings old ++ happening_in old.cpu choice ∷ []
+  pub actions : actions new ≡ actions old ++ action_in old.cpu choice ∷ []
   pub closed : IsClosed new
 
 pub logged : (old begun told new : Log) (stamp choice count : ℕ) → IsClosed old → HasBegun old begun → told.cpu ≡ begun.cpu →
@@ -62,9 +62,9 @@ logged old begun told new stamp choice count closed b cpu ends before e =
           ∙ ap (λ (es : List Event). es ++ event (drop (length all) (take (length (all ++ steps)) (all ++ steps)))) (events_kept old.cpu 0 (length
           all) old.ends.items all steps closed (omega arith))
           ∙ ap (λ (ls : List Step). events old ++ event ls) told_steps;
-      happenings = ap (λ (c : ℕ). map (λ (e : End). happening_in c e.choice) new.ends.items) (e.cpu ∙ cpu ∙ b.cpu)
-          ∙ ap (map (λ (e : End). happening_in old.cpu e.choice)) items
-          ∙ map-append (λ (e : End). happening_in old.cpu e.choice) old.ends.items (end ∷ []);
+      actions = ap (λ (c : ℕ). map (λ (e : End). action_in c e.choice) new.ends.items) (e.cpu ∙ cpu ∙ b.cpu)
+          ∙ ap (map (λ (e : End). action_in old.cpu e.choice)) items
+          ∙ map-append (λ (e : End). action_in old.cpu e.choice) old.ends.items (end ∷ []);
       closed = subst (λ (es : List End). are_ends 0 es (length (all_steps new.told)) ≡ true) (sym items)
           (subst (λ (ls : List Step). are_ends 0 (old.ends.items ++ end ∷ []) (length ls) ≡ true) (sym now) (are_pushed old.ends.items 0 (length all)
           end closed fits));

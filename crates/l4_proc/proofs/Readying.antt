@@ -5,11 +5,11 @@ use Rattle.std.specs.List.{AllByRecursion}
 use Rattle.std.proofs.lemmas.Bool.{eqb-true, eqb-false}
 use Rattle.std.proofs.lemmas.List.{map-append, length-map, take-append-le, take_all}
 use Rattle.l4_core_model.specs.Letters as letters
-use Rattle.l4_merge.specs.Deeds.{letters_with}
+use Rattle.l4_merge.specs.Transitions.{letters_with}
 use Rattle.l4_types.specs.LetterView.{letter_of}
 use Rattle.l4_types.specs.declared.letters.Letter.{Letter}
 use Rattle.l4_core.specs.Processor.{Processor}
-use Rattle.l4_core.specs.Tellings.{posted_of}
+use Rattle.l4_core.specs.EventBuffers.{posted_of}
 use Rattle.l4_mail.specs.Ends.{ring_out}
 use Rattle.l4_mail.specs.Ports.{Place, place, posted_to, taken_from, kept_from, room_to, only, HasWayTo, IsAsBefore, HasPosted, HasTaken}
 use Rattle.l4_mail.specs.declared.ports.Port.{Port}

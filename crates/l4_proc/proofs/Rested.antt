@@ -11,7 +11,7 @@ use Rattle.std.proofs.Math.Seq.{map-set_same}
 use Rattle.l4_model.proofs.Chains.{get-map, some_is}
 use Rattle.l4_model.proofs.Places.{and_true}
 use Rattle.l4_core_model.specs.Runs.{is_empty}
-use Rattle.l4_merge.specs.Pasts.{Past, Begins}
+use Rattle.l4_merge.specs.LocalTraces.{LocalTrace, Begins}
 use Rattle.l4_types.specs.LetterView.{letter_of}
 use Rattle.l4_types.specs.declared.letters.Letter.{Letter}
 use Rattle.l4_mail.specs.Ends.{ring_out}
@@ -20,7 +20,7 @@ use Rattle.l4_mail.specs.Rests.{has_number, have_numbers, have_size, are_all, un
 use Rattle.l4_mail.specs.declared.ports.Port.{Port}
 use Rattle.l4_mail.proofs.Fabrics.{fabric_kept}
 use Rattle.l4_mail.proofs.Whole.{same_length}
-use Rattle.l4_proc.specs.Logs.{events, happenings}
+use Rattle.l4_proc.specs.Logs.{events, actions}
 use Rattle.l4_proc.specs.Rests.{AreAsBefore, HaveHandledAll}
 use Rattle.l4_proc.specs.Whole.{hand_from, handled_from, IsWhole}
 use Rattle.l4_proc.specs.Working.{past, HaveWorkedOn}
@@ -126,10 +126,10 @@ nothing_changed ps = record { workers = refl; accounts = refl }
 -- What a caller has of it
 
 -- What a processor has done, as far as its worker and the account of its port tell: that is all.
-abbrev past_of : Account → Worker → Past
+abbrev past_of : Account → Worker → LocalTrace
 past_of a w = record {
   events = events w.log;
-  happenings = happenings w.log;
+  actions = actions w.log;
   posted = λ to. map letter_of (a.posted to);
   handled = λ from. map letter_of (take (length (a.taken from) - length (hand_from w.hand from)) (a.taken from));
   local = w.core.local;

@@ -7,9 +7,9 @@ use Rattle.l4_model.specs.Machine.{Machine}
 use Rattle.l4_core_model.specs.Letters as letters
 use Rattle.l4_core_model.specs.Runs.{Event, IsMachine}
 use Rattle.l4_core_model.proofs.Lists.{all-map}
-use Rattle.l4_merge.specs.Deeds.{Deed, Turned, happening_of, is_turn, letter_of as letter_handled, letters_with, work_of}
-use Rattle.l4_merge.specs.Pasts.{Past, HasTurned}
-use Rattle.l4_merge.proofs.Worked.{IsNext, turned_one, deeds_of_one}
+use Rattle.l4_merge.specs.Transitions.{Transition, Turned, action_of, is_turn, letter_of as letter_handled, letters_with, work_of}
+use Rattle.l4_merge.specs.LocalTraces.{LocalTrace, HasTurned}
+use Rattle.l4_merge.proofs.Worked.{IsNext, turned_one, transitions_of_one}
 use Rattle.l4_merge.proofs.Destinations.{letters_go_elsewhere, at_most_two_letters}
 use Rattle.l4_types.specs.LetterView.{letter_of}
 use Rattle.l4_types.specs.declared.letters.Letter.{Letter}
@@ -24,26 +24,26 @@ use Rattle.l4_proc.specs.declared.processor.Processor.{Processor}
 use Rattle.l4_proc.specs.declared.stops.Stop.{Stop}
 use Rattle.l4_proc.specs.declared.stops.Stop.TheVariants as stop
 use Rattle.l4_core_model.specs.Turns.{turn}
-use Rattle.l4_proc.specs.Choices.{happening_in}
+use Rattle.l4_proc.specs.Choices.{action_in}
 use Rattle.l4_proc.specs.Events.{event_in_hand, HasNone, HasPostedAll, IsRefused}
-use Rattle.l4_proc.specs.Logs.{all_steps, events, happenings, HasBegun, HasEnded, HasLetters, IsSameLog}
+use Rattle.l4_proc.specs.Logs.{all_steps, events, actions, HasBegun, HasEnded, HasLetters, IsSameLog}
 use Rattle.l4_proc.specs.Whole.{hand_from, handled_from, has_way, IsInHand, IsPortOf, IsWhole}
 use Rattle.l4_proc.specs.Working.{past, BeginWithMail, HasDone, HasTaken, HasTakenTurn, IsIdle, IsMailFirst, IsReady, IsSameWorker, IsStopped, IsUnready}
 use Rattle.l4_proc.proofs.Going.{same_whole}
-use Rattle.l4_proc.proofs.Logging.{begun_events, begun_happenings, same_events, same_happenings, logged}
+use Rattle.l4_proc.proofs.Logging.{begun_events, begun_actions, same_events, same_actions, logged}
 
 -- Nothing was done
 
-abbrev turned_nothing : (m : Machine) (cpu : ℕ) (old new : Past) → new.events ≡ old.events → new.happenings ≡ old.happenings → ((to : ℕ) → new.posted to ≡ old.posted to) → ((from : ℕ) →
+abbrev turned_nothing : (m : Machine) (cpu : ℕ) (old new : LocalTrace) → new.events ≡ old.events → new.actions ≡ old.actions → ((to : ℕ) → new.posted to ≡ old.posted to) → ((from : ℕ) →
     new.handled from ≡ old.handled from) →
     new.local ≡ old.local → HasTurned m cpu old new
-turned_nothing m cpu old new events happenings posted handled local = record {
+turned_nothing m cpu old new events actions posted handled local = record {
   worked = record {
-    deeds = [];
+    transitions = [];
     are = record {
       lead = sym local;
       events = events ∙ sym (append-nil old.events);
-      happenings = happenings ∙ sym (append-nil old.happenings);
+      actions = actions ∙ sym (append-nil old.actions);
       posted = λ to. posted to ∙ sym (append-nil (old.posted to));
       handled = λ from. handled from ∙ sym (append-nil (old.handled from));
     };
@@ -55,9 +55,9 @@ unready_events : (old new : Log) → IsSameLog old new ⊎ HasBegun old new → 
 unready_events old new (inl same) = same_events old new same
 unready_events old new (inr begun) = begun_events old new begun
 
-unready_happenings : (old new : Log) → IsSameLog old new ⊎ HasBegun old new → happenings new ≡ happenings old
-unready_happenings old new (inl same) = same_happenings old new same
-unready_happenings old new (inr begun) = begun_happenings old new begun
+unready_actions : (old new : Log) → IsSameLog old new ⊎ HasBegun old new → actions new ≡ actions old
+unready_actions old new (inl same) = same_actions old new same
+unready_actions old new (inr begun) = begun_actions old new begun
 
 unready_ends : (old new : Log) → IsSameLog old new ⊎ HasBegun old new → (new.ends.items ≡ old.ends.items) × (new.ticks ≡ old.ticks)
 unready_ends old new (inl same) = (same.ends, same.ticks)
@@ -71,7 +71,7 @@ unready_taken old new u =
     let w = old.worker in
     let ends = unready_ends w.log new.worker.log u.log in
     let turned = turned_nothing w.core.machine w.core.cpu (past old) (past new) (unready_events w.log new.worker.log u.log)
-    (unready_happenings w.log new.worker.log u.log)
+    (unready_actions w.log new.worker.log u.log)
     (λ to. ap (map letter_of) (u.posted to))
     (λ from. rw (u.hand, u.taken from) refl)
     (ap (λ (c : cores.Processor). c.local) u.core) in
@@ -98,7 +98,7 @@ refused_taken old ready new r port s =
     let ticks = s.log.ticks ∙ r.log.ticks in
     let turned = turned_nothing w.core.machine w.core.cpu (past old) (past new) (same_events ready.worker.log new.worker.log s.log
     ∙ begun_events w.log ready.worker.log r.log)
-    (same_happenings ready.worker.log new.worker.log s.log ∙ begun_happenings w.log ready.worker.log r.log)
+    (same_actions ready.worker.log new.worker.log s.log ∙ begun_actions w.log ready.worker.log r.log)
     (λ to. ap (map letter_of) (ap (λ (p : Port). posted_to p to) port ∙ r.posted to))
     (λ from. ap (map letter_of) (rw (port, s.hand) (r.handled from)))
     (ap (λ (c : cores.Processor). c.local) core) in
@@ -232,7 +232,7 @@ not_turned : (hand : Option (ℕ × Letter)) → (hand ≡ None → ⊥) → eve
 not_turned None some = absurd (some refl)
 not_turned (Some p) some = λ is. absurd cc
 
-mail_first : (old ready : Processor) (d : Deed) → d.event ≡ event_in_hand ready.worker.hand → IsReady old ready → IsMailFirst old d
+mail_first : (old ready : Processor) (d : Transition) → d.event ≡ event_in_hand ready.worker.hand → IsReady old ready → IsMailFirst old d
 mail_first old ready d event r = record {
   hand = λ x is. event ∙ ap event_in_hand (r.hand x is);
   kept = λ from some is. not_turned ready.worker.hand (λ none. some ((r.had none).kept from)) (sym event ∙ is);
@@ -240,32 +240,32 @@ mail_first old ready d event r = record {
 
 pub turn_taken : (old ready posted new : Processor) (told : Worker) (log : Log) (stamp choice : ℕ) → IsWhole old.port old.worker →
     IsWhole ready.port ready.worker → old.worker.log.ticks ≤ vec_len old.worker.log.ends →
-    IsReady old ready → HasDone ready.worker told stamp → ((cpu : ℕ) → happening_in cpu choice ≡ happening_of cpu (event_in_hand ready.worker.hand)) →
+    IsReady old ready → HasDone ready.worker told stamp → ((cpu : ℕ) → action_in cpu choice ≡ action_of cpu (event_in_hand ready.worker.hand)) →
     HasEnded told.log log stamp choice told.log.ticks → HasPostedAll ready.port posted.port log.told.letters → posted.worker.core ≡ told.core → posted.worker.hand ≡ told.hand → HasLetters log posted.worker.log →
     IsAsBefore posted.port new.port → new.worker ≡ posted.worker → HasTaken 1 old new
 turn_taken old ready posted new told log stamp choice was is few r d what e p core hand ls f worker =
     let w = old.worker in
     let rcore = r.core in
     let all = logged w.log ready.worker.log told.log log stamp choice told.log.ticks was.closed r.log d.cpu (ap (λ es. es.items) d.ends) d.event.kept e in
-    let deed : Deed = record { cpu = w.core.cpu; event = event_in_hand ready.worker.hand; work = work told.core.local told.log.told } in
+    let transition : Transition = record { cpu = w.core.cpu; event = event_in_hand ready.worker.hand; work = work told.core.local told.log.told } in
     let new_core : new.worker.core ≡ told.core = ap (λ (x : Worker). x.core) worker ∙ core in
     let new_hand : new.worker.hand ≡ None = ap (λ (x : Worker). x.hand) worker ∙ hand ∙ d.hand in
     let same_log : events new.worker.log ≡ events log = ap (λ (x : Worker). events x.log) worker ∙ rw (ls.cpu, ap (λ es. es.items) ls.ends, ls.told) refl in
-    let same_happened : happenings new.worker.log ≡ happenings log =
-    ap (λ (x : Worker). happenings x.log) worker ∙ rw (ls.cpu, ap (λ es. es.items) ls.ends) refl in
+    let same_happened : actions new.worker.log ≡ actions log =
+    ap (λ (x : Worker). actions x.log) worker ∙ rw (ls.cpu, ap (λ es. es.items) ls.ends) refl in
     let ends : new.worker.log.ends.items ≡ w.log.ends.items ++ record { stamp = stamp; place = length (all_steps told.log.told); choice = choice } ∷ [] =
     ap (λ (x : Worker). x.log.ends.items) worker ∙ ap (λ es. es.items) ls.ends ∙ e.ends
     ∙ ap (λ es. es ++ record { stamp = stamp; place = length (all_steps told.log.told); choice = choice } ∷ []) (ap (λ es. es.items) d.ends ∙ r.log.ends) in
     let ticks : new.worker.log.ticks ≡ w.log.ticks = ap (λ (x : Worker). x.log.ticks) worker ∙ ls.ticks ∙ e.ticks ∙ d.ticks ∙ r.log.ticks in
-    let next : IsNext w.core.machine w.core.cpu (past old) (past new) deed = record {
+    let next : IsNext w.core.machine w.core.cpu (past old) (past new) transition = record {
       does = record {
         own = refl;
         work = subst (λ (c : cores.Processor). work_of c.machine c.cpu c.local (event_in_hand ready.worker.hand) ≡ Some (work told.core.local
             told.log.told)) rcore d.event.is;
       };
       events = same_log ∙ all.events ∙ ap (λ (x : Event). events w.log ++ x ∷ []) (rw (was.log_of, d.event.stamped) refl);
-      happenings = same_happened ∙ all.happenings ∙ ap (λ c. happenings w.log ++ happening_in c choice ∷ []) was.log_of
-          ∙ ap (λ h. happenings w.log ++ h ∷ []) (what w.core.cpu);
+      actions = same_happened ∙ all.actions ∙ ap (λ c. actions w.log ++ action_in c choice ∷ []) was.log_of
+          ∙ ap (λ h. actions w.log ++ h ∷ []) (what w.core.cpu);
       posted = λ to. ap (map letter_of) (f.posted to) ∙ p.posted to ∙ rw (r.posted to, e.told) refl;
       handled = λ from. ap (λ h. map letter_of (handled_from new.port h from)) new_hand
           ∙ ap (map letter_of) (all_taken (taken_from new.port from) ∙ f.taken from ∙ p.taken from ∙ is.hand from)
@@ -273,8 +273,8 @@ turn_taken old ready posted new told log stamp choice was is few r d what e p co
           ∙ rw (r.handled from, hand_handled ready.worker.hand from) refl;
       local = ap (λ (c : cores.Processor). c.local) (sym new_core);
     } in
-    let turned = turned_one w.core.machine w.core.cpu (past old) (past new) deed (is_a_turn ready.worker.hand) next in
-    let one = deeds_of_one w.core.machine w.core.cpu (past old) (past new) deed (is_a_turn ready.worker.hand) next in
+    let turned = turned_one w.core.machine w.core.cpu (past old) (past new) transition (is_a_turn ready.worker.hand) next in
+    let one = transitions_of_one w.core.machine w.core.cpu (past old) (past new) transition (is_a_turn ready.worker.hand) next in
     record {
       on = record {
         machine = ap (λ (c : cores.Processor). c.machine) new_core ∙ d.event.machine ∙ ap (λ (c : cores.Processor). c.machine) rcore;
@@ -286,6 +286,6 @@ turn_taken old ready posted new told log stamp choice was is few r d what e p co
       turns = one_more _ _ _ _ (ap length ends ∙ length-append w.log.ends.items _) ticks (omega (arith, few, w.log.ends.ok.0));
       ticks = ticks;
       many = ap length one;
-      first = subst (BeginWithMail old) (sym one) (mail_first old ready deed refl r);
+      first = subst (BeginWithMail old) (sym one) (mail_first old ready transition refl r);
       hand = λ none. absurd (omega arith);
     }

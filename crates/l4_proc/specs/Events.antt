@@ -3,7 +3,7 @@ use Rattle.std.specs.Prelude.{◌≡◌, ℕ, ◌++◌, false, IsSome, Option, S
 use Rattle.l4_core_model.specs.Letters as letters
 use Rattle.l4_core_model.specs.Mail.{handle}
 use Rattle.l4_core_model.specs.Turns.{turn, can_stamp}
-use Rattle.l4_merge.specs.Deeds.{LocalEvent, Handled, Turned, letters_with, work_of}
+use Rattle.l4_merge.specs.Transitions.{LocalEvent, Handled, Turned, letters_with, work_of}
 use Rattle.l4_types.specs.LetterView.{letter_of}
 use Rattle.l4_types.specs.declared.letters.Letter.{Letter}
 use Rattle.l4_core.specs.Processor.{Processor}
@@ -17,7 +17,7 @@ abbrev pub event_in_hand : Option (ℕ × Letter) → LocalEvent
 event_in_hand None = Turned
 event_in_hand (Some p) = Handled p.0 (letter_of p.1)
 
--- The stamp of the letter in hand, 0 where there is none.
+-- The stamp of the letter in hand, 0 if there is none.
 abbrev pub stamp_in_hand : Option (ℕ × Letter) → ℕ
 stamp_in_hand None = 0
 stamp_in_hand (Some p) = p.1.stamp
@@ -33,7 +33,8 @@ pub record HasUnlawful (p : Processor) (hand : Option (ℕ × Letter)) : Type 0 
   pub here : hand ≡ Some letter
   pub unlawful : handle p.machine p.cpu p.local (letter_of letter.1) ≡ None
 
--- The letter in hand is lawful here, or there is none and there is a turn, but the next stamp is not below its limit.
+-- The letter in hand is lawful here, or there is none and the core has a turn. But the next stamp
+-- is not below its limit.
 pub record HasNoStamp (p : Processor) (hand : Option (ℕ × Letter)) : Type 0 where
   pub due : IsSome (work_of p.machine p.cpu p.local (event_in_hand hand))
   pub full : can_stamp p.local (stamp_in_hand hand) ≡ false
@@ -49,6 +50,7 @@ IsRefused p hand stop.NoMemory = ⊥
 -- Letters were posted, each to its processor.
 pub record HasPostedAll (old new : Port) (ls : List (ℕ × letters.Letter)) : Type 0 where
   pub place : place new ≡ place old
-  pub posted : (to : ℕ) → map letter_of (posted_to new to) ≡ map letter_of (posted_to old to) ++ letters_with to ls
+  pub posted : (to : ℕ) → map letter_of (posted_to new to) ≡ map letter_of (posted_to old to) ++
+      letters_with to ls
   pub taken : (from : ℕ) → taken_from new from ≡ taken_from old from
   pub kept : (from : ℕ) → kept_from new from ≡ kept_from old from

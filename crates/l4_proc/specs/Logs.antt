@@ -2,28 +2,28 @@
 use Rattle.std.specs.Prelude.{◌≡◌, ℕ, ◌++◌, ◌<◌, true, List, [], ◌∷◌, length, map, vec_len}
 use Rattle.std.specs.Vec.{vec_capacity}
 use Rattle.l4_model.specs.Steps.{Step}
-use Rattle.l4_core_model.specs.Runs.{Event, Happening}
-use Rattle.l4_core.specs.Tellings.{Told, IsBegun}
-use Rattle.l4_proc.specs.Choices.{happening_in}
+use Rattle.l4_core_model.specs.Runs.{Event, Action}
+use Rattle.l4_core.specs.EventBuffers.{EventBuffer, IsBegun}
+use Rattle.l4_proc.specs.Choices.{action_in}
 use Rattle.l4_proc.specs.Ends.{are_ends, events_between}
 use Rattle.l4_proc.specs.declared.log.EventRef.{EventRef}
 use Rattle.l4_proc.specs.declared.log.Log.{Log}
 
 -- All that was told: the steps of the event under way behind those before.
-abbrev pub all_steps : Told → List Step
+abbrev pub all_steps : EventBuffer → List Step
 all_steps t = t.before ++ t.steps
 
 abbrev pub events : Log → List Event
 events log = events_between log.cpu 0 log.ends.items (all_steps log.told)
 
--- What happened in each of them.
-abbrev pub happenings : Log → List Happening
-happenings log = map (λ end. happening_in log.cpu end.choice) log.ends.items
+-- What happened in each event of a log.
+abbrev pub actions : Log → List Action
+actions log = map (λ end. action_in log.cpu end.choice) log.ends.items
 
 abbrev pub event_of : EventRef → Event
 event_of e = record { cpu = e.cpu; stamp = e.stamp; steps = e.steps }
 
--- All that was told is told of events that have ended.
+-- All that was told belongs to events that have ended.
 abbrev pub IsClosed : Log → Type 0
 IsClosed log = are_ends 0 log.ends.items (length (all_steps log.told)) ≡ true
 
@@ -42,10 +42,12 @@ pub record IsSameLog (old new : Log) : Type 0 where
   pub ticks : new.ticks ≡ old.ticks
   pub told : new.told ≡ old.told
 
--- The event under way ended, with this stamp and the number of what happened. So many of all are ticks then.
+-- The event under way ended, with this stamp and the number of what happened. `count` events of the
+-- log are ticks then.
 pub record HasEnded (old new : Log) (stamp choice count : ℕ) : Type 0 where
   pub cpu : new.cpu ≡ old.cpu
-  pub ends : new.ends.items ≡ old.ends.items ++ record { stamp = stamp; place = length (all_steps old.told); choice = choice } ∷ []
+  pub ends : new.ends.items ≡ old.ends.items ++
+      record { stamp = stamp; place = length (all_steps old.told); choice = choice } ∷ []
   pub ticks : new.ticks ≡ count
   pub told : new.told ≡ old.told
 

@@ -1,12 +1,12 @@
 //! What a processor did in an event: as a value, and as one number of its log.
 ghost use Rattle.std.specs.Prelude.{ℕ, ◌≡◌, ◌<◌, ◌^◌};
 ghost use Rattle.l4_core_model.specs.Runs.{Handles, Ticks};
-ghost use Rattle.l4_proc.specs.Choices.{happening_in, happening_of};
+ghost use Rattle.l4_proc.specs.Choices.{action_in, action_of};
 
 /// What a processor did in an event.
 #[derive(Clone, Copy, PartialEq, Eq, Debug)]
 pub enum Choice {
-    /// It handled the first letter under way from this processor.
+    /// The processor handled the first letter under way from this processor.
     Letter(u8),
     /// The core took its turn.
     Core,
@@ -19,7 +19,7 @@ pub(crate) const CORE: u64 = 256;
 
 /// The number of an event that handles a letter from this processor.
 pub(crate) fn letter_number(from: u8) -> u64
-    ensures { (cpu : ℕ) → happening_in cpu result ≡ Handles cpu from }
+    ensures { (cpu : ℕ) → action_in cpu result ≡ Handles cpu from }
 {
     u64::from(from)
 }
@@ -27,14 +27,14 @@ pub(crate) fn letter_number(from: u8) -> u64
 /// The number of a tick to this value.
 pub(crate) fn tick_number(clock: u64) -> u64
     requires { clock < 2 ^ 62 }
-    ensures { (cpu : ℕ) → happening_in cpu result ≡ Ticks cpu clock }
+    ensures { (cpu : ℕ) → action_in cpu result ≡ Ticks cpu clock }
 {
     CORE + 1 + clock
 }
 
 /// What the number stands for.
 pub(crate) fn choice_of(number: u64) -> Choice
-    ensures { (cpu : ℕ) → happening_of cpu result ≡ happening_in cpu number }
+    ensures { (cpu : ℕ) → action_of cpu result ≡ action_in cpu number }
 {
     if number < CORE {
         Choice::Letter(number as u8)

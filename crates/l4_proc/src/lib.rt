@@ -6,8 +6,8 @@
 //! core did over the letters taken, and what was posted is exactly theirs. `work` returns why it
 //! stopped. A `Gate` is asked before each turn, and may hold a processor back.
 //!
-//! That several host threads are at work, and which processor goes first, is up to the host: tested
-//! in `l4_host_tests`, in no clause. `work` is called there in threads that may not wait.
+//! That several host threads are at work, and which processor goes first, is up to the host: the
+//! tests see it, no clause says it. The tests also call `work` in threads that may not wait.
 //!
 //! ```rust
 //! let mut processors = assemble(alloc, &machine, 64)?;

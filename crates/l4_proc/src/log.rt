@@ -6,7 +6,7 @@ ghost use Rattle.std.specs.Vec.{vec_capacity};
 ghost use Rattle.l4_proc.specs.Ends.{start_of};
 
 use crate::choice::{Choice, choice_of};
-use l4_core::told::Told;
+use l4_core::event_buffer::EventBuffer;
 use l4_history::history::History;
 use l4_history::steps::Steps;
 use l4_types::errors::NoMemory;
@@ -30,7 +30,7 @@ pub(crate) struct End {
 pub struct Log {
     cpu: u8,
     // The steps of all events, and after them those of the current event.
-    pub(crate) told: Told<History>,
+    pub(crate) told: EventBuffer<History>,
     ends: Vec<End>,
     // How many of the events were ticks.
     ticks: usize,
@@ -49,12 +49,12 @@ pub struct EventRef<'a> {
 }
 
 impl Log {
-    ghost use Rattle.l4_proc.specs.Logs.{all_steps, event_of, events, happenings, HasBegun};
+    ghost use Rattle.l4_proc.specs.Logs.{all_steps, event_of, events, actions, HasBegun};
     ghost use Rattle.l4_proc.specs.Logs.{HasEnded, HasLetters, IsClosed, IsSameLog};
     ghost use Rattle.std.specs.Option.{option_map, option_to_list};
     ghost use Rattle.l4_core_model.specs.Runs.{told};
-    ghost use Rattle.l4_proc.specs.Choices.{happening_of};
-    ghost use Rattle.l4_core.specs.Tellings.{posted_of};
+    ghost use Rattle.l4_proc.specs.Choices.{action_of};
+    ghost use Rattle.l4_core.specs.EventBuffers.{posted_of};
 
     /// The log of a processor that has done nothing. It takes no memory.
     pub fn new(alloc: Global, cpu: u8) -> Log
@@ -65,7 +65,7 @@ impl Log {
     {
         Log {
             cpu,
-            told: Told::new(History::new(alloc)),
+            told: EventBuffer::new(History::new(alloc)),
             ends: Vec::new(alloc),
             ticks: 0,
         }
@@ -124,7 +124,7 @@ impl Log {
     #[tactic(auto, using(crate::proofs::Ends::as_many))]
     pub fn choice(&self, i: usize) -> Choice
         requires { i < length (events self.now) }
-        ensures { slice_get (happenings self.now) i ≡ Some (happening_of self.now.cpu result) }
+        ensures { slice_get (actions self.now) i ≡ Some (action_of self.now.cpu result) }
     {
         let ends = self.ends.as_slice();
         choice_of(ends[i].choice)

@@ -24,7 +24,7 @@ impl<'m> Processor<'m> {
     ghost use Rattle.std.specs.List.{AllByRecursion};
     ghost use Rattle.l4_mail.specs.Ports.{room_to, HasWayTo};
     ghost use Rattle.l4_core_model.specs.Turns.{advance, can_stamp};
-    ghost use Rattle.l4_merge.specs.Pasts.{empty_past, HasWorked, HasTurned};
+    ghost use Rattle.l4_merge.specs.LocalTraces.{empty_past, Extends, HasTurned};
     ghost use Rattle.l4_proc.specs.Logs.{events, IsClosed};
     ghost use Rattle.l4_proc.specs.Working.{past, turns_of, HasGoneOn, HasPostedOwn, HasStayed};
     ghost use Rattle.l4_proc.specs.Working.{HasTaken, HasTakenUpTo, HasTicked, HasTurnedMailFirst};
@@ -37,7 +37,7 @@ impl<'m> Processor<'m> {
         requires fresh { IsFreshPort port }
         ensures parts { (result.port ≡ port) × (result.worker.core ≡ core.entry) ×
             (result.worker.hand ≡ None) }
-        ensures opened { HasWorked core.entry.machine core.entry.cpu (empty_past core.entry.local)
+        ensures opened { Extends core.entry.machine core.entry.cpu (empty_past core.entry.local)
             (past result) }
         ensures turns { turns_of result ≡ 0 }
         ensures log { events result.worker.log ≡ [] }
@@ -94,7 +94,7 @@ impl<'m> Processor<'m> {
         self.in_hand() || self.port.keeps_mail() || self.worker.core.busy()
     }
 
-    /// Why its last `work` stopped, `Used` where it has not worked yet.
+    /// Why its last `work` stopped, `Used` if it has not worked yet.
     pub fn stop(&self) -> Stop
         ensures { result ≡ self.now.worker.stop }
     {
@@ -127,14 +127,14 @@ impl<'m> Processor<'m> {
         Processor { port, worker }
     }
 
-    /// Takes at most `turns` turns. A turn handles the letter in hand, else the next that is taken
-    /// from the port; where there is none it is the core's turn. The gate is asked before each
-    /// attempt.
+    /// Takes at most `turns` turns. A turn handles the letter in hand, else the next letter from
+    /// the port; if there is none, it is the core's turn. The gate is asked before each attempt.
     ///
     /// `Used`: all were taken. `Idle`: there is nothing to do, and no letter was seen. `NoMemory`:
-    /// memory was refused. `Mail`: the letter in hand is not lawful here. `Stamp`: it is lawful, or
-    /// there is none and a turn, and the next stamp would reach 2^62. Then the last turn was not
-    /// taken; a letter that was taken stays in hand, and is handled first by the next call.
+    /// memory was refused. `Mail`: the letter in hand is not lawful here. `Stamp`: the letter in
+    /// hand is lawful, or there is none and the core has a turn, and the next stamp would reach
+    /// 2^62. But for `Used` the last turn was not taken; a letter that was taken stays in hand, and
+    /// is handled first by the next call.
     pub fn work<G: Gate>(&mut self, turns: u64, gate: &G) -> Stop
         ensures on { HasGoneOn self.old self.new }
         ensures turned { HasTurned self.old.worker.core.machine self.old.worker.core.cpu
@@ -182,7 +182,7 @@ impl<'m> Processor<'m> {
         Ok(())
     }
 
-    // Posts the letters of the event that has ended, and moves them on. Where there are none,
+    // Posts the letters of the event that has ended, and moves them on. If there are none,
     // `get_ready` has flushed already.
     fn send_all(&mut self)
         requires ways { AllByRecursion (λ p.
@@ -210,7 +210,7 @@ impl<'m> Processor<'m> {
         }
     }
 
-    // Makes room for a turn, and takes the next letter, where none is in hand and one has come.
+    // Makes room for a turn, and takes the next letter, if none is in hand and one has come.
     fn get_ready(&mut self) -> Result<(), NoMemory>
         ensures ok { OnOk result (IsReady self.old self.new) }
         ensures err { OnErr result (IsUnready self.old self.new) }

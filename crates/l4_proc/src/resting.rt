@@ -19,7 +19,7 @@ use l4_types::letters::Letter;
 use std::alloc::Global;
 use std::mem;
 
-// Whether one of them has this number.
+// Whether one of these processors has this number.
 fn has_number(processors: &[Processor<'_>], cpu: usize) -> bool
     ensures { result ≡ list_any (λ p. nat_eq p.port.cpu cpu) processors.now }
 {
@@ -28,7 +28,7 @@ fn has_number(processors: &[Processor<'_>], cpu: usize) -> bool
         .any(|processor| usize::from(processor.port.cpu()) == cpu)
 }
 
-// Whether there is one of each number below this.
+// Whether there is a processor of each number below this.
 fn have_numbers(processors: &[Processor<'_>], below: usize) -> bool
     ensures { result ≡ have_numbers below (map (λ p. p.port) processors.now) }
 {
@@ -40,7 +40,7 @@ fn have_numbers(processors: &[Processor<'_>], below: usize) -> bool
     true
 }
 
-// Whether each is of a fabric of `cpus` processors.
+// Whether each processor is of a fabric of `cpus` processors.
 fn have_size(processors: &[Processor<'_>], cpus: usize) -> bool
     ensures { result ≡ list_all (λ p. nat_eq (fabric_size p.port) cpus) processors.now }
 {
@@ -97,7 +97,7 @@ fn part<'m>(processors: Vec<Processor<'m>>, ports: &mut Vec<Port>, workers: &mut
     }
 }
 
-// Puts them together again.
+// Puts processors together again.
 fn join<'m>(ports: Vec<Port>, workers: Vec<Worker<'m>>, processors: &mut Vec<Processor<'m>>)
     requires whole { AllZip IsWhole ports.items workers.items }
     requires empty { vec_len processors.old ≡ 0 }
@@ -112,9 +112,9 @@ fn join<'m>(ports: Vec<Port>, workers: Vec<Worker<'m>>, processors: &mut Vec<Pro
 }
 
 /// Drains the mail of processors: every letter under way is moved to the processor that it goes to,
-/// which handles it first. Returns whether there was none, and none in hand. No other thread may be
-/// at work on them. They are of one fabric, in any order, and stay in that order. Whatever it
-/// returns, only what their ports keep has changed.
+/// which handles it first. Returns whether no letter was under way, and none in hand. No other
+/// thread may be at work on the processors. They are of one fabric, in any order, and stay in that
+/// order. Whatever the call returns, only what their ports keep has changed.
 ///
 /// `Numbers`: they are not all processors of their fabric. `NoMemory`: memory was refused; some
 /// letters may have moved, none is lost, and the call can be made again.

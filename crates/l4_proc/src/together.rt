@@ -1,6 +1,6 @@
 //! Processors that work at the same time.
 ghost use Rattle.std.specs.Prelude.{◌≡◌, ◌↔◌, ◌<◌, ◌+◌, IsTrue, length};
-ghost use Rattle.l4_proc.specs.Working.{turns_of, HasWorkedOn, HaveWorkedOn, IsStopped};
+ghost use Rattle.l4_proc.specs.Working.{turns_of, ExtendsOn, HaveWorkedOn, IsStopped};
 ghost use Rattle.l4_proc.specs.declared.stops.Stop.TheVariants as stop;
 
 use crate::gate::Gate;
@@ -20,12 +20,12 @@ const LOOKS: u32 = 200;
 const LAST_LOOKS: u32 = 2;
 
 // Looks on with a processor that has found nothing, until it takes a turn. Returns whether it did.
-// It gives up where it stops for another reason, where nobody has been at work for a while, and
-// after `LOOKS` looks. So it waits for nobody, whatever the others do.
+// It gives up if the processor stops for another reason, if nobody has been at work for a while,
+// and after `LOOKS` looks. So it waits for nobody, whatever the others do.
 fn look_on<G: Gate>(processor: &mut Processor<'_>, gate: &G, at_work: &AtomicUsize) -> bool
     requires idle { processor.old.worker.stop ≡ stop.Idle }
     requires stopped { IsStopped processor.old stop.Idle }
-    ensures worked { HasWorkedOn 1 processor.old processor.new }
+    ensures worked { ExtendsOn 1 processor.old processor.new }
     ensures found { IsTrue result ↔ (processor.new.worker.stop ≡ stop.Used) }
 {
     let mut last_looks = 0;
@@ -48,7 +48,7 @@ fn look_on<G: Gate>(processor: &mut Processor<'_>, gate: &G, at_work: &AtomicUsi
 
 // Takes at most `turns` turns, and returns how many.
 fn take_turns<G: Gate>(processor: &mut Processor<'_>, turns: u64, gate: &G) -> u64
-    ensures worked { HasWorkedOn turns processor.old processor.new }
+    ensures worked { ExtendsOn turns processor.old processor.new }
     ensures count { turns_of processor.new ≡ turns_of processor.old + result }
 {
     let before = processor.turns();
@@ -56,10 +56,10 @@ fn take_turns<G: Gate>(processor: &mut Processor<'_>, turns: u64, gate: &G) -> u
     processor.turns() - before
 }
 
-// Takes at most `turns` turns, where others may be at work too. It counts as at work once it has
-// begun. No promise rests on how many are.
+// Takes at most `turns` turns, while others may be at work too. The processor counts as at work
+// once it has begun. No promise rests on how many are at work.
 fn work_among<G: Gate>(processor: &mut Processor<'_>, turns: u64, gate: &G, at_work: &AtomicUsize)
-    ensures { HasWorkedOn turns processor.old processor.new }
+    ensures { ExtendsOn turns processor.old processor.new }
 {
     at_work.fetch_add(1, Ordering::SeqCst);
     let mut left = turns - take_turns(processor, turns, gate);
@@ -89,7 +89,7 @@ fn work_in_order<R: Threads + Sync, G: Gate + Sync>(
         processors,
         1,
         &|_, processor: &mut Processor<'_>|
-            ensures { HasWorkedOn turns processor.entry.now processor.exit.now }
+            ensures { ExtendsOn turns processor.entry.now processor.exit.now }
         {
             take_turns(processor, turns, gate);
         },
@@ -113,12 +113,13 @@ fn work_side_by_side<R: Threads + Sync, G: Gate + Sync>(
         processors,
         threads,
         &|_, processor: &mut Processor<'_>|
-            ensures { HasWorkedOn turns processor.entry.now processor.exit.now }
+            ensures { ExtendsOn turns processor.entry.now processor.exit.now }
         { work_among(processor, turns, gate, &at_work) },
     );
 }
 
-// How many of them have something to do, and did not run out of it when they worked last.
+// How many of these processors have something to do, and did not run out of it when they worked
+// last.
 fn count_busy(processors: &[Processor<'_>]) -> usize {
     processors
         .iter()
@@ -126,13 +127,13 @@ fn count_busy(processors: &[Processor<'_>]) -> usize {
         .count()
 }
 
-/// Each processor takes at most `turns` turns. Where two of them or more have something to do, and
-/// did not run out of it when they worked last, each works in a host thread of its own, one of them
-/// on the thread of the caller. Else they work in order on the thread of the caller: what they have
-/// to do costs less than starting threads.
+/// Each processor takes at most `turns` turns. If two of them or more have something to do, and did
+/// not run out of it when they worked last, each works in a host thread of its own, one of them on
+/// the thread of the caller. Else they work in order on the thread of the caller: what they have to
+/// do costs less than starting threads.
 ///
-/// A processor that finds nothing to do looks on for a while where another one is at work, so that
-/// a letter that comes meanwhile does not cost a call; but it need not be taken in this call. Where
+/// A processor that finds nothing to do looks on for a while if another one is at work, so that a
+/// letter that comes meanwhile does not cost a call; but it need not be taken in this call. Where
 /// the host starts fewer threads, one thread works for several processors.
 ///
 /// Each remembers why it stopped (`Processor::stop`).

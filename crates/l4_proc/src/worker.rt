@@ -4,14 +4,14 @@ ghost use Rattle.std.specs.Prelude.{OnErr};
 ghost use Rattle.l4_core_model.specs.Mail.{handle};
 ghost use Rattle.l4_core_model.specs.Turns.{can_stamp, turn};
 ghost use Rattle.l4_types.specs.LetterView.{letter_of};
-ghost use Rattle.l4_core.specs.Tellings.{IsOpen};
+ghost use Rattle.l4_core.specs.EventBuffers.{IsOpen};
 ghost use Rattle.l4_core.specs.Turning.{IsEvent};
 
 use crate::choice::{CORE, letter_number, tick_number};
 use crate::log::Log;
 use crate::stops::{ProcFault, Stop};
+use l4_core::event_buffer::EventBuffer;
 use l4_core::processor::{Core, Fault};
-use l4_core::told::Told;
 use l4_history::history::History;
 use l4_types::errors::NoMemory;
 use l4_types::letters::Letter;
@@ -25,12 +25,16 @@ pub struct Worker<'m> {
     pub(crate) log: Log,
     // A letter that was taken and is not yet handled, with the processor that posted it.
     pub(crate) hand: Option<(u8, Letter)>,
-    // Why its last work stopped, `Used` where it has not worked yet.
+    // Why its last work stopped, `Used` if it has not worked yet.
     pub(crate) stop: Stop,
 }
 
 // Handles a letter.
-fn handle(core: &mut Core<'_>, letter: &Letter, told: &mut Told<History>) -> Result<u64, Stop>
+fn handle(
+    core: &mut Core<'_>,
+    letter: &Letter,
+    told: &mut EventBuffer<History>,
+) -> Result<u64, Stop>
     requires open { IsOpen told.old }
     ensures ok { IfOk result (λ stamp.
         IsEvent
@@ -52,7 +56,7 @@ fn handle(core: &mut Core<'_>, letter: &Letter, told: &mut Told<History>) -> Res
 }
 
 // Takes the core's own turn.
-fn turn(core: &mut Core<'_>, told: &mut Told<History>) -> Result<u64, Stop>
+fn turn(core: &mut Core<'_>, told: &mut EventBuffer<History>) -> Result<u64, Stop>
     requires open { IsOpen told.old }
     ensures ok { IfOk result (λ stamp.
         IsEvent
@@ -82,10 +86,10 @@ impl<'m> Worker<'m> {
     ghost use Rattle.std.specs.Vec.{vec_capacity};
     ghost use Rattle.l4_core_model.specs.Runs.{IsMachine};
     ghost use Rattle.l4_core_model.specs.Turns.{advance, can_stamp};
-    ghost use Rattle.l4_core.specs.Tellings.{posted_of, IsOpen};
+    ghost use Rattle.l4_core.specs.EventBuffers.{posted_of, IsOpen};
     ghost use Rattle.l4_core.specs.Turning.{IsEvent};
-    ghost use Rattle.l4_merge.specs.Deeds.{happening_of};
-    ghost use Rattle.l4_proc.specs.Choices.{happening_in};
+    ghost use Rattle.l4_merge.specs.Transitions.{action_of};
+    ghost use Rattle.l4_proc.specs.Choices.{action_in};
     ghost use Rattle.l4_proc.specs.Events.{event_in_hand, IsRefused};
     ghost use Rattle.l4_proc.specs.Logs.{all_steps, HasBegun, HasLetters, IsSameLog};
     ghost use Rattle.l4_proc.specs.Working.{HasDone, HasTakenTurn, HasTickedTo, IsSameWorker};
@@ -153,7 +157,7 @@ impl<'m> Worker<'m> {
     }
 
     /// Takes a turn as the event that has begun: handles the letter in hand, else takes the core's
-    /// turn. Where it is not taken, core and letter stay.
+    /// turn. If the turn is not taken, core and letter stay.
     pub fn take_turn(&mut self) -> Result<(), Stop>
         requires open { IsOpen self.old.log.told }
         requires room { vec_len self.old.log.ends < vec_capacity self.old.log.ends }
@@ -171,8 +175,8 @@ impl<'m> Worker<'m> {
 
     // The number of the next turn: it handles the letter in hand, else it is the core's.
     fn next_choice(&self) -> u64
-        ensures { (cpu : ℕ) → happening_in cpu result ≡
-            happening_of cpu (event_in_hand self.now.hand) }
+        ensures { (cpu : ℕ) → action_in cpu result ≡
+            action_of cpu (event_in_hand self.now.hand) }
     {
         match &self.hand {
             Some((from, _)) => letter_number(*from),
@@ -200,8 +204,8 @@ impl<'m> Worker<'m> {
         }
     }
 
-    /// The next letter that the last event posted, with the processor that it goes to. Each is
-    /// given once.
+    /// Takes out the next letter that the last event posted, with the processor that it goes to.
+    /// Each is given once.
     pub fn take_letter(&mut self) -> Option<(u8, Letter)>
         ensures core { self.new.core ≡ self.old.core }
         ensures hand { self.new.hand ≡ self.old.hand }
@@ -240,7 +244,7 @@ impl<'m> Worker<'m> {
         Ok(())
     }
 
-    // Advances the clock to this value, where it may.
+    // Advances the clock to this value, if it may.
     fn advance(&mut self, to: u64) -> u64
         requires open { IsOpen self.old.log.told }
         requires can { IsSome

@@ -4,22 +4,26 @@ use Rattle.std.proofs.lemmas.List.Elements.{filter_more}
 use Rattle.l4_model.specs.Machine.{Machine}
 use Rattle.l4_choices.specs.Entries.{Entry}
 use Rattle.l4_questions.specs.Asked.{asked_of, is_asked}
-use Rattle.l4_questions.specs.Printed.{ending_text, endings_text}
+use Rattle.l4_questions.specs.Beside.{numbered_text}
 use Rattle.l4_questions.specs.declared.question.Question.{Question}
 
+-- What is printed of an ending with its number.
+abbrev pub TextOf : Type 0
+TextOf = (number : ℕ) → List Entry → List ℕ
+
 -- One more is the last of them.
-text_more : (m : Machine) (number last : ℕ) (endings : List (List Entry)) (e : List Entry) →
+text_more : (text_of : TextOf) (number last : ℕ) (endings : List (List Entry)) (e : List Entry) →
     last ≡ length endings + number →
-    endings_text m number (endings ++ e ∷ [])
-    ≡ endings_text m number endings ++ ending_text m last e
-text_more m number last [] e is =
+    numbered_text text_of number (endings ++ e ∷ [])
+    ≡ numbered_text text_of number endings ++ text_of last e
+text_more text_of number last [] e is =
     let same : number ≡ last = omega (arith, is) in
-    append-nil (ending_text m number e) ∙ ap (λ n. ending_text m n e) same
-text_more m number last (x ∷ endings) e is =
+    append-nil (text_of number e) ∙ ap (λ n. text_of n e) same
+text_more text_of number last (x ∷ endings) e is =
     let next : last ≡ length endings + (number + 1) = omega (arith, is) in
-    ap (λ rest. ending_text m number x ++ rest) (text_more m (number + 1) last endings e next)
-    ∙ sym (append_assoc (ending_text m number x) (endings_text m (number + 1) endings)
-    (ending_text m last e))
+    ap (λ rest. text_of number x ++ rest) (text_more text_of (number + 1) last endings e next)
+    ∙ sym (append_assoc (text_of number x) (numbered_text text_of (number + 1) endings)
+    (text_of last e))
 
 pub asked_more : (m : Machine) (q : Question) (endings : List (List Entry)) (i : ℕ)
     (e : List Entry) → i < length endings → get_or endings i [] ≡ e →
@@ -30,20 +34,22 @@ asked_more m q endings i e inside at =
     ∙ ap (λ (x : List Entry). asked_of m q (take i endings) ++ cond (is_asked m q x) (x ∷ []) []) at
 
 -- What was printed of those before it, with it printed where it is asked for.
-pub record IsPrintedOn (m : Machine) (q : Question) (endings : List (List Entry)) (i count : ℕ)
-    (before lines : List ℕ) : Type 0 where
+pub record IsPrintedOn (text_of : TextOf) (m : Machine) (q : Question)
+    (endings : List (List Entry)) (i count : ℕ) (before lines : List ℕ) : Type 0 where
   pub counted : count ≡ length (asked_of m q (take i endings))
-  pub printed : lines ≡ before ++ endings_text m 1 (asked_of m q (take i endings))
+  pub printed : lines ≡ before ++ numbered_text text_of 1 (asked_of m q (take i endings))
 
-pub none_printed : (m : Machine) (q : Question) (endings : List (List Entry)) (lines : List ℕ) →
-    IsPrintedOn m q endings 0 0 lines lines
-none_printed m q endings lines = record { counted = refl; printed = sym (append-nil lines) }
+pub none_printed : (text_of : TextOf) (m : Machine) (q : Question) (endings : List (List Entry))
+    (lines : List ℕ) → IsPrintedOn text_of m q endings 0 0 lines lines
+none_printed text_of m q endings lines =
+    record { counted = refl; printed = sym (append-nil lines) }
 
-pub left_out : (m : Machine) (q : Question) (endings : List (List Entry)) (i count : ℕ)
-    (e : List Entry) (before lines new : List ℕ) → i < length endings → get_or endings i [] ≡ e →
-    is_asked m q e ≡ false → new ≡ lines ++ [] → IsPrintedOn m q endings i count before lines →
-    IsPrintedOn m q endings (i + 1) count before new
-left_out m q endings i count e before lines new inside at is same p =
+pub left_out : (text_of : TextOf) (m : Machine) (q : Question) (endings : List (List Entry))
+    (i count : ℕ) (e : List Entry) (before lines new : List ℕ) → i < length endings →
+    get_or endings i [] ≡ e → is_asked m q e ≡ false → new ≡ lines ++ [] →
+    IsPrintedOn text_of m q endings i count before lines →
+    IsPrintedOn text_of m q endings (i + 1) count before new
+left_out text_of m q endings i count e before lines new inside at is same p =
     let others : asked_of m q (take (i + 1) endings) ≡ asked_of m q (take i endings)
     = asked_more m q endings i e inside at
     ∙ ap (λ b. asked_of m q (take i endings) ++ cond b (e ∷ []) []) is
@@ -52,24 +58,24 @@ left_out m q endings i count e before lines new inside at is same p =
       counted = p.counted ∙ ap length (sym others);
       printed =
           same ∙ append-nil lines ∙ p.printed
-          ∙ ap (λ es. before ++ endings_text m 1 es) (sym others);
+          ∙ ap (λ es. before ++ numbered_text text_of 1 es) (sym others);
     }
 
-pub printed_too : (m : Machine) (q : Question) (endings : List (List Entry)) (i count : ℕ)
-    (e : List Entry) (before lines new : List ℕ) → i < length endings → get_or endings i [] ≡ e →
-    is_asked m q e ≡ true → new ≡ lines ++ ending_text m (count + 1) e →
-    IsPrintedOn m q endings i count before lines →
-    IsPrintedOn m q endings (i + 1) (count + 1) before new
-printed_too m q endings i count e before lines new inside at is same p =
+pub printed_too : (text_of : TextOf) (m : Machine) (q : Question) (endings : List (List Entry))
+    (i count : ℕ) (e : List Entry) (before lines new : List ℕ) → i < length endings →
+    get_or endings i [] ≡ e → is_asked m q e ≡ true → new ≡ lines ++ text_of (count + 1) e →
+    IsPrintedOn text_of m q endings i count before lines →
+    IsPrintedOn text_of m q endings (i + 1) (count + 1) before new
+printed_too text_of m q endings i count e before lines new inside at is same p =
     let some = asked_of m q (take i endings) in
     let more : asked_of m q (take (i + 1) endings) ≡ some ++ e ∷ []
     = asked_more m q endings i e inside at ∙ ap (λ b. some ++ cond b (e ∷ []) []) is in
     record {
       counted = omega (arith, p.counted, ap length more, length-append some (e ∷ []));
       printed =
-          same ∙ ap (λ ls. ls ++ ending_text m (count + 1) e) p.printed
-          ∙ append_assoc before (endings_text m 1 some) (ending_text m (count + 1) e)
+          same ∙ ap (λ ls. ls ++ text_of (count + 1) e) p.printed
+          ∙ append_assoc before (numbered_text text_of 1 some) (text_of (count + 1) e)
           ∙ ap (λ ls. before ++ ls)
-          (sym (text_more m 1 (count + 1) some e (omega (arith, p.counted))))
-          ∙ ap (λ es. before ++ endings_text m 1 es) (sym more);
+          (sym (text_more text_of 1 (count + 1) some e (omega (arith, p.counted))))
+          ∙ ap (λ es. before ++ numbered_text text_of 1 es) (sym more);
     }

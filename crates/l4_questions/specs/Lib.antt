@@ -1,4 +1,5 @@
 pub mod Answers
 pub mod Asked
+pub mod Beside
 pub mod Printed
 pub mod Shown

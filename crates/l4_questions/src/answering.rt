@@ -1,17 +1,22 @@
 //! The answer to a question.
 ghost use Rattle.std.specs.Prelude.{◌≡◌, ◌++◌, ◌⊎◌, [], List, IfErr, IfOk, Some, cond, length, map};
+ghost use Rattle.std.specs.Option.{option_copied};
 ghost use Rattle.l4_choices.specs.Entries.{Entry as ModelEntry};
 ghost use Rattle.l4_machine.specs.Entries.{entry_from};
 ghost use Rattle.l4_endings.specs.Tried.{told};
 ghost use Rattle.l4_questions.specs.Answers.{question_fault, IsAnswered};
 ghost use Rattle.l4_questions.specs.Asked.{asked_of, is_asked};
-ghost use Rattle.l4_questions.specs.Printed.{answer_status, ending_text, endings_text};
+ghost use Rattle.l4_questions.specs.Beside.{ending_beside, IsAnsweredBeside, numbered_text};
+ghost use Rattle.l4_questions.specs.Beside.{unmet_beside, unmet_ending};
+ghost use Rattle.l4_questions.specs.Printed.{answer_status};
 ghost use Rattle.l4_questions.specs.declared.question.QuestionFault.TheVariants.{NoMemory as OutOfMemory};
 
 use crate::asked::Shown;
+use crate::beside::{AnswerBeside, Beside, status_beside, write_unmet, write_waits};
 use crate::printed::{write_head, write_last};
 use crate::question::{Question, QuestionFault};
-use l4_endings::endings;
+use l4_endings::endings_heard;
+use l4_explore::progress::{Progress, Unheard};
 use l4_machine::Entry;
 use l4_script::machine::Machine;
 use l4_types::errors::NoMemory;
@@ -27,26 +32,43 @@ pub struct Answer {
     pub status: u8,
 }
 
+// What was written of endings so far, and what they do not meet.
+#[derive(Drop)]
+struct Written {
+    lines: Vec<u8>,
+    unmet: Vec<u8>,
+}
+
 // Appends an ending by its number, where a question asks for it, and says whether it does.
 fn write_ending(
     alloc: Global,
     machine: &Machine,
     question: &Question<'_>,
+    beside: Beside<'_, '_>,
     entries: &[Entry],
     number: usize,
-    lines: &mut Vec<u8>,
+    written: &mut Written,
 ) -> Result<bool, NoMemory>
     ensures asked { IfOk result (λ is.
         is ≡ is_asked machine.now question.now (map entry_from entries.now)) }
-    ensures lines { IfOk result (λ is. lines.new.items ≡ lines.old.items ++
-        cond is (ending_text machine.now number (map entry_from entries.now)) []) }
+    ensures lines { IfOk result (λ is. written.new.lines.items ≡ written.old.lines.items ++
+        cond is (ending_beside beside.entry.waits machine.now number
+        (map entry_from entries.now)) []) }
+    ensures unmet { IfOk result (λ is. written.new.unmet.items ≡ written.old.unmet.items ++
+        cond is (unmet_ending (option_copied beside.entry.expected) machine.now number
+        (map entry_from entries.now)) []) }
 {
     let shown = Shown::new(alloc, machine, entries)?;
     if !shown.is_asked(alloc, machine, question, entries)? {
         return Ok(false);
     }
-    write_head(number, entries, lines)?;
-    lines.extend_from_slice(shown.report.as_slice())?;
+    write_head(number, entries, &mut written.lines)?;
+    let report = shown.report.as_slice();
+    written.lines.extend_from_slice(report)?;
+    write_unmet(beside.expected, number, entries, report, &mut written.unmet)?;
+    if beside.waits {
+        write_waits(alloc, machine, shown.history, &mut written.lines)?;
+    }
     Ok(true)
 }
 
@@ -56,13 +78,18 @@ fn write_endings(
     alloc: Global,
     machine: &Machine,
     question: &Question<'_>,
+    beside: Beside<'_, '_>,
     endings: &[Vec<Entry>],
-    lines: &mut Vec<u8>,
+    written: &mut Written,
 ) -> Result<usize, NoMemory>
     ensures count { IfOk result (λ count.
         count ≡ length (asked_of machine.now question.now (told endings.now))) }
-    ensures lines { IfOk result (λ count. lines.new.items ≡ lines.old.items ++
-        endings_text machine.now 1 (asked_of machine.now question.now (told endings.now))) }
+    ensures lines { IfOk result (λ count. written.new.lines.items ≡ written.old.lines.items ++
+        numbered_text (ending_beside beside.entry.waits machine.now) 1
+        (asked_of machine.now question.now (told endings.now))) }
+    ensures unmet { IfOk result (λ count. written.new.unmet.items ≡ written.old.unmet.items ++
+        unmet_beside (option_copied beside.entry.expected) machine.now question.now
+        (told endings.now)) }
 {
     let mut count = 0;
     for entries in endings {
@@ -70,9 +97,10 @@ fn write_endings(
             alloc,
             machine,
             question,
+            beside,
             entries.as_slice(),
             count + 1,
-            lines,
+            written,
         )? {
             count += 1;
         }
@@ -110,19 +138,70 @@ pub fn answers(
     ensures err { IfErr result (λ fault. (fault ≡ OutOfMemory) ⊎
         (question_fault question.now ≡ Some fault)) }
 {
+    answers_heard(alloc, machine, question, &mut Unheard)
+}
+
+/// The answer that `answers` gives. The listener hears how far the search has come.
+///
+/// `Depth`, `States` and `NoMemory` as of `answers`.
+pub fn answers_heard<P: Progress>(
+    alloc: Global,
+    machine: &Machine,
+    question: &Question<'_>,
+    progress: &mut P,
+) -> Result<Answer, QuestionFault>
+    ensures ok { IfOk result (λ answer.
+        IsAnswered machine.now question.now answer.lines.items answer.status) }
+    ensures err { IfErr result (λ fault. (fault ≡ OutOfMemory) ⊎
+        (question_fault question.now ≡ Some fault)) }
+{
+    let answer = answers_beside(alloc, machine, question, Beside::nothing(), progress)?;
+    Ok(Answer {
+        lines: answer.lines,
+        status: answer.status,
+    })
+}
+
+/// The answer that `answers` gives, with what is told beside the endings. The listener hears how
+/// far the search has come.
+///
+/// `Depth`, `States` and `NoMemory` as of `answers`.
+pub fn answers_beside<P: Progress>(
+    alloc: Global,
+    machine: &Machine,
+    question: &Question<'_>,
+    beside: Beside<'_, '_>,
+    progress: &mut P,
+) -> Result<AnswerBeside, QuestionFault>
+    ensures ok { IfOk result (λ answer. IsAnsweredBeside machine.now question.now beside.entry.waits
+        (option_copied beside.entry.expected) answer.lines.items answer.unmet.items answer.status) }
+    ensures err { IfErr result (λ fault. (fault ≡ OutOfMemory) ⊎
+        (question_fault question.now ≡ Some fault)) }
+{
     let (depth, most) = question.limits()?;
-    let found = endings(alloc, machine, depth, most)?;
-    let mut lines = Vec::new(alloc);
+    let found = endings_heard(alloc, machine, depth, most, progress)?;
+    let mut written = Written {
+        lines: Vec::new(alloc),
+        unmet: Vec::new(alloc),
+    };
     let count = write_endings(
         alloc,
         machine,
         question,
+        beside,
         found.endings.as_slice(),
-        &mut lines,
+        &mut written,
     )?;
-    write_last(found.states, found.depth, found.is_whole, &mut lines)?;
-    Ok(Answer {
-        lines,
-        status: status_of(question.none, count, found.is_whole),
+    write_last(
+        found.states,
+        found.depth,
+        found.is_whole,
+        &mut written.lines,
+    )?;
+    let status = status_of(question.none, count, found.is_whole);
+    Ok(AnswerBeside {
+        status: status_beside(written.unmet.as_slice(), status),
+        lines: written.lines,
+        unmet: written.unmet,
     })
 }

@@ -10,7 +10,7 @@ ghost use Rattle.l4_questions.specs.Shown.{IsShownFor};
 use crate::closed::has_closed_receive;
 use crate::question::Question;
 use l4_lines::lines::has_line;
-use l4_machine::{Entry, replay_compact};
+use l4_machine::{Entry, RunHistory, replay_compact};
 use l4_reports::report_lines::write_report;
 use l4_script::machine::Machine;
 use l4_types::errors::NoMemory;
@@ -20,22 +20,24 @@ use std::alloc::Global;
 
 /// What a report shows of an ending.
 #[derive(Drop)]
-pub(crate) struct Shown {
+pub(crate) struct Shown<'m> {
     /// The lines of the report.
     pub(crate) report: Vec<u8>,
     /// Whether a send waits.
     pub(crate) has_waiting_send: bool,
+    /// The steps that lead there.
+    pub(crate) history: RunHistory<'m>,
 }
 
-impl Shown {
+impl<'m> Shown<'m> {
     /// The report that the replay of entries ends with.
     ///
     /// `NoMemory`: memory was refused, or they are no entries of the machine.
     pub(crate) fn new(
         alloc: Global,
-        machine: &Machine,
+        machine: &'m Machine,
         entries: &[Entry],
-    ) -> Result<Shown, NoMemory>
+    ) -> Result<Shown<'m>, NoMemory>
         ensures { IfOk result (IsShownFor machine.now (map entry_from entries.now)) }
     {
         let Ok(outcome) = replay_compact(alloc, machine, entries) else {
@@ -51,6 +53,7 @@ impl Shown {
         Ok(Shown {
             report,
             has_waiting_send: has_some(outcome.waiting.as_slice()),
+            history: outcome.history,
         })
     }
 

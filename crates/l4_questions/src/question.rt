@@ -1,5 +1,6 @@
 //! What is asked of the endings of a machine.
-ghost use Rattle.std.specs.Prelude.{◌≡◌, ◌⊎◌, ◌<◌, ◌≤◌, IfOk, IfErr, None, Some, false, ℕ};
+ghost use Rattle.std.specs.Prelude.{◌≡◌, ◌⊎◌, ◌<◌, ◌≤◌, min, IfOk, IfErr, None, Some, false, ℕ};
+ghost use Rattle.l4_explore.specs.Tries.{deepest};
 ghost use Rattle.l4_questions.specs.Answers.{is_out_of_range, most_asked, question_fault};
 ghost use Rattle.l4_questions.specs.declared.question.QuestionFault.TheVariants.{NoMemory as OutOfMemory};
 
@@ -72,7 +73,8 @@ impl<'a> Question<'a> {
     pub(crate) fn limits(&self) -> Result<(u32, u32), QuestionFault>
         ensures ok { IfOk result (λ limits.
             (question_fault self.now ≡ None) × (limits.0 ≡ self.now.depth) ×
-            (limits.1 ≡ self.now.states) × (0 < limits.1)) }
+            (limits.1 ≡ self.now.states) × (0 < limits.1) ×
+            (min limits.0 deepest ≡ self.now.depth)) }
         ensures err { IfErr result (λ fault. question_fault self.now ≡ Some fault) }
     {
         if is_out_of_range(self.depth) {

@@ -31,14 +31,16 @@ abbrev pub up_to_last_set : List ℕ → List ℕ
 up_to_last_set [] = []
 up_to_last_set (word ∷ words) = before_set word (up_to_last_set words)
 
--- MR0 is shown in any case.
+-- The registers that a report shows: MR0 in any case, and those after it up to the last that is not
+-- 0.
 abbrev pub shown_registers : List ℕ → List ℕ
 shown_registers [] = []
 shown_registers (mr0 ∷ words) = mr0 ∷ up_to_last_set words
 
 abbrev pub thread_line : Report → List ℕ
 thread_line r =
-    line_of_words (codes "thread" ∷ thread_word r.id ∷ state_word r.state ∷ decimal r.error ∷ id_word r.from ∷ id_word r.actual
+    line_of_words (codes "thread" ∷ thread_word r.id ∷ state_word r.state ∷ decimal r.error ∷
+    id_word r.from ∷ id_word r.actual
     ∷ map hexadecimal (shown_registers r.words))
 
 -- An undecided send and its destination.
@@ -58,4 +60,5 @@ abbrev pub ending_line : Ending → List ℕ
 ending_line ending = line_of_words (codes "ending" ∷ ending_word ending ∷ [])
 
 abbrev pub report_text : List Report → List (Name × Id) → Ending → List ℕ
-report_text threads waiting ending = flat_map thread_line threads ++ flat_map waiting_line waiting ++ ending_line ending
+report_text threads waiting ending = flat_map thread_line threads ++
+    flat_map waiting_line waiting ++ ending_line ending

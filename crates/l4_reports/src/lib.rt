@@ -1,9 +1,9 @@
-//! Reports: a line for each thread of a machine, for each send that is undecided, and for how a run
-//! ended.
+//! Reports: a line for each thread of a machine, for each undecided send, and for the ending of a
+//! run.
 //!
 //! `write_report` appends the report of a run to a text. Contracts see lists of bytes and the
-//! model's reports. A report has no line but those, in order of declaration and of beginning; where
-//! memory is refused, none of it is appended.
+//! model's reports. A report has no other lines. Threads stand in order of declaration, and sends
+//! in order of beginning. If memory is refused, nothing is appended.
 //!
 //! ```rust
 //! let outcome = replay_compact(alloc, &machine, entries)?;

@@ -14,8 +14,7 @@ use l4_words::spelling::{push_name, push_numbers, push_thread, push_words};
 use std::alloc::AllocError;
 
 /// Appends the report of a run: its threads in order of declaration, its undecided sends with their
-/// destinations in order of beginning, and how it ended. Where memory is refused, nothing is
-/// appended.
+/// destinations in order of beginning, and its ending. If memory is refused, nothing is appended.
 pub fn write_report(
     threads: &[ThreadView],
     waiting: &[(Name, ThreadId)],

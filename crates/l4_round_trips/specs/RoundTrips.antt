@@ -12,7 +12,8 @@ use Rattle.l4_round_trips.specs.declared.AuditedOutcome.{AuditedOutcome}
 abbrev pub history_of : Outcome → List Step
 history_of o = map step_of o.history.items
 
--- The trace is that of the outcome's history, it is read as the same steps, and these pass the audit.
+-- The trace is that of the outcome's history, it is read as the same steps, and these pass the
+-- audit.
 pub record IsAudited (m : Machine) (a : AuditedOutcome) : Type 0 where
   pub written : a.trace.items ≡ trace_of (history_of a.outcome)
   pub read : steps_of a.trace.items ≡ Ok (history_of a.outcome)

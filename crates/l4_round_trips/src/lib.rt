@@ -1,12 +1,12 @@
-//! Calls whose contracts are a theorem: the trace of a run or replay is read back as its history,
-//! and passes its audit; the replay of what a run recorded is that run.
+//! Calls whose contracts are theorems. The trace of a run or replay is read back as its history,
+//! and passes its audit. The replay of what a run recorded is that run.
 //!
-//! `audited_run` and `audited_replay` run a machine, write its trace, read that back, and audit
-//! what they read. Contracts say that the only faults are those of the run: the trace is that of
-//! its history, no line of it is faulty, and no step is refused. Take these for a run that is
-//! checked in a second way.
+//! `audited_run` and `audited_replay` run a machine, write its trace, read the trace back, and
+//! audit the steps that they read. Contracts say that the only faults are those of the run. The
+//! trace is that of its history, no line of the trace is faulty, and no step is refused. Use these
+//! calls to check a run in a second way.
 //!
-//! They take memory for all four. That memory suffices is in no clause.
+//! The calls take memory for all four. No clause says that memory suffices.
 //!
 //! ```rust
 //! let audited = audited_run(&rt, alloc, &machine, 1_000, &Open)?;
@@ -55,8 +55,8 @@ pub struct AuditedOutcome {
     pub audit: Audit,
 }
 
-/// Runs a machine for `turns` turns, 1 to 1,000,000, as `run` does, writes its trace, reads that
-/// back and audits what was read.
+/// Runs a machine for `turns` turns, 1 to 1,000,000, as `run` does. Writes its trace, reads the
+/// trace back and audits the steps.
 ///
 /// The faults are those of `run` alone: no line of the trace is faulty, and no step is refused.
 pub fn audited_run<R: Threads + Sync, G: Gate + Sync>(
@@ -76,8 +76,8 @@ pub fn audited_run<R: Threads + Sync, G: Gate + Sync>(
     Ok(audited(alloc, machine, outcome)?)
 }
 
-/// Replays a schedule of at most 1,000,000 entries, writes its trace, reads the trace back and
-/// audits what was read.
+/// Replays a schedule of at most 1,000,000 entries. Writes its trace, reads the trace back and
+/// audits the steps.
 ///
 /// The faults are those of `replay` alone: no line of the trace is faulty, and no step is refused.
 pub fn audited_replay(
@@ -119,7 +119,7 @@ pub fn replayed_run<'m, R: Threads + Sync, G: Gate + Sync>(
     Ok((outcome, again))
 }
 
-// Replays entries of the machine, which are no more than there may be.
+// Replays entries of the machine, at most as many as there may be.
 fn replay_lawful<'m>(
     alloc: Global,
     machine: &'m Machine,
@@ -135,7 +135,7 @@ fn replay_lawful<'m>(
     }
 }
 
-// The trace of an outcome is read back and audited.
+// Writes the trace of an outcome, reads the trace back and audits the steps.
 fn audited(alloc: Global, machine: &Machine, outcome: Outcome) -> Result<AuditedOutcome, NoMemory>
     requires { IsHistory machine.now (map step_of outcome.history.items) }
     ensures outcome { IfOk result (λ audited. audited.outcome ≡ outcome) }

@@ -59,7 +59,7 @@ pub(crate) fn schedule_within(
 
 // How many items a list has.
 #[tactic(auto, using(crate::proofs::Splits::items_by_commas))]
-fn item_count(list: &[u8]) -> usize
+pub(crate) fn item_count(list: &[u8]) -> usize
     ensures { result ≡ length (items_of list.now) }
 {
     if list.is_empty() {
@@ -157,7 +157,7 @@ fn machine_entry(machine: &Machine, item: &[u8]) -> Option<Entry>
 
 // The entry that an item spells. A `t` begins a tick and a `c` the turn of a core; another turn and
 // a letter begin with their processor.
-fn entry_of(item: &[u8]) -> Option<Entry>
+pub(crate) fn entry_of(item: &[u8]) -> Option<Entry>
     ensures { option_map entry_from result ≡ entry_of item.now }
 {
     match item {

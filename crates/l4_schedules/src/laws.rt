@@ -1,8 +1,9 @@
-//! What is written is read back.
-ghost use Rattle.std.specs.Prelude.{◌≡◌, ◌≤◌, List, Ok, None};
+//! What is written is read back, and the first fault that is told is the one that is answered.
+ghost use Rattle.std.specs.Prelude.{◌≡◌, ◌≤◌, ℕ, List, Ok, None};
 ghost use Rattle.l4_model.specs.Machine.{Machine, most_processors};
 ghost use Rattle.l4_choices.specs.Entries.{Entry};
 ghost use Rattle.l4_machine.specs.Entries.{entries_fault, fault_of, most_entries};
+ghost use Rattle.l4_schedules.specs.Faulty.{fault_in, file_faults, first_in, list_faults};
 ghost use Rattle.l4_schedules.specs.InFiles.{schedule_in_file};
 ghost use Rattle.l4_schedules.specs.Items.{schedule_of};
 ghost use Rattle.l4_schedules.specs.Written.{recorded_text, schedule_text};
@@ -16,4 +17,13 @@ pub fn law_read_back()
     ensures file { (m : Machine) (entries : List Entry) → m.cpus ≤ most_processors →
         entries_fault m entries ≡ None →
         schedule_in_file m (recorded_text entries) ≡ Ok entries }
+{}
+
+/// The first fault that is told of a list is the one for which a replay by it is refused. None is
+/// told of a list that spells a schedule.
+pub fn law_first_fault()
+    ensures list { (m : Machine) (list : List ℕ) →
+        first_in (list_faults m list) ≡ fault_in (schedule_of m list) }
+    ensures file { (m : Machine) (text : List ℕ) →
+        first_in (file_faults m text) ≡ fault_in (schedule_in_file m text) }
 {}

@@ -4,6 +4,7 @@
 //! blanks and line ends. `write_schedule` writes a list, `recorded_text` what stands in a file.
 //! Contracts see bytes and the entries of a machine. A list means one schedule, or its first fault
 //! is named; each entry has one item; what is written is read back (`law_read_back`).
+//! `write_list_faults` and `write_file_faults` tell each faulty item, and what may stand there.
 //!
 //! What the entries do is l4_machine's to say.
 //!
@@ -13,6 +14,7 @@
 //! ```
 #![tactic(auto)]
 
+pub mod faulty;
 pub mod files;
 pub mod items;
 pub mod laws;

@@ -1,5 +1,5 @@
--- A machine as one text of it in a format: all numbers in decimal, ids by their names or numbers, periods by their least time, and no line or space
--- more than are needed.
+-- A machine as one text of it in a format: all numbers in decimal, ids by their names or numbers,
+-- periods by their least time, and no line or space more than are needed.
 use Rattle.std.specs.Prelude.{ℕ, zero, suc, ◌≡◌, ◌≤◌, ◌+◌, ◌*◌, ◌/◌, ◌%◌, ◌^◌, Bool, true, false, not, ◌&&◌, ◌==◌, nat_lt, nat_le, if◌then◌else◌, is_some, Ok, Option, Some, None, List, [], ◌∷◌, ◌++◌, length, map, flat_map, find, codes, decimal}
 use Rattle.std.specs.Fmt.{digit_glyph}
 use Rattle.std.specs.List.{list_all, list_any, range_with_len}
@@ -15,7 +15,7 @@ use Rattle.l4_script.specs.Texts.{machine_of_text, format_of_text}
 
 -- Words
 
--- So many hexadecimal digits: the lowest ones of a number.
+-- The lowest `count` hexadecimal digits of a number.
 unfoldable pub low_digits : (count n : ℕ) → List ℕ
 low_digits zero n = []
 low_digits (suc count) n = low_digits count (n / 16) ++ digit_glyph false (n % 16) ∷ []
@@ -34,7 +34,8 @@ to_word f ToLast = codes "last"
 
 -- These ticks are a mantissa of 10 bits times two to the power of the exponent.
 abbrev pub is_exponent : (ticks exponent : ℕ) → Bool
-is_exponent ticks exponent = nat_lt (ticks / 2 ^ exponent) (2 ^ 10) && ticks / 2 ^ exponent * 2 ^ exponent == ticks
+is_exponent ticks exponent = nat_lt (ticks / 2 ^ exponent) (2 ^ 10) &&
+    ticks / 2 ^ exponent * 2 ^ exponent == ticks
 
 -- The least such exponent of 5 bits.
 unfoldable pub exponent_of : (ticks : ℕ) → Option ℕ
@@ -57,9 +58,11 @@ words_of_instruction f (Copy a b) = codes "copy" ∷ decimal a ∷ decimal b ∷
 words_of_instruction f (Add format a word) = codes "add" ∷ decimal a ∷ decimal word ∷ []
 words_of_instruction f (Tag word) = codes "tag" ∷ decimal word ∷ []
 words_of_instruction f (Vs id) = codes "vs" ∷ id_word f id ∷ []
-words_of_instruction f (Ipc to from send receive) = codes "ipc" ∷ to_word f to ∷ id_word f from ∷ time_word send ∷ time_word receive ∷ []
+words_of_instruction f (Ipc to from send receive) =
+    codes "ipc" ∷ to_word f to ∷ id_word f from ∷ time_word send ∷ time_word receive ∷ []
 words_of_instruction f (Ask target CancelSend) = codes "exregs" ∷ id_word f target ∷ codes "S" ∷ []
-words_of_instruction f (Ask target CancelReceive) = codes "exregs" ∷ id_word f target ∷ codes "R" ∷ []
+words_of_instruction f (Ask target CancelReceive) =
+    codes "exregs" ∷ id_word f target ∷ codes "R" ∷ []
 words_of_instruction f (Ask target CancelBoth) = codes "exregs" ∷ id_word f target ∷ codes "SR" ∷ []
 words_of_instruction f (Ask target Delete) = codes "delete" ∷ id_word f target ∷ []
 words_of_instruction f (Jump place) = codes "jump" ∷ decimal place ∷ []
@@ -67,7 +70,8 @@ words_of_instruction f (OnErr place) = codes "onerr" ∷ decimal place ∷ []
 words_of_instruction f End = codes "end" ∷ []
 
 abbrev pub words_of_thread : Declaration → List (List ℕ)
-words_of_thread d = codes "thread" ∷ thread_word d.id ∷ codes "cpu" ∷ decimal d.cpu ∷ codes "space" ∷ decimal d.space ∷ []
+words_of_thread d = codes "thread" ∷ thread_word d.id ∷ codes "cpu" ∷ decimal d.cpu ∷
+    codes "space" ∷ decimal d.space ∷ []
 
 abbrev pub lines_of_thread : Format → Declaration → List (List (List ℕ))
 lines_of_thread f d = words_of_thread d ∷ map (words_of_instruction f) d.script
@@ -84,12 +88,14 @@ abbrev pub words_of_format : Format → (retargeting : Bool) → List (List ℕ)
 words_of_format f retargeting = codes "l4" ∷ profile_word retargeting ∷ width_word f ∷ []
 
 abbrev pub lines_of : Format → Machine → List (List (List ℕ))
-lines_of f m = words_of_format f m.retargeting ∷ (codes "cpus" ∷ decimal m.cpus ∷ []) ∷ flat_map (lines_of_thread f) m.threads
+lines_of f m = words_of_format f m.retargeting ∷ (codes "cpus" ∷ decimal m.cpus ∷ []) ∷
+    flat_map (lines_of_thread f) m.threads
 
 abbrev pub canonical_text : Format → Machine → List ℕ
 canonical_text f m = flat_map line_of_words (lines_of f m)
 
--- Which machines a text of a format can declare. One whose sums are in 32 bits has no text in 64 bits, and the other way round.
+-- Which machines a text of a format can declare. A machine with an `add` has texts in the format of
+-- its sums alone.
 
 abbrev pub is_register : ℕ → Bool
 is_register n = nat_le 1 n && nat_le n last_register
@@ -107,10 +113,12 @@ has_time (Some ticks) = is_some (exponent_of ticks)
 abbrev pub can_be_written : Format → (size : ℕ) → Instr → Bool
 can_be_written f size (Set a word) = is_register a && is_word_in f word
 can_be_written f size (Copy a b) = is_register a && nat_le b last_register
-can_be_written f size (Add format a word) = same_format format f && (is_register a && is_word_in f word)
+can_be_written f size (Add format a word) = same_format format f &&
+    (is_register a && is_word_in f word)
 can_be_written f size (Tag word) = is_word_in f word && word / 2 ^ 6 % 64 == 0
 can_be_written f size (Vs id) = has_word_in f id
-can_be_written f size (Ipc to from send receive) = has_destination f to && has_word_in f from && has_time send && has_time receive
+can_be_written f size (Ipc to from send receive) = has_destination f to && has_word_in f from &&
+    has_time send && has_time receive
 can_be_written f size (Ask target what) = has_word_in f target
 can_be_written f size (Jump place) = nat_le place size
 can_be_written f size (OnErr place) = nat_le place size
@@ -119,7 +127,8 @@ can_be_written f size End = true
 -- A thread of a machine of this number of processors.
 abbrev pub can_be_declared : Format → (cpus : ℕ) → Declaration → Bool
 can_be_declared f cpus d =
-    is_global_in f d.id && nat_lt d.cpu cpus && nat_lt d.space (2 ^ 32) && nat_le (length d.script) most_instructions
+    is_global_in f d.id && nat_lt d.cpu cpus && nat_lt d.space (2 ^ 32) &&
+    nat_le (length d.script) most_instructions
     && list_all (can_be_written f (length d.script)) d.script
 
 -- No thread number stands twice.
@@ -134,13 +143,17 @@ pub record HasText (f : Format) (m : Machine) : Type 0 where
   pub apart : are_apart m.threads ≡ true
   pub each : list_all (can_be_declared f m.cpus) m.threads ≡ true
 
--- A machine that has a canonical text in a format is what is read of it, unless that text is too long.
+-- A machine that has a canonical text in a format is what is read of it, unless that text is too
+-- long.
 abbrev pub IsReadBack : Type 0
-IsReadBack = (f : Format) (m : Machine) → HasText f m → length (canonical_text f m) ≤ 0x100000 → machine_of_text (canonical_text f m) ≡ Ok m
+IsReadBack = (f : Format) (m : Machine) → HasText f m → length (canonical_text f m) ≤ 0x100000 →
+    machine_of_text (canonical_text f m) ≡ Ok m
 
--- Every machine that is read of a text, however it is spelled, has a canonical text in the format that the text names.
+-- Every machine that is read of a text, however it is spelled, has a canonical text in the format
+-- that the text names.
 abbrev pub EachHasText : Type 0
-EachHasText = (text : List ℕ) (m : Machine) → machine_of_text text ≡ Ok m → IsMachine m × ((f : Format) × (format_of_text text ≡ Some f) × HasText f m)
+EachHasText = (text : List ℕ) (m : Machine) → machine_of_text text ≡ Ok m →
+    IsMachine m × ((f : Format) × (format_of_text text ≡ Some f) × HasText f m)
 
 -- The scripts of a machine that has a text in a format write words of this format alone.
 abbrev pub WritesItsWords : Type 0

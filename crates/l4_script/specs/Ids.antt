@@ -12,9 +12,10 @@ abbrev pub id_digits : Format → ℕ
 id_digits W64 = 16
 id_digits W32 = 8
 
--- Exactly so many: the word of any id.
+-- The id whose word these hexadecimal digits spell, exactly as many as the format has.
 abbrev pub raw_id_of : Format → List ℕ → Option Id
-raw_id_of format digits = if length digits == id_digits format then (padded_of digits >>= id_in format) else None
+raw_id_of format digits = if length digits == id_digits format
+    then (padded_of digits >>= id_in format) else None
 
 -- `N.V`, a global id that has a word of the format.
 unfoldable pub thread_in : Format → List ℕ → Option GlobalId
@@ -25,7 +26,8 @@ thread_in format word = do
 
 -- `#` and the word of an id, or `N.V`.
 unfoldable pub spelled_id_of : Format → List ℕ → Option Id
-spelled_id_of format word = if bytes_eq (take 1 word) (codes "#") then raw_id_of format (drop 1 word) else option_map GlobalThread (thread_in format word)
+spelled_id_of format word = if bytes_eq (take 1 word) (codes "#")
+    then raw_id_of format (drop 1 word) else option_map GlobalThread (thread_in format word)
 
 -- An id: one of three names, or spelled by numbers.
 unfoldable pub id_of : Format → List ℕ → Option Id

@@ -6,38 +6,44 @@ use Rattle.l4_script.specs.declared.text.fault.TextFaultKind.TheVariants.{NoMemo
 abbrev pub Judged : Type 0 → Type 0
 Judged X = Result X TextFaultKind
 
--- In a `do` block each line has to be without a fault: a line `x ← part` names what it says, a line that is only judged says nothing.
+-- Each line of a `do` block must be free of faults: `x ← part` binds what it says, a bare line only
+-- checks.
 infixl 10 ◌>>=◌
-abbrev pub ◌>>=◌ : {A B : Type 0} → Result A TextFaultKind → (A → Result B TextFaultKind) → Result B TextFaultKind
+abbrev pub ◌>>=◌ : {A B : Type 0} → Result A TextFaultKind → (A → Result B TextFaultKind) →
+    Result B TextFaultKind
 (Ok x) >>= f = f x
 (Err kind) >>= f = Err kind
 
 infixl 10 ◌>>◌
-abbrev pub ◌>>◌ : {B : Type 0} → Result (Unit {0}) TextFaultKind → Result B TextFaultKind → Result B TextFaultKind
+abbrev pub ◌>>◌ : {B : Type 0} → Result (Unit {0}) TextFaultKind → Result B TextFaultKind →
+    Result B TextFaultKind
 (Ok x) >> part = part
 (Err kind) >> part = Err kind
 
--- It is a fault of this kind where the test fails.
+-- A fault of this kind if the test fails.
 abbrev pub must : Bool → TextFaultKind → Result (Unit {0}) TextFaultKind
 must true kind = Ok tt
 must false kind = Err kind
 
--- It is a fault of this kind where there is nothing.
+-- A fault of this kind if there is no value.
 abbrev pub needs : {A : Type 0} → Option A → TextFaultKind → Result A TextFaultKind
 needs None kind = Err kind
 needs (Some x) kind = Ok x
 
 -- What a function returned, seen by a view, is what the definition gives.
-abbrev pub Returns : {X Y : Type 0} → (X → Y) → Result X TextFaultKind → Result Y TextFaultKind → Type 0
+abbrev pub Returns : {X Y : Type 0} → (X → Y) → Result X TextFaultKind →
+    Result Y TextFaultKind → Type 0
 Returns view (Ok x) part = part ≡ Ok (view x)
 Returns view (Err kind) part = part ≡ Err kind
 
--- The same, unless memory ran out.
+-- The fault that a function returned is the definition's, unless memory ran out.
 abbrev pub Fails : {Y : Type 0} → TextFaultKind → Result Y TextFaultKind → Type 0
 Fails NoMemory part = Unit {0}
 Fails kind part = part ≡ Err kind
 
--- The same of what it left changed in place.
-abbrev pub Leads : {Y : Type 0} → Result (Unit {0}) TextFaultKind → (after : Y) → Result Y TextFaultKind → Type 0
+-- What a function changed in place is what the definition gives. Its fault is the definition's,
+-- unless memory ran out.
+abbrev pub Leads : {Y : Type 0} → Result (Unit {0}) TextFaultKind → (after : Y) →
+    Result Y TextFaultKind → Type 0
 Leads (Ok x) after part = part ≡ Ok after
 Leads (Err kind) after part = Fails kind part

@@ -21,7 +21,8 @@ is_skipped line = length line == 0 || slice_index line 0 == 59
 unfoldable pub line_of : List ℕ → Judged (Option (List (List ℕ)))
 line_of line = do
   must (is_printable line) BadLine
-  (if is_skipped line then Ok None else if has_empty_word line then Err BadLine else Ok (Some (words_in line)))
+  (if is_skipped line then Ok None else if has_empty_word line then Err BadLine
+      else Ok (Some (words_in line)))
 
 -- The words behind a keyword.
 abbrev pub after : (keyword : List ℕ) → List (List ℕ) → Judged (List (List ℕ))

@@ -7,7 +7,11 @@ use Rattle.l4_core_model.specs.Runs.{IsMachine}
 
 -- A machine by its parts: of profile 2 where it retargets, else of profile 1.
 abbrev pub machine_with : (retargeting : Bool) → (cpus : ℕ) → List Declaration → Machine
-machine_with retargeting cpus threads = record { retargeting = retargeting; cpus = cpus; threads = threads }
+machine_with retargeting cpus threads = record {
+  retargeting = retargeting;
+  cpus = cpus;
+  threads = threads;
+}
 
 -- A machine as a text declares it.
 pub record IsLawful (m : Machine) : Type 0 where
@@ -19,7 +23,8 @@ pub record IsLawful (m : Machine) : Type 0 where
 -- Each thread stands at the place of its number, and no other number has a place.
 pub record AreFound (places : ℕ → Option ℕ) (m : Machine) : Type 0 where
   pub each : (i : ℕ) → i < length m.threads → places (declared m i).id.number ≡ Some i
-  pub only : (number i : ℕ) → places number ≡ Some i → (i < length m.threads) × ((declared m i).id.number ≡ number)
+  pub only : (number i : ℕ) → places number ≡ Some i →
+      (i < length m.threads) × ((declared m i).id.number ≡ number)
 
 abbrev pub has_number : ℕ → Declaration → Bool
 has_number number d = d.id.number == number
@@ -43,4 +48,7 @@ last_thread m = declared m (last_place m)
 
 -- Its script has one more instruction.
 abbrev pub extended : Instr → Machine → Machine
-extended instr m = record m { threads = slice_set m.threads (last_place m) (with_instruction instr (last_thread m)) }
+extended instr m = record m {
+  threads = slice_set m.threads (last_place m)
+      (with_instruction instr (last_thread m));
+}

@@ -9,7 +9,8 @@ use Rattle.l4_script.specs.Judged.{Judged, ◌>>=◌, ◌>>◌, must, needs}
 
 -- A number in decimal digits without a leading zero, or in 1 to 16 hexadecimal ones behind `0x`.
 unfoldable pub number_of : List ℕ → Option ℕ
-number_of word = if bytes_eq (take 2 word) (codes "0x") then padded_of (drop 2 word) else words.number_of 10 word
+number_of word = if bytes_eq (take 2 word) (codes "0x") then padded_of (drop 2 word)
+    else words.number_of 10 word
 
 -- A number in this range.
 unfoldable pub number_from : (low high : ℕ) → List ℕ → Judged ℕ

@@ -14,7 +14,8 @@ to_of (tos.Id id) = model.ToId id
 to_of tos.Last = model.ToLast
 
 abbrev pub ipc_of : Call → model.Instr
-ipc_of call = model.Ipc (to_of call.to) call.from (period_of call.send_period) (period_of call.receive_period)
+ipc_of call = model.Ipc (to_of call.to) call.from (period_of call.send_period)
+    (period_of call.receive_period)
 
 abbrev pub instr_of : Instr → model.Instr
 instr_of (instrs.Set register word) = model.Set register word

@@ -1,4 +1,5 @@
--- What the lines of a machine text say: their operands are judged from left to right, behind the keywords and the number of words.
+-- What the lines of a machine text say: keywords and the number of words are judged first, then the
+-- operands from left to right.
 use Rattle.std.specs.Prelude.{ℕ, ◌/◌, ◌%◌, ◌^◌, ◌-◌, Bool, true, false, ◌&&◌, ◌==◌, not, nat_lt, if◌then◌else◌, Option, Some, None, Ok, Err, List, [], ◌∷◌, find, length, codes}
 use Rattle.std.specs.Option.{option_map}
 use Rattle.std.specs.Str.{bytes_eq}
@@ -25,7 +26,11 @@ pub record FirstLine : Type 0 where
 
 abbrev pub first_line : (profile width : ℕ) → (retargeting : Bool) → Format → FirstLine
 first_line profile width retargeting format =
-    record { profile = profile; width = width; heading = record { retargeting = retargeting; format = format } }
+    record {
+      profile = profile;
+      width = width;
+      heading = record { retargeting = retargeting; format = format };
+    }
 
 abbrev pub first_lines : List FirstLine
 first_lines =
@@ -39,7 +44,8 @@ names profile width line = profile == line.profile && width == line.width
 
 -- What these numbers say, where there is such a first line.
 abbrev pub heading_by : (profile width : ℕ) → Option Heading
-heading_by profile width = option_map (λ line. line.heading) (find (names profile width) first_lines)
+heading_by profile width = option_map (λ line.
+    line.heading) (find (names profile width) first_lines)
 
 -- `l4 1 64`, `l4 1 32`, `l4 2 64` and `l4 2 32`.
 unfoldable pub format_line : List (List ℕ) → Judged Heading
@@ -115,7 +121,8 @@ vs_of format operands = do
 
 -- Where an ipc sends to: an id, or `last`.
 unfoldable pub destination_of : Format → List ℕ → Judged To
-destination_of format word = if bytes_eq word (codes "last") then Ok ToLast else (needs (id_of format word) BadId >>= λ id. Ok (ToId id))
+destination_of format word = if bytes_eq word (codes "last") then Ok ToLast
+    else (needs (id_of format word) BadId >>= λ id. Ok (ToId id))
 
 -- `ipc TO FROM STO RTO`, behind its first word.
 unfoldable pub ipc_of : Format → List (List ℕ) → Judged Instr
@@ -135,7 +142,8 @@ bits_of word =
     else (if bytes_eq word (codes "SR") then Some CancelBoth
     else None))
 
--- `exregs ID S`, `exregs ID R` and `exregs ID SR`, behind the first word: the last one is a keyword.
+-- `exregs ID S`, `exregs ID R` and `exregs ID SR`, behind the first word: the last one is a
+-- keyword.
 unfoldable pub exregs_of : Format → List (List ℕ) → Judged Instr
 exregs_of format operands = do
   words ← needs (two operands) BadLine
@@ -150,7 +158,8 @@ delete_of format operands = do
   target ← needs (id_of format word) BadId
   Ok (Ask target Delete)
 
--- `jump L` and `onerr L`, behind the first word: whether there is such a place shows at the end of the text.
+-- `jump L` and `onerr L`, behind the first word: whether there is such a place shows at the end of
+-- the text.
 unfoldable pub target_of : List (List ℕ) → Judged ℕ
 target_of operands = do
   number ← needs (one operands) BadLine
@@ -177,7 +186,7 @@ instruction_of format name operands =
     else (if bytes_eq name (codes "end") then end_of operands
     else Err BadLine))))))))))
 
--- The limits, and the numbers of the threads.
+-- Adds a thread, unless there are too many or its number is taken.
 unfoldable pub declare : Declaration → Machine → Judged Machine
 declare thread m = do
   must (nat_lt (length m.threads) most_threads) TooManyThreads

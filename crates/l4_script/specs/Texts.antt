@@ -13,7 +13,8 @@ use Rattle.l4_script.specs.Lines.{line_of}
 use Rattle.l4_script.specs.Machines.{last_place, machine_with}
 use Rattle.l4_script.specs.Statements.{Heading, format_line, processors_line, declaration_of, instruction_of, declare, extend}
 
--- A line that names a place of its script: the number of the line, the place of its thread, and the place that it names.
+-- A line that names a place of its script: the number of the line, the place of its thread, and the
+-- place that it names.
 pub record Target : Type 0 where
   pub line : ℕ
   pub thread : ℕ
@@ -41,7 +42,11 @@ targets_of line thread instr = []
 
 -- No thread was read.
 abbrev pub nothing_read : Heading → (cpus : ℕ) → Reading
-nothing_read heading cpus = record { format = heading.format; machine = machine_with heading.retargeting cpus []; targets = [] }
+nothing_read heading cpus = record {
+  format = heading.format;
+  machine = machine_with heading.retargeting cpus [];
+  targets = [];
+}
 
 -- One more thread, or one more instruction of the last thread.
 abbrev pub declared_in : Reading → Declaration → Judged Reading
@@ -51,7 +56,8 @@ abbrev pub naming : List Target → Reading → Reading
 naming targets r = record r { targets = r.targets ++ targets }
 
 abbrev pub extended_at : (line : ℕ) → Reading → Instr → Judged Reading
-extended_at line r instr = extend instr r.machine >>= λ machine. Ok (naming (targets_of line (last_place r.machine) instr) (record r { machine = machine }))
+extended_at line r instr = extend instr r.machine >>= λ machine.
+    Ok (naming (targets_of line (last_place r.machine) instr) (record r { machine = machine }))
 
 -- A thread line, or an instruction of the thread that was declared last.
 unfoldable pub thread_line : (line : ℕ) → Reading → List (List ℕ) → Judged Reading
@@ -68,7 +74,8 @@ thread_line line r (name ∷ operands) =
 -- What comes next after a line of words.
 unfoldable pub after_words : (line : ℕ) → Stage → List (List ℕ) → Judged Stage
 after_words line Start words = format_line words >>= λ heading. Ok (Processors heading)
-after_words line (Processors heading) words = processors_line words >>= λ cpus. Ok (Threads (nothing_read heading cpus))
+after_words line (Processors heading) words =
+    processors_line words >>= λ cpus. Ok (Threads (nothing_read heading cpus))
 after_words line (Threads r) words = thread_line line r words >>= λ after. Ok (Threads after)
 
 abbrev pub after_said : (line : ℕ) → Stage → Option (List (List ℕ)) → Judged Stage
@@ -78,7 +85,8 @@ after_said line stage (Some words) = after_words line stage words
 unfoldable pub after_line : (line : ℕ) → Stage → List ℕ → Judged Stage
 after_line line stage text = line_of text >>= after_said line stage
 
--- A place may be at most the number of instructions of its script: there the script ends.
+-- Whether a `jump` or `onerr` leads behind the end of its script. The place right behind the last
+-- instruction is an `end`.
 abbrev pub is_missed : Machine → Target → Bool
 is_missed m t = nat_lt (length (declared m t.thread).script) t.place
 
@@ -93,19 +101,23 @@ ended (Threads r) line = unless_missed r.machine (find (is_missed r.machine) r.t
 ended stage line = Err (fault_at line BadLine)
 
 -- A line without a fault leads on, and the first fault is the text's.
-abbrev pub judged_at : {X : Type 0} → (line : ℕ) → Judged Stage → (Stage → Result X TextFault) → Result X TextFault
+abbrev pub judged_at : {X : Type 0} → (line : ℕ) → Judged Stage → (Stage → Result X TextFault) →
+    Result X TextFault
 judged_at line (Ok stage) rest = rest stage
 judged_at line (Err kind) rest = Err (fault_at line kind)
 
 -- The parts of a text from a line on: each is judged, and what has no line end has to be nothing.
 abbrev pub read : (parts : List (List ℕ)) → Stage → (line : ℕ) → Result Machine TextFault
 read [] stage line = ended stage line
-read (part ∷ []) stage line = if length part == 0 then ended stage line else Err (fault_at line BadLine)
-read (part ∷ next ∷ parts) stage line = judged_at line (after_line line stage part) (λ after. read (next ∷ parts) after (line + 1))
+read (part ∷ []) stage line = if length part == 0 then ended stage line
+    else Err (fault_at line BadLine)
+read (part ∷ next ∷ parts) stage line = judged_at line (after_line line stage part) (λ after.
+    read (next ∷ parts) after (line + 1))
 
 -- A text has at most 1,048,576 bytes.
 abbrev pub machine_of_text : List ℕ → Result Machine TextFault
-machine_of_text text = if nat_lt 0x100000 (length text) then Err (fault_at 0 TooLong) else read (parts_of text) Start 1
+machine_of_text text = if nat_lt 0x100000 (length text) then Err (fault_at 0 TooLong)
+    else read (parts_of text) Start 1
 
 -- The format that the first line with words names.
 abbrev pub named_by : Judged Heading → Option Format
@@ -129,7 +141,8 @@ abbrev pub Reads : {X : Type 0} → Result X TextFault → Result X TextFault �
 Reads (Ok x) text = text ≡ Ok x
 Reads (Err fault) text = (fault ≡ no_memory) ⊎ (text ≡ Err fault)
 
--- The same of what was changed in place.
-abbrev pub LeadsOn : {Y : Type 0} → Result (Unit {0}) TextFault → (after : Y) → Result Y TextFault → Type 0
+-- What was changed in place is what the definition gives, unless memory ran out.
+abbrev pub LeadsOn : {Y : Type 0} → Result (Unit {0}) TextFault → (after : Y) →
+    Result Y TextFault → Type 0
 LeadsOn (Ok x) after text = text ≡ Ok after
 LeadsOn (Err fault) after text = (fault ≡ no_memory) ⊎ (text ≡ Err fault)

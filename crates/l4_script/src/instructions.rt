@@ -198,7 +198,7 @@ pub enum Instr {
     Copy(Register, Source),
     /// Adds the word to the register, modulo 2^64 (texts of 64 bits).
     Add(Register, u64),
-    /// The same modulo 2^32: of a text of 32 bits.
+    /// Adds the word to the register, modulo 2^32 (texts of 32 bits).
     ShortAdd(Register, u64),
     /// MR0 becomes the tag.
     Tag(MsgTag),
@@ -211,7 +211,7 @@ pub enum Instr {
     Order(ThreadId, What),
     /// Goes on at this place of the script, counted from 0.
     Jump(u64),
-    /// The same where ErrorCode is not 0, else goes on at the next instruction.
+    /// Goes on at this place if ErrorCode is not 0, else at the next instruction.
     OnErr(u64),
     /// The thread has ended.
     End,

@@ -6,7 +6,7 @@
 //! its instructions.
 //!
 //! Only `parse` and `try_clone` take memory. `l4_cases` has texts with faults and says which line
-//! each names; `l4_part_tests` has texts that are cut off at each byte.
+//! each names; the tests have texts that are cut off at each byte.
 //!
 //! ```rust
 //! let text = b"l4 1 64\ncpus 1\nthread 1.1 cpu 0 space 1\nend\n";

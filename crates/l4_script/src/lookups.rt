@@ -60,8 +60,8 @@ impl Machine {
         }
     }
 
-    /// Whether a thread may ask this of another: the deletion of any declared thread, and a
-    /// cancellation of one of its address space (manual: ThreadControl, ExchangeRegisters).
+    /// Whether an order is admitted: a deletion of any declared thread, a cancellation within the
+    /// caller's address space (manual: ThreadControl, ExchangeRegisters).
     pub fn admits(&self, caller: GlobalId, target: GlobalId, what: What) -> bool
         ensures { result ≡ is_admitted self.now caller target (what_of what) }
     {

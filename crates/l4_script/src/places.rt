@@ -6,8 +6,8 @@ use l4_types::errors::NoMemory;
 use std::alloc::Global;
 use std::collections::HashMap;
 
-/// One for each thread that a machine may have, so threads with consecutive numbers never share
-/// one.
+/// The number of slots, one for each thread of a machine at most: consecutive thread numbers never
+/// collide.
 const SLOTS: u32 = 1024;
 
 /// The number of a thread, and its place.
@@ -34,7 +34,7 @@ fn slot_of(number: u32) -> usize
 }
 
 impl Places {
-    /// No thread has a place.
+    /// An empty table.
     pub(crate) fn new(alloc: Global) -> Places
         ensures { (number : ℕ) → place_by result number ≡ None }
     {

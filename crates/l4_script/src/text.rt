@@ -59,10 +59,9 @@ fn read(alloc: Global, text: &[u8]) -> Result<Machine, TextFault>
     stage.ended(number)
 }
 
-/// A machine printed in the canonical spelling of a format is read as itself: the text that has a
-/// line for each of its threads and instructions, with every number in decimal, declares that
-/// machine and no other. Each machine that a text declares has one, in the format that the text
-/// names. Its scripts write words of that format alone.
+/// The canonical text of a machine has a line for each thread and instruction, with every number in
+/// decimal. Unless it is too long, it declares that machine and no other. Every declared machine
+/// has one, in the format of its text. Its scripts write words of that format alone.
 pub fn law_canonical_text()
     ensures read_back { IsReadBack }
     ensures each { EachHasText }

@@ -16,7 +16,7 @@ use Rattle.std.specs.Prelude.{nat_lt, slice_get, slice_index_or, ◌==◌}
 use Rattle.l4_core_model.specs.Turns.{advance, clock_is, opened, turn}
 use Rattle.l4_core_model.specs.Acts.{Work, does, tells, ◌▷◌}
 use Rattle.l4_model.specs.World.{changed}
-use Rattle.l4_core_model.specs.Runs.{Handles, Happened, Happening, System, Ticks, Turns, done, happens, letters, taken}
+use Rattle.l4_core_model.specs.Runs.{Handles, Happened, Action, System, Ticks, Turns, done, happens, letters, taken}
 use Rattle.std.proofs.Common.{Bool, List, None, Option, Some, ap, arith, cond, false, length, refl, subst, sym, true, ℕ, ◌<◌, ◌^◌, ◌∙◌, ◌≡◌}
 use Rattle.l4_core_model.specs.Letters.{Letter}
 
@@ -40,7 +40,7 @@ done_then None f h P then is = cc
 done_then (Some x) f h P then is = subst P (some_is (f x) h is) (then x refl)
 
 -- What is true after an event is shown for each kind.
-pub event_then : (m : Machine) (g : System) (e : Happening) (h : Happened) (P : Happened → Type 0) → length g.locals ≡ m.cpus → happens m g e ≡ Some h →
+pub event_then : (m : Machine) (g : System) (e : Action) (h : Happened) (P : Happened → Type 0) → length g.locals ≡ m.cpus → happens m g e ≡ Some h →
     ((cpu from : ℕ) (letter : Letter) (x : Work) → cpu < m.cpus → slice_get (letters g.mail from cpu) 0 ≡ Some letter →
     handle m cpu ((scene g).locals cpu) letter ≡ Some x → P (done cpu (taken from cpu g) x)) →
     ((cpu : ℕ) (x : Work) → cpu < m.cpus → turn m cpu ((scene g).locals cpu) ≡ Some x → P (done cpu g x)) →

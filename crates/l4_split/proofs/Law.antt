@@ -15,7 +15,7 @@ use Rattle.l4_split.proofs.Orders.Ordered.{handles_order}
 use Rattle.l4_split.proofs.Orders.Obeyed.{handles_order_done}
 use Rattle.l4_split.proofs.Lists.{all_join, all_without}
 use Rattle.l4_core_model.proofs.Telling.{run-append, told-last}
-use Rattle.l4_core_model.specs.Runs.{told, Happened, Happening, IsMachine, Posted, Run, System, at_rest, core_run, done, happens, letters, opening_run, posted, taken, then_event}
+use Rattle.l4_core_model.specs.Runs.{told, Happened, Action, IsMachine, Posted, Run, System, at_rest, core_run, done, happens, letters, opening_run, posted, taken, then_event}
 use Rattle.std.proofs.lemmas.List.FromFn.{length-map-range_with_len}
 use Rattle.l4_model.proofs.Lawful.{lawful}
 use Rattle.l4_split.proofs.Turns.Choosing.{turn_goes}
@@ -100,7 +100,7 @@ event_facts m r cpu g x f same lt mail e p a =
       addressed = all_join (λ (p : Posted). IsAddressedTo m p.to p.letter.content) g.mail (map (posted cpu) x.letters) mail (all_posted m cpu x.letters a);
     }
 
-step_facts : (m : Machine) (r : Run) (e : Happening) (h : Happened) → IsMachine m → RunFacts m r → happens m r.system e ≡ Some h → RunFacts m (then_event r h)
+step_facts : (m : Machine) (r : Run) (e : Action) (h : Happened) → IsMachine m → RunFacts m r → happens m r.system e ≡ Some h → RunFacts m (then_event r h)
 step_facts m r e h machine f is = event_then m r.system e h (λ h. RunFacts m (then_event r h)) f.counted is handles turns ticks
   where
     s : Scene
@@ -141,7 +141,7 @@ opening_facts m machine = record {
   addressed = tt;
 }
 
-goes_on_facts : (m : Machine) (es : List Happening) (r last : Run) → IsMachine m → RunFacts m r → core_run m r es ≡ Some last → RunFacts m last
+goes_on_facts : (m : Machine) (es : List Action) (r last : Run) → IsMachine m → RunFacts m r → core_run m r es ≡ Some last → RunFacts m last
 goes_on_facts m [] r last machine f h = subst (RunFacts m) (some_is r last h) f
 goes_on_facts m (e ∷ es) r last machine f h =
     bind_then (happens m r.system e) _ last h λ happened is rest.

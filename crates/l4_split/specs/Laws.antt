@@ -1,4 +1,5 @@
--- What is true of the core runs of a machine of any number of processors, whatever is done in which order.
+-- What is true of the core runs of a machine of any number of processors, whatever is done in which
+-- order.
 use Rattle.std.specs.Prelude.{◌≡◌, ◌<◌, ℕ, Bool, ◌==◌, false, true, Option, None, Some, is_some, IsSomeAnd, List, [], ◌∷◌, length, map, filter, filter_map, slice_get}
 use Rattle.std.specs.List.{AllByRecursion, cons_option, range_with_len}
 use Rattle.l4_model.specs.Words.{Id}
@@ -13,23 +14,26 @@ use Rattle.l4_core_model.specs.Letters.{Letter}
 use Rattle.l4_core_model.specs.Plain as plain
 use Rattle.l4_core_model.specs.Local.{Local, declared, owed_beside, thread}
 use Rattle.l4_core_model.specs.Mail.{handle}
-use Rattle.l4_core_model.specs.Runs.{System, Posted, letters, Happening, Run, core_run, opening_run, told, at_rest}
+use Rattle.l4_core_model.specs.Runs.{System, Posted, letters, Action, Run, core_run, opening_run, told, at_rest}
 
 -- A letter under way goes to a processor of the machine, which can handle it.
 abbrev pub IsLawfulLetter : Machine → System → Posted → Type 0
-IsLawfulLetter m g p = IsSomeAnd (slice_get g.locals p.to) (λ l. is_some (handle m p.to l p.letter) ≡ true)
+IsLawfulLetter m g p = IsSomeAnd (slice_get g.locals p.to) (λ l.
+    is_some (handle m p.to l p.letter) ≡ true)
 
--- Whichever letter is the first of its pair of processors, the processor that it has come to can handle it; and so could any
--- letter under way be handled where it goes, if it came first.
+-- The processor that a letter goes to can handle it if it is the first letter of its pair of
+-- processors. It could handle any other letter under way too, if that one came first.
 pub record LettersAreLawful (m : Machine) (g : System) : Type 0 where
-  pub first : (from cpu : ℕ) (letter : Letter) (l : Local) → slice_get (letters g.mail from cpu) 0 ≡ Some letter → slice_get g.locals cpu ≡ Some l →
+  pub first : (from cpu : ℕ) (letter : Letter) (l : Local) →
+      slice_get (letters g.mail from cpu) 0 ≡ Some letter → slice_get g.locals cpu ≡ Some l →
       is_some (handle m cpu l letter) ≡ true
   pub all : AllByRecursion (IsLawfulLetter m g) g.mail
 
--- What the events of a core run tell reaches a world, in which nothing but clocks can go on where the run is at rest.
+-- The steps that a core run tells reach a world. Where the run is at rest, nothing but clocks can
+-- go on in that world.
 abbrev pub RestIsStill : Machine → Type 0
 RestIsStill m =
-    (happenings : List Happening) (r : Run) → core_run m (opening_run m) happenings ≡ Some r →
+    (actions : List Action) (r : Run) → core_run m (opening_run m) actions ≡ Some r →
     (w : World) × ((reached m (told r.events) ≡ Some w) × (at_rest m r.system ≡ true → IsStill m w))
 
 -- A thread as its own processor has it.
@@ -40,11 +44,11 @@ thread_of i (Some l) = thread l i
 abbrev pub home_thread : Machine → List Local → (i : ℕ) → Thread
 home_thread m locals i = thread_of i (slice_get locals (declared m i).cpu)
 
--- What a report says of it there.
+-- The report of a thread as its own processor has it.
 abbrev pub home_report : Machine → List Local → (i : ℕ) → Report
 home_report m locals i = report_of (declared m i).id (home_thread m locals i)
 
--- The reports of all threads so, in order of declaration.
+-- These reports of all threads, in order of declaration.
 abbrev pub home_reports : Machine → List Local → List Report
 home_reports m locals = map (home_report m locals) (range_with_len 0 (length m.threads))
 
@@ -70,7 +74,8 @@ is_deleted_state _ = false
 abbrev pub IsUndeleted : Report → Type 0
 IsUndeleted r = is_deleted_state r.state ≡ false
 
--- A world looks as the processors have their own threads, and so do the sends that wait in it, whichever steps led to it.
+-- A world looks as the processors have their own threads. Whichever steps led to it, the undecided
+-- sends in it are those that are undecided on their senders' processors.
 pub record IsToldAtHome (m : Machine) (locals : List Local) (w : World) : Type 0 where
   pub view : view m w ≡ home_reports m locals
   pub waiting : (h : List Step) → waiting m w h ≡ filter_map (home_waiting m locals) h
@@ -79,44 +84,51 @@ pub record IsToldAtHome (m : Machine) (locals : List Local) (w : World) : Type 0
 abbrev pub AreAllHandled : System → Type 0
 AreAllHandled g = (from cpu : ℕ) → letters g.mail from cpu ≡ []
 
--- Where no letter is under way and no thread is deleted, the processors know of their own threads what the world has of them that the
--- history reaches. (A deleted thread keeps the registers that it had when its processor deleted it. That its send had failed before may
--- not have been known there yet.)
+-- Where no letter is under way and no thread is deleted, the world that the history reaches looks
+-- as the processors have their own threads. (A deleted thread keeps the registers that it had when
+-- its processor deleted it. That its send had failed before may not have been known there yet.)
 abbrev pub IsKnownAtHome : Machine → Run → Type 0
 IsKnownAtHome m r =
     AreAllHandled r.system → AllByRecursion IsUndeleted (home_reports m r.system.locals) →
     (w : World) → reached m (told r.events) ≡ Some w → IsToldAtHome m r.system.locals w
 
--- A retarget is owed since the thread at this place received.
+-- The thread at this place received the message for which this retarget is owed.
 abbrev pub is_owed_since : Machine → (place : ℕ) → Owed → Bool
 is_owed_since m r o = is_place (place_of m o.new_partner) r
 
 abbrev pub blocks_in : List plain.Waiting → List ℕ
 blocks_in es = map (λ e. e.block) es
 
--- A world is what a processor has: its threads, deleted ones too, who waits at each, its clock, and what is owed since each received.
+-- A world is what a processor has: the threads, deleted ones too; who waits at each; the clock; and
+-- the retarget that is owed since each thread received a message.
 pub record IsState (m : Machine) (l : Local) (w : World) : Type 0 where
   pub threads : w.threads ≡ l.threads
   pub waiting : w.waiting ≡ map blocks_in l.lists.waiting
   pub clocks : w.clocks ≡ l.clock ∷ []
-  pub owed : (r : ℕ) → r < length m.threads → filter (is_owed_since m r) w.owed ≡ cons_option (owed_beside l r) []
+  pub owed : (r : ℕ) → r < length m.threads →
+      filter (is_owed_since m r) w.owed ≡ cons_option (owed_beside l r) []
 
 -- On a machine of one processor the world that the history reaches is what that processor has.
 abbrev pub IsStateOfOne : Machine → Run → Type 0
 IsStateOfOne m r =
-    m.cpus ≡ 1 → IsSomeAnd (slice_get r.system.locals 0) (λ l. (w : World) → reached m (told r.events) ≡ Some w → IsState m l w)
+    m.cpus ≡ 1 → IsSomeAnd (slice_get r.system.locals 0) (λ l. (w : World) →
+    reached m (told r.events) ≡ Some w → IsState m l w)
 
 -- All that is proved of a core run.
 pub record IsLawfulRun (m : Machine) (r : Run) : Type 0 where
-  -- what its events tell is a history: each step is possible at the world that the earlier ones reach
+  -- what its events tell is a history: each step is possible at the world that the earlier ones
+  -- reach
   pub history : IsHistory m (told r.events)
   -- which has the laws of all histories
   pub lawful : IsLawful m (told r.events)
   -- no letter under way is refused where it goes
   pub letters : LettersAreLawful m r.system
-  -- and where the run is at rest, nothing but clocks can go on in the world that its history reaches
-  pub still : at_rest m r.system ≡ true → (w : World) → reached m (told r.events) ≡ Some w → IsStill m w
-  -- where no letter is under way and no thread is deleted, that world looks as the processors have their own threads
+  -- and where the run is at rest, nothing but clocks can go on in the world that its history
+  -- reaches
+  pub still : at_rest m r.system ≡ true → (w : World) →
+      reached m (told r.events) ≡ Some w → IsStill m w
+  -- where no letter is under way and no thread is deleted, that world looks as the processors have
+  -- their own threads
   pub at_home : IsKnownAtHome m r
   -- and on one processor it is what that processor has, at every moment
   pub of_one : IsStateOfOne m r

@@ -2,12 +2,13 @@
 //! next turn and whichever letter is handled first.
 //!
 //! The steps of its events are a history of the model. No letter under way is refused where it
-//! goes. Where the run is at rest, no step but a tick is possible. On one processor, and elsewhere
-//! where no letter is under way and no thread is deleted, the world reached is what the processors
-//! have.
+//! goes. Where the run is at rest, no step but a tick is possible. On one processor the world
+//! reached is what that processor has. On several it looks as the processors have their own
+//! threads, where no letter is under way and no thread is deleted.
 //!
-//! All of it is definitions and proofs; the functions have an empty body and name no code. That
-//! code is a core run is proved above, so a change of representation does not touch this law.
+//! All of it is definitions and proofs; the functions have an empty body and name no code. The
+//! crates above prove that what their code does is a core run, so a change of representation does
+//! not touch this law.
 //!
 //! ```rust
 //! law_of_core_runs(); // from here on: the events of a core run tell a history
@@ -35,10 +36,10 @@ pub fn law_rest_is_still()
     ensures { (m : Machine) → IsMachine m → RestIsStill m }
 {}
 
-/// All of this of every core run: its steps are a history with the laws of histories, no letter
-/// under way is refused where it goes, and where the run is at rest, no step but a tick is possible
-/// in the world that its history reaches, now or after any ticks. On a machine of one processor
-/// that world is what the processor has.
+/// All of this of every core run. Its steps are a history, with the laws of histories. No letter
+/// under way is refused where it goes. Where the run is at rest, no step but a tick is possible in
+/// the world that its history reaches, now or after any ticks. On a machine of one processor that
+/// world is what the processor has.
 pub fn law_of_core_runs()
     ensures { (m : Machine) (r : Run) → IsMachine m → IsCoreRun m r → IsLawfulRun m r }
 {}

@@ -8,14 +8,14 @@ use Rattle.l4_model.specs.Machine.{Machine}
 use Rattle.l4_model.specs.Conditions.{◌>>=◌}
 use Rattle.l4_model.proofs.Chains.{some_is, bind_then}
 use Rattle.l4_core_model.specs.Letters.{Letter}
-use Rattle.l4_core_model.specs.Runs.{System, letters, Happening, Handles, Turns, Ticks, Happened, happens, Run, core_run, opening_run, opening_system, then_event}
+use Rattle.l4_core_model.specs.Runs.{System, letters, Action, Handles, Turns, Ticks, Happened, happens, Run, core_run, opening_run, opening_system, then_event}
 use Rattle.l4_core_model.specs.Schedules.{least_deadline}
 use Rattle.l4_choices.specs.Entries.{TickOf, LetterOf, CoreOf, entry_event}
 use Rattle.l4_states.specs.Choices.{choice_of, choice, after_entry, after_choices, IsLeastTick, AreLeastTicks, IsLeastRun}
 use Rattle.l4_states.proofs.Reached.{IsBounded, opening_bounded, handles_at, turns_at, ticks_at, from_below}
 
 -- What happens is a choice, and leaves bounds.
-record IsChoice (m : Machine) (g : System) (e : Happening) (h : Happened) : Type 0 where
+record IsChoice (m : Machine) (g : System) (e : Action) (h : Happened) : Type 0 where
   pub cpu : ℕ
   pub k : ℕ
   pub small : k < m.cpus + 2
@@ -43,7 +43,7 @@ tick_choice cpus cpu =
     other true e = absurd (let same = eqb-true (cpus + 1) cpus e in omega arith)
     other false e = e
 
-is_choice : (m : Machine) (g : System) (e : Happening) (h : Happened) → IsBounded m g →
+is_choice : (m : Machine) (g : System) (e : Action) (h : Happened) → IsBounded m g →
     happens m g e ≡ Some h → IsLeastTick g e → IsChoice m g e h
 is_choice m g (Handles cpu from) h b is tick =
     let a = handles_at m g cpu from h b is in
@@ -91,12 +91,12 @@ numbered m cpu k lt =
     (div-mul-add cpu (m.cpus + 2) k lt)
     ∙ ap (choice_of m.cpus cpu) (mod-mul-add cpu (m.cpus + 2) k lt)
 
-chosen_next : (m : Machine) (g : System) (e : Happening) (h : Happened) (c : IsChoice m g e h) →
+chosen_next : (m : Machine) (g : System) (e : Action) (h : Happened) (c : IsChoice m g e h) →
     happens m g e ≡ Some h →
     after_entry m g (choice m (c.cpu * (m.cpus + 2) + c.k)) ≡ Some h.system
 chosen_next m g e h c is =
     ap (after_entry m g) (numbered m c.cpu c.k c.small)
-    ∙ ap (λ (o : Option Happening). o >>= λ e. option_map (λ x. x.system) (happens m g e)) c.event
+    ∙ ap (λ (o : Option Action). o >>= λ e. option_map (λ x. x.system) (happens m g e)) c.event
     ∙ ap (option_map (λ (x : Happened). x.system)) is
 
 -- The choices of a run, and their number.
@@ -105,7 +105,7 @@ pub record AreChosen (m : Machine) (g h : System) (count : ℕ) : Type 0 where
   pub leads : after_choices m g schedule ≡ Some h
   pub long : length schedule ≡ count
 
-onward : (m : Machine) (es : List Happening) (r t : Run) → IsBounded m r.system →
+onward : (m : Machine) (es : List Action) (r t : Run) → IsBounded m r.system →
     core_run m r es ≡ Some t → AreLeastTicks m r es →
     AreChosen m r.system t.system (length es)
 onward m [] r t b is ticks =
@@ -124,7 +124,7 @@ onward m (e ∷ es) r t b is ticks =
 pub are_chosen : (m : Machine) (events : ℕ) (g : System) → IsLeastRun m events g →
     AreChosen m (opening_system m) g events
 are_chosen m events g r =
-    let o = onward m r.happenings (opening_run m) r.run (opening_bounded m) r.is r.ticks in
+    let o = onward m r.actions (opening_run m) r.run (opening_bounded m) r.is r.ticks in
     record {
       schedule = o.schedule;
       leads = o.leads ∙ ap (λ (k : System). Some k) r.system;
@@ -134,7 +134,7 @@ are_chosen m events g r =
 
 -- The other way round: each choice is an event whose tick goes to the least deadline.
 
-choice_event : (m : Machine) (g : System) (cpu k : ℕ) (e : Happening) →
+choice_event : (m : Machine) (g : System) (cpu k : ℕ) (e : Action) →
     entry_event m g (choice_of m.cpus cpu k) ≡ Some e → IsLeastTick g e
 choice_event m g cpu k e h = by (nat_lt k m.cpus) (k == m.cpus) h
   where
@@ -150,18 +150,18 @@ choice_event m g cpu k e h = by (nat_lt k m.cpus) (k == m.cpus) h
         at (Some clock) is h = subst (IsLeastTick g) (some_is (Ticks cpu clock) e h) is
 
 pub record GoesLeast (m : Machine) (r : Run) (g : System) (s : List ℕ) : Type 0 where
-  pub happenings : List Happening
+  pub actions : List Action
   pub run : Run
-  pub is : core_run m r happenings ≡ Some run
-  pub ticks : AreLeastTicks m r happenings
+  pub is : core_run m r actions ≡ Some run
+  pub ticks : AreLeastTicks m r actions
   pub system : run.system ≡ g
-  pub count : length happenings ≡ length s
+  pub count : length actions ≡ length s
 
 goes_least : (m : Machine) (s : List ℕ) (r : Run) (g : System) →
     after_choices m r.system s ≡ Some g → GoesLeast m r g s
 goes_least m [] r g h =
     record {
-      happenings = [];
+      actions = [];
       run = r;
       is = refl;
       ticks = tt;
@@ -171,28 +171,28 @@ goes_least m [] r g h =
     }
 goes_least m (e ∷ s) r g h =
     bind_then (after_entry m r.system (choice m e)) _ g h λ k is more.
-    bind_then (entry_event m r.system (choice m e)) _ k is λ happening from then.
-    one_more k happening from more (happens m r.system happening) refl then
+    bind_then (entry_event m r.system (choice m e)) _ k is λ action from then.
+    one_more k action from more (happens m r.system action) refl then
     (λ x same. goes_least m s (then_event r x) g
     (ap (λ (j : System). after_choices m j s) same ∙ more))
   where
-    one_more : (k : System) (happening : Happening) →
-        entry_event m r.system (choice m e) ≡ Some happening → after_choices m k s ≡ Some g →
-        (o : Option Happened) → happens m r.system happening ≡ o →
+    one_more : (k : System) (action : Action) →
+        entry_event m r.system (choice m e) ≡ Some action → after_choices m k s ≡ Some g →
+        (o : Option Happened) → happens m r.system action ≡ o →
         option_map (λ x. x.system) o ≡ Some k →
         ((x : Happened) → x.system ≡ k → GoesLeast m (then_event r x) g s) → GoesLeast m r g (e ∷ s)
-    one_more k happening from more None at is rest = cc
-    one_more k happening from more (Some x) at is rest =
+    one_more k action from more None at is rest = cc
+    one_more k action from more (Some x) at is rest =
         let goes = rest x (some_is x.system k is) in
         record {
-          happenings = happening ∷ goes.happenings;
+          actions = action ∷ goes.actions;
           run = goes.run;
-          is = ap (λ (o : Option Happened). o >>= λ h. core_run m (then_event r h) goes.happenings)
+          is = ap (λ (o : Option Happened). o >>= λ h. core_run m (then_event r h) goes.actions)
               at ∙ goes.is;
           ticks = (
-            choice_event m r.system (e / (m.cpus + 2)) (e % (m.cpus + 2)) happening from,
+            choice_event m r.system (e / (m.cpus + 2)) (e % (m.cpus + 2)) action from,
             λ h there.
-                subst (λ (y : Happened). AreLeastTicks m (then_event r y) goes.happenings)
+                subst (λ (y : Happened). AreLeastTicks m (then_event r y) goes.actions)
                 (some_is x h (sym at ∙ there)) goes.ticks,
           );
           system = goes.system;
@@ -204,7 +204,7 @@ pub least_run : (m : Machine) (s : List ℕ) (g : System) →
 least_run m s g h =
     let r = goes_least m s (opening_run m) g h in
     record {
-      happenings = r.happenings;
+      actions = r.actions;
       run = r.run;
       is = r.is;
       ticks = r.ticks;

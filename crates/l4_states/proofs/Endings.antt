@@ -7,16 +7,16 @@ use Rattle.std.proofs.lemmas.List.{length-append, length-map}
 use Rattle.l4_model.specs.Machine.{Machine}
 use Rattle.l4_model.specs.Conditions.{◌>>=◌}
 use Rattle.l4_model.proofs.Chains.{some_is, bind_then}
-use Rattle.l4_core_model.specs.Runs.{System, Happening, Happened, happens, Run, opening_run, then_event, at_rest}
+use Rattle.l4_core_model.specs.Runs.{System, Action, Happened, happens, Run, opening_run, then_event, at_rest}
 use Rattle.l4_core_model.specs.Schedules.{or_stays}
-use Rattle.l4_choices.specs.Alike.{IsAlike}
+use Rattle.l4_shifted.specs.Shifted.{IsShifted}
 use Rattle.l4_choices.specs.Entries.{Entry, entry_event, replays}
 use Rattle.l4_explore.specs.Search.{Seen, seen_at, unseen}
 use Rattle.l4_explore.proofs.Orders.{not_after_length}
 use Rattle.l4_states.specs.Choices.{after_choices, after_entry, choice, IsLeastRun}
 use Rattle.l4_states.specs.Endings.{AreAllEndings, AreApart, AreEndings, ends_of, entries_of, IsAmong, IsEnding, led}
 use Rattle.l4_states.specs.Listed.{AreAllListed, IsListed, LeadsSoon}
-use Rattle.l4_states.proofs.Following.{at_rest_alike}
+use Rattle.l4_states.proofs.Following.{at_rest_similar}
 
 -- A replay of choices leads where they do, by an event for each.
 pub record IsReplayed (m : Machine) (r : Run) (g : System) (s : List ℕ) : Type 0 where
@@ -28,23 +28,23 @@ pub replayed : (m : Machine) (s : List ℕ) (r : Run) (g : System) →
 replayed m [] r g h = record { system = some_is r.system g h; count = omega arith }
 replayed m (e ∷ s) r g h =
     bind_then (after_entry m r.system (choice m e)) _ g h λ k is more.
-    bind_then (entry_event m r.system (choice m e)) _ k is λ happening from then.
-    one_more k happening from more (happens m r.system happening) refl then
+    bind_then (entry_event m r.system (choice m e)) _ k is λ action from then.
+    one_more k action from more (happens m r.system action) refl then
     (λ x same. replayed m s (then_event r x) g
     (ap (λ (j : System). after_choices m j s) same ∙ more))
   where
-    one_more : (k : System) (happening : Happening) →
-        entry_event m r.system (choice m e) ≡ Some happening → after_choices m k s ≡ Some g →
-        (o : Option Happened) → happens m r.system happening ≡ o →
+    one_more : (k : System) (action : Action) →
+        entry_event m r.system (choice m e) ≡ Some action → after_choices m k s ≡ Some g →
+        (o : Option Happened) → happens m r.system action ≡ o →
         option_map (λ x. x.system) o ≡ Some k →
         ((x : Happened) → x.system ≡ k → IsReplayed m (then_event r x) g s) →
         IsReplayed m r g (e ∷ s)
-    one_more k happening from more None at is rest = cc
-    one_more k happening from more (Some x) at is rest =
+    one_more k action from more None at is rest = cc
+    one_more k action from more (Some x) at is rest =
         let goes = rest x (some_is x.system k is) in
         let next : or_stays r (entry_event m r.system (choice m e) >>= happens m r.system)
         ≡ then_event r x
-        = ap (λ (o : Option Happening). or_stays r (o >>= happens m r.system)) from
+        = ap (λ (o : Option Action). or_stays r (o >>= happens m r.system)) from
         ∙ ap (or_stays r) at in
         record {
           system = ap (λ (t : Run). (replays m t (entries_of m s)).system) next ∙ goes.system;
@@ -77,18 +77,18 @@ module _ (m : Machine) where
   -- An end that was found is among them.
   among : (found : List Seen) (g : System) (i : ℕ) → i < length found →
       (seen_at found i).state.is_end ≡ true →
-      IsAlike (led m (entries_of m (seen_at found i).schedule)) g →
+      IsShifted (led m (entries_of m (seen_at found i).schedule)) g →
       IsAmong m (map (entries_of m) (ends_of found)) g
-  among [] g i inside is alike = absurd (omega (arith, inside))
-  among (x ∷ xs) g zero inside is alike = by x.state.is_end is
+  among [] g i inside is similar = absurd (omega (arith, inside))
+  among (x ∷ xs) g zero inside is similar = by x.state.is_end is
     where
       by : (b : Bool) → b ≡ true →
           IsAmong m (map (entries_of m) (map (λ (s : Seen). s.schedule)
           (cond b (x ∷ filter (λ s. s.state.is_end) xs) (filter (λ s. s.state.is_end) xs)))) g
-      by true e = record { place = 0; inside = omega arith; alike = alike }
+      by true e = record { place = 0; inside = omega arith; similar = similar }
       by false e = cc
-  among (x ∷ xs) g (suc i) inside is alike =
-      by x.state.is_end (among xs g i (omega (arith, inside)) is alike)
+  among (x ∷ xs) g (suc i) inside is similar =
+      by x.state.is_end (among xs g i (omega (arith, inside)) is similar)
     where
       by : (b : Bool) → IsAmong m (map (entries_of m) (ends_of xs)) g →
           IsAmong m (map (entries_of m) (map (λ (s : Seen). s.schedule)
@@ -96,14 +96,14 @@ module _ (m : Machine) where
       by true a = record {
         place = suc a.place;
         inside = omega (arith, a.inside);
-        alike = a.alike;
+        similar = a.similar;
       }
       by false a = a
 
   -- States that were found, by their schedules
   abbrev AreUnlike : Seen → Seen → Type 0
   AreUnlike x y =
-      (IsAlike (led m (entries_of m x.schedule)) (led m (entries_of m y.schedule)) → ⊥)
+      (IsShifted (led m (entries_of m x.schedule)) (led m (entries_of m y.schedule)) → ⊥)
       × (length x.schedule ≤ length y.schedule)
 
   all_unlike : (found : List Seen) →
@@ -115,13 +115,13 @@ module _ (m : Machine) where
       (omega (arith, k))))
     where
       all : AllByRecursion (λ (f : List Entry).
-          (IsAlike (led m (entries_of m x.schedule)) (led m f) → ⊥)
+          (IsShifted (led m (entries_of m x.schedule)) (led m f) → ⊥)
           × (length (entries_of m x.schedule) ≤ length f)) (map (entries_of m) (ends_of xs))
       all = all_ends (λ (f : List Entry).
-          (IsAlike (led m (entries_of m x.schedule)) (led m f) → ⊥)
+          (IsShifted (led m (entries_of m x.schedule)) (led m f) → ⊥)
           × (length (entries_of m x.schedule) ≤ length f)) xs
           (all_places (λ s. s.state.is_end ≡ true →
-          (IsAlike (led m (entries_of m x.schedule)) (led m (entries_of m s.schedule)) → ⊥)
+          (IsShifted (led m (entries_of m x.schedule)) (led m (entries_of m s.schedule)) → ⊥)
           × (length (entries_of m x.schedule) ≤ length (entries_of m s.schedule))) unseen xs
           (λ j l is. let u = h 0 (suc j) (omega arith) (omega (arith, l)) in (
             u.0,
@@ -153,11 +153,11 @@ module _ (m : Machine) where
             (subst (IsLeastRun m (length s.schedule)) (sym r.system) l.run);
         events = omega (arith, r.count, long);
         rest = ap (at_rest m) r.system ∙ sym l.is_end ∙ is;
-        shortest = λ g events run alike.
+        shortest = λ g events run similar.
             omega (
               arith,
               long,
-              l.shortest g events run (subst (λ (k : System). IsAlike k g) r.system alike),
+              l.shortest g events run (subst (λ (k : System). IsShifted k g) r.system similar),
             );
       }
 
@@ -168,10 +168,10 @@ module _ (m : Machine) where
     listed_among g events rest l =
         let s = a.sound l.place l.inside in
         let same = some_is l.system s.system (sym l.leads ∙ s.leads) in
-        let alike = subst (λ (k : System). IsAlike k g) same l.alike in
+        let similar = subst (λ (k : System). IsShifted k g) same l.similar in
         among found g l.place l.inside
-        (s.is_end ∙ at_rest_alike m s.system g alike ∙ rest)
-        (subst (λ (k : System). IsAlike k g) (sym (led_is (seen_at found l.place) s)) alike)
+        (s.is_end ∙ at_rest_similar m s.system g similar ∙ rest)
+        (subst (λ (k : System). IsShifted k g) (sym (led_is (seen_at found l.place) s)) similar)
 
     unlike : (i j : ℕ) → i < j → j < length found →
         AreUnlike (seen_at found i) (seen_at found j)
@@ -179,11 +179,11 @@ module _ (m : Machine) where
         let below : i < length found = omega (arith, less, inside) in
         let x = a.sound i below in
         let y = a.sound j inside in (
-          λ alike.
+          λ similar.
               let same = a.once i j x.system y.system below inside x.leads y.leads
-              (subst (λ (k : System). IsAlike k y.system) (led_is (seen_at found i) x)
-              (subst (IsAlike (led m (entries_of m (seen_at found i).schedule)))
-              (led_is (seen_at found j) y) alike)) in
+              (subst (λ (k : System). IsShifted k y.system) (led_is (seen_at found i) x)
+              (subst (IsShifted (led m (entries_of m (seen_at found i).schedule)))
+              (led_is (seen_at found j) y) similar)) in
               omega (arith, less, same),
           not_after_length (seen_at found i).schedule (seen_at found j).schedule
               (inr (a.rising i j less inside)),

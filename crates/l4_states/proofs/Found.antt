@@ -4,13 +4,13 @@ use Rattle.std.specs.Option.{option_map}
 use Rattle.std.proofs.lemmas.Bool.{cases_lt}
 use Rattle.l4_model.specs.Machine.{Machine}
 use Rattle.l4_core_model.specs.Runs.{System, IsMachine, opening_system}
-use Rattle.l4_choices.specs.Alike.{IsAlike}
+use Rattle.l4_shifted.specs.Shifted.{IsShifted}
 use Rattle.l4_explore.specs.Tries.{State}
 use Rattle.l4_explore.specs.Search.{Seen, seen_at, IsCut, IsFound, IsExplored}
 use Rattle.l4_explore.proofs.Orders.{not_after_length}
 use Rattle.l4_states.specs.Choices.{after_choices, state_in, state_after, IsLeastRun}
 use Rattle.l4_states.specs.Listed.{AreAllListed, GoesFar, IsCutOff, IsListed, LeadsSoon}
-use Rattle.l4_states.proofs.Following.{state_led, code_alike, alike_state}
+use Rattle.l4_states.proofs.Following.{state_led, code_similar, similar_state}
 use Rattle.l4_states.proofs.Chosen.{AreChosen, are_chosen, least_run}
 
 module _ (m : Machine) (machine : IsMachine m) (found : List Seen) (depth : ℕ) (is_whole : Bool)
@@ -19,7 +19,7 @@ module _ (m : Machine) (machine : IsMachine m) (found : List Seen) (depth : ℕ)
       state_after m s ≡ Some (state_in m g)
   state_of_choices s g h = ap (option_map (state_in m)) h
 
-  -- Where a state is found, a state that is alike is listed.
+  -- Where a state is found, a state that is similar is listed.
   listed : (g : System) (events : ℕ) (c : AreChosen m (opening_system m) g events) →
       IsFound found (state_in m g) c.schedule → IsListed m found g events
   listed g events c f =
@@ -30,7 +30,7 @@ module _ (m : Machine) (machine : IsMachine m) (found : List Seen) (depth : ℕ)
         inside = f.inside;
         system = led.0;
         leads = led.1;
-        alike = code_alike m machine
+        similar = code_similar m machine
             (seen_at found f.place).schedule c.schedule led.0 g led.1 c.leads
             (ap (λ (a : State). a.code) (led.2 ∙ f.is));
         short = omega (
@@ -63,12 +63,12 @@ module _ (m : Machine) (machine : IsMachine m) (found : List Seen) (depth : ℕ)
         leads = led.1;
         run = least_run m s led.0 led.1;
         is_end = ap (λ (a : State). a.is_end) (sym led.2);
-        first = λ t g at alike.
-            let same = sym (alike_state m machine s t led.0 g led.1 at alike) ∙ led.2 in
+        first = λ t g at similar.
+            let same = sym (similar_state m machine s t led.0 g led.1 at similar) ∙ led.2 in
             ex.first i t l (state_of_choices t g at ∙ ap (λ (a : State). Some a) same);
-        shortest = λ g events r alike.
+        shortest = λ g events r similar.
             let c = are_chosen m events g r in
-            let same = sym (alike_state m machine s c.schedule led.0 g led.1 c.leads alike)
+            let same = sym (similar_state m machine s c.schedule led.0 g led.1 c.leads similar)
             ∙ led.2 in
             let first = ex.first i c.schedule l
             (state_of_choices c.schedule g c.leads ∙ ap (λ (a : State). Some a) same) in
@@ -77,12 +77,12 @@ module _ (m : Machine) (machine : IsMachine m) (found : List Seen) (depth : ℕ)
 
   once : (i j : ℕ) (g h : System) → i < length found → j < length found →
       after_choices m (opening_system m) (seen_at found i).schedule ≡ Some g →
-      after_choices m (opening_system m) (seen_at found j).schedule ≡ Some h → IsAlike g h → i ≡ j
-  once i j g h a b at_g at_h alike =
+      after_choices m (opening_system m) (seen_at found j).schedule ≡ Some h → IsShifted g h → i ≡ j
+  once i j g h a b at_g at_h similar =
       let one = state_led m (seen_at found i).schedule (seen_at found i).state (ex.reached i a) in
       let two = state_led m (seen_at found j).schedule (seen_at found j).state (ex.reached j b) in
-      let same = alike_state m machine (seen_at found i).schedule
-      (seen_at found j).schedule g h at_g at_h alike in
+      let same = similar_state m machine (seen_at found i).schedule
+      (seen_at found j).schedule g h at_g at_h similar in
       let is_one : g ≡ one.0 = some_system g one.0 (sym at_g ∙ one.1) in
       let is_two : h ≡ two.0 = some_system h two.0 (sym at_h ∙ two.1) in
       ex.once i j a b (ap (λ (c : State). c.code)
@@ -116,19 +116,19 @@ module _ (m : Machine) (machine : IsMachine m) (found : List Seen) (depth : ℕ)
       record {
         system = led.0;
         run = subst (λ (n : ℕ). IsLeastRun m n led.0) long (least_run m s led.0 led.1);
-        shortest = λ h fewer r alike. by led.0 led.1 led.2 h fewer r alike (cases_lt depth fewer);
+        shortest = λ h fewer r similar. by led.0 led.1 led.2 h fewer r similar (cases_lt depth fewer);
       }
     where
       by : (g : System) → after_choices m (opening_system m) s ≡ Some g → state_in m g ≡ state →
-          (h : System) (fewer : ℕ) → IsLeastRun m fewer h → IsAlike g h →
+          (h : System) (fewer : ℕ) → IsLeastRun m fewer h → IsShifted g h →
           (depth < fewer) ⊎ (fewer ≤ depth) → depth + 1 ≤ fewer
-      by g at is h fewer r alike (inl l) = omega (arith, l)
-      by g at is h fewer r alike (inr le) =
+      by g at is h fewer r similar (inl l) = omega (arith, l)
+      by g at is h fewer r similar (inr le) =
           let c = are_chosen m fewer h r in
           let f = ex.complete c.schedule (state_in m h) (state_of_choices c.schedule h c.leads)
           (omega (arith, c.long, le)) in
           absurd (new f.place f.inside
-          (f.is ∙ sym (alike_state m machine s c.schedule g h at c.leads alike) ∙ is))
+          (f.is ∙ sym (similar_state m machine s c.schedule g h at c.leads similar) ∙ is))
 
   pub cut_off : (asked most : ℕ) → IsCut (state_after m) found asked most depth →
       IsCutOff m (length found) asked most depth
@@ -139,7 +139,7 @@ module _ (m : Machine) (machine : IsMachine m) (found : List Seen) (depth : ℕ)
         deep = record {
           system = s.system;
           run = subst (λ (n : ℕ). IsLeastRun m n s.system) d.deep s.run;
-          shortest = λ g fewer r alike. omega (arith, s.shortest g fewer r alike, d.deep);
+          shortest = λ g fewer r similar. omega (arith, s.shortest g fewer r similar, d.deep);
         };
       })
   cut_off asked most (inr c) = inr (record {

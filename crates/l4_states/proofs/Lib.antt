@@ -3,6 +3,7 @@ mod Parts
 pub mod Reached
 mod Systems
 pub mod Following
+pub mod Early
 pub mod Chosen
 pub mod Found
 pub mod Endings

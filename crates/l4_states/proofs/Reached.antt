@@ -13,7 +13,7 @@ use Rattle.l4_core_model.specs.Local.{Local, opening_local}
 use Rattle.l4_core_model.specs.Acts.{Work}
 use Rattle.l4_core_model.specs.Mail.{handle}
 use Rattle.l4_core_model.specs.Turns.{turn, advance}
-use Rattle.l4_core_model.specs.Runs.{System, Posted, letters, is_between, without_first, posted, taken, done, Happening, Handles, Turns, Ticks, Happened, happens, Run, IsMachine, core_run, opening_run, opening_system, then_event}
+use Rattle.l4_core_model.specs.Runs.{System, Posted, letters, is_between, without_first, posted, taken, done, Action, Handles, Turns, Ticks, Happened, happens, Run, IsMachine, core_run, opening_run, opening_system, then_event}
 use Rattle.l4_core_model.proofs.Changed.{length-changed}
 use Rattle.l4_split.proofs.Law.{run_facts}
 use Rattle.l4_split.proofs.Letters.Addressed.{IsAddressedTo}
@@ -106,13 +106,13 @@ ticks_at m g cpu clock h b is =
     let lt = at m g cpu l b there in
     record { own = lt; bounded = some_done m cpu g (advance m cpu clock l) h lt b is }
 
-happens_bounded : (m : Machine) (g : System) (e : Happening) (h : Happened) → IsBounded m g →
+happens_bounded : (m : Machine) (g : System) (e : Action) (h : Happened) → IsBounded m g →
     happens m g e ≡ Some h → IsBounded m h.system
 happens_bounded m g (Handles cpu from) h b is = let a = handles_at m g cpu from h b is in a.bounded
 happens_bounded m g (Turns cpu) h b is = let a = turns_at m g cpu h b is in a.bounded
 happens_bounded m g (Ticks cpu clock) h b is = let a = ticks_at m g cpu clock h b is in a.bounded
 
-run_bounded : (m : Machine) (es : List Happening) (r t : Run) → IsBounded m r.system →
+run_bounded : (m : Machine) (es : List Action) (r t : Run) → IsBounded m r.system →
     core_run m r es ≡ Some t → IsBounded m t.system
 run_bounded m [] r t b is = subst (λ (u : Run). IsBounded m u.system) (some_is r t is) b
 run_bounded m (e ∷ es) r t b is =
@@ -153,7 +153,7 @@ pub record IsWithin (m : Machine) (g : System) : Type 0 where
   pub from : (from to : ℕ) → m.cpus ≤ from → letters g.mail from to ≡ []
   pub to : (from to : ℕ) → m.cpus ≤ to → letters g.mail from to ≡ []
 
-pub run_within : (m : Machine) (es : List Happening) (r : Run) → IsMachine m →
+pub run_within : (m : Machine) (es : List Action) (r : Run) → IsMachine m →
     core_run m (opening_run m) es ≡ Some r → IsWithin m r.system
 run_within m es r machine is =
     let b = run_bounded m es (opening_run m) r (opening_bounded m) is in
@@ -173,4 +173,4 @@ run_within m es r machine is =
 
 pub reached_within : (m : Machine) (g : System) → IsMachine m → IsReached m g → IsWithin m g
 reached_within m g machine r =
-    subst (IsWithin m) r.system (run_within m r.happenings r.run machine r.is)
+    subst (IsWithin m) r.system (run_within m r.actions r.run machine r.is)

@@ -1,11 +1,13 @@
 -- All that may happen next in a core run, by numbers, and the states that lists of them lead to.
-use Rattle.std.specs.Prelude.{ℕ, ◌+◌, ◌*◌, ◌/◌, ◌%◌, ◌≡◌, ◌↔◌, ◌==◌, nat_lt, if◌then◌else◌, Option, Some, List, [], ◌∷◌, length}
+use Rattle.std.specs.Prelude.{ℕ, ◌+◌, ◌*◌, ◌/◌, ◌%◌, ◌<◌, ◌≡◌, ◌↔◌, ◌==◌, nat_lt, if◌then◌else◌, Option, Some, List, [], ◌∷◌, length, slice_get}
 use Rattle.std.specs.Option.{option_map}
+use Rattle.l4_model.specs.Words.{clock_limit, period_limit}
 use Rattle.l4_model.specs.Machine.{Machine}
 use Rattle.l4_model.specs.Conditions.{◌>>=◌}
-use Rattle.l4_core_model.specs.Runs.{System, Happening, Handles, Turns, Ticks, Happened, happens, Run, core_run, opening_run, opening_system, then_event, at_rest}
+use Rattle.l4_core_model.specs.Local.{Local}
+use Rattle.l4_core_model.specs.Runs.{System, Action, Handles, Turns, Ticks, Happened, happens, Run, core_run, opening_run, opening_system, then_event, at_rest}
 use Rattle.l4_core_model.specs.Schedules.{least_deadline}
-use Rattle.l4_choices.specs.Alike.{IsAlike}
+use Rattle.l4_shifted.specs.Shifted.{IsShifted}
 use Rattle.l4_choices.specs.Entries.{Entry, TickOf, LetterOf, CoreOf, entry_event}
 use Rattle.l4_explore.specs.Tries.{State}
 use Rattle.l4_states.specs.Codes.{code_of}
@@ -34,6 +36,20 @@ after_choices m g [] = Some g
 after_choices m g (number ∷ numbers) = after_entry m g (choice m number) >>= λ h.
     after_choices m h numbers
 
+-- No least deadline is past all clocks, so that each clock may go on to its own.
+abbrev pub IsEarly : System → Type 0
+IsEarly g = (cpu deadline : ℕ) → least_deadline g cpu ≡ Some deadline → deadline < clock_limit
+
+-- The least deadline of a processor is not farther ahead than the longest period.
+abbrev pub IsNear : System → (cpu : ℕ) → Type 0
+IsNear g cpu =
+    (l : Local) (deadline : ℕ) → slice_get g.locals cpu ≡ Some l →
+    least_deadline g cpu ≡ Some deadline → deadline < l.clock + period_limit
+
+abbrev pub LeadsEarly : Machine → List ℕ → Type 0
+LeadsEarly m numbers =
+    (g : System) → after_choices m (opening_system m) numbers ≡ Some g → IsEarly g
+
 -- A state as a search knows it.
 abbrev pub state_in : Machine → System → State
 state_in m g = record { code = code_of m g; is_end = at_rest m g }
@@ -43,23 +59,24 @@ state_after m numbers = option_map (state_in m) (after_choices m (opening_system
 
 -- A state that a core run leads to.
 pub record IsReached (m : Machine) (g : System) : Type 0 where
-  pub happenings : List Happening
+  pub actions : List Action
   pub run : Run
-  pub is : core_run m (opening_run m) happenings ≡ Some run
+  pub is : core_run m (opening_run m) actions ≡ Some run
   pub system : run.system ≡ g
 
--- Of the states that core runs lead to those of one code are alike, and alike ones have one code.
+-- Of the states that core runs lead to those of one code are similar, and similar ones have one
+-- code. Similar are those that are shifted.
 abbrev pub IsCoded : Machine → Type 0
 IsCoded m = (g h : System) → IsReached m g → IsReached m h →
-    (code_of m g ≡ code_of m h) ↔ IsAlike g h
+    (code_of m g ≡ code_of m h) ↔ IsShifted g h
 
 -- The clock of a processor goes on to its least deadline.
-abbrev pub IsLeastTick : System → Happening → Type 0
+abbrev pub IsLeastTick : System → Action → Type 0
 IsLeastTick g (Handles cpu from) = Unit {0}
 IsLeastTick g (Turns cpu) = Unit {0}
 IsLeastTick g (Ticks cpu clock) = least_deadline g cpu ≡ Some clock
 
-abbrev pub AreLeastTicks : Machine → Run → List Happening → Type 0
+abbrev pub AreLeastTicks : Machine → Run → List Action → Type 0
 AreLeastTicks m r [] = Unit {0}
 AreLeastTicks m r (e ∷ es) =
     IsLeastTick r.system e
@@ -67,9 +84,9 @@ AreLeastTicks m r (e ∷ es) =
 
 -- A core run whose ticks go to least deadlines, of so many events, that leads to this state.
 pub record IsLeastRun (m : Machine) (events : ℕ) (g : System) : Type 0 where
-  pub happenings : List Happening
+  pub actions : List Action
   pub run : Run
-  pub is : core_run m (opening_run m) happenings ≡ Some run
-  pub ticks : AreLeastTicks m (opening_run m) happenings
+  pub is : core_run m (opening_run m) actions ≡ Some run
+  pub ticks : AreLeastTicks m (opening_run m) actions
   pub system : run.system ≡ g
-  pub count : length happenings ≡ events
+  pub count : length actions ≡ events

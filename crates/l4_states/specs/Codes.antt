@@ -1,6 +1,6 @@
--- The code of a state of a core run, all of it but stamps and the order of letters of different
--- pairs.
-use Rattle.std.specs.Prelude.{ℕ, ◌+◌, ◌==◌, Bool, if◌then◌else◌, Option, None, Some, List, [], ◌∷◌, length}
+-- The code of a state of a core run, all of it but stamps, numbers of sends, how late it is, and
+-- the order of letters of different pairs.
+use Rattle.std.specs.Prelude.{ℕ, ◌+◌, ◌-◌, ◌==◌, Bool, if◌then◌else◌, Option, None, Some, List, [], ◌∷◌, length}
 use Rattle.l4_model.specs.Words.{GlobalId, Id, NilThread, AnyThread, AnyLocalThread, LocalThread, GlobalThread, register_count}
 use Rattle.l4_model.specs.Machine.{Machine}
 use Rattle.l4_model.specs.World.{Name, Context, Receive, Message, Send, Asked, Owed, Phase, Ready, Sending, Receiving, Ordering, Ended, Deleted, Thread}
@@ -66,7 +66,7 @@ message_code m rest = m.label
 abbrev pub send_code : Send → List ℕ → List ℕ
 send_code s rest = id_code s.to
     (message_code s.message
-    (optional number_code s.period (s.since ∷ optional receive_code s.receive rest)))
+    (optional number_code s.period (optional receive_code s.receive rest)))
 
 abbrev pub asked_code : Asked → List ℕ → List ℕ
 asked_code a rest = global_code a.target (what_code a.what ∷ rest)
@@ -74,7 +74,7 @@ asked_code a rest = global_code a.target (what_code a.what ∷ rest)
 abbrev pub phase_code : Phase → List ℕ → List ℕ
 phase_code Ready rest = 0 ∷ rest
 phase_code Sending rest = 1 ∷ rest
-phase_code (Receiving r since) rest = 2 ∷ receive_code r (since ∷ rest)
+phase_code (Receiving r since) rest = 2 ∷ receive_code r rest
 phase_code Ordering rest = 3 ∷ rest
 phase_code Ended rest = 4 ∷ rest
 phase_code Deleted rest = 5 ∷ rest
@@ -82,7 +82,7 @@ phase_code Deleted rest = 5 ∷ rest
 abbrev pub context_code : Context → List ℕ → List ℕ
 context_code c rest =
     sized register_count number_code c.words
-    (c.error ∷ id_code c.from (id_code c.actual (c.place ∷ c.begun ∷ rest)))
+    (c.error ∷ id_code c.from (id_code c.actual (c.place ∷ rest)))
 
 abbrev pub thread_code : Thread → List ℕ → List ℕ
 thread_code t rest =
@@ -95,16 +95,17 @@ thread_code t rest =
 abbrev pub waiting_code : Waiting → List ℕ → List ℕ
 waiting_code w rest = w.block ∷ global_code w.shown (flag_code w.local rest)
 
-abbrev pub armed_code : (ℕ × ℕ) → List ℕ → List ℕ
-armed_code e rest = e.0 ∷ e.1 ∷ rest
+-- Of a deadline it tells how far it is ahead.
+abbrev pub armed_code : (clock : ℕ) → (ℕ × ℕ) → List ℕ → List ℕ
+armed_code clock e rest = (e.0 - clock) ∷ e.1 ∷ rest
 
-abbrev pub lists_code : (threads : ℕ) → Plain → List ℕ → List ℕ
-lists_code threads s rest =
+abbrev pub lists_code : (threads clock : ℕ) → Plain → List ℕ → List ℕ
+lists_code threads clock s rest =
     sized threads (chained waiting_code) s.waiting
-    (chained number_code s.ready (chained armed_code s.armed rest))
+    (chained number_code s.ready (chained (armed_code clock) s.armed rest))
 
 abbrev pub name_code : Name → List ℕ → List ℕ
-name_code s rest = global_code s.thread (s.k ∷ rest)
+name_code s rest = global_code s.thread rest
 
 abbrev pub owed_code : Owed → List ℕ → List ℕ
 owed_code o rest = name_code o.send
@@ -113,9 +114,8 @@ owed_code o rest = name_code o.send
 abbrev pub local_code : (threads : ℕ) → Local → List ℕ → List ℕ
 local_code threads l rest =
     sized threads thread_code l.threads
-    (lists_code threads l.lists
-    (sized threads number_code l.told
-    (sized threads (optional owed_code) l.owed (l.clock ∷ rest))))
+    (lists_code threads l.clock l.lists
+    (sized threads number_code l.told (sized threads (optional owed_code) l.owed rest)))
 
 -- Letters
 

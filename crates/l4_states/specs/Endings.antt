@@ -3,7 +3,7 @@ use Rattle.std.specs.Prelude.{ℕ, ◌<◌, ◌≤◌, ◌≡◌, Bool, true, fa
 use Rattle.std.specs.List.{AllByRecursion}
 use Rattle.l4_model.specs.Machine.{Machine}
 use Rattle.l4_core_model.specs.Runs.{System, at_rest}
-use Rattle.l4_choices.specs.Alike.{IsAlike}
+use Rattle.l4_shifted.specs.Shifted.{IsShifted}
 use Rattle.l4_choices.specs.Entries.{Entry, replay_entries}
 use Rattle.l4_explore.specs.Search.{Seen}
 use Rattle.l4_states.specs.Choices.{choice, IsLeastRun}
@@ -33,28 +33,28 @@ abbrev pub led : Machine → List Entry → System
 led m entries = (replay_entries m entries).system
 
 -- The replay of entries is a core run, of as many events, to a state at rest. No core run whose
--- ticks go to least deadlines leads to an alike one in fewer events.
+-- ticks go to least deadlines leads to a similar one in fewer events.
 pub record IsEnding (m : Machine) (entries : List Entry) : Type 0 where
   pub run : IsLeastRun m (length entries) (led m entries)
   pub events : length (replay_entries m entries).events ≡ length entries
   pub rest : at_rest m (led m entries) ≡ true
-  pub shortest : (g : System) (events : ℕ) → IsLeastRun m events g → IsAlike (led m entries) g →
+  pub shortest : (g : System) (events : ℕ) → IsLeastRun m events g → IsShifted (led m entries) g →
       length entries ≤ events
 
 abbrev pub ending_at : List (List Entry) → ℕ → List Entry
 ending_at endings i = slice_index_or endings i []
 
--- One of them is alike to this state.
+-- One of them is similar to this state.
 pub record IsAmong (m : Machine) (endings : List (List Entry)) (g : System) : Type 0 where
   pub place : ℕ
   pub inside : place < length endings
-  pub alike : IsAlike (led m (ending_at endings place)) g
+  pub similar : IsShifted (led m (ending_at endings place)) g
 
--- No two of them are alike, and no longer one comes before a shorter one.
+-- No two of them are similar, and no longer one comes before a shorter one.
 abbrev pub AreApart : Machine → List (List Entry) → Type 0
 AreApart m [] = Unit {0}
 AreApart m (e ∷ es) =
-    AllByRecursion (λ f. (IsAlike (led m e) (led m f) → ⊥) × (length e ≤ length f)) es
+    AllByRecursion (λ f. (IsShifted (led m e) (led m f) → ⊥) × (length e ≤ length f)) es
     × AreApart m es
 
 -- They are all endings of core runs of at most so many events, whose ticks go to least deadlines;

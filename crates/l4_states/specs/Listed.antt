@@ -2,22 +2,22 @@
 use Rattle.std.specs.Prelude.{ℕ, ◌+◌, ◌<◌, ◌≤◌, ◌≡◌, ◌⊎◌, Bool, true, Some, List, length}
 use Rattle.l4_model.specs.Machine.{Machine}
 use Rattle.l4_core_model.specs.Runs.{System, opening_system, at_rest}
-use Rattle.l4_choices.specs.Alike.{IsAlike}
+use Rattle.l4_shifted.specs.Shifted.{IsShifted}
 use Rattle.l4_explore.specs.Orders.{IsBefore, IsNotAfter}
 use Rattle.l4_explore.specs.Search.{Seen, seen_at}
 use Rattle.l4_states.specs.Choices.{after_choices, IsLeastRun}
 
--- The schedule at a place leads to a state that is alike to this one, in no more than so many
+-- The schedule at a place leads to a state that is similar to this one, in no more than so many
 -- events.
 pub record IsListed (m : Machine) (found : List Seen) (g : System) (events : ℕ) : Type 0 where
   pub place : ℕ
   pub inside : place < length found
   pub system : System
   pub leads : after_choices m (opening_system m) (seen_at found place).schedule ≡ Some system
-  pub alike : IsAlike system g
+  pub similar : IsShifted system g
   pub short : length (seen_at found place).schedule ≤ events
 
--- A schedule leads to a state, and is the first that leads to one that is alike.
+-- A schedule leads to a state, and is the first that leads to one that is similar.
 pub record LeadsSoon (m : Machine) (s : Seen) : Type 0 where
   pub system : System
   pub leads : after_choices m (opening_system m) s.schedule ≡ Some system
@@ -25,9 +25,9 @@ pub record LeadsSoon (m : Machine) (s : Seen) : Type 0 where
   pub run : IsLeastRun m (length s.schedule) system
   pub is_end : s.state.is_end ≡ at_rest m system
   pub first : (t : List ℕ) (g : System) → after_choices m (opening_system m) t ≡ Some g →
-      IsAlike system g → IsNotAfter s.schedule t
+      IsShifted system g → IsNotAfter s.schedule t
   -- and as short as any such core run
-  pub shortest : (g : System) (events : ℕ) → IsLeastRun m events g → IsAlike system g →
+  pub shortest : (g : System) (events : ℕ) → IsLeastRun m events g → IsShifted system g →
       length s.schedule ≤ events
 
 -- All core runs whose ticks go to least deadlines, of at most so many events.
@@ -41,19 +41,19 @@ pub record AreAllListed (m : Machine) (found : List Seen) (depth : ℕ)
       IsListed m found g events
   -- sound
   pub sound : (i : ℕ) → i < length found → LeadsSoon m (seen_at found i)
-  -- once: no two of them lead to alike states
+  -- once: no two of them lead to similar states
   pub once : (i j : ℕ) (g h : System) → i < length found → j < length found →
       after_choices m (opening_system m) (seen_at found i).schedule ≡ Some g →
-      after_choices m (opening_system m) (seen_at found j).schedule ≡ Some h → IsAlike g h → i ≡ j
+      after_choices m (opening_system m) (seen_at found j).schedule ≡ Some h → IsShifted g h → i ≡ j
   -- in the order of their schedules
   pub rising : (i j : ℕ) → i < j → j < length found →
       IsBefore (seen_at found i).schedule (seen_at found j).schedule
 
--- So many events lead to a state, and no fewer to one that is alike.
+-- So many events lead to a state, and no fewer to one that is similar.
 pub record GoesFar (m : Machine) (events : ℕ) : Type 0 where
   pub system : System
   pub run : IsLeastRun m events system
-  pub shortest : (g : System) (fewer : ℕ) → IsLeastRun m fewer g → IsAlike system g →
+  pub shortest : (g : System) (fewer : ℕ) → IsLeastRun m fewer g → IsShifted system g →
       events ≤ fewer
 
 -- Why a search that was to go so deep is not whole: there is a state as deep ..

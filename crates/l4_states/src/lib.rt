@@ -1,9 +1,10 @@
 //! The states of core runs: the code of a state, the choices that lead on from it, and what a
 //! search of all of them has found.
 //!
-//! A code is all of a state but stamps, and the order of letters of different pairs of processors:
-//! of the states that core runs lead to, those of one code are alike. Alike states have the same
-//! futures, so a search may keep one of them.
+//! A code is all of a state but stamps, numbers of sends, how late it is, and the order of letters
+//! of different pairs of processors. Of the states that core runs lead to, those of one code are
+//! similar: they are shifted (l4_shifted). Similar states have the same futures, so a search may
+//! keep one of them.
 //!
 //! All of it is definitions and proofs; the functions have an empty body.
 //!
@@ -15,10 +16,10 @@
 ghost use Rattle.std.specs.Prelude.{ℕ, ◌≡◌, Bool, List, length};
 ghost use Rattle.l4_model.specs.Machine.{Machine};
 ghost use Rattle.l4_core_model.specs.Runs.{IsMachine};
-ghost use Rattle.l4_explore.specs.Tries.{AreSchedules};
+ghost use Rattle.l4_explore.specs.Tries.{AreSchedules, StandsForAll};
 ghost use Rattle.l4_explore.specs.Search.{IsCut, IsExplored, Seen};
 ghost use Rattle.l4_states.specs.Bytes.{bytes_of};
-ghost use Rattle.l4_states.specs.Choices.{IsCoded, state_after};
+ghost use Rattle.l4_states.specs.Choices.{IsCoded, LeadsEarly, state_after};
 ghost use Rattle.l4_choices.specs.Entries.{Entry};
 ghost use Rattle.l4_states.specs.Endings.{AreAllEndings, AreEndings};
 ghost use Rattle.l4_states.specs.Listed.{AreAllListed, IsCutOff};
@@ -28,7 +29,8 @@ pub fn law_bytes()
     ensures { (ns ms : List ℕ) → bytes_of ns ≡ bytes_of ms → ns ≡ ms }
 {}
 
-/// Of the states that core runs lead to, those of one code are alike, and alike ones have one code.
+/// Of the states that core runs lead to, those of one code are similar, and similar ones have one
+/// code.
 pub fn law_coded()
     ensures { (m : Machine) → IsMachine m → IsCoded m }
 {}
@@ -36,6 +38,13 @@ pub fn law_coded()
 /// So lists of choices have what a search asks for.
 pub fn law_schedules()
     ensures { (m : Machine) → IsMachine m → AreSchedules (state_after m) }
+{}
+
+/// A list of choices stands for all that lead to a similar state, where no clock that it leads to
+/// is near the limit of clocks.
+pub fn law_stands()
+    ensures { (m : Machine) (s : List ℕ) → IsMachine m → LeadsEarly m s →
+        StandsForAll (state_after m) s }
 {}
 
 /// And what it has found are all core runs whose ticks go to least deadlines, of as many events as
@@ -46,7 +55,7 @@ pub fn law_listed()
 {}
 
 /// Where it is cut off, so many events as it was to go deep lead to a state, and no fewer to one
-/// that is alike; or it has found as many states as it was to find, and there is one more.
+/// that is similar; or it has found as many states as it was to find, and there is one more.
 pub fn law_cut_off()
     ensures { (m : Machine) (found : List Seen) (asked most depth : ℕ) (is_whole : Bool) →
         IsMachine m → IsExplored (state_after m) found depth is_whole →

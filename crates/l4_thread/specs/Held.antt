@@ -26,19 +26,31 @@ abbrev pub AreFew : Words → Type 0
 AreFew (InRegisters count) = count < register_count
 AreFew Apart = Unit {0}
 
--- The words, where these are apart and those in the registers.
+-- The words of a message: the separate copy, or those in the registers.
 abbrev pub words_of : (apart registers : List ℕ) → Words → List ℕ
 words_of apart registers (InRegisters count) = take count (drop 1 registers)
 words_of apart registers Apart = apart
 
 abbrev pub with_words : List ℕ → Headed → Message
-with_words words h = record { label = h.label; words = words; propagated = h.propagated; shown = h.shown; actual = h.actual }
+with_words words h = record {
+  label = h.label;
+  words = words;
+  propagated = h.propagated;
+  shown = h.shown;
+  actual = h.actual;
+}
 
 abbrev pub message_of : (apart registers : List ℕ) → Headed → Message
 message_of apart registers h = with_words (words_of apart registers h.words) h
 
 abbrev pub sent_with : List ℕ → Held → Send
-sent_with words h = record { to = h.to; message = with_words words h.head; period = h.period; since = h.since; receive = h.receive }
+sent_with words h = record {
+  to = h.to;
+  message = with_words words h.head;
+  period = h.period;
+  since = h.since;
+  receive = h.receive;
+}
 
 abbrev pub sent_of : (apart registers : List ℕ) → Held → Send
 sent_of apart registers h = sent_with (words_of apart registers h.head.words) h

@@ -14,7 +14,8 @@ use Rattle.l4_thread.specs.declared.phases.Began.TheVariants.{Nothing, Send, Rec
 abbrev pub may_show : Machine → (sender : GlobalId) → Id → Bool
 may_show m sender actual = is_some (permitted m sender actual)
 
--- Where the sender asks for propagation, this says whether it may show its originator.
+-- If the sender asks for propagation, `permitted` is whether it may show the originator that it
+-- names.
 abbrev pub IsPermission : (permitted : Bool) → Machine → (sender : GlobalId) → Context → Type 0
 IsPermission permitted m sender c = propagates c ≡ true → permitted ≡ may_show m sender c.actual
 
@@ -29,6 +30,7 @@ began_of (Sends send) = Send
 began_of (Receives receive) = Receive
 began_of _ = Nothing
 
--- Its send begins, and is taken at once: nothing of it is kept, and its Ipc goes on as after a delivery.
+-- Its send begins, and is taken at once: nothing of it is kept, and its Ipc goes on as after a
+-- delivery.
 abbrev pub passes : Option world.Receive → (now : ℕ) → Thread → Thread
 passes receive now t = goes_on receive now (record t { context = counted t.context })

@@ -1,4 +1,5 @@
--- What an Ipc of one thread asks for, where it is told whether the thread may show the originator that it names.
+-- What an Ipc of one thread asks for, where it is told whether the thread may show the originator
+-- that it names.
 use Rattle.std.specs.Prelude.{ℕ, List, ◌+◌, ◌/◌, ◌%◌, ◌^◌, Bool, true, false, if◌then◌else◌, ◌==◌, ◌&&◌, not, Option, Some, None, is_some, unwrap_or, take, drop}
 use Rattle.std.specs.Option.{option_map}
 use Rattle.l4_model.specs.Words.{GlobalId, Id, NilThread, Period}
@@ -49,7 +50,7 @@ phases_of permitted sender c (Ipc to from send_period receive_period) =
     }
 phases_of permitted sender c _ = record { send = None; receive = None }
 
--- Where a phase begins, the next instruction is at hand, and a send is counted.
+-- Beginning a send phase moves the script on and counts the send.
 abbrev pub counted : Context → Context
 counted c = record (advanced c) { begun = c.begun + 1 }
 
@@ -72,14 +73,20 @@ abbrev pub receive_from : Id × CodePeriod → Receive
 receive_from r = record { from = r.0; period = period_of r.1 }
 
 abbrev pub phases_from : Request → Phases
-phases_from r = record { send = option_map send_from r.send; receive = option_map receive_from r.receive }
+phases_from r = record {
+  send = option_map send_from r.send;
+  receive = option_map receive_from r.receive;
+}
 
--- The same where the words are those that the registers have.
+-- The phases of a request whose words are those that the registers have, or the separate copy.
 abbrev pub send_held : (apart registers : List ℕ) → Id × Headed × CodePeriod → Id × Message × Period
 send_held apart registers s = (s.0, message_of apart registers s.1, period_of s.2)
 
 abbrev pub phases_held : (apart registers : List ℕ) → Begun → Phases
-phases_held apart registers r = record { send = option_map (send_held apart registers) r.send; receive = option_map receive_from r.receive }
+phases_held apart registers r = record {
+  send = option_map (send_held apart registers) r.send;
+  receive = option_map receive_from r.receive;
+}
 
 -- Its periods are ones that times have.
 abbrev pub is_timely_send : {M : Type 0} → Option (Id × M × CodePeriod) → Type 0

@@ -7,7 +7,8 @@
 //! the audit (`l4_audit`), each in its own way.
 //!
 //! No call of this crate takes memory. The words of an undecided send stay in the registers of its
-//! sender. They are copied before these change, so a contract sees the same words.
+//! sender. They are copied out before the registers change, so contracts see the same words
+//! throughout.
 //!
 //! ```rust
 //! let mut block = Tcb::new(thread);

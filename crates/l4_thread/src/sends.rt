@@ -62,7 +62,8 @@ impl Receive {
         self.period
     }
 
-    /// The same receive phase. If its specifier is the old partner, it becomes the new one.
+    /// This receive phase, but if its specifier is the old partner, with the new partner as its
+    /// specifier.
     pub(crate) fn turned(&self, old_partner: GlobalId, new_partner: GlobalId) -> Receive
         ensures { result ≡ turned_from old_partner new_partner self.now }
     {

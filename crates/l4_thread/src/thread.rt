@@ -106,7 +106,7 @@ impl Thread {
         MsgTag::propagates_in(self.regs.words[0])
     }
 
-    /// Sets how many sends a stand-in began.
+    /// Sets the number of a stand-in's send.
     pub(crate) fn begin_at(&mut self, k: u64)
         ensures { self.new ≡ record self.old { context = record self.old.context { begun = k } } }
     {
@@ -160,8 +160,8 @@ impl Thread {
     }
 
     /// Runs an instruction that concerns nobody else (manual: Messages and Message Registers,
-    /// Thread Control Registers), and returns whether the script ends with it. An Ipc has no phases
-    /// then, and an order is refused (ErrorCode 2).
+    /// Thread Control Registers), and returns whether the script ends with it. An Ipc run here has
+    /// no phases; an order run here is refused with ErrorCode 2.
     pub fn local(&mut self, instr: &Instr) -> bool
         requires room { is_end (instr_of instr.now) ≡ false → self.old.context.place + 1 < 2 ^ 64 }
         ensures context { self.new ≡ record self.old {
@@ -221,7 +221,8 @@ impl Thread {
         }
     }
 
-    /// The same, with the words left in the registers: no phase changes these when it begins.
+    /// Begins the phases as `request` does, and leaves the words in the registers: beginning a
+    /// phase does not change them.
     pub(crate) fn begin_phases(&mut self, instr: &Instr, permitted: bool) -> Begun
         requires room { is_end (instr_of instr.now) ≡ false → self.old.context.place + 1 < 2 ^ 64 }
         requires count { asks_to_send self.old.context (instr_of instr.now) ≡ true →

@@ -9,12 +9,12 @@ use Rattle.l4_trace.specs.declared.fault.TraceFault.{TraceFault}
 use Rattle.l4_trace.specs.declared.fault.TraceFault.TheVariants.{NoMemory, Line}
 use Rattle.l4_trace.specs.Reading.{step_of_line, steps_of}
 
--- How many lines were read, and what stands behind them.
+-- How many lines were read, and the text that follows them.
 pub record Ahead : Type 0 where
   pub read : ℕ
   pub rest : List ℕ
 
--- The next line is that of this step, and this stands behind it.
+-- The next line is that of `step`, and `new` is behind that line.
 pub record IsNext (old : Ahead) (step : Step) (new : Ahead) : Type 0 where
   pub line : List ℕ
   pub cut : parts_of old.rest ≡ line ∷ parts_of new.rest
@@ -29,8 +29,7 @@ ReadsNext old (Ok (Some step)) new = IsNext old (seen step) new
 ReadsNext old (Err fault) new =
     (fault ≡ Line (old.read + 1)) × (steps_of old.rest ≡ Err 1) × (new ≡ old)
 
--- What stands behind the lines that were read is read to its end, or this line is the first faulty
--- one of it.
+-- The text that follows the lines read is read to its end, or this line is its first faulty one.
 abbrev pub ReadsOn : {X : Type 0} → Ahead → Result X TraceFault → Type 0
 ReadsOn ahead (Ok x) = (steps : List Step) × (steps_of ahead.rest ≡ Ok steps)
 ReadsOn ahead (Err NoMemory) = ⊥

@@ -21,7 +21,8 @@ words_of (Local t) = codes "local" ∷ thread_word t ∷ []
 words_of (Begin s) = codes "begin" ∷ name_word s ∷ []
 words_of (Queue s) = codes "queue" ∷ name_word s ∷ []
 words_of (Deliver s receiver shown actual tag words) =
-    codes "deliver" ∷ name_word s ∷ thread_word receiver ∷ thread_word shown ∷ thread_word actual ∷ hexadecimal tag
+    codes "deliver" ∷ name_word s ∷ thread_word receiver ∷ thread_word shown ∷ thread_word actual ∷
+    hexadecimal tag
     ∷ map hexadecimal words
 words_of (Wait t) = codes "wait" ∷ thread_word t ∷ []
 words_of (SendTimeout s) = codes "stimeout" ∷ name_word s ∷ []
@@ -46,17 +47,20 @@ trace_of steps = flat_map line_of steps
 
 -- Which steps a trace can spell
 
--- The tag of a delivery counts its words, and has no typed items and neither of the flags `r` and `E`.
+-- The tag of a delivery counts its words, and has no typed items and neither of the flags `r` and
+-- `E`.
 abbrev pub is_tag_of : (tag : ℕ) → (words : List ℕ) → Bool
 is_tag_of tag words =
-    is_word tag && (tag / 2 ^ 6) % 64 == 0 && (tag / 2 ^ 13) % 2 == 0 && (tag / 2 ^ 15) % 2 == 0 && tag % 64 == length words
+    is_word tag && (tag / 2 ^ 6) % 64 == 0 && (tag / 2 ^ 13) % 2 == 0 && (tag / 2 ^ 15) % 2 == 0 &&
+    tag % 64 == length words
 
 abbrev pub has_line : Step → Bool
 has_line (Local t) = is_global t
 has_line (Begin s) = is_name s
 has_line (Queue s) = is_name s
 has_line (Deliver s receiver shown actual tag words) =
-    is_name s && is_global receiver && is_global shown && is_global actual && is_tag_of tag words && list_all is_word words
+    is_name s && is_global receiver && is_global shown && is_global actual && is_tag_of tag words &&
+    list_all is_word words
 has_line (Wait t) = is_global t
 has_line (SendTimeout s) = is_name s
 has_line (ReceiveTimeout t) = is_global t

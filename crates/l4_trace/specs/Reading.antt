@@ -19,7 +19,8 @@ use Rattle.l4_words.specs.Names.{name_of}
 
 -- What stands behind the first word of a line
 
--- The words of a message behind those that were read. There is at most one for each register but MR0.
+-- The words of a message: those read so far, and those left. There is at most one for each register
+-- but MR0.
 abbrev pub message_words : (read : List ℕ) → List (List ℕ) → Option (List ℕ)
 message_words read [] = Some read
 message_words read (spelled ∷ others) = do
@@ -28,7 +29,8 @@ message_words read (spelled ∷ others) = do
   message_words (read ++ word ∷ []) others
 
 -- The tag has to be one that counts these words.
-abbrev pub delivered : Name → (receiver shown actual : GlobalId) → (tag : ℕ) → (words : List ℕ) → Option Step
+abbrev pub delivered : Name → (receiver shown actual : GlobalId) → (tag : ℕ) →
+    (words : List ℕ) → Option Step
 delivered name receiver shown actual tag words = do
   is_tag_of tag words
   Some (Deliver name receiver shown actual tag words)
@@ -110,22 +112,25 @@ step_of_line line = step_of_words (words_in line)
 -- A text
 
 -- A line that spells a step leads on; one that spells none is named by its number.
-abbrev pub or_line : (number : ℕ) → Option Step → (Step → Result (List Step) ℕ) → Result (List Step) ℕ
+abbrev pub or_line : (number : ℕ) → Option Step → (Step → Result (List Step) ℕ) →
+    Result (List Step) ℕ
 or_line number None rest = Err number
 or_line number (Some step) rest = rest step
 
--- The steps so far and those of the parts that are left, or the number of the first line that spells none, counted from 1. What has
--- no line end has to be nothing.
+-- The steps so far and those of the parts that are left. Or the number, counted from 1, of the
+-- first line that spells no step. What has no line end has to be empty.
 abbrev pub read_parts : (steps : List Step) → List (List ℕ) → Result (List Step) ℕ
 read_parts steps [] = Err (length steps + 1)
 read_parts steps (part ∷ []) = if length part == 0 then Ok steps else Err (length steps + 1)
-read_parts steps (part ∷ next ∷ parts) = or_line (length steps + 1) (step_of_line part) (λ step. read_parts (steps ++ step ∷ []) (next ∷ parts))
+read_parts steps (part ∷ next ∷ parts) = or_line (length steps + 1) (step_of_line part) (λ step.
+    read_parts (steps ++ step ∷ []) (next ∷ parts))
 
 abbrev pub steps_of : List ℕ → Result (List Step) ℕ
 steps_of text = read_parts [] (parts_of text)
 
 -- What was read of a text, seen by a view, is what the definition gives, unless memory ran out.
-abbrev pub Reads : {X : Type 0} → (X → List Step) → Result X TraceFault → Result (List Step) ℕ → Type 0
+abbrev pub Reads : {X : Type 0} → (X → List Step) → Result X TraceFault →
+    Result (List Step) ℕ → Type 0
 Reads view (Ok x) text = text ≡ Ok (view x)
 Reads view (Err NoMemory) text = Unit {0}
 Reads view (Err (Line number)) text = text ≡ Err number
@@ -134,14 +139,16 @@ Reads view (Err (Line number)) text = text ≡ Err number
 
 -- The trace of steps that have lines is read as these steps.
 abbrev pub IsReadBack : Type 0
-IsReadBack = (steps : List Step) → list_all has_line steps ≡ true → steps_of (trace_of steps) ≡ Ok steps
+IsReadBack = (steps : List Step) → list_all has_line steps ≡ true →
+    steps_of (trace_of steps) ≡ Ok steps
 
 -- A text that is read is the trace of the steps that are read, and these have lines.
 abbrev pub IsWritten : Type 0
-IsWritten = (text : List ℕ) (steps : List Step) → steps_of text ≡ Ok steps → (list_all has_line steps ≡ true) × (trace_of steps ≡ text)
+IsWritten = (text : List ℕ) (steps : List Step) → steps_of text ≡ Ok steps →
+    (list_all has_line steps ≡ true) × (trace_of steps ≡ text)
 
--- The first fault of a text is in a line, counted from 1: before it stand lines of steps, and what follows them is something, and does
--- not begin with the line of a step.
+-- The first fault of a text is in the line of this number, counted from 1. Lines of steps stand
+-- before it. What follows them is not empty, and does not begin with the line of a step.
 pub record HasFaultAt (text : List ℕ) (number : ℕ) : Type 0 where
   pub before : List Step
   pub spelled : list_all has_line before ≡ true
@@ -149,7 +156,8 @@ pub record HasFaultAt (text : List ℕ) (number : ℕ) : Type 0 where
   pub rest : List ℕ
   pub whole : text ≡ trace_of before ++ rest
   pub some : 0 < length rest
-  pub none : (step : Step) (others : List ℕ) → has_line step ≡ true → rest ≡ line_of step ++ others → ⊥
+  pub none : (step : Step) (others : List ℕ) → has_line step ≡ true →
+      rest ≡ line_of step ++ others → ⊥
 
 abbrev pub IsFirstFault : Type 0
 IsFirstFault = (text : List ℕ) (number : ℕ) → (steps_of text ≡ Err number) ↔ HasFaultAt text number

@@ -5,7 +5,8 @@
 /// a buffer.
 pub(crate) const DELIVER: &[u8] = b"deliver";
 
-/// The rows of the table. `$make` gets them, with these variables, and makes an expression of them.
+/// The rows of the table. `$make` gets the rows with these variables, and makes an expression of
+/// them.
 macro_rules! by_keyword {
     ($make:ident($($argument:ident),*)) => {
         $make! {

@@ -1,12 +1,12 @@
 //! Traces: the line of each step, written, and read back.
 //!
-//! `write_event` appends the one line of its step, `trace` those of a history. `read_events`
-//! returns the steps that a text spells, or its first faulty line, counted from 1. Contracts see
-//! lists of bytes and the model's steps: a text is the trace of one list of steps at most, and what
-//! is written is read back as the same steps. The keywords stand in one table, which reader and
-//! writer share.
+//! `write_event` appends the line of a step, and `trace` returns the lines of a history.
+//! `read_events` returns the steps that a text spells, or its first faulty line, counted from 1.
+//! Contracts see lists of bytes and the model's steps. A text is the trace of at most one list of
+//! steps, and what is written is read back as the same steps. The keywords stand in one table,
+//! which reader and writer share.
 //!
-//! Whether the steps are possible is the audit's to say (`l4_audit`). Where memory is refused,
+//! Whether the steps are possible is the audit's to say (`l4_audit`). If memory is refused,
 //! `write_event` leaves no half line.
 //!
 //! ```rust

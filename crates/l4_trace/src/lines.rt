@@ -20,14 +20,15 @@ use l4_words::pieces::{
 // The first word of a line, and the last one of an order, take at most this many bytes.
 const KEYWORD_BYTES: usize = 8;
 
-/// A line takes at most this many bytes: that of a delivery, whose message has the most words.
+/// A line takes at most this many bytes, as that of a delivery whose message has the most words.
 pub(crate) const LONGEST_LINE: usize = 134 + WORD_BYTES * MOST_WORDS;
 
 // The line of a step, by the row of its keyword.
 macro_rules! write_rows {
     (
         ($step:ident, $line:ident)
-        $($keyword:literal => $variant:ident $fields:tt, $read:ident, $write:ident($($operand:ident),*);)*
+        $($keyword:literal => $variant:ident $fields:tt, $read:ident,
+            $write:ident($($operand:ident),*);)*
     ) => {
         match $step {
             Step::Deliver(delivery) => write_delivery(delivery, $line),
@@ -36,7 +37,7 @@ macro_rules! write_rows {
     };
 }
 
-/// Appends the line of a step, with its line feed. Where memory is refused, nothing is appended.
+/// Appends the line of a step, with its line feed. If memory is refused, nothing is appended.
 pub fn write_event(step: &Step, out: &mut Vec<u8>) -> Result<(), NoMemory>
     ensures ok { OnOk result (out.new.items ≡ out.old.items ++ line_of (step_of step.now)) }
     ensures spelled { OnOk result (has_line (step_of step.now) ≡ true) }
@@ -45,7 +46,7 @@ pub fn write_event(step: &Step, out: &mut Vec<u8>) -> Result<(), NoMemory>
     write_step(&StepRef::from(step), out)
 }
 
-/// Appends the line of a borrowed step, with its line feed. Where memory is refused, nothing is
+/// Appends the line of a borrowed step, with its line feed. If memory is refused, nothing is
 /// appended.
 pub fn write_step(step: &StepRef<'_>, out: &mut Vec<u8>) -> Result<(), NoMemory>
     ensures ok { OnOk result (out.new.items ≡ out.old.items ++ line_of (seen step.now)) }
@@ -56,9 +57,9 @@ pub fn write_step(step: &StepRef<'_>, out: &mut Vec<u8>) -> Result<(), NoMemory>
     append_line(step, &mut line, out)
 }
 
-/// Appends the line of a step. It is written into `line` first, since its length is known only
-/// then. One buffer serves many lines. Inlined, since a step that is looked at costs less than one
-/// that is made to be passed on.
+/// Appends the line of a step. The line is written into the buffer `line` first, since only then is
+/// its length known. One buffer serves many lines. Inlined: looking at a step costs less than
+/// making one to pass on.
 #[inline(always)]
 pub(crate) fn append_line(
     step: &StepRef<'_>,
@@ -75,7 +76,7 @@ pub(crate) fn append_line(
     Ok(())
 }
 
-// Writes the line of a step at the end of the room for a line. Returns where it starts.
+// Writes the line of a step at the end of the room for a line. Returns where the line starts.
 #[inline(always)]
 fn write_line(step: &StepRef<'_>, line: &mut [u8]) -> usize
     requires { LONGEST_LINE ≤ length line.old }
@@ -86,7 +87,7 @@ fn write_line(step: &StepRef<'_>, line: &mut [u8]) -> usize
     by_keyword!(write_rows(step, line))
 }
 
-// Inlined where the step is known: a keyword of known length is copied in one go.
+// Inlined, since each caller knows the step: a keyword of known length is copied in one go.
 #[inline(always)]
 fn write_thread_line(keyword: &[u8], thread: GlobalId, line: &mut [u8]) -> usize
     requires short { length keyword.now ≤ KEYWORD_BYTES }

@@ -12,8 +12,8 @@ use l4_types::step_ref::StepRef;
 use l4_words::lines::split_line;
 use std::marker::Model;
 
-/// A buffer for the words of a message, at most 63. One serves all lines: to make one costs more
-/// than to read a short line.
+/// A buffer for the words of a message, at most 63. One buffer serves all lines: making one costs
+/// more than reading a short line.
 pub type ReadWords = ArrayVec<u64, MOST_WORDS>;
 
 /// Reads the text of a trace line by line, and keeps nothing of what it has read but the number of
@@ -47,18 +47,18 @@ impl<'t> Reader<'t> {
         }
     }
 
-    /// How many lines it has read, each that of a step.
+    /// The number of lines read, each that of a step.
     pub fn count(&self) -> usize
         ensures { result ≡ self.now.read }
     {
         self.read
     }
 
-    /// The step of the next line, or None after the last one. The words of its message replace
+    /// Reads the step of the next line. None after the last line. The words of its message replace
     /// those in `words`.
     ///
-    /// `Line`: the next line, counted from 1 for the first of the text, spells no step, or has no
-    /// line end. Then the reader stays before it.
+    /// `Line`: the next line, counted from 1 at the beginning of the text, spells no step, or has
+    /// no line end. The reader then stays before this line.
     pub fn next<'w>(&mut self, words: &'w mut ReadWords) -> Result<Option<StepRef<'w>>, TraceFault>
         ensures { ReadsNext self.old result self.new }
     {
@@ -73,7 +73,7 @@ impl<'t> Reader<'t> {
         Ok(Some(step))
     }
 
-    /// Reads on to the end of the text, for its faults alone: those of `next`.
+    /// Reads on to the end of the text, to find faults alone. They are those of `next`.
     pub fn read_on(self) -> Result<(), TraceFault>
         ensures { ReadsOn self.entry result }
     {

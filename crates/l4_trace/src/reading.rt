@@ -12,7 +12,7 @@ use std::alloc::Global;
 /// The steps whose trace a text is.
 ///
 /// `Line`: this line, counted from 1, is the first that spells no step, or has no line end.
-/// `NoMemory` only where memory was refused; then it says nothing of the text.
+/// `NoMemory`: memory was refused, which says nothing of the text.
 pub fn read_events(alloc: Global, text: &[u8]) -> Result<Vec<Step>, TraceFault>
     ensures { Reads (λ steps. map step_of steps.items) result (steps_of text.now) }
 {
@@ -34,8 +34,8 @@ pub fn read_history(alloc: Global, text: &[u8]) -> Result<History, TraceFault>
     Ok(history)
 }
 
-/// The trace of steps is read back as these steps, and no other text is. The line named of any
-/// other text is its first faulty one.
+/// The trace of steps is read back as these steps, and no other text is read. For any other text,
+/// the fault names its first faulty line.
 pub fn law_read_back()
     ensures read_back { IsReadBack }
     ensures written { IsWritten }

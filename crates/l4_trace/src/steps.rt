@@ -98,7 +98,7 @@ fn of_name(operands: Words<'_>) -> Option<Name>
     name(operands.one()?)
 }
 
-/// The delivery of these parts. None where its received tag would not be this word.
+/// The delivery of these parts. None if its received tag would not be this word.
 fn delivered(
     name: Name,
     receiver: GlobalId,
@@ -144,7 +144,8 @@ fn delivery<'w>(operands: Words<'_>, words: &'w mut ReadWords) -> Option<Deliver
 macro_rules! read_rows {
     (
         ($word:ident, $operands:ident)
-        $($keyword:literal => $variant:ident $fields:tt, $read:ident, $write:ident($($operand:ident),*);)*
+        $($keyword:literal => $variant:ident $fields:tt, $read:ident,
+            $write:ident($($operand:ident),*);)*
     ) => {{
         $(if $word == $keyword.as_slice() {
             let ($($operand),*) = $read($operands)?;
@@ -154,7 +155,7 @@ macro_rules! read_rows {
     }};
 }
 
-/// The step of a line that begins with this word, but a delivery.
+/// The step of a line that begins with this word, except a delivery.
 #[tactic(auto, unfolding(crate::specs::Reading::step_behind))]
 fn other_step<'w>(word: &[u8], operands: Words<'_>) -> Option<StepRef<'w>>
     requires { bytes_eq word.now (codes "deliver") ≡ false }

@@ -28,8 +28,8 @@ pub fn trace(alloc: Global, history: &[Step]) -> Result<Vec<u8>, NoMemory>
 #[derive(Drop)]
 pub struct TraceWriter {
     lines: Vec<u8>,
-    // A line is written here first. One room serves all lines, since to make one costs more than
-    // to write most.
+    // A line is written here first. One buffer serves all lines, since making one costs more than
+    // writing most lines.
     line: [u8; LONGEST_LINE],
 }
 
@@ -44,10 +44,11 @@ impl TraceWriter {
         }
     }
 
-    /// Writes the lines of the steps that come next. `NoMemory`: memory was refused, and the lines
-    /// of the first of them may have been written.
+    /// Appends the lines of the next steps. `NoMemory`: memory was refused, and the lines of the
+    /// first of these steps may have been written.
     pub fn write(&mut self, steps: Steps<'_>) -> Result<(), NoMemory>
-        ensures lines { OnOk result (self.new.lines.items ≡ self.old.lines.items ++ trace_of steps.entry) }
+        ensures lines { OnOk result (self.new.lines.items ≡ self.old.lines.items ++
+            trace_of steps.entry) }
         ensures spelled { OnOk result (list_all has_line steps.entry ≡ true) }
     {
         for step in steps {

@@ -28,9 +28,11 @@ cause_of_withdrawal ByCancel = letters.ByCancel
 cause_of_withdrawal ByDeletion = letters.ByDeletion
 
 abbrev pub content_of : Content → letters.Content
-content_of (Send name receiver message zero_timeout) = letters.SendLetter name receiver message zero_timeout
+content_of (Send name receiver message zero_timeout) =
+    letters.SendLetter name receiver message zero_timeout
 content_of (Done name decision) = letters.DoneLetter name (decision_of decision)
-content_of (Withdraw name receiver cause) = letters.WithdrawLetter name receiver (cause_of_withdrawal cause)
+content_of (Withdraw name receiver cause) = letters.WithdrawLetter name receiver
+    (cause_of_withdrawal cause)
 content_of (Gone id) = letters.GoneLetter id
 content_of (Order caller target what) = letters.OrderLetter caller target (what_of what)
 content_of (OrderDone caller) = letters.OrderDoneLetter caller

@@ -14,4 +14,11 @@ state_of_view Deleted = history.IsDeleted
 
 abbrev pub report_of_view : ThreadView → history.Report
 report_of_view v =
-    record { id = v.id; state = state_of_view v.state; error = v.regs.error; from = v.regs.from; actual = v.regs.actual; words = v.regs.words }
+    record {
+      id = v.id;
+      state = state_of_view v.state;
+      error = v.regs.error;
+      from = v.regs.from;
+      actual = v.regs.actual;
+      words = v.regs.words;
+    }

@@ -46,14 +46,16 @@ pub record IsSameOther {D E : Type 0} (step : Step D) (other : Step E) : Type 0 
 
 -- A delivery has the tag that its receiver gets.
 abbrev pub delivery_of : Delivery → steps.Step
-delivery_of d = steps.Deliver d.name d.receiver d.message.shown d.message.actual (received_tag d.cross d.message) d.message.words
+delivery_of d = steps.Deliver d.name d.receiver d.message.shown d.message.actual
+    (received_tag d.cross d.message) d.message.words
 
 abbrev pub step_of : Step Delivery → steps.Step
 step_of step = step_by delivery_of step
 
 -- The same of a delivery, and of a step, that is only looked at.
 abbrev pub delivered : DeliveryRef → steps.Step
-delivered d = steps.Deliver d.name d.receiver d.message.shown d.message.actual (received_tag d.cross d.message) d.message.words
+delivered d = steps.Deliver d.name d.receiver d.message.shown d.message.actual
+    (received_tag d.cross d.message) d.message.words
 
 abbrev pub seen : Step DeliveryRef → steps.Step
 seen step = step_by delivered step

@@ -191,8 +191,8 @@ impl ThreadId {
         GlobalId::new(number, version).map(|global| global.id())
     }
 
-    /// The same in a format. None where that has no word for a global id of this number and
-    /// version.
+    /// The global id of a number and a version. None where there is no such id, or the format has
+    /// no word for it.
     pub fn global_in(format: Format, number: u32, version: u32) -> Option<ThreadId>
         ensures some { IfSome result (λ id. id ≡ GlobalThread (global_id number version)) }
         ensures when { IsSome result ↔

@@ -40,7 +40,8 @@ pub enum Cause {
 /// The content of a letter.
 #[derive(PartialEq, Eq, Debug, Drop)]
 pub enum Content {
-    /// A send has begun to a thread of the processor that gets this letter.
+    /// A thread of the posting processor began a send to a thread of the processor that gets this
+    /// letter.
     Send {
         /// The send.
         name: Name,
@@ -48,7 +49,7 @@ pub enum Content {
         receiver: GlobalId,
         /// Its message, as it was fixed when it began.
         message: Message,
-        /// Whether its send phase may not wait.
+        /// Whether its send timeout is zero.
         zero_timeout: bool,
     },
     /// A send is decided.
@@ -58,7 +59,7 @@ pub enum Content {
         /// How it is decided.
         decision: Decision,
     },
-    /// A send is to be decided without a delivery, where it still waits.
+    /// If this send still waits, it is to be refused or dropped.
     Withdraw {
         /// The send.
         name: Name,

@@ -6,8 +6,7 @@
 //! value has a lawful one. Ids and tags have words of two formats, 64 and 32 bits. Contracts see
 //! ids, tags and steps of the model.
 //!
-//! No call of this crate takes memory. `l4_part_tests` compares words and codes with the manual's
-//! tables.
+//! No call of this crate takes memory. The tests compare words and codes with the manual's tables.
 //!
 //! ```rust
 //! let client = GlobalId::new(1, 1)?;               // None for a version whose low six bits are 0

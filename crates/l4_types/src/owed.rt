@@ -2,8 +2,8 @@
 use crate::ids::GlobalId;
 use crate::steps::Name;
 
-/// An owed retarget, of profile 2: the originator of a propagated message is to wait for the thread
-/// that received it, the new partner, if it waits for the thread that sent it, the old partner.
+/// An owed retarget, of profile 2: if the originator of a propagated message waits for the thread
+/// that sent it, the old partner, it is to wait for the thread that received it, the new partner.
 #[derive(Clone, Copy, PartialEq, Eq, Debug)]
 pub struct Owed {
     /// The send that was delivered.

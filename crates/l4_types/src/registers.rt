@@ -14,17 +14,19 @@ pub struct Regs {
     /// Message registers 0 to 63.
     pub words: [u64; MESSAGE_REGISTERS],
     /// ErrorCode. An Ipc that succeeds, or an order that is done, leaves 0. An Ipc that fails
-    /// leaves its code, 2 to 7; a refused order leaves 2. Other instructions leave it. It begins
-    /// with 0.
+    /// leaves its code, 2 to 7; a refused order leaves 2. Other instructions do not change it. It
+    /// begins with 0.
     pub error: u64,
-    /// The sender that the last Ipc to end received from, as the message shows it, or nilthread.
+    /// The sender shown by the message of the last Ipc that ended; nilthread if that Ipc received
+    /// none, or if no Ipc has ended.
     pub from: ThreadId,
     /// The one register that is VirtualSender and ActualSender.
     pub actual: ThreadId,
 }
 
 impl Regs {
-    /// The registers of a thread that has run nothing: all words 0 and all ids nilthread.
+    /// The registers of a thread that has run nothing: MR0 to MR63 and ErrorCode are 0, both ids
+    /// nilthread.
     pub fn new() -> Regs
         ensures { result ≡ record {
           words = replicate register_count 0;

@@ -30,12 +30,12 @@ pub struct ThreadView {
     pub regs: Regs,
 }
 
-/// How a run, a replay or an audit ends. `Quiet` of a run or replay: at rest. Of an audit: no step
-/// but a tick is possible, now or after any ticks.
+/// How a run, a replay or an audit ends. `Quiet`: a run or replay is at rest; after an audited
+/// trace no step but a tick is possible, now or after any ticks.
 #[derive(Clone, Copy, PartialEq, Eq, Debug)]
 pub enum Ending {
     /// Nothing is left to do.
     Quiet,
-    /// Something is left to do, as where all turns were used.
+    /// Something is left to do, for instance because the turns ran out.
     Spent,
 }

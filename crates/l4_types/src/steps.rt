@@ -69,9 +69,9 @@ impl Name {
 /// (manual: ExchangeRegisters, ThreadControl).
 #[derive(Clone, Copy, PartialEq, Eq, Debug)]
 pub enum What {
-    /// Bit S: the send that is under way is cancelled.
+    /// Bit S: the send phase is cancelled.
     CancelSend,
-    /// Bit R: the receive that is under way is cancelled.
+    /// Bit R: the receive phase is cancelled, also one that follows the current send phase.
     CancelReceive,
     /// Bits S and R.
     CancelBoth,
@@ -217,8 +217,8 @@ impl<D> Default for Step<D> {
 }
 
 impl<D> Step<D> {
-    /// The delivery, if the step is one. Else the step itself, typed for any other kind of
-    /// delivery.
+    /// `Ok` with the delivery, if the step is one; otherwise `Err` with the same step, typed for
+    /// another `D`.
     #[inline(always)]
     pub fn as_delivery<E>(&self) -> Result<&D, Step<E>>
         ensures { MatchResult result (λ delivery. self.now ≡ Step.Deliver delivery.now)

@@ -10,7 +10,7 @@ use crate::formats::Format;
 use crate::messages::MOST_WORDS;
 use std::marker::Model;
 
-/// The number of labels: each is below it.
+/// Labels are below this.
 pub const LABELS: u64 = 1 << 48;
 
 // The number of labels in 32 bits.
@@ -73,7 +73,8 @@ impl MsgTag {
         Some(MsgTag::of(label, false, propagate, untyped))
     }
 
-    /// The same of a format. None where the format has no such label: for 32 bits, from 2^16 on.
+    /// The tag of these parts in a format. None where the format has no such label (for 32 bits,
+    /// from 2^16 on), or there are more than 63 words.
     pub fn new_in(format: Format, label: u64, untyped: u8, propagate: bool) -> Option<MsgTag>
         ensures some { IfSome result (λ tag. tag ≡ record {
           label = label;
@@ -144,8 +145,7 @@ impl MsgTag {
         MsgTag::propagates_in(self.raw)
     }
 
-    /// The label in a word of message register 0, below 2^48, also where the word names typed
-    /// items.
+    /// The label in a word of message register 0, below 2^48, even if the word counts typed items.
     pub fn label_in(word: u64) -> u64
         ensures value { result ≡ (tag_of_word word).label }
         ensures fits { result < label_limit }
@@ -153,8 +153,8 @@ impl MsgTag {
         word >> 16
     }
 
-    /// The number of untyped words in a word of message register 0, at most 63, also where the word
-    /// names typed items.
+    /// The number of untyped words in a word of message register 0, at most 63, even if the word
+    /// counts typed items.
     pub fn untyped_in(word: u64) -> u8
         ensures value { result ≡ (tag_of_word word).untyped }
         ensures fits { result < register_count }
@@ -162,8 +162,8 @@ impl MsgTag {
         (word & 0x3f) as u8
     }
 
-    /// Whether a word of message register 0 asks for propagation (bit 12), also where the word
-    /// names typed items.
+    /// Whether a word of message register 0 asks for propagation (bit 12), even if the word counts
+    /// typed items.
     pub fn propagates_in(word: u64) -> bool
         ensures { result ≡ ((tag_of_word word).flags % 2 == 1) }
     {

@@ -12,7 +12,7 @@ pub enum Period {
     Never,
     /// Not at all.
     Zero,
-    /// So many ticks. The period of a time has from 1 to 1023 * 2^31.
+    /// This many ticks. `time_of` gives 1 to 1023 * 2^31.
     Ticks(u64),
 }
 

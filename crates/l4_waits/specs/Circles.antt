@@ -1,5 +1,6 @@
 -- Circles of threads that wait for each other.
-use Rattle.std.specs.Prelude.{ℕ, zero, suc, ◌≡◌, ◌<◌, ◌==◌, nat_lt, if◌then◌else◌, Option, Some, None, List, [], ◌∷◌, map, length, position, slice_index_or}
+use Rattle.std.specs.Prelude.{ℕ, zero, suc, ◌≡◌, ◌<◌, ◌==◌, nat_lt, if◌then◌else◌, Option, Some}
+use Rattle.std.specs.Prelude.{None, List, [], ◌∷◌, map, length, position, slice_index_or}
 use Rattle.std.specs.List.{AllByRecursion}
 use Rattle.std.specs.Option.{option_map}
 use Rattle.l4_model.specs.Words.{GlobalId, same_id}
@@ -8,8 +9,9 @@ use Rattle.l4_types.specs.Ids.{global_of}
 use Rattle.l4_audit.specs.declared.waits.Wait.{Wait}
 use Rattle.l4_audit.specs.declared.waits.Wait.TheVariants.{Send, Arrival, Receive}
 
--- The one thread that it waits for: the destination of its send, or whom its receive phase is closed for. An open receive waits for no one
--- thread, and a send that its destination accepts now waits for its turn alone.
+-- The one thread that it waits for: the destination of its send, or whom its receive phase is
+-- closed for. An open receive waits for no one thread, and a send that its destination accepts now
+-- waits for its turn alone.
 abbrev pub partner : Wait → Option GlobalId
 partner (Send to) = global_of to
 partner (Arrival to) = None
@@ -29,21 +31,25 @@ nexts_of waits = map (next_of waits) waits
 abbrev pub next_at : List (Option ℕ) → ℕ → Option ℕ
 next_at nexts i = slice_index_or nexts i None
 
--- The places behind `first`, each the next of the one before it, until `first` comes again. None where it does not come in so many, or where
--- a place before it comes.
+-- The places behind `first`, each the next of the one before it, until `first` comes again. None
+-- where it does not come in so many, or where a place before it comes.
 
 abbrev pub goes_back : (first : ℕ) → (at : Option ℕ) → (ℕ → Option (List ℕ)) → Option (List ℕ)
 goes_back first None behind = None
 goes_back first (Some i) behind =
-    if i == first then Some [] else if nat_lt first i then option_map (λ others. i ∷ others) (behind i) else None
+    if i == first then Some []
+    else if nat_lt first i then option_map (λ others. i ∷ others) (behind i) else None
 
 abbrev pub way_back : List (Option ℕ) → (first left : ℕ) → (at : Option ℕ) → Option (List ℕ)
 way_back nexts first zero at = None
-way_back nexts first (suc left) at = goes_back first at (λ i. way_back nexts first left (next_at nexts i))
+way_back nexts first (suc left) at =
+    goes_back first at (λ i. way_back nexts first left (next_at nexts i))
 
 -- The circle that begins with this place.
 abbrev pub circle_at : List (Option ℕ) → (first : ℕ) → Option (List ℕ)
-circle_at nexts first = option_map (λ others. first ∷ others) (way_back nexts first (length nexts) (next_at nexts first))
+circle_at nexts first =
+    option_map (λ others. first ∷ others)
+    (way_back nexts first (length nexts) (next_at nexts first))
 
 -- What that is
 
@@ -52,7 +58,8 @@ abbrev pub Leads : List (Option ℕ) → (along : List ℕ) → (from to : ℕ) 
 Leads nexts [] from to = next_at nexts from ≡ Some to
 Leads nexts (i ∷ along) from to = (next_at nexts from ≡ Some i) × Leads nexts along i to
 
--- Each waits for the next, and the last for the first, which is the first of them in order of declaration.
+-- Each waits for the next, and the last for the first, which is the first of them in order of
+-- declaration.
 pub record IsCircle (nexts : List (Option ℕ)) (first : ℕ) (others : List ℕ) : Type 0 where
   pub leads_back : Leads nexts others first first
   pub earliest : AllByRecursion (λ i. first < i) others

@@ -4,12 +4,15 @@ use Rattle.std.specs.List.{list_all, AllByRecursion}
 use Rattle.l4_model.specs.Words.{GlobalId, same_id}
 use Rattle.l4_model.specs.Machine.{Machine}
 use Rattle.l4_model.specs.World.{World}
-use Rattle.l4_model.specs.Steps.{Step, Local, Begin, Queue, Deliver, Wait, SendTimeout, ReceiveTimeout, SendNobody, ReceiveNobody, SendCancel, ReceiveCancel, Drop, Order, Obey, Tick, Retarget, next}
+use Rattle.l4_model.specs.Steps.{Step, Local, Begin, Queue, Deliver, Wait, SendTimeout}
+use Rattle.l4_model.specs.Steps.{ReceiveTimeout, SendNobody, ReceiveNobody, SendCancel}
+use Rattle.l4_model.specs.Steps.{ReceiveCancel, Drop, Order, Obey, Tick, Retarget, next}
 use Rattle.l4_model.specs.History.{run}
 use Rattle.l4_model.specs.Still.{is_tick}
 use Rattle.l4_audit.specs.Possible.{has_number}
 
--- A step by which this thread goes on. What is asked for and not done yet, and what is owed, may be of any thread, so it counts for each.
+-- A step by which this thread goes on. What is asked for and not done yet, and what is owed, may
+-- be of any thread, so it counts for each.
 abbrev pub is_of : GlobalId → Step → Bool
 is_of id (Local t) = same_id t id
 is_of id (Begin s) = same_id s.thread id
@@ -32,8 +35,8 @@ is_of id (Retarget s) = true
 abbrev pub IsStuck : Machine → World → GlobalId → Type 0
 IsStuck m w id =
     (ticks : List Step) (later : World) (step : Step) →
-    AllByRecursion (λ tick. is_tick tick ≡ true) ticks → run m w ticks ≡ Some later → is_of id step ≡ true → has_number step ≡ true →
-    next m later step ≡ None
+    AllByRecursion (λ tick. is_tick tick ≡ true) ticks → run m w ticks ≡ Some later →
+    is_of id step ≡ true → has_number step ≡ true → next m later step ≡ None
 
 -- None of these threads does.
 abbrev pub IsDeadlock : Machine → World → List GlobalId → Type 0

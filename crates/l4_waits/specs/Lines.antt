@@ -1,7 +1,9 @@
 -- The lines that tell who waits for whom.
-use Rattle.std.specs.Prelude.{ℕ, Bool, true, false, Option, Some, None, List, [], ◌∷◌, ◌++◌, map, flat_map, length, slice_index_or, codes}
+use Rattle.std.specs.Prelude.{ℕ, Bool, true, false, Option, Some, None, List, [], ◌∷◌, ◌++◌, map}
+use Rattle.std.specs.Prelude.{flat_map, length, slice_index_or, codes}
 use Rattle.std.specs.List.{range_with_len}
-use Rattle.l4_model.specs.Words.{GlobalId, global_id, Id, NilThread, AnyThread, AnyLocalThread, LocalThread, GlobalThread}
+use Rattle.l4_model.specs.Words.{GlobalId, global_id, Id, NilThread, AnyThread, AnyLocalThread}
+use Rattle.l4_model.specs.Words.{LocalThread, GlobalThread}
 use Rattle.l4_model.specs.Machine.{Machine}
 use Rattle.l4_model.specs.World.{World}
 use Rattle.l4_model.specs.Steps.{Step}
@@ -35,7 +37,8 @@ how_word (Arrival to) = codes "send"
 how_word (Receive from) = codes "receive"
 
 abbrev pub wait_line : GlobalId × Wait → List ℕ
-wait_line w = line_of_words (codes "waits" ∷ thread_word w.0 ∷ id_word (whom w.1) ∷ how_word w.1 ∷ [])
+wait_line w =
+    line_of_words (codes "waits" ∷ thread_word w.0 ∷ id_word (whom w.1) ∷ how_word w.1 ∷ [])
 
 -- The threads at these places among those that wait.
 abbrev pub id_at : List (GlobalId × Wait) → ℕ → GlobalId
@@ -57,7 +60,9 @@ circle_line waits steps None = []
 circle_line waits steps (Some places) = ids_line steps (ids_at waits places)
 
 abbrev pub circle_lines : List (GlobalId × Wait) → List Step → (nexts : List (Option ℕ)) → List ℕ
-circle_lines waits steps nexts = flat_map (λ first. circle_line waits steps (circle_at nexts first)) (range_with_len 0 (length nexts))
+circle_lines waits steps nexts =
+    flat_map (λ first. circle_line waits steps (circle_at nexts first))
+    (range_with_len 0 (length nexts))
 
 -- Who waits, and which circles there are, by these steps that are possible with late clocks.
 abbrev pub text_of : List (GlobalId × Wait) → List Step → List ℕ

@@ -2,7 +2,8 @@
 use Rattle.std.specs.Prelude.{ℕ, ◌==◌, List, [], ◌∷◌, ◌++◌}
 use Rattle.std.specs.List.{join_with_byte, slice_split}
 
--- What stands between the line ends of a text, byte 10: its lines, and behind the last line end what has none.
+-- What stands between the line ends of a text, byte 10: its lines, and behind the last line end
+-- what has none.
 abbrev pub parts_of : List ℕ → List (List ℕ)
 parts_of text = slice_split (λ byte. byte == 10) text
 

@@ -22,7 +22,8 @@ pairs_of (suc bytes) n = pairs_of bytes (n / 256) ++ byte_digits (n % 256)
 -- `0` to `9` are the bytes 48 to 57, `a` to `f` 97 to 102.
 abbrev pub digit_of : (radix byte : ℕ) → Option ℕ
 digit_of radix byte = do
-  digit ← (if nat_le 48 byte && nat_le byte 57 then Some (byte - 48) else (if nat_le 97 byte && nat_le byte 102 then Some (byte - 87) else None))
+  digit ← (if nat_le 48 byte && nat_le byte 57 then Some (byte - 48)
+      else (if nat_le 97 byte && nat_le byte 102 then Some (byte - 87) else None))
   nat_lt digit radix
   Some digit
 
@@ -35,7 +36,8 @@ with_digit radix value byte = do
 
 abbrev pub number_onto : (radix value : ℕ) → List ℕ → Option ℕ
 number_onto radix value [] = Some value
-number_onto radix value (byte ∷ bytes) = with_digit radix value byte >>= λ more. number_onto radix more bytes
+number_onto radix value (byte ∷ bytes) = with_digit radix value byte >>= λ more.
+    number_onto radix more bytes
 
 -- The number of one digit or more.
 abbrev pub value_of : (radix : ℕ) → List ℕ → Option ℕ

@@ -8,12 +8,12 @@ use Rattle.l4_words.specs.Numbers.{number_of}
 abbrev pub words_in : List ℕ → List (List ℕ)
 words_in line = slice_split (λ byte. byte == 32) line
 
--- The words of what follows the words that were read, where something follows them.
+-- The words not yet read.
 abbrev pub words_left : Option (List ℕ) → List (List ℕ)
 words_left None = []
 words_left (Some rest) = words_in rest
 
--- So many words, and no more.
+-- Exactly this many words.
 abbrev pub one : List (List ℕ) → Option (List ℕ)
 one (a ∷ []) = Some a
 one _ = None
@@ -35,7 +35,8 @@ five (a ∷ b ∷ c ∷ d ∷ e ∷ []) = Some (a, b, c, d, e)
 five _ = None
 
 -- Five words, and those behind them.
-abbrev pub first_five : List (List ℕ) → Option (List ℕ × List ℕ × List ℕ × List ℕ × List ℕ × List (List ℕ))
+abbrev pub first_five : List (List ℕ) → Option (List ℕ × List ℕ × List ℕ × List ℕ × List ℕ ×
+    List (List ℕ))
 first_five (a ∷ b ∷ c ∷ d ∷ e ∷ others) = Some (a, b, c, d, e, others)
 first_five _ = None
 

@@ -116,8 +116,8 @@ fn write_bounded(number: u64, bytes: usize, line: &mut [u8], end: usize) -> usiz
 }
 
 /// Writes a number in hexadecimal just before `end` in the line, and returns where it starts: in
-/// lower case, with no prefix and no leading zero. There has to be room for sixteen digits: leading
-/// zeros are written too, and not counted.
+/// lower case, with no prefix and no leading zero. Needs room for sixteen digits before `end`:
+/// leading zeros are written in front of the index that it returns.
 #[inline(always)]
 pub(crate) fn write_hexadecimal(number: u64, line: &mut [u8], end: usize) -> usize
     requires { (16 ≤ end) × (end ≤ length line.old) }

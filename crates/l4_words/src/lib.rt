@@ -6,8 +6,8 @@
 //! its spaces, `decimal(word)` the number that they spell. `pieces` fills a line from its end, so
 //! no digit is moved; `spelling` appends to a string.
 //!
-//! Only the calls of `spelling` take memory. That reading is fast is measured (docs/BENCHMARKS.md),
-//! in no clause.
+//! Only the calls of `spelling` take memory. That reading is fast is measured (docs/BENCHMARKS.md);
+//! no clause says it.
 //!
 //! ```rust
 //! let mut words = Words::of(b"deliver 1.1#1 2.1");

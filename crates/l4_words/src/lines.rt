@@ -12,7 +12,7 @@ pub fn find_byte(byte: u8, bytes: &[u8]) -> Option<usize>
     bytes.iter().position(|other| *other == byte)
 }
 
-/// The same; cheaper where the byte is far off, or comes first.
+/// As `find_byte`; faster where the byte is far off or comes first.
 fn find_far_byte(byte: u8, bytes: &[u8]) -> Option<usize>
     ensures { result ≡ position (λ other. other == byte) bytes.now }
 {

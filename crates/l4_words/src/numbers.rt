@@ -43,7 +43,7 @@ fn with_digit(value: u64, byte: u8, radix: u64) -> Option<u64>
     value.checked_mul(radix)?.checked_add(digit)
 }
 
-/// The same for a number that one more digit does not make too large.
+/// As `with_digit`, for a value that one more digit leaves below 2^64.
 #[inline(always)]
 fn with_next_digit(value: u64, byte: u8, radix: u64) -> Option<u64>
     requires room { (value + 1) * 16 ≤ 2 ^ 64 }

@@ -53,6 +53,7 @@ pub fn write_number(number: u64, line: &mut [u8], end: usize) -> usize
 
 /// Writes a space and a thread, `N.V`, its number and its version in decimal, just before `end` in
 /// the line. Returns where they start.
+#[inline]
 pub fn write_thread(thread: GlobalId, line: &mut [u8], end: usize) -> usize
     requires room { THREAD_BYTES ≤ end }
     requires within { end ≤ length line.old }
@@ -69,6 +70,7 @@ pub fn write_thread(thread: GlobalId, line: &mut [u8], end: usize) -> usize
 
 /// Writes a space and the name of a send, `N.V#K`, just before `end` in the line. Returns where
 /// they start.
+#[inline]
 #[tactic(auto, using(crate::proofs::Lengths::at_most_20))]
 pub fn write_name(name: Name, line: &mut [u8], end: usize) -> usize
     requires room { NAME_BYTES ≤ end }

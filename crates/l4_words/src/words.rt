@@ -71,8 +71,8 @@ impl<'a> Words<'a> {
         }
     }
 
-    /// The next word, as a hexadecimal number. None where no word is left, and where the next one
-    /// spells none.
+    /// The next word, as a hexadecimal number. None if no word is left or the next one is no
+    /// hexadecimal number; no clause says which words are left then.
     pub fn next_hexadecimal(&mut self) -> Option<u64>
         ensures { MatchOption result (first_hexadecimal self.old ≡ None)
             (λ number. first_hexadecimal self.old ≡ Some (number, self.new)) }

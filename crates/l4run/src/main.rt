@@ -3,7 +3,8 @@
 //!
 //! It runs machine texts and prints what happened, and audits what is said to have happened. What
 //! is printed for which words is proved in `l4_jobs`. This file has what needs a system: it refuses
-//! arguments that are not UTF-8 with status 2, and reports refused memory.
+//! arguments that are not UTF-8 with status 2, reports refused memory, and shows on a terminal how
+//! far a search has come.
 //!
 //! No contract says what the system's files and streams do. `.ci/command-lines` tries them with the
 //! built program: a full device, a closed pipe, a folder for a file.
@@ -16,10 +17,16 @@
 //! ```
 #![tactic(auto)]
 
+mod progress;
+
+use crate::progress::ProgressLine;
+use l4_explore::progress::Progress;
+use l4_jobs::expecting_files::perform_expected_on_files;
 use l4_jobs::fault::{Fault, report};
-use l4_jobs::files::perform_on_files;
+use l4_jobs::files::perform_on_files_heard;
+use l4_jobs::list_lints::perform_list_lint_on_files;
 use l4_jobs::refusal::refuse;
-use l4_jobs::streams::Sink;
+use l4_jobs::streams::{Sink, Source, WithInput};
 use l4_jobs::words::job_of;
 use std::alloc::{AllocError, Global};
 use std::io::IsTerminal;
@@ -28,7 +35,7 @@ use std::rt::{Env, Files};
 use std::thread::Threads;
 use std::{env, io};
 
-// Whether the output shows lines: it is a terminal, and not one that `TERM` calls dumb.
+// Whether a stream shows lines: it is a terminal, and not one that `TERM` calls dumb.
 fn shows_lines<R: Env + AllocGlobal>(rt: &R, is_terminal: bool) -> bool {
     is_terminal && !matches!(env::var(rt, "TERM"), Ok(term) if term.as_str() == "dumb")
 }
@@ -42,17 +49,37 @@ fn columns<R: Env + AllocGlobal>(rt: &R) -> u64 {
 }
 
 // Does what the words ask for.
-fn on_words<R: Files + Env + AllocGlobal + Threads + Sync, W: Sink, E: Sink>(
+fn on_words<
+    R: Files + Env + AllocGlobal + Threads + Sync,
+    I: Source + Copy + Drop,
+    W: Sink,
+    E: Sink,
+    P: Progress,
+>(
     rt: &R,
     words: &[&str],
     is_terminal: bool,
+    input: I,
     out: &mut W,
     faults: &mut E,
+    progress: &mut P,
 ) -> u8 {
     match job_of(rt.alloc(), words) {
         Ok(job) => {
             let job = job.on_output(shows_lines(rt, is_terminal), columns(rt));
-            perform_on_files(rt, rt.alloc(), rt, &job, out, faults)
+            let folder = WithInput { folder: rt, input };
+            let alloc = rt.alloc();
+            match job.expecting() {
+                Some(expecting) => perform_expected_on_files(
+                    rt, alloc, &folder, &expecting, out, faults, progress,
+                ),
+                None => match job.list_lint() {
+                    Some(lint) => perform_list_lint_on_files(alloc, &folder, &lint, out, faults),
+                    None => {
+                        perform_on_files_heard(rt, alloc, &folder, &job, out, faults, progress)
+                    }
+                },
+            }
         }
         Err(fault) => refuse(rt.alloc(), &fault, out, faults),
     }
@@ -62,12 +89,13 @@ fn texts<'a>(alloc: Global, words: &'a [String]) -> Result<Vec<&'a str>, AllocEr
     words.iter().map(|word| word.as_str()).collect(alloc)
 }
 
-fn run_program<R: Files + Env + AllocGlobal + Threads + Sync, W: Sink, E: Sink>(
-    rt: &R,
-    is_terminal: bool,
-    out: &mut W,
-    faults: &mut E,
-) -> u8 {
+fn run_program<
+    R: Files + Env + AllocGlobal + Threads + Sync,
+    I: Source + Copy + Drop,
+    W: Sink,
+    E: Sink,
+    P: Progress,
+>(rt: &R, is_terminal: bool, input: I, out: &mut W, faults: &mut E, progress: &mut P) -> u8 {
     let args = match env::args(rt) {
         Ok(args) => args,
         Err(error) if matches!(error.kind(), io::ErrorKind::OutOfMemory) => {
@@ -83,12 +111,30 @@ fn run_program<R: Files + Env + AllocGlobal + Threads + Sync, W: Sink, E: Sink>(
         return report(rt.alloc(), faults, &Fault::NoMemory);
     };
     match texts(rt.alloc(), owned.as_slice()) {
-        Ok(words) => on_words(rt, words.as_slice(), is_terminal, out, faults),
+        Ok(words) => on_words(
+            rt,
+            words.as_slice(),
+            is_terminal,
+            input,
+            out,
+            faults,
+            progress,
+        ),
         Err(_) => report(rt.alloc(), faults, &Fault::NoMemory),
     }
 }
 
 fn main(rt: HostRuntime) -> ExitCode {
     let is_terminal = rt.stdout().is_terminal();
-    ExitCode::from(run_program(&rt, is_terminal, &mut rt.stdout(), &mut rt.stderr()))
+    let is_shown = shows_lines(&rt, rt.stderr().is_terminal());
+    let mut terminal = rt.stderr();
+    let mut progress = ProgressLine::new(&rt, &mut terminal, is_shown);
+    ExitCode::from(run_program(
+        &rt,
+        is_terminal,
+        rt.stdin(),
+        &mut rt.stdout(),
+        &mut rt.stderr(),
+        &mut progress,
+    ))
 }

@@ -11,7 +11,8 @@ pub record Lists : Type 0 where
 
 abbrev pub lists_code : Coded Lists
 lists_code =
-    code_by (ℕ × List (List ℕ)) (coded× coded_ℕ (coded_list (coded_list coded_ℕ))) (λ s. (s.names, s.lists)) (λ p. record { names = p.0; lists = p.1 }) (λ _. refl)
+    code_by (ℕ × List (List ℕ)) (coded× coded_ℕ (coded_list (coded_list coded_ℕ))) (λ s.
+    (s.names, s.lists)) (λ p. record { names = p.0; lists = p.1 }) (λ _. refl)
 
 -- How many heads there are.
 abbrev pub head_count : Lists → ℕ
@@ -28,7 +29,7 @@ is_in_any name = list_any (is_in name)
 abbrev pub is_linked : Lists → ℕ → Bool
 is_linked s name = is_in_any name s.lists
 
--- A list without a name.
+-- A list with this name removed.
 abbrev pub without : ℕ → List ℕ → List ℕ
 without name = filter (λ y. not (name == y))
 
@@ -45,7 +46,8 @@ without_first s head = record s { lists = slice_set s.lists head (drop 1 (list_a
 -- Each list has names below the count alone, and no name stands in two places.
 pub record AreSound (s : Lists) : Type 0 where
   pub below : (head k x : ℕ) → slice_get (list_at s head) k ≡ Some x → x < s.names
-  pub apart : (head other k j x : ℕ) → slice_get (list_at s head) k ≡ Some x → slice_get (list_at s other) j ≡ Some x → (head ≡ other) × (k ≡ j)
+  pub apart : (head other k j x : ℕ) → slice_get (list_at s head) k ≡ Some x →
+      slice_get (list_at s other) j ≡ Some x → (head ≡ other) × (k ≡ j)
   pub short : (head : ℕ) → length (list_at s head) ≤ s.names
 
 -- Empty lists.
@@ -54,7 +56,7 @@ no_names names heads = record { names = names; lists = replicate heads [] }
 
 -- The links
 
--- The names from a place on to the node of a head, at most so many.
+-- The names from a place on to the node of a head, up to a limit.
 unfoldable pub walk : ℕ → List ℕ → ℕ → ℕ → List ℕ
 walk zero next head at = []
 walk (suc fuel) next head at =
@@ -71,7 +73,8 @@ rings names next = map (ring names next) (range_with_len names (length next - na
 -- From this place the links lead through these names, and then to the head's node.
 abbrev pub Leads : ℕ → List ℕ → ℕ → ℕ → List ℕ → Type 0
 Leads names next head at [] = at ≡ head
-Leads names next head at (x ∷ xs) = (at ≡ x) × (x < names) × Leads names next head (slice_index next x) xs
+Leads names next head at (x ∷ xs) = (at ≡ x) × (x < names) ×
+    Leads names next head (slice_index next x) xs
 
 -- Each of the two lists of links is the other's inverse.
 pub record AreInverse (next prev : List ℕ) : Type 0 where
@@ -81,10 +84,14 @@ pub record AreInverse (next prev : List ℕ) : Type 0 where
   pub prev_next : (i : ℕ) → i < length next → slice_index prev (slice_index next i) ≡ i
   pub next_prev : (i : ℕ) → i < length next → slice_index next (slice_index prev i) ≡ i
 
--- The links of each head are one ring of names, each once, and a name in no ring is linked to itself.
+-- The links of each head are one ring of names, each once, and a name in no ring is linked to
+-- itself.
 pub record AreRings (names : ℕ) (next prev : List ℕ) : Type 0 where
   pub room : names ≤ length next
   pub inverse : AreInverse next prev
-  pub leads : (head : ℕ) → names ≤ head → head < length next → Leads names next head (slice_index next head) (ring names next head)
-  pub distinct : (head : ℕ) → names ≤ head → head < length next → IsDistinct (λ x y. x == y) (ring names next head)
-  pub found : (x : ℕ) → x < names → (slice_index next x ≡ x → ⊥) → is_in_any x (rings names next) ≡ true
+  pub leads : (head : ℕ) → names ≤ head → head < length next →
+      Leads names next head (slice_index next head) (ring names next head)
+  pub distinct : (head : ℕ) → names ≤ head → head < length next →
+      IsDistinct (λ x y. x == y) (ring names next head)
+  pub found : (x : ℕ) → x < names → (slice_index next x ≡ x → ⊥) →
+      is_in_any x (rings names next) ≡ true

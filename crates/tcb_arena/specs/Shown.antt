@@ -21,10 +21,15 @@ waiting_at senders block = waiting_of block (sender_at senders block)
 
 abbrev pub shown_lists : Lists → List Sender → Lists → Due → Plain
 shown_lists waiting senders ready due =
-    record { waiting = map (map (waiting_at senders)) waiting.lists; ready = list_at ready 0; armed = armed_of due }
+    record {
+      waiting = map (map (waiting_at senders)) waiting.lists;
+      ready = list_at ready 0;
+      armed = armed_of due;
+    }
 
 -- Each has room for each block, and each block has a ring of its own.
-pub record AreBlocks (waiting : Lists) (senders : List Sender) (ready : Lists) (due : Due) : Type 0 where
+pub record AreBlocks (waiting : Lists) (senders : List Sender) (ready : Lists) (due : Due) :
+    Type 0 where
   pub names : waiting.names ≡ length senders
   pub heads : length waiting.lists ≡ length senders
   pub ready_names : ready.names ≡ length senders

@@ -1,21 +1,22 @@
 //! The lists of one processor, in linked rings: the sends that wait at each block, the ready
 //! blocks, and those armed for a deadline.
 //!
-//! A *block* is a thread's place, a number from 0. Each call acts on plain lists in its contract,
-//! with their order; no link shows. A block waits in one list at most, and stands once at most
-//! among the ready and among the armed ones. `queue_send`, `push_ready` and `arm` ask for a block
-//! that is not there yet. The calls of `Wheel` say besides what becomes of each of its 64 rings.
+//! A block is named by its thread's place, a number from 0. Each call acts on plain lists in its
+//! contract, with their order; no link shows. A block waits in one list at most, and stands once at
+//! most among the ready and among the armed ones. `queue_send`, `push_ready` and `arm` ask for a
+//! block that is not there yet. The contracts of `Wheel` also say what becomes of each of its 64
+//! rings.
 //!
-//! No call but `Arena::new` takes memory. How long a call takes is measured, in no clause:
+//! No call but `Arena::new` takes memory. No clause says how long a call takes; it is measured:
 //!
 //! - `first_accepted` looks at the sends before the one that it finds;
-//! - `first_due`, `pop_due` and `least_deadline` look for the first armed block only where no
-//!   earlier call has left it, `first_due` and `pop_due` only once a deadline may be past. They go
-//!   over the rings that have a block. Of a ring they look at the blocks only where one may be
-//!   earlier than the best so far. These are few where the deadlines have many remainders modulo
-//!   64, and all armed blocks where they have one;
-//! - a step of `armed_blocks` looks at all blocks where the deadline is another one than before: it
-//!   is for who reads a state, no turn needs it;
+//! - `first_due`, `pop_due` and `least_deadline` search for the first armed block unless an earlier
+//!   call cached it. `first_due` and `pop_due` search only once a deadline may be past. A search
+//!   goes over the rings that have a block, and scans a ring only if it may hold an earlier block
+//!   than the best so far. The scan is short if deadlines spread over the rings, and covers all
+//!   armed blocks if they share one ring;
+//! - a step of `armed_blocks` scans all blocks when the deadline changes; only readers of a state
+//!   use it, no turn does;
 //! - every other call takes the same few steps whatever stands in the lists.
 //!
 //! ```rust
@@ -150,7 +151,7 @@ impl Arena {
     }
 
     /// The block of the first send at a receiver that a receive phase with this specifier takes
-    /// (manual: Ipc, `FromSpecifier`). Mostly none waits.
+    /// (manual: Ipc, `FromSpecifier`). Inlined, since usually no send waits.
     #[inline(always)]
     pub fn first_accepted(&self, receiver: usize, spec: &ThreadId) -> Option<usize>
         requires { receiver < length self.now.waiting }
@@ -162,7 +163,7 @@ impl Arena {
         }
     }
 
-    // The same, where some wait.
+    // As `first_accepted`, where sends wait.
     fn first_accepted_among(&self, receiver: usize, spec: &ThreadId) -> Option<usize>
         requires { receiver < length self.now.waiting }
         ensures { result ≡ first_taken spec.now (list_of self.now receiver) }

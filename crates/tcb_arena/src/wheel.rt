@@ -25,8 +25,8 @@ const RINGS: usize = 64;
 
 /// A fixed number of blocks, numbered from 0, some of them armed for a deadline, which is a tick of
 /// the caller's clock. A block that is armed for `d` stands in ring `d` modulo 64, after those of
-/// its ring that were armed before it. A contract sees the 64 rings, and beside them the plain list
-/// that they make: the armed blocks by rising deadline, equal ones in order of arming.
+/// its ring that were armed before it. A contract sees the 64 rings, and the plain list that they
+/// make. The list has the armed blocks by rising deadline, equal ones in order of arming.
 #[derive(Drop)]
 pub struct Wheel {
     // By block. It means something only while the block is armed.
@@ -34,7 +34,7 @@ pub struct Wheel {
     rings: Rings,
     // The rings that have a block.
     filled: RingSet,
-    // By ring: no block in it is armed for less.
+    // By ring, its floor: no block of the ring is armed for an earlier deadline.
     floors: [u64; RINGS],
     // No block is armed for a deadline before this one.
     floor: u64,
@@ -56,7 +56,7 @@ impl Model for Wheel {
 }
 
 impl Wheel {
-    /// Blocks of which none is armed. No other call takes memory.
+    /// A wheel of this many blocks, none of them armed. No other call takes memory.
     pub fn new(alloc: Global, blocks: usize) -> Result<Wheel, NoMemory>
         ensures { IfOk result (λ wheel. wheel ≡ none_armed blocks) }
     {
@@ -161,8 +161,7 @@ impl Wheel {
         self.rings.first(ring)
     }
 
-    // The first block with its deadline. It is searched only where the last search did not leave
-    // it.
+    // Finds the first block with its deadline. It searches only if the last search left none.
     fn look(&mut self) -> Option<(u64, usize)>
         ensures first { result ≡ slice_get (armed_of self.old) 0 }
         ensures same { self.new ≡ self.old }
@@ -205,9 +204,9 @@ fn other_than(block: usize, first: Option<usize>) -> Option<usize>
     if first == Some(block) { None } else { first }
 }
 
-// The first armed block with its deadline. The search begins at the ring of the floor, since a
-// block that is due soon stands in one of the next rings. It raises the floors of the rings that it
-// looks at.
+// Finds the first armed block with its deadline. The search begins at the ring of the floor, since
+// a block that is due soon stands in one of the next rings. It raises the floors of the rings that
+// it looks at.
 fn search(
     rings: &Rings,
     deadlines: &Vec<u64>,

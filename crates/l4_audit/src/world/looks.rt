@@ -55,8 +55,8 @@ impl World<'_> {
         }
     }
 
-    /// Ok where no waiting send is accepted by this specifier. Else `AcceptsFirst` with the sender
-    /// of the first that is.
+    /// Ok if no waiting send is accepted by this specifier. Else `AcceptsFirst` with the sender of
+    /// the first that is.
     pub fn accepts_none(&self, receiver: &Found, from: ThreadId) -> Result<(), Reason>
         requires { slice_get self.now.world.threads receiver.now.at ≡ Some receiver.now.now }
         ensures { result_err result ≡ first_false
@@ -69,7 +69,7 @@ impl World<'_> {
         }
     }
 
-    /// Ok where this sender is the first acceptable one. Else `NotFirst` with the first.
+    /// Ok if this sender is the first acceptable one. Else `NotFirst` with the first.
     pub fn is_first(&self, first: usize, sender: usize) -> Result<(), Reason>
         ensures { result_err result ≡ first_false
             (test (first == sender) (NotFirst (id_at self.now.machine first)) ∷ []) }

@@ -68,7 +68,7 @@ impl World<'_> {
         self.push_turns(id, steps)
     }
 
-    // Appends the retargets by which a thread is to turn, where they are possible.
+    // Appends the retargets by which a thread is to turn, if they are possible.
     fn push_turns(&self, id: GlobalId, steps: &mut Vec<Step>) -> Result<(), NoMemory>
         ensures { OnOk result (Appends steps.old.items steps.new.items (filter_map
             (where_possible self.now.machine self.now.world)
@@ -80,7 +80,7 @@ impl World<'_> {
         Ok(())
     }
 
-    // Appends a step, where it is possible.
+    // Appends a step, if it is possible.
     fn push(&self, step: Option<Step>, steps: &mut Vec<Step>) -> Result<(), NoMemory>
         ensures { OnOk result (Adds self.now steps.old.items steps.new.items
             (option_map step_of step)) }
@@ -91,7 +91,7 @@ impl World<'_> {
         Ok(())
     }
 
-    // A step, where it is possible.
+    // A step, if it is possible.
     fn where_possible(&self, step: Option<Step>) -> Option<Step>
         ensures { option_map step_of result
             ≡ where_possible self.now.machine self.now.world (option_map step_of step) }
@@ -147,7 +147,7 @@ fn turn(id: GlobalId, owed: &Owed) -> Option<Step>
     }
 }
 
-// The send that a thread begins next, where it has a name.
+// The send that a thread begins next, if the send has a name.
 fn coming_name(thread: &Found) -> Option<Name>
     ensures { result ≡ coming_name thread.now }
 {
@@ -155,7 +155,7 @@ fn coming_name(thread: &Found) -> Option<Name>
     Name::new(thread.id(), k)
 }
 
-// The last send that a thread began, where it has a name.
+// The last send that a thread began, if the send has a name.
 fn last_name(thread: &Found) -> Option<Name>
     ensures { result ≡ last_name thread.now }
 {

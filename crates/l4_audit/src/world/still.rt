@@ -32,7 +32,7 @@ impl World<'_> {
         self.owes_nothing() && self.are_still()
     }
 
-    // Whether no thread has a possible step, where no retarget is owed.
+    // Whether no thread has a possible step, if no retarget is owed.
     fn are_still(&self) -> bool
         requires { self.now.world.owed ≡ [] }
         ensures { result ≡ list_all (λ d. is_still_thread self.now.machine self.now.world d.id)
@@ -46,7 +46,7 @@ impl World<'_> {
         true
     }
 
-    // Whether a thread has no possible step, where no retarget is owed.
+    // Whether a thread has no possible step, if no retarget is owed.
     fn is_still_thread(&self, id: GlobalId) -> bool
         requires { self.now.world.owed ≡ [] }
         ensures { result ≡ is_still_thread self.now.machine self.now.world id }

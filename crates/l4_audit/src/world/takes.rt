@@ -40,8 +40,8 @@ impl World<'_> {
         }
     }
 
-    /// Why a step is not possible: the first condition of its rule that is false. None where it is
-    /// possible.
+    /// Why a step is not possible: the first condition of its rule that is false. None if the step
+    /// is possible.
     pub fn reason(&self, step: &StepRef<'_>) -> Option<Reason>
         ensures { result ≡ reason self.now.machine self.now.world (seen step.now) }
     {

@@ -31,7 +31,7 @@ impl World<'_> {
         Ok(views)
     }
 
-    /// Those of these sends that are undecided here, with their destinations.
+    /// The sends among these that are undecided here, with their destinations.
     pub fn waiting(&self, alloc: Global, begun: &[Name]) -> Result<Vec<(Name, ThreadId)>, NoMemory>
         ensures { IfOk result (λ sends. sends.items ≡
             filter_map (waiting_send self.now.machine self.now.world) begun.now) }
@@ -43,7 +43,7 @@ impl World<'_> {
         Ok(sends)
     }
 
-    // Appends a send with its destination, where it is undecided here.
+    // Appends a send with its destination, if it is undecided here.
     fn push_waiting(&self, name: Name, sends: &mut Vec<(Name, ThreadId)>) -> Result<(), NoMemory>
         ensures { OnOk result (sends.new.items ≡ sends.old.items ++
             option_to_list (waiting_send self.now.machine self.now.world name)) }
@@ -54,7 +54,7 @@ impl World<'_> {
         Ok(())
     }
 
-    // A send with its destination, where it is undecided here.
+    // A send with its destination, if it is undecided here.
     fn waiting_send(&self, name: Name) -> Option<(Name, ThreadId)>
         ensures { result ≡ waiting_send self.now.machine self.now.world name }
     {
@@ -74,7 +74,7 @@ impl World<'_> {
         Ok(waits)
     }
 
-    // Appends a thread, where it waits, with what it waits for.
+    // Appends a thread, if it waits, with what it waits for.
     fn push_wait(&self, tcb: &Tcb, waits: &mut Vec<(GlobalId, Wait)>) -> Result<(), NoMemory>
         ensures { OnOk result (waits.new.items ≡ waits.old.items ++ option_to_list
             (waiting_thread self.now.machine self.now.world tcb.now.id tcb.now.thread)) }

@@ -3,4 +3,4 @@ use Rattle.l4_choices.proofs.Replayed.{replayed}
 use Rattle.l4_choices.proofs.law_replayed.Goals as goal
 
 pub returns : goal.returns
-returns c = λ m happenings r h. replayed m happenings (opening_run m) r h
+returns c = λ m actions r h. replayed m actions (opening_run m) r h

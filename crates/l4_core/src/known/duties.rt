@@ -13,7 +13,7 @@ ghost use Rattle.l4_core.specs.Covered.{living_duty, names_nobody, receive_duty,
 ghost use Rattle.l4_core.specs.Covered.{CoversZeros};
 ghost use Rattle.l4_core.specs.Turning.{IsOwnOf};
 
-use crate::known::Known;
+use crate::known::ProcessorState;
 use crate::places::Places;
 use l4_types::ids::{GlobalId, Kind, ThreadId};
 use l4_types::times::Period;
@@ -21,27 +21,28 @@ use l4_types::times::Period;
 /// What is to be done for a thread of this processor.
 #[derive(Clone, Copy, PartialEq, Eq, Debug)]
 pub(crate) enum Duty {
-    /// The retarget that is kept beside it is done.
+    /// The retarget that is kept beside the thread is to be done.
     Retarget,
-    /// It was deleted: its waiting send is to be dropped.
+    /// The thread was deleted: its waiting send is to be dropped.
     DropOwn,
-    /// It was deleted: the first send that waits at it, that of this thread, is refused.
+    /// The thread was deleted: the first send that waits at it is to be refused. This is the
+    /// sender.
     RefuseFirst(usize),
-    /// It was deleted: this processor is notified.
+    /// The thread was deleted: this processor is to be notified.
     TellGone(u8),
     /// Its waiting send is cancelled.
     CancelOwn,
     /// Its receive phase is cancelled.
     CancelReceive,
-    /// It gets the first send that it accepts, that of this thread.
+    /// The thread gets the first send that it accepts. This is the sender.
     DeliverFirst(usize),
     /// Nobody has the id that its receive phase names.
     CloseReceive,
-    /// The send of this thread waits at it, has timeout zero, and may be refused.
+    /// A send that waits at the thread has timeout zero, and may be refused. This is the sender.
     RefuseZero(usize),
 }
 
-impl Known<'_> {
+impl ProcessorState<'_> {
     /// Whether nobody has an id, as far as is known here: it is local, undeclared, or that of a
     /// deleted thread.
     pub(crate) fn names_nobody(&self, id: ThreadId) -> bool
@@ -258,7 +259,7 @@ impl Known<'_> {
 /// duty.
 #[inline(always)]
 pub(crate) fn first_duty(
-    known: &Known<'_>,
+    known: &ProcessorState<'_>,
     duties: &mut Places,
     zeros: &mut Places,
 ) -> Option<(usize, Duty)>
@@ -274,9 +275,9 @@ pub(crate) fn first_duty(
     }
 }
 
-// The same, where some places may have a duty.
+// The first duty, found among places that may have one.
 fn first_duty_among(
-    known: &Known<'_>,
+    known: &ProcessorState<'_>,
     duties: &mut Places,
     zeros: &mut Places,
 ) -> Option<(usize, Duty)>

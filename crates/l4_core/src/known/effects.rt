@@ -26,7 +26,7 @@ ghost use Rattle.l4_core.specs.Processor.{with_local};
 ghost use Rattle.l4_core.specs.Turning.{begun_by, IsAtHand, IsFree, IsNotSplit, IsOwnOf};
 ghost use Rattle.l4_core.specs.Turning.{IsReceiver, IsSender};
 
-use crate::known::Known;
+use crate::known::ProcessorState;
 use l4_script::instructions::Instr;
 use l4_thread::changes::Change;
 use l4_thread::phases::Began;
@@ -37,7 +37,7 @@ use l4_types::steps::{Name, What};
 use l4_types::tags::MsgTag;
 use tcb_arena::Waiting;
 
-impl Known<'_> {
+impl ProcessorState<'_> {
     /// Advances the clock to this value, in ticks.
     pub(crate) fn set_clock(&mut self, to: u64)
         requires later { self.old.local.clock ≤ to }
@@ -81,7 +81,7 @@ impl Known<'_> {
         self.settle(receiver);
     }
 
-    /// Begins the first phase of a thread's Ipc, where it has one.
+    /// Begins the first phase of a thread's Ipc, if the Ipc has one.
     pub(crate) fn begin(&mut self, place: usize, instr: &Instr) -> Began
         requires hand { IsAtHand self.old place }
         requires room { is_end (instr_of instr.now) ≡ false →
@@ -126,7 +126,7 @@ impl Known<'_> {
     }
 
     // Whether a send of a thread shows the originator that its VirtualSender names. The rights are
-    // looked up only where the thread asks for propagation.
+    // looked up only if the thread asks for propagation.
     fn shows_originator(&self, place: usize) -> bool
         requires { place < length self.now.machine.threads }
         ensures { result ≡ is_some (originator self.now.machine (declared self.now.machine place).id

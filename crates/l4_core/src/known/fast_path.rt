@@ -11,12 +11,12 @@ ghost use Rattle.l4_core.specs.FastPath.{fast_receiver, next_name, takes_at_once
 ghost use Rattle.l4_core.specs.Processor.{with_local};
 ghost use Rattle.l4_core.specs.Turning.{IsAtHand, IsOwnOf};
 
-use crate::known::Known;
+use crate::known::ProcessorState;
 use l4_script::instructions::Ipc;
 use l4_types::message_ref::MessageRef;
 use l4_types::steps::Name;
 
-impl Known<'_> {
+impl ProcessorState<'_> {
     /// The place of the thread that an Ipc of this one sends to now.
     pub(crate) fn partner(&self, place: usize, ipc: &Ipc) -> Option<usize>
         requires { place < length self.now.machine.threads }
@@ -30,7 +30,7 @@ impl Known<'_> {
 
     /// The receiver that takes at once what the Ipc of a thread sends now to its partner: a thread
     /// of this processor that waits, and accepts the sender before all that wait at it. A send that
-    /// asks for propagation is none of those.
+    /// asks for propagation is never taken at once.
     pub(crate) fn fast_receiver(
         &self,
         place: usize,
@@ -83,7 +83,7 @@ impl Known<'_> {
         Name::new(self.id(place), self.begun(place) + 1).unwrap()
     }
 
-    /// The message that a thread sends: that of its undecided send. Where there is none, that of a
+    /// The message that a thread sends: that of its undecided send. If there is none, that of a
     /// send that it would begin now without propagation.
     pub(crate) fn outgoing(&self, sender: usize) -> MessageRef<'_>
         requires { sender < length self.now.machine.threads }

@@ -10,10 +10,10 @@ ghost use Rattle.l4_core_model.specs.Local.{owed_beside, thread};
 ghost use Rattle.l4_core.specs.Processor.{with_local};
 ghost use Rattle.l4_core.specs.Turning.{IsSender};
 
-use crate::known::Known;
+use crate::known::ProcessorState;
 use l4_types::owed::Owed;
 
-impl Known<'_> {
+impl ProcessorState<'_> {
     /// What the delivery of a sender's message to a receiver leaves owed.
     #[inline(always)]
     pub(crate) fn owed_by(&self, receiver: usize, sender: usize) -> Option<Owed>
@@ -82,7 +82,7 @@ impl Known<'_> {
         owed
     }
 
-    /// Turns an originator to the new partner, where it waits for the old one.
+    /// Turns an originator to the new partner, if it waits for the old one.
     pub(crate) fn turn_to(&mut self, place: usize, owed: &Owed)
         requires { place < length self.old.machine.threads }
         ensures { self.new ≡ with_local self.old

@@ -9,7 +9,7 @@ ghost use Rattle.l4_core.specs.Settling.{rearms, readies, settles};
 ghost use Rattle.l4_core.specs.Turning.{IsOwnOf};
 ghost use Rattle.tcb_arena.specs.Blocks.{is_ready as is_ready_in};
 
-use crate::known::Known;
+use crate::known::ProcessorState;
 use l4_types::times::Period;
 
 // The clock at which a period that begins now is over. None for never.
@@ -26,9 +26,9 @@ fn deadline(period: Period, clock: u64) -> Option<u64>
     }
 }
 
-impl Known<'_> {
-    // Settles a thread of this processor in the phase that it is in. It does not stand in the ready
-    // list.
+impl ProcessorState<'_> {
+    // Settles a thread of this processor in its phase. Before the call the thread does not stand in
+    // the ready list.
     pub(crate) fn settle(&mut self, place: usize)
         requires own { IsOwnOf self.old place }
         requires unready { is_ready_in self.old.local.lists place ≡ false }

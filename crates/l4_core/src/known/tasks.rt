@@ -13,7 +13,7 @@ ghost use Rattle.l4_core_model.specs.Mail.{foreign_place, is_ordering, own_place
 ghost use Rattle.l4_core.specs.Tasks.{refusal_for, task_of, IsForeign, IsTask};
 ghost use Rattle.l4_core.specs.Turning.{IsOwnOf, IsSender};
 
-use crate::known::Known;
+use crate::known::ProcessorState;
 use l4_types::ids::GlobalId;
 use l4_types::letters::{Cause, Content, Decision, Refusal};
 use l4_types::message_ref::MessageRef;
@@ -66,7 +66,7 @@ fn refusal_for(cause: Cause) -> Refusal
     }
 }
 
-impl Known<'_> {
+impl ProcessorState<'_> {
     // The place of a declared thread of this processor.
     fn own_place(&self, id: GlobalId) -> Option<usize>
         ensures value { result ≡ own_place self.now.machine self.now.cpu id }
@@ -231,7 +231,7 @@ impl Known<'_> {
         Some(Task::Retarget(originator, *owed))
     }
 
-    /// What a letter of this content asks for, or None where it is not lawful here.
+    /// What a letter of this content asks for, or None if the letter is not lawful here.
     pub(crate) fn task<'a>(&self, content: &'a Content) -> Option<Task<'a>>
         ensures value { result ≡ task_of self.now.machine self.now.cpu self.now.local content.now }
         ensures possible { IfSome result (λ task. IsTask task self.now) }

@@ -2,11 +2,11 @@
 ghost use Rattle.std.specs.Prelude.{◌≡◌, ◌↔◌, ◌⊎◌, IfErr, IfOk, IsErrOf, IsSome, None, OnErr};
 ghost use Rattle.std.specs.Prelude.{false};
 ghost use Rattle.l4_core_model.specs.Turns.{advance, can_stamp};
-ghost use Rattle.l4_core.specs.Tellings.{IsOpen};
+ghost use Rattle.l4_core.specs.EventBuffers.{IsOpen};
 ghost use Rattle.l4_core.specs.Turning.{IsEvent};
 
+use crate::event_buffer::EventBuffer;
 use crate::processor::{Core, Fault};
-use crate::told::Told;
 use l4_history::sink::Sink;
 use l4_types::step_ref::StepRef;
 use l4_types::steps::{CLOCKS, Tick};
@@ -16,7 +16,11 @@ impl Core<'_> {
     /// `Clock`: the value is not above the clock, or not below 2^62. `Stamp`: else, where the next
     /// stamp would reach 2^62. Nothing is changed then. Condition: `told` has begun an event that
     /// has no step yet.
-    pub fn advance_into<S: Sink>(&mut self, to: u64, told: &mut Told<S>) -> Result<u64, Fault>
+    pub fn advance_into<S: Sink>(
+        &mut self,
+        to: u64,
+        told: &mut EventBuffer<S>,
+    ) -> Result<u64, Fault>
         requires untold { IsOpen told.old }
         ensures ok { IfOk result (λ stamp.
             IsEvent
@@ -38,7 +42,7 @@ impl Core<'_> {
         }
         let stamp = self.open(0);
         let tick = Tick::new(self.known.cpu(), to).unwrap();
-        told.tell(StepRef::Tick(tick));
+        told.emit(StepRef::Tick(tick));
         self.known.set_clock(to);
         Ok(stamp)
     }

@@ -70,7 +70,7 @@ impl Core<'_> {
         note_duty(&self.known, &mut self.duties, &self.zeros, place);
     }
 
-    /// Begins the first phase of a thread's Ipc, where it has one.
+    /// Begins the first phase of a thread's Ipc, if the Ipc has one.
     pub(super) fn begin(&mut self, place: usize, instr: &Instr) -> Began
         requires hand { IsAtHand self.old place }
         requires room { is_end (instr_of instr.now) ≡ false →
@@ -245,8 +245,8 @@ impl Core<'_> {
         self.known.take_owed(place)
     }
 
-    /// Turns an originator to the new partner, where it waits for the old one. It may have a duty
-    /// then.
+    /// Turns an originator to the new partner, if it waits for the old one. The originator may have
+    /// a duty then.
     pub(super) fn turn_to(&mut self, place: usize, owed: &Owed)
         requires { place < length self.old.machine.threads }
         ensures { self.new ≡ with_local self.old

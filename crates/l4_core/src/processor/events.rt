@@ -10,9 +10,9 @@ ghost use Rattle.l4_core.specs.Choosing.{choice_of, duty_of, IsPossible};
 ghost use Rattle.l4_core.specs.Covered.{IsFirstDuty};
 ghost use Rattle.l4_core.specs.Turning.{fails_with, Does, IsOwnOf, IsReceiver};
 
+use crate::event_buffer::EventBuffer;
 use crate::known::duties::Duty;
 use crate::processor::{Choice, Core};
-use crate::told::Told;
 use l4_history::sink::Sink;
 use l4_thread::changes::Change;
 use l4_types::errors::IpcError;
@@ -21,7 +21,7 @@ use l4_types::step_ref::StepRef;
 
 impl Core<'_> {
     /// Does what a turn has chosen.
-    pub(super) fn carry_out<S: Sink>(&mut self, choice: &Choice, told: &mut Told<S>)
+    pub(super) fn carry_out<S: Sink>(&mut self, choice: &Choice, told: &mut EventBuffer<S>)
         requires possible { IsPossible choice.now self.old }
         requires count { (place : ℕ) → is_own self.old.machine self.old.cpu place ≡ true →
             (thread self.old.local place).context.begun < self.old.local.stamp }
@@ -38,7 +38,7 @@ impl Core<'_> {
     }
 
     // Runs the next instruction of the first ready thread.
-    fn do_ready<S: Sink>(&mut self, place: usize, told: &mut Told<S>)
+    fn do_ready<S: Sink>(&mut self, place: usize, told: &mut EventBuffer<S>)
         requires first { slice_get self.old.local.lists.ready 0 ≡ Some place }
         requires count { is_own self.old.machine self.old.cpu place ≡ true →
             (thread self.old.local place).context.begun < self.old.local.stamp }
@@ -53,7 +53,7 @@ impl Core<'_> {
     }
 
     // Handles the deadline of a thread, which is due.
-    fn do_due<S: Sink>(&mut self, place: usize, told: &mut Told<S>)
+    fn do_due<S: Sink>(&mut self, place: usize, told: &mut EventBuffer<S>)
         requires due { due_block self.old.local.clock self.old.local.lists.armed ≡ Some place }
         requires room { 3 ≤ told.old.room }
         requires slots { 2 ≤ told.old.slots }
@@ -66,7 +66,7 @@ impl Core<'_> {
     }
 
     // Times out the phase of a thread.
-    fn time_out<S: Sink>(&mut self, place: usize, told: &mut Told<S>)
+    fn time_out<S: Sink>(&mut self, place: usize, told: &mut EventBuffer<S>)
         requires own { IsOwnOf self.old place }
         requires room { 3 ≤ told.old.room }
         requires slots { 2 ≤ told.old.slots }
@@ -90,7 +90,7 @@ impl Core<'_> {
         place: usize,
         step: StepRef<'_>,
         error: IpcError,
-        told: &mut Told<S>,
+        told: &mut EventBuffer<S>,
     )
         requires receiver { IsReceiver self.old place }
         requires room { 0 < told.old.room }
@@ -98,12 +98,12 @@ impl Core<'_> {
             (code_of error) place) self.old self.new told.old told.new }
     {
         let _few = self.known.len();
-        told.tell(step);
+        told.emit(step);
         self.come_to(place, &Change::Fail(error));
     }
 
     // Does the duty of a thread.
-    fn do_duty<S: Sink>(&mut self, place: usize, duty: Duty, told: &mut Told<S>)
+    fn do_duty<S: Sink>(&mut self, place: usize, duty: Duty, told: &mut EventBuffer<S>)
         requires first { IsFirstDuty place
             (duty_of self.old.local.owed place duty) self.old.machine self.old.cpu self.old.local }
         requires room { 3 ≤ told.old.room }
@@ -132,7 +132,7 @@ impl Core<'_> {
     }
 
     // Notifies a processor that a thread is deleted.
-    fn tell_gone<S: Sink>(&mut self, place: usize, cpu: u8, told: &mut Told<S>)
+    fn tell_gone<S: Sink>(&mut self, place: usize, cpu: u8, told: &mut EventBuffer<S>)
         requires own { IsOwnOf self.old place }
         requires cpu { cpu < self.old.machine.cpus }
         requires slots { 0 < told.old.slots }

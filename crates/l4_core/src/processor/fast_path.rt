@@ -9,8 +9,8 @@ ghost use Rattle.l4_core_model.specs.Acts.{acts};
 ghost use Rattle.l4_core.specs.FastPath.{fast_receiver};
 ghost use Rattle.l4_core.specs.Turning.{Does, IsAtHand, IsOwnOf};
 
+use crate::event_buffer::EventBuffer;
 use crate::processor::Core;
-use crate::told::Told;
 use l4_history::sink::Sink;
 use l4_script::instructions::Ipc;
 use l4_types::step_ref::{DeliveryRef, StepRef};
@@ -23,7 +23,7 @@ impl Core<'_> {
         receiver: usize,
         sender: usize,
         ipc: &Ipc,
-        told: &mut Told<S>,
+        told: &mut EventBuffer<S>,
     )
         requires receiver { IsOwnOf self.old receiver }
         requires hand { IsAtHand self.old sender }
@@ -48,9 +48,9 @@ impl Core<'_> {
             cross: false,
         };
         let tag = delivery.tag();
-        told.tell(StepRef::Begin(name));
-        told.tell(StepRef::Queue(name));
-        told.tell(StepRef::Deliver(delivery));
+        told.emit(StepRef::Begin(name));
+        told.emit(StepRef::Queue(name));
+        told.emit(StepRef::Deliver(delivery));
         self.receive_from(receiver, sender, tag);
         self.pass(sender, ipc);
     }

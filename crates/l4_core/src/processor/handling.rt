@@ -9,12 +9,12 @@ ghost use Rattle.l4_types.specs.LetterView.{decision_of, letter_of};
 ghost use Rattle.l4_core.specs.Tasks.{does_task, IsArrival, IsCaller, IsObedience, IsSplit, IsTask};
 ghost use Rattle.l4_core.specs.declared.known.tasks.Task.TheVariants.{Arrive, Obey};
 ghost use Rattle.l4_core.specs.Processor.{with_local};
-ghost use Rattle.l4_core.specs.Tellings.{IsOpen};
+ghost use Rattle.l4_core.specs.EventBuffers.{IsOpen};
 ghost use Rattle.l4_core.specs.Turning.{Does, IsEvent};
 
+use crate::event_buffer::EventBuffer;
 use crate::known::tasks::Task;
 use crate::processor::{Core, Fault};
-use crate::told::Told;
 use l4_history::sink::Sink;
 use l4_thread::changes::Change;
 use l4_types::ids::GlobalId;
@@ -32,7 +32,7 @@ impl Core<'_> {
     pub fn handle_into<S: Sink>(
         &mut self,
         letter: &Letter,
-        told: &mut Told<S>,
+        told: &mut EventBuffer<S>,
     ) -> Result<u64, Fault>
         requires untold { IsOpen told.old }
         ensures ok { IfOk result (λ stamp.
@@ -59,7 +59,7 @@ impl Core<'_> {
     }
 
     // Does what a letter asks for.
-    fn do_task<S: Sink>(&mut self, task: Task<'_>, told: &mut Told<S>)
+    fn do_task<S: Sink>(&mut self, task: Task<'_>, told: &mut EventBuffer<S>)
         requires possible { IsTask task self.old }
         requires room { 3 ≤ told.old.room }
         requires slots { 2 ≤ told.old.slots }
@@ -100,7 +100,7 @@ impl Core<'_> {
         to: GlobalId,
         message: MessageRef<'_>,
         zero_timeout: bool,
-        told: &mut Told<S>,
+        told: &mut EventBuffer<S>,
     )
         requires possible { IsArrival self.old receiver sender message }
         requires room { 2 ≤ told.old.room }
@@ -132,7 +132,7 @@ impl Core<'_> {
         from: usize,
         caller: GlobalId,
         what: What,
-        told: &mut Told<S>,
+        told: &mut EventBuffer<S>,
     )
         requires possible { IsObedience self.old target from }
         requires room { 3 ≤ told.old.room }

@@ -15,8 +15,8 @@ ghost use Rattle.l4_core.specs.Asking.{admitted_act, is_ipc};
 ghost use Rattle.l4_core.specs.FastPath.{partner_of};
 ghost use Rattle.l4_core.specs.Turning.{Does, IsAtHand, IsOwnOf};
 
+use crate::event_buffer::EventBuffer;
 use crate::processor::Core;
-use crate::told::Told;
 use l4_history::sink::Sink;
 use l4_script::instructions::Instr;
 use l4_thread::changes::Change;
@@ -27,7 +27,7 @@ use l4_types::letters::{Cause, Content};
 use l4_types::step_ref::StepRef;
 use l4_types::steps::What;
 
-// Why an order withdraws a send of its target, where it does.
+// Why an order withdraws a send of its target, if it does.
 fn cause_of(what: What) -> Option<Cause>
     ensures { option_map cause_of_withdrawal result ≡ cause_of (what_of what) }
 {
@@ -46,7 +46,7 @@ impl Core<'_> {
         caller: GlobalId,
         what: What,
         place: usize,
-        told: &mut Told<S>,
+        told: &mut EventBuffer<S>,
     )
         requires own { IsOwnOf self.old place }
         requires room { 0 < told.old.room }
@@ -56,7 +56,7 @@ impl Core<'_> {
         ensures slots { 1 ≤ told.new.slots }
     {
         let was_deleted = self.known.is_deleted(place);
-        told.tell(StepRef::Obey(caller));
+        told.emit(StepRef::Obey(caller));
         self.ask(place, what);
         if !was_deleted {
             if let Some(cause) = cause_of(what) {
@@ -66,7 +66,7 @@ impl Core<'_> {
     }
 
     /// Runs the next instruction of a thread.
-    pub(super) fn act<S: Sink>(&mut self, place: usize, told: &mut Told<S>)
+    pub(super) fn act<S: Sink>(&mut self, place: usize, told: &mut EventBuffer<S>)
         requires hand { IsAtHand self.old place }
         requires count { (thread self.old.local place).context.begun < self.old.local.stamp }
         requires room { 3 ≤ told.old.room }
@@ -90,7 +90,7 @@ impl Core<'_> {
     }
 
     // Runs an instruction that concerns nobody else.
-    fn run<S: Sink>(&mut self, place: usize, instr: &Instr, told: &mut Told<S>)
+    fn run<S: Sink>(&mut self, place: usize, instr: &Instr, told: &mut EventBuffer<S>)
         requires hand { IsAtHand self.old place }
         requires instr { instr_of instr.now ≡
             instruction (held self.old.machine self.old.local place) }
@@ -100,17 +100,17 @@ impl Core<'_> {
         ensures { Does (runs_alone_at self.old.machine place) self.old self.new told.old told.new }
     {
         let _few = self.known.len();
-        told.tell(StepRef::Local(self.known.id(place)));
+        told.emit(StepRef::Local(self.known.id(place)));
         self.come_to(place, &Change::Run(*instr));
     }
 
-    // Runs an Ipc. Its send, where it has one, goes to its partner.
+    // Runs an Ipc. Its send, if it has one, goes to its partner.
     fn ipc<S: Sink>(
         &mut self,
         place: usize,
         instr: &Instr,
         partner: Option<usize>,
-        told: &mut Told<S>,
+        told: &mut EventBuffer<S>,
     )
         requires hand { IsAtHand self.old place }
         requires instr { instr_of instr.now ≡
@@ -131,22 +131,22 @@ impl Core<'_> {
         let _few = self.known.len();
         match self.begin(place, instr) {
             Began::Nothing => self.run(place, instr, told),
-            Began::Receive => told.tell(StepRef::Wait(self.known.id(place))),
+            Began::Receive => told.emit(StepRef::Wait(self.known.id(place))),
             Began::Send => {
-                told.tell(StepRef::Begin(self.known.last_name(place)));
+                told.emit(StepRef::Begin(self.known.last_name(place)));
                 self.send(place, partner, told);
             }
         }
     }
 
-    // Gives an order, or refuses it where it is not admitted.
+    // Gives an order, or refuses it if it is not admitted.
     fn order<S: Sink>(
         &mut self,
         place: usize,
         instr: &Instr,
         target: ThreadId,
         what: What,
-        told: &mut Told<S>,
+        told: &mut EventBuffer<S>,
     )
         requires hand { IsAtHand self.old place }
         requires instr { instr_of instr.now ≡
@@ -166,8 +166,14 @@ impl Core<'_> {
         }
     }
 
-    // Gives an admitted order, and obeys it at once where its target is of this processor.
-    fn give<S: Sink>(&mut self, place: usize, target: GlobalId, what: What, told: &mut Told<S>)
+    // Gives an admitted order, and obeys it at once if its target is of this processor.
+    fn give<S: Sink>(
+        &mut self,
+        place: usize,
+        target: GlobalId,
+        what: What,
+        told: &mut EventBuffer<S>,
+    )
         requires hand { IsAtHand self.old place }
         requires within { (thread self.old.local place).context.place < most_instructions }
         requires room { 2 ≤ told.old.room }
@@ -178,7 +184,7 @@ impl Core<'_> {
         let _few = self.known.len();
         let caller = self.known.id(place);
         self.come_to(place, &Change::GiveOrder(Asked::new(target, what)));
-        told.tell(StepRef::Order {
+        told.emit(StepRef::Order {
             caller,
             target,
             what,

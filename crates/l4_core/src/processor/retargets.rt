@@ -7,8 +7,8 @@ ghost use Rattle.l4_core_model.specs.Local.{owed_beside};
 ghost use Rattle.l4_core_model.specs.Turns.{does_duty, Retargets};
 ghost use Rattle.l4_core.specs.Turning.{Does, IsOwnOf};
 
+use crate::event_buffer::EventBuffer;
 use crate::processor::Core;
-use crate::told::Told;
 use l4_history::sink::Sink;
 use l4_types::letters::Content;
 use l4_types::owed::Owed;
@@ -18,7 +18,7 @@ impl Core<'_> {
     /// Notes a retarget that is owed since this receiver got a message. It is kept beside the
     /// receiver if the originator is of this processor. Else a letter goes to the originator's
     /// processor.
-    pub(super) fn owe<S: Sink>(&mut self, receiver: usize, owed: Owed, told: &mut Told<S>)
+    pub(super) fn owe<S: Sink>(&mut self, receiver: usize, owed: Owed, told: &mut EventBuffer<S>)
         requires receiver { IsOwnOf self.old receiver }
         requires profile { self.old.machine.retargeting ≡ true }
         requires slots { 0 < told.old.slots }
@@ -36,7 +36,7 @@ impl Core<'_> {
     }
 
     /// Does the retarget that is kept beside a thread.
-    pub(super) fn retarget_owed<S: Sink>(&mut self, place: usize, told: &mut Told<S>)
+    pub(super) fn retarget_owed<S: Sink>(&mut self, place: usize, told: &mut EventBuffer<S>)
         requires own { IsOwnOf self.old place }
         requires room { 0 < told.old.room }
         ensures { (owed : ModelOwed) → owed_beside self.old.local place ≡ Some owed →
@@ -53,13 +53,18 @@ impl Core<'_> {
     }
 
     /// Turns the originator of a delivered message to the thread that received it.
-    pub(super) fn retarget<S: Sink>(&mut self, originator: usize, owed: &Owed, told: &mut Told<S>)
+    pub(super) fn retarget<S: Sink>(
+        &mut self,
+        originator: usize,
+        owed: &Owed,
+        told: &mut EventBuffer<S>,
+    )
         requires originator { originator < length self.old.machine.threads }
         requires room { 0 < told.old.room }
         ensures { Does (retargets
             (owed_of owed.now) originator) self.old self.new told.old told.new }
     {
-        told.tell(StepRef::Retarget(owed.send));
+        told.emit(StepRef::Retarget(owed.send));
         self.turn_to(originator, owed);
     }
 }

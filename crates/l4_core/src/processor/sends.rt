@@ -13,8 +13,8 @@ ghost use Rattle.l4_types.specs.StepView.{seen};
 ghost use Rattle.l4_core.specs.Turning.{hands_over, Does, IsNewSender, IsNotSplit, IsOwnOf};
 ghost use Rattle.l4_core.specs.Turning.{IsReceiver, IsSender};
 
+use crate::event_buffer::EventBuffer;
 use crate::processor::Core;
-use crate::told::Told;
 use l4_history::sink::Sink;
 use l4_thread::changes::Change;
 use l4_types::letters::{Cause, Content, Decision, Letter, Refusal};
@@ -45,19 +45,29 @@ impl Core<'_> {
     }
 
     /// Refuses the send of a thread.
-    pub(super) fn refuse<S: Sink>(&mut self, place: usize, refusal: Refusal, told: &mut Told<S>)
+    pub(super) fn refuse<S: Sink>(
+        &mut self,
+        place: usize,
+        refusal: Refusal,
+        told: &mut EventBuffer<S>,
+    )
         requires sender { IsSender self.old place }
         requires room { 0 < told.old.room }
         requires slots { 0 < told.old.slots }
         ensures { Does (refuses self.old.machine self.old.cpu
             (refusal_of_send refusal) place) self.old self.new told.old told.new }
     {
-        told.tell(refusal_step(refusal, self.known.last_name(place)));
+        told.emit(refusal_step(refusal, self.known.last_name(place)));
         self.end_send(place, Decision::Refused(refusal), told);
     }
 
     /// Delivers the message of a sender to a receiver.
-    pub(super) fn deliver<S: Sink>(&mut self, receiver: usize, sender: usize, told: &mut Told<S>)
+    pub(super) fn deliver<S: Sink>(
+        &mut self,
+        receiver: usize,
+        sender: usize,
+        told: &mut EventBuffer<S>,
+    )
         requires receiver { IsReceiver self.old receiver }
         requires sender { IsSender self.old sender }
         requires room { 0 < told.old.room }
@@ -75,7 +85,7 @@ impl Core<'_> {
 
     // Hands the message of a sender to a receiver, and ends the send.
     #[inline(always)]
-    fn hand_over<S: Sink>(&mut self, receiver: usize, sender: usize, told: &mut Told<S>)
+    fn hand_over<S: Sink>(&mut self, receiver: usize, sender: usize, told: &mut EventBuffer<S>)
         requires receiver { IsReceiver self.old receiver }
         requires sender { IsSender self.old sender }
         requires room { 0 < told.old.room }
@@ -92,14 +102,14 @@ impl Core<'_> {
             cross: !self.known.is_own(sender),
         };
         let tag = delivery.tag();
-        told.tell(StepRef::Deliver(delivery));
+        told.emit(StepRef::Deliver(delivery));
         self.receive_from(receiver, sender, tag);
         self.end_send(sender, Decision::Delivered, told);
     }
 
     // Ends a send that is decided here. A sender of this processor goes on at once, another one by
     // a letter.
-    fn end_send<S: Sink>(&mut self, place: usize, decision: Decision, told: &mut Told<S>)
+    fn end_send<S: Sink>(&mut self, place: usize, decision: Decision, told: &mut EventBuffer<S>)
         requires sender { IsSender self.old place }
         requires slots { 0 < told.old.slots }
         ensures does { Does (decides_send self.old.machine self.old.cpu
@@ -118,12 +128,12 @@ impl Core<'_> {
         }
     }
 
-    /// A begun send goes to its destination, the thread at a place that was found before.
+    /// Passes a begun send to its destination, the thread at a place that was found before.
     pub(super) fn send<S: Sink>(
         &mut self,
         sender: usize,
         partner: Option<usize>,
-        told: &mut Told<S>,
+        told: &mut EventBuffer<S>,
     )
         requires sender { IsNewSender self.old sender }
         requires partner { (send : Send) → (thread self.old.local sender).send ≡ Some send →
@@ -144,7 +154,7 @@ impl Core<'_> {
     }
 
     // Posts a begun send to its receiver's processor.
-    fn post_send<S: Sink>(&mut self, receiver: usize, sender: usize, told: &mut Told<S>)
+    fn post_send<S: Sink>(&mut self, receiver: usize, sender: usize, told: &mut EventBuffer<S>)
         requires receiver { receiver < length self.old.machine.threads }
         requires sender { IsSender self.old sender }
         requires slots { 0 < told.old.slots }
@@ -163,8 +173,13 @@ impl Core<'_> {
     }
 
     /// Handles a send that has arrived at its receiver's processor, this one: refuses it, or queues
-    /// it, and delivers it where the receiver waits for it.
-    pub(super) fn arrive<S: Sink>(&mut self, receiver: usize, sender: usize, told: &mut Told<S>)
+    /// it, and delivers it if the receiver waits for it.
+    pub(super) fn arrive<S: Sink>(
+        &mut self,
+        receiver: usize,
+        sender: usize,
+        told: &mut EventBuffer<S>,
+    )
         requires receiver { IsOwnOf self.old receiver }
         requires sender { IsNewSender self.old sender }
         requires here { IsNotSplit self.old sender }
@@ -183,8 +198,8 @@ impl Core<'_> {
         }
     }
 
-    // Queues a send, and delivers it where its receiver waits and takes it first.
-    fn queue<S: Sink>(&mut self, receiver: usize, sender: usize, told: &mut Told<S>)
+    // Queues a send, and delivers it if its receiver waits and takes it first.
+    fn queue<S: Sink>(&mut self, receiver: usize, sender: usize, told: &mut EventBuffer<S>)
         requires receiver { IsOwnOf self.old receiver }
         requires sender { IsNewSender self.old sender }
         requires here { IsNotSplit self.old sender }
@@ -195,7 +210,7 @@ impl Core<'_> {
             (queues_send self.old.machine self.old.cpu receiver sender
             (Some send)) self.old self.new told.old told.new }
     {
-        told.tell(StepRef::Queue(self.known.last_name(sender)));
+        told.emit(StepRef::Queue(self.known.last_name(sender)));
         let waiting = self.known.entry(receiver, sender);
         self.queue_send(receiver, waiting);
         if self.known.is_first(receiver, sender) {
@@ -203,8 +218,13 @@ impl Core<'_> {
         }
     }
 
-    /// Withdraws the send of a thread of this processor, where it is split.
-    pub(super) fn withdraw<S: Sink>(&mut self, place: usize, cause: Cause, told: &mut Told<S>)
+    /// Withdraws the send of a thread of this processor, if it is split.
+    pub(super) fn withdraw<S: Sink>(
+        &mut self,
+        place: usize,
+        cause: Cause,
+        told: &mut EventBuffer<S>,
+    )
         requires own { IsOwnOf self.old place }
         requires slots { 0 < told.old.slots }
         ensures does { Does (withdraws self.old.machine (cause_of_withdrawal cause) place

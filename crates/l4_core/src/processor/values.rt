@@ -7,8 +7,8 @@ ghost use Rattle.l4_core_model.specs.Turns.{advance, can_stamp};
 ghost use Rattle.l4_types.specs.LetterView.{letter_of};
 ghost use Rattle.l4_core.specs.Values.{IsToldEvent, Turned};
 
+use crate::event_buffer::{EventBuffer, EventSteps, Letters};
 use crate::processor::{Core, Fault};
-use crate::told::{EventSteps, Letters, Told};
 use l4_types::letters::Letter;
 use l4_types::steps::Event;
 
@@ -27,7 +27,7 @@ impl Core<'_> {
         requires { can_stamp self.old.local 0 ≡ true }
         ensures { Turned self.old self.new result }
     {
-        let mut told = Told::new(EventSteps::new());
+        let mut told = EventBuffer::new(EventSteps::new());
         let Some(stamp) = self.turn_into(&mut told) else {
             return Turn::Idle;
         };
@@ -52,7 +52,7 @@ impl Core<'_> {
             (IsSome (handle self.old.machine self.old.cpu self.old.local (letter_of letter.now)) ×
             (can_stamp self.old.local letter.now.stamp ≡ false)) }
     {
-        let mut told = Told::new(EventSteps::new());
+        let mut told = EventBuffer::new(EventSteps::new());
         let stamp = self.handle_into(letter, &mut told)?;
         Ok(told.into_event(stamp))
     }
@@ -73,7 +73,7 @@ impl Core<'_> {
             (IsSome (advance self.old.machine self.old.cpu to self.old.local) ×
             (can_stamp self.old.local 0 ≡ false)) }
     {
-        let mut told = Told::new(EventSteps::new());
+        let mut told = EventBuffer::new(EventSteps::new());
         let stamp = self.advance_into(to, &mut told)?;
         let (event, _letters) = told.into_event(stamp);
         Ok(event)

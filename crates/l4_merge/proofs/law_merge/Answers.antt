@@ -1,6 +1,6 @@
 use Rattle.l4_merge.proofs.Wholes.{opening_ends, make_whole, whole_sorts_as_merged}
 use Rattle.l4_merge.proofs.Sorted.{length-merged}
-use Rattle.l4_merge.proofs.PastsOfRuns.{has_pasts}
+use Rattle.l4_merge.proofs.LocalTracesOfRuns.{has_pasts}
 use Rattle.l4_merge.proofs.GoingOn.{merge, merge_turns}
 use Rattle.l4_merge.proofs.Ticking.{ends_ticked}
 use Rattle.l4_merge.proofs.ClocksOfEvents.{turned_clock}

@@ -60,7 +60,7 @@ fn spelled_id(format: Format, word: &[u8]) -> Option<ThreadId>
     }
 }
 
-/// An id: `nil`, `any`, `anylocal`, or spelled by numbers. None where the word spells none of the
+/// An id: `nil`, `any`, `anylocal`, or spelled by numbers. None if the word spells no id of this
 /// format.
 #[tactic(auto, unfolding(crate::specs::Ids::id_of))]
 pub fn id(format: Format, word: &[u8]) -> Option<ThreadId>

@@ -192,7 +192,7 @@ impl Reading {
         self.targets.as_slice()
     }
 
-    /// Appends an instruction to the last thread, by the line of this number.
+    /// Appends the instruction of line `line` to the last thread.
     fn extend(&mut self, line: usize, instr: &Instr) -> Result<(), TextFaultKind>
         requires { 0 < length self.old.machine.threads }
         ensures kept { IfErr result (λ kind. kind ≢ OutOfMemory → self.new ≡ self.old) }
@@ -271,8 +271,8 @@ impl Stage {
         }
     }
 
-    /// Reads the line of this number, or returns what is wrong with it. It is unchanged by a line
-    /// that has a fault, but not where memory is refused.
+    /// Reads the line of this number, or returns its fault. A faulty line leaves the stage
+    /// unchanged; refused memory may not.
     #[tactic(auto, unfolding(crate::specs::Texts::after_line))]
     pub fn read_line(
         &mut self,

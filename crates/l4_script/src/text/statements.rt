@@ -56,7 +56,7 @@ const END: &[u8] = b"end";
 
 const LAST_REGISTER: u64 = MESSAGE_REGISTERS as u64 - 1;
 
-/// The one word of these.
+/// The only word left, else `BadLine`.
 fn only<'a>(words: Words<'a>) -> Result<&'a [u8], TextFaultKind>
     ensures { Returns (λ word. word.now) result (needs (one words.entry) BadLine) }
 {
@@ -308,7 +308,7 @@ fn target(operands: Words<'_>) -> Result<u64, TextFaultKind>
     number(only(operands)?).ok_or(TextFaultKind::BadNumber)
 }
 
-/// What follows `end`: nothing.
+/// The instruction `end`, which has no operands.
 fn end(mut operands: Words<'_>) -> Result<Instr, TextFaultKind>
     ensures { Returns instr_of result (end_of operands.entry) }
 {

@@ -99,10 +99,10 @@ impl Tcb {
         };
     }
 
-    /// Begins the first phase of an Ipc, at this clock of its processor in ticks, and returns which
-    /// one. `permitted` says whether the thread may show the originator that its VirtualSender
-    /// names; then that is a global id. It matters only where the thread asks for propagation. An
-    /// Ipc without phases, and any other instruction, changes nothing.
+    /// Begins the first phase of an Ipc, and returns which one. `now` is the clock of its
+    /// processor, in ticks. `permitted` says whether the thread may show the originator that its
+    /// VirtualSender names, which is a global id then. It matters only if the thread asks for
+    /// propagation. An Ipc without phases, and any other instruction, changes nothing.
     pub fn ipc(&mut self, instr: &Instr, permitted: bool, now: u64) -> Began
         requires room { is_end (instr_of instr.now) ≡ false →
             self.old.thread.context.place + 1 < 2 ^ 64 }
@@ -135,9 +135,8 @@ impl Tcb {
         }
     }
 
-    /// The fast path: begins the send of this Ipc, which its receiver takes at once. Nothing of the
-    /// send is kept, and the Ipc goes on as after a delivery, at this clock of its processor in
-    /// ticks.
+    /// The fast path: counts a send that its receiver takes at once, keeps nothing of it, and goes
+    /// on as after its delivery. `now` is the clock of its processor, in ticks.
     pub fn pass(&mut self, ipc: &Ipc, now: u64)
         requires room { self.old.thread.context.place + 1 < 2 ^ 64 }
         requires count { self.old.thread.context.begun + 1 < 2 ^ 64 }
@@ -186,7 +185,7 @@ impl Tcb {
         self.cancel_receive = false;
     }
 
-    /// Ends its send, where no receive phase follows. Both wishes are cleared.
+    /// Forgets its decided send and both wishes. The phase stays as it is.
     pub fn decide(&mut self)
         ensures { self.new ≡ record self.old { thread = decided self.old.thread } }
     {
@@ -195,8 +194,8 @@ impl Tcb {
         self.cancel_receive = false;
     }
 
-    /// Ends its send, at this clock of its processor in ticks. After a delivery the receive phase
-    /// of the same Ipc begins at once. A deleted thread keeps its registers.
+    /// Ends its send. `now` is the clock of its processor, in ticks. After a delivery the receive
+    /// phase of the same Ipc begins at once. A deleted thread keeps its registers.
     pub fn end_send(&mut self, decision: Decision, now: u64)
         ensures { self.new ≡ record self.old {
           thread = after_decision (decision_of decision) now self.old.thread;
@@ -338,9 +337,8 @@ impl Tcb {
         }
     }
 
-    /// Turns it from the old partner to the new one: it is the originator of a propagated message
-    /// that the old one sent and the new one received. A receive phase whose specifier is the old
-    /// partner gets the new one: the phase that it is in, or the one that follows its send phase.
+    /// Retargets this originator. If its current receive phase, or the one after its send phase,
+    /// names the old partner, that phase names the new partner from now on.
     pub fn turn_to(&mut self, old_partner: GlobalId, new_partner: GlobalId)
         ensures { (send : Name) (originator : ModelGlobalId) → self.new ≡ record self.old {
           thread = turns (owed_between send originator old_partner new_partner) self.old.thread;

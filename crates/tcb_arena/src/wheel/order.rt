@@ -1,5 +1,5 @@
-//! The armed blocks in order, as far as the rings tell it: a block that is armed for the same
-//! deadline comes later in the same ring, and of those with a later deadline the least comes first.
+//! The order of armed blocks. The next one of an equal deadline stands later in the same ring. If
+//! there is none, the least later deadline comes next.
 
 ghost use Rattle.std.specs.Prelude.{◌≡◌, ℕ, ◌+◌, ◌<◌, ◌%◌, ◌&&◌, nat_le, not, true, drop, find};
 ghost use Rattle.std.specs.Prelude.{length, slice_get, slice_index, Some};
@@ -15,7 +15,7 @@ use crate::links::Rings;
 use crate::wheel::{Wheel, ring_of, search};
 
 impl Wheel {
-    /// The first armed block with its deadline. Nothing is kept of the look for it.
+    /// The first armed block with its deadline. Does not cache what it finds.
     pub(crate) fn first_armed(&self) -> Option<(u64, usize)>
         ensures first { result ≡ slice_get (armed_of self.now) 0 }
         ensures once { AreOnce self.now }
@@ -56,7 +56,8 @@ impl Wheel {
     }
 }
 
-// The block behind this one in its ring that has this deadline, which is its own.
+// The next block behind this one in its ring with an equal deadline. `deadline` is that of this
+// block.
 fn next_equal(rings: &Rings, deadlines: &Vec<u64>, deadline: u64, block: usize) -> Option<usize>
     requires placed { ArePlaced ring_count deadlines.now.items rings.now }
     requires block { block < rings.now.names }
@@ -111,7 +112,7 @@ fn is_later(rings: &Rings, deadlines: &Vec<u64>, block: usize, deadline: u64) ->
     rings.is_linked(block) && deadlines[block] > deadline
 }
 
-// The lesser of two deadlines, where there are two.
+// The lesser of two deadlines, if there are two.
 fn lesser(least: Option<u64>, deadline: u64) -> u64
     ensures { result ≡ lesser_of least deadline }
 {

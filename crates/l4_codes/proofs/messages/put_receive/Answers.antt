@@ -1,4 +1,3 @@
-use Rattle.l4_types.specs.PeriodView.{period_of}
 use Rattle.l4_states.specs.Codes.{id_code, number_code, optional}
 use Rattle.l4_codes.proofs.Writing.{last}
 use Rattle.l4_codes.proofs.messages.put_receive.Goals as goal

@@ -6,16 +6,13 @@ pub returns : goal.returns
 returns c =
     let s = c.args.send.now in
     last c.put_receive_of.result
-    (λ rest. id_code s.to (message_code s.message (optional number_code s.period
-    (number_code s.since rest)))) (optional receive_code s.receive) c.args.code.now c.put.new.self
+    (λ rest. id_code s.to (message_code s.message (optional number_code s.period rest)))
+    (optional receive_code s.receive) c.args.code.now c.put_period.new.code
     c.put_receive_of.new.code
-    (then (λ rest. id_code s.to (message_code s.message (optional number_code s.period rest)))
-    (number_code s.since) c.args.code.now c.put_period.new.code c.put.new.self
     (then (λ rest. id_code s.to (message_code s.message rest)) (optional number_code s.period)
     c.args.code.now c.put_message.new.code c.put_period.new.code
     (then (id_code s.to) (message_code s.message) c.args.code.now c.put_id.new.code
     c.put_message.new.code (rw c.to.ensures at c.in_ok-put_id.ensures)
     (rw c.message.ensures at c.in_ok-put_message.ensures))
     (rw c.period.ensures.value at c.in_ok-put_period.ensures))
-    (rw c.since.ensures at c.in_ok-put.ensures))
     (rw c.receive.ensures at c.put_receive_of.ensures)

@@ -1,11 +1,10 @@
 use Rattle.std.proofs.Common.{◌≡◌, ℕ, List}
-use Rattle.l4_core_model.specs.Plain.{list_of}
-use Rattle.l4_states.specs.Codes.{armed_code, chained, number_code, waiting_code}
+use Rattle.l4_states.specs.Codes.{armed_code, chained}
 use Rattle.l4_codes.specs.Written.{with_numbers}
 use Rattle.l4_codes.proofs.processors.put_armed.Given as goal
 
 -- With those that are left it is the code of all.
 abbrev pub invariant-loop-deadline : goal.invariant-loop-deadline
 invariant-loop-deadline l =
-    (rest : List ℕ) → with_numbers l.code (chained armed_code l.deadline-iterator rest) ≡
-    with_numbers l.fn.code (chained armed_code (l.lists.armed) rest)
+    (rest : List ℕ) → with_numbers l.code (chained (armed_code l.fn.clock) l.deadline-iterator rest) ≡
+    with_numbers l.fn.code (chained (armed_code l.fn.clock) l.lists.armed rest)

@@ -7,17 +7,14 @@ pub returns : goal.returns
 returns c =
     let n = length c.args.core.now.machine.threads in
     let l = c.args.core.now.local in
-    last c.put.result
-    (λ rest. sized n thread_code l.threads (lists_code n l.lists (sized n number_code l.told
-    (sized n (optional owed_code) l.owed rest)))) (number_code l.clock) c.args.code.now
-    c.put_all_owed.new.code c.put.new.self
-    (then
-    (λ rest. sized n thread_code l.threads (lists_code n l.lists (sized n number_code l.told rest)))
+    last c.put_all_owed.result
+    (λ rest. sized n thread_code l.threads (lists_code n l.clock l.lists
+    (sized n number_code l.told rest)))
     (sized n (optional owed_code) l.owed) c.args.code.now c.put_told.new.code
     c.put_all_owed.new.code
-    (then (λ rest. sized n thread_code l.threads (lists_code n l.lists rest))
+    (then (λ rest. sized n thread_code l.threads (lists_code n l.clock l.lists rest))
     (sized n number_code l.told) c.args.code.now c.put_lists.new.code c.put_told.new.code
-    (then (sized n thread_code l.threads) (lists_code n l.lists) c.args.code.now
+    (then (sized n thread_code l.threads) (lists_code n l.clock l.lists) c.args.code.now
     c.put_threads.new.code c.put_lists.new.code c.in_ok-put_threads.ensures
-    c.in_ok-put_lists.ensures) c.in_ok-put_told.ensures) c.in_ok-put_all_owed.ensures)
-    (rw c.clock.ensures.value at c.put.ensures)
+    c.in_ok-put_lists.ensures) c.in_ok-put_told.ensures)
+    c.put_all_owed.ensures

@@ -9,8 +9,8 @@ returns c =
     let s = c.args.core.now.local.lists in
     last c.put_armed.result
     (λ rest. sized n (chained waiting_code) s.waiting (chained number_code s.ready rest))
-    (chained armed_code s.armed) c.args.code.now c.put_ready.new.code c.put_armed.new.code
+    (chained (armed_code c.args.core.now.local.clock) s.armed) c.args.code.now c.put_ready.new.code c.put_armed.new.code
     (then (sized n (chained waiting_code) s.waiting) (chained number_code s.ready) c.args.code.now
     c.put_waiting.new.code c.put_ready.new.code c.in_ok-put_waiting.ensures
     (rw c.lists.ensures at c.in_ok-put_ready.ensures))
-    (rw c.lists-2.ensures at c.put_armed.ensures)
+    (rw (c.clock.ensures.value, c.lists-2.ensures) at c.put_armed.ensures)

@@ -1,6 +1,6 @@
 use Rattle.std.proofs.Common.{◌≡◌, ℕ, List}
 use Rattle.l4_core_model.specs.Plain.{list_of}
-use Rattle.l4_states.specs.Codes.{armed_code, chained, number_code, waiting_code}
+use Rattle.l4_states.specs.Codes.{chained, waiting_code}
 use Rattle.l4_codes.specs.Written.{with_numbers}
 use Rattle.l4_codes.proofs.processors.put_sends.Given as goal
 

@@ -6,12 +6,7 @@ use Rattle.l4_codes.proofs.threads.put_context.Goals as goal
 
 pub returns : goal.returns
 returns c =
-    last c.put-3.result (λ rest. number_code (length_code register_count (length
-    c.args.thread.now.context.words)) (each number_code c.args.thread.now.context.words (number_code
-    c.args.thread.now.context.error (id_code c.args.thread.now.context.from (id_code
-    c.args.thread.now.context.actual (number_code c.args.thread.now.context.place rest))))))
-    (number_code c.args.thread.now.context.begun) c.args.code.now c.put-2.new.self c.put-3.new.self
-    (then (λ rest. number_code (length_code register_count (length c.args.thread.now.context.words))
+    last c.put-2.result (λ rest. number_code (length_code register_count (length c.args.thread.now.context.words))
     (each number_code c.args.thread.now.context.words (number_code c.args.thread.now.context.error
     (id_code c.args.thread.now.context.from (id_code c.args.thread.now.context.actual rest)))))
     (number_code c.args.thread.now.context.place) c.args.code.now c.put_id-2.new.code
@@ -34,5 +29,4 @@ returns c =
       c.regs-regs.ensures,
     ) at c.in_ok-put_all.ensures)) (rw c.regs-regs.ensures at
     c.in_ok-put.ensures)) (rw c.regs-regs.ensures at c.in_ok-put_id.ensures)) (rw
-    c.regs-regs.ensures at c.in_ok-put_id-2.ensures)) (rw c.place.ensures at c.in_ok-put-2.ensures))
-    (rw c.begun.ensures at c.put-3.ensures)
+    c.regs-regs.ensures at c.in_ok-put_id-2.ensures)) (rw c.place.ensures at c.put-2.ensures)

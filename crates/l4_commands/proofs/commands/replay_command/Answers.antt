@@ -1,7 +1,14 @@
 use Rattle.std.proofs.Common.{ap, ◌∙◌}
 use Rattle.std.proofs.lemmas.Result.{IfOk-weaker}
 use Rattle.l4_commands.specs.Commands.{with_printed}
+use Rattle.l4_commands.proofs.Chains.{gains, stays_local}
 use Rattle.l4_commands.proofs.commands.replay_command.Goals as goal
 
 pub returns-clause-app : goal.returns-clause-app
-returns-clause-app c = IfOk-weaker c.with_printed.result _ _ (λ r h. h ∙ ap with_printed c.in_ok-scheduled.ensures.app) c.with_printed.ensures.app
+returns-clause-app c =
+    let printed = c.in_ok-printed.ensures.app ∙ ap with_printed c.in_ok-rested.ensures.app in
+    IfOk-weaker c.arg.result _ _ (λ r h. gains printed c.expect_arg-expect.ensures.rule c.expect_arg-expect.ensures.local h) c.arg.ensures
+
+pub returns-clause-local : goal.returns-clause-local
+returns-clause-local c =
+    IfOk-weaker c.arg.result _ _ (λ r h. stays_local c.in_ok-printed.ensures.local c.expect_arg-expect.ensures.local h) c.arg.ensures

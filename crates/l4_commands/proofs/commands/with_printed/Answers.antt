@@ -2,7 +2,7 @@ use Rattle.std.proofs.Common.{refl, ap, ◌∙◌}
 use Rattle.std.proofs.lemmas.Result.{IfOk-weaker}
 use Rattle.clap.specs.Words.{App}
 use Rattle.l4_commands.specs.Commands.{with_extras}
-use Rattle.l4_commands.proofs.Chains.{gains, stays_local}
+use Rattle.l4_commands.proofs.Chains.{gains}
 use Rattle.l4_commands.proofs.commands.with_printed.Goals as goal
 
 pub returns-clause-app : goal.returns-clause-app

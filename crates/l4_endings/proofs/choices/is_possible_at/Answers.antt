@@ -7,8 +7,8 @@ use Rattle.l4_endings.proofs.Possible.{letters_possible}
 use Rattle.l4_endings.proofs.Walking.{local_here}
 use Rattle.l4_endings.proofs.choices.is_possible_at.Goals as goal
 
-pub returns-then-k-cpus : goal.returns-then-k-cpus
-returns-then-k-cpus c = λ m r is.
+pub returns-then-k-cpus-clause-value : goal.returns-then-k-cpus-clause-value
+returns-then-k-cpus-clause-value c = λ m r is.
     let own : c.args.cpu < m.cpus = omega (
       arith,
       c.requires.own,

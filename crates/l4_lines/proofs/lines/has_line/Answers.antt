@@ -1,16 +1,17 @@
-use Rattle.std.proofs.Common.{List, ℕ, ap, sym, ◌∙◌}
-use Rattle.std.specs.Prelude.{◌||◌}
-use Rattle.l4_lines.specs.Lines.{fits_line, has_line}
-use Rattle.l4_lines.proofs.Fitting.{first_line}
+use Rattle.std.proofs.Common.{◌≡◌, ℕ, List, Option, Some, None, Bor, refl, ap, ◌∙◌}
+use Rattle.std.specs.Prelude.{find, is_some}
+use Rattle.std.specs.Option.{option_copied}
+use Rattle.l4_lines.specs.Lines.{fits_line, lines_of}
+use Rattle.l4_lines.proofs.Fitting.{found_line}
 use Rattle.l4_lines.proofs.lines.has_line.Goals as goal
 
-pub returns-then-fits_line : goal.returns-then-fits_line
-returns-then-fits_line c =
-    let asked = c.args.asked.now in
-    let line = c.in-Some.line.now in
-    let rest = c.in-Some.rest.now in
-    let fits = ap (λ (a : List ℕ). fits_line a line) (sym c.as_bytes.ensures.value)
-    ∙ sym c.fits_line.ensures ∙ c.if-fits_line.true in
-    sym (c.lines.invariant
-    ∙ first_line asked line rest c.lines.left.now c.in-Some.ensures.parts
-    ∙ ap (λ b. b || has_line asked rest) fits)
+some_copied : {T : Type 0} (found : Option (Bor T)) → is_some found ≡ is_some (option_copied found)
+some_copied None = refl
+some_copied (Some x) = refl
+
+pub returns : goal.returns
+returns c =
+    let text = c.args.text.now in
+    c.is_some.ensures ∙ some_copied c.find_line.result ∙ ap is_some c.find_line.ensures
+    ∙ ap (λ (a : List ℕ). is_some (find (fits_line a) (lines_of text))) c.as_bytes.ensures.value
+    ∙ found_line c.args.asked.now text

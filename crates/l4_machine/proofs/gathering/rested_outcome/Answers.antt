@@ -4,7 +4,7 @@ use Rattle.l4_model.specs.History.{IsHistory}
 use Rattle.l4_machine.specs.Outcomes.{compact_findings_of}
 use Rattle.l4_machine.specs.Gathers.{pasts_of}
 use Rattle.l4_core_model.specs.Local.{Local}
-use Rattle.l4_merge.specs.Pasts.{Past, all_events}
+use Rattle.l4_merge.specs.LocalTraces.{LocalTrace, all_events}
 use Rattle.l4_machine.specs.Homes.{EndsIn}
 use Rattle.l4_machine.proofs.Cores.{handled_there}
 use Rattle.l4_machine.proofs.Outcomes.{sound}
@@ -35,7 +35,7 @@ returns c =
     let told_is = gathered_history m ps run.0 c.in_ok-history.history.steps run.1 (c.law_merge.ensures.sorted m (pasts_of m ps) whole)
     (is_merge m ps c.in_ok-history.history.steps c.in_ok-history.ensures.history) in
     let lawful = c.law_core_run.ensures.lawful m run.0 c.cpus.ensures.lawful run.1.core_run in
-    let locals : List Local = map (λ (past : Past). past.local) (pasts_of m ps) in
+    let locals : List Local = map (λ (past : LocalTrace). past.local) (pasts_of m ps) in
     let ends : EndsIn run.0 locals c.args.all_handled = record {
       here = run.1.ends.locals;
       handled = λ e. handled_there m ps run.0 c.requires.one c.requires.numbers c.requires.whole run.1.ends (c.requires.handled.0 e);

@@ -1,6 +1,6 @@
 use Rattle.std.proofs.Common.{◌≡◌, refl, ap₂, ◌∙◌, subst, arith}
 use Rattle.std.specs.List.Sorted.{IsPermutation}
-use Rattle.l4_merge.specs.Pasts.{all_events}
+use Rattle.l4_merge.specs.LocalTraces.{all_events}
 use Rattle.l4_machine.specs.Gathers.{merged_steps, pasts_of, AreOfOne}
 use Rattle.l4_machine.proofs.EventsLeft.{is_merge}
 use Rattle.l4_machine.proofs.Rising.{alone_merged, one_left}

@@ -2,11 +2,11 @@ use Rattle.std.proofs.Common.{◌≡◌, ℕ, [], ◌∷◌, ◌++◌, List, map
 use Rattle.std.specs.List.{AllByRecursion}
 use Rattle.std.proofs.lemmas.List.{map-append}
 use Rattle.std.proofs.lemmas.List.FromFn.{map-range_with_len_more}
-use Rattle.l4_core_model.specs.Runs.{Event, Happening}
+use Rattle.l4_core_model.specs.Runs.{Event, Action}
 use Rattle.l4_core_model.proofs.Lists.{all-append}
 use Rattle.l4_machine.specs.EventsLeft.{left, IsUnmerged}
 use Rattle.l4_machine.specs.Gathers.{events_of, with_number}
-use Rattle.l4_machine.specs.Recorded.{happened_left, happenings_of}
+use Rattle.l4_machine.specs.Recorded.{happened_left, actions_of}
 use Rattle.l4_machine.proofs.merging.unmerged_logs.Goals as goal
 
 pub loop-cpu-preserved : goal.loop-cpu-preserved
@@ -16,8 +16,8 @@ loop-cpu-preserved c =
     let log = c.untold.result in
     let numbered : ℕ → List Event = λ cpu. events_of (with_number cpu ps) in
     let one : left ps log ≡ numbered cpu = c.untold.ensures.left ∙ ap events_of c.place_of.ensures in
-    let happened_to : ℕ → List Happening = λ cpu. happenings_of (with_number cpu ps) in
-    let happened : happened_left ps log ≡ happened_to cpu = c.untold.ensures.happened ∙ ap happenings_of c.place_of.ensures in (
+    let happened_to : ℕ → List Action = λ cpu. actions_of (with_number cpu ps) in
+    let happened : happened_left ps log ≡ happened_to cpu = c.untold.ensures.happened ∙ ap actions_of c.place_of.ensures in (
       subst (AllByRecursion (IsUnmerged ps)) (sym c.in_ok-push.ensures.items)
           (all-append (IsUnmerged ps) c.loop-cpu.logs.items log c.loop-cpu.invariant.0 c.untold.ensures.whole),
       ap (map (left ps)) c.in_ok-push.ensures.items

@@ -4,7 +4,7 @@ use Rattle.std.proofs.lemmas.Result.{IfOk-weaker}
 use Rattle.l4_model.specs.Machine.{Machine}
 use Rattle.l4_machine.specs.Homes.{sent_waiting}
 use Rattle.l4_machine.specs.Outcomes.{steps_of}
-use Rattle.l4_machine.specs.declared.homes.AtHome.{AtHome}
+use Rattle.l4_machine.specs.declared.homes.OwnerView.{OwnerView}
 use Rattle.l4_machine.proofs.Cores.{all_wait_there}
 use Rattle.l4_machine.proofs.Outcomes.{is_outcome_at_home}
 use Rattle.l4_machine.proofs.outcome.outcome_of.Goals as goal
@@ -16,7 +16,7 @@ pub returns-then-are_undeleted : goal.returns-then-are_undeleted
 returns-then-are_undeleted c = λ r locals sound home ends told_is turns quiet.
     let m = c.args.machine.now in
     let h = steps_of c.args.history in
-    let sought_are = ap₂ (λ (m : Machine) (a : AtHome). filter_map (sent_waiting m a.sends.items) h) c.new.ensures.machine c.new.ensures.threads in
+    let sought_are = ap₂ (λ (m : Machine) (a : OwnerView). filter_map (sent_waiting m a.sends.items) h) c.new.ensures.machine c.new.ensures.threads in
     is_outcome_at_home m locals h
     (record { history = c.args.history; waiting = c.in_ok-waiting.waiting; threads = c.args.at_home.threads; ending = c.args.ending; turns = c.args.turns })
     r sound ends.here (ends.handled c.if-all_handled.true) (c.if-are_undeleted.ensures refl) home.threads

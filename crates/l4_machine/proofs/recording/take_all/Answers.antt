@@ -3,7 +3,7 @@ use Rattle.std.specs.Prelude.{is_some}
 use Rattle.std.proofs.lemmas.List.{append-nil, map-append}
 use Rattle.l4_choices.specs.Entries.{Entry, entry_of}
 use Rattle.l4_core_model.specs.Runs.{Event, merged}
-use Rattle.l4_merge.specs.Recorded.{happenings_in}
+use Rattle.l4_merge.specs.Recorded.{actions_in}
 use Rattle.l4_machine.specs.Entries.{entry_from}
 use Rattle.l4_machine.specs.EventsLeft.{first_stamp}
 use Rattle.l4_machine.specs.Recorded.{entries_left, happened_left}
@@ -69,5 +69,5 @@ returns c =
     let none = none_chosen ps c.loop-place.logs c.loop-place.invariant.whole (sym c.first_place.ensures ∙ c.in_default.is) in
     let before = map entry_from c.loop-place.entries.items in
     sym (c.loop-place.invariant.taken
-    ∙ ap (λ (es : List Event). before ++ map entry_of (happenings_in (map (λ (e : Event). e.cpu) (merged es)) (map (happened_left ps) c.loop-place.logs))) none
+    ∙ ap (λ (es : List Event). before ++ map entry_of (actions_in (map (λ (e : Event). e.cpu) (merged es)) (map (happened_left ps) c.loop-place.logs))) none
     ∙ append-nil before)

@@ -1,6 +1,6 @@
 use Rattle.l4_core_model.specs.Schedules.{attempts}
 use Rattle.l4_machine.specs.Entries.{after_entry, entry_from}
-use Rattle.l4_machine.specs.Stations.{happening}
+use Rattle.l4_machine.specs.Stations.{action}
 use Rattle.l4_machine.specs.UnderWay.{under_way, GoesOn}
 use Rattle.l4_machine.proofs.Replays.{entry_tried, entry_untried, on_ok}
 use Rattle.l4_machine.proofs.schedules.take.Goals as goal
@@ -12,7 +12,7 @@ returns-in-Some c =
     let cpu = c.processor.result in
     let old = under_way c.args.run.now in
     let new = under_way c.attempt.new.self in
-    on_ok c.attempt.result (GoesOn (λ m r. attempts m r (happening m r.system cpu choice)) old new)
+    on_ok c.attempt.result (GoesOn (λ m r. attempts m r (action m r.system cpu choice)) old new)
     (GoesOn (after_entry entry) old new)
     (entry_tried entry cpu choice old new c.processor.ensures c.in-Some.ensures.asks) c.attempt.ensures
 

@@ -1,10 +1,10 @@
 use Rattle.std.proofs.Common.{◌≡◌, ◌+◌}
-use Rattle.l4_proc.specs.Working.{turns_of, HasWorkedOn}
+use Rattle.l4_proc.specs.Working.{turns_of, ExtendsOn}
 use Rattle.l4_proc.proofs.together.work_among.Given as goal
 
 abbrev pub invariant-loop-processor : goal.invariant-loop-processor
 invariant-loop-processor g l = record {
-  worked : HasWorkedOn l.fn.turns l.fn.processor l.processor;
+  worked : ExtendsOn l.fn.turns l.fn.processor l.processor;
   left : turns_of l.processor + l.left ≡ turns_of l.fn.processor + l.fn.turns;
 }
 

@@ -16,7 +16,7 @@ come_to-requires-in-Some-clause-free g c =
     let core = subst AreCore c.self.view_is c.len-few.ensures.core in
     let given = c.come_to.ensures ∙ ap (λ (o : Asked). with_local c.args.self.now (comes_to c.args.place (orders o) c.args.self.now.local)) c.new.ensures in
     still_free c.args.self.now c.obey_order.new.self c.args.place c.in-Some.asked order core c.requires.hand
-    (obeyed_is c.args.self.now c.come_to.new.self c.obey_order.new.self c.args.place c.in-Some.asked order c.id-caller.result c.tell.new.self c.obey_order.new.told given c.obey_order.ensures.does)
+    (obeyed_is c.args.self.now c.come_to.new.self c.obey_order.new.self c.args.place c.in-Some.asked order c.id-caller.result c.emit.new.self c.obey_order.new.told given c.obey_order.ensures.does)
 
 pub come_to-requires-in-Some-clause-fits : goal.come_to-requires-in-Some-clause-fits
 come_to-requires-in-Some-clause-fits g c =
@@ -24,7 +24,7 @@ come_to-requires-in-Some-clause-fits g c =
     let core = subst AreCore c.self.view_is c.len-few.ensures.core in
     let given = c.come_to.ensures ∙ ap (λ (o : Asked). with_local c.args.self.now (comes_to c.args.place (orders o) c.args.self.now.local)) c.new.ensures in
     still_fitting c.args.self.now c.obey_order.new.self c.args.place c.in-Some.asked order core c.requires.hand c.requires.within
-    (obeyed_is c.args.self.now c.come_to.new.self c.obey_order.new.self c.args.place c.in-Some.asked order c.id-caller.result c.tell.new.self c.obey_order.new.told given c.obey_order.ensures.does)
+    (obeyed_is c.args.self.now c.come_to.new.self c.obey_order.new.self c.args.place c.in-Some.asked order c.id-caller.result c.emit.new.self c.obey_order.new.told given c.obey_order.ensures.does)
 
 pub returns-in-Some : goal.returns-in-Some
 returns-in-Some g c =
@@ -34,8 +34,8 @@ returns-in-Some g c =
     let now = c.self-2.view_is ∙ c.come_to.ensures in
     let at = sym (c.place_of.ensures.value ∙ ap (λ (p : Processor). place_of p.machine c.args.target) now) ∙ c.in-Some.is in
     let own = subst (λ (p : Processor). is_own p.machine p.cpu c.in-Some.asked ≡ true) now (sym c.is_own.ensures.value ∙ c.if-is_own.true) in
-    gives_here c.args.self.now c.come_to.new.self c.obey_order.new.self c.come_to-in-Some.new.self c.args.place c.in-Some.asked order c.id-caller.result c.args.told.now c.tell.new.self c.obey_order.new.told
-    named given c.tell.ensures at own c.obey_order.ensures.does c.come_to-in-Some.ensures
+    gives_here c.args.self.now c.come_to.new.self c.obey_order.new.self c.come_to-in-Some.new.self c.args.place c.in-Some.asked order c.id-caller.result c.args.told.now c.emit.new.self c.obey_order.new.told
+    named given c.emit.ensures at own c.obey_order.ensures.does c.come_to-in-Some.ensures
 
 pub returns-in-Some-2 : goal.returns-in-Some-2
 returns-in-Some-2 g c =
@@ -45,8 +45,8 @@ returns-in-Some-2 g c =
     let now = c.self-2.view_is ∙ c.come_to.ensures in
     let at = sym (c.place_of.ensures.value ∙ ap (λ (p : Processor). place_of p.machine c.args.target) now) ∙ c.in-Some.is in
     let away = subst (λ (p : Processor). is_own p.machine p.cpu c.in-Some.asked ≡ false) now (sym c.is_own.ensures.value ∙ c.if-is_own.false) in
-    gives_away c.args.self.now c.come_to.new.self c.args.place c.in-Some.asked order c.id-caller.result c.args.told.now c.tell.new.self c.post.new.self c.cpu_of.result (letter_of c.letter-letter.result)
-    named given c.tell.ensures at away (c.cpu_of.ensures ∙ ap (λ (p : Processor). (declared p.machine c.in-Some.asked).cpu) now) (ap letter_of c.letter-letter.ensures) c.post.ensures
+    gives_away c.args.self.now c.come_to.new.self c.args.place c.in-Some.asked order c.id-caller.result c.args.told.now c.emit.new.self c.post.new.self c.cpu_of.result (letter_of c.letter-letter.result)
+    named given c.emit.ensures at away (c.cpu_of.ensures ∙ ap (λ (p : Processor). (declared p.machine c.in-Some.asked).cpu) now) (ap letter_of c.letter-letter.ensures) c.post.ensures
 
 pub returns-in-None : goal.returns-in-None
 returns-in-None g c =
@@ -54,4 +54,4 @@ returns-in-None g c =
     let given = c.come_to.ensures ∙ ap (λ (o : Asked). with_local c.args.self.now (comes_to c.args.place (orders o) c.args.self.now.local)) c.new.ensures in
     let named = c.id-caller.ensures ∙ ap (λ (p : Processor). (declared p.machine c.args.place).id) c.self.view_is in
     let at = sym (c.place_of.ensures.value ∙ ap (λ (p : Processor). place_of p.machine c.args.target) (c.self-2.view_is ∙ c.come_to.ensures)) ∙ c.in-None.is in
-    gives_nobody c.args.self.now c.come_to.new.self c.args.place order c.id-caller.result c.args.told.now c.tell.new.self named given c.tell.ensures at
+    gives_nobody c.args.self.now c.come_to.new.self c.args.place order c.id-caller.result c.args.told.now c.emit.new.self named given c.emit.ensures at

@@ -19,11 +19,11 @@ end_send-requires-clause-sender g c = still_sends c.args.self.now c.receive_from
 pub returns-clause-does : goal.returns-clause-does
 returns-clause-does g c =
     let v = c.self.view_is in
-    hand_over_does c.args.self.now c.receive_from.new.self c.end_send.new.self c.args.receiver c.args.sender c.args.told.now c.tell.new.self c.end_send.new.told
+    hand_over_does c.args.self.now c.receive_from.new.self c.end_send.new.self c.args.receiver c.args.sender c.args.told.now c.emit.new.self c.end_send.new.told
     (record { name = c.last_name.result; receiver = c.id.result; message = c.message.result; cross = not c.is_own.result }) (word_of_tag c.tag-tag.result) (subst AreCore c.self.view_is c.is_own.ensures.core) c.requires.receiver c.requires.sender
     (c.last_name.ensures ∙ ap (λ (p : Processor). last_name p.machine p.local c.args.sender) v)
     (c.id.ensures ∙ ap (λ (p : Processor). (declared p.machine c.args.receiver).id) v)
     (sym (ap (λ (p : Processor). option_map (λ (s : Send). s.message) (thread p.local c.args.sender).send) v) ∙ c.message.ensures.message)
     (c.message.ensures.actual ∙ ap (λ (p : Processor). (declared p.machine c.args.sender).id) v)
     (ap not (c.is_own.ensures.value ∙ ap (λ (p : Processor). is_own p.machine p.cpu c.args.sender) v))
-    c.tag-tag.ensures.word c.tell.ensures c.receive_from.ensures c.end_send.ensures.does
+    c.tag-tag.ensures.word c.emit.ensures c.receive_from.ensures c.end_send.ensures.does

@@ -1,6 +1,6 @@
 use Rattle.std.proofs.Common.{refl}
 use Rattle.l4_machine.specs.UnderWay.{under_way}
-use Rattle.l4_machine.proofs.Happening.{stands}
+use Rattle.l4_machine.proofs.Action.{stands}
 use Rattle.l4_machine.proofs.scheduler.Scheduler.station.Goals as goal
 
 pub returns : goal.returns

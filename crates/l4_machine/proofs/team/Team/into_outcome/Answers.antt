@@ -2,7 +2,7 @@ use Rattle.std.proofs.Common.{◌≡◌, ◌↔◌, List, length, map, ap, sym, 
 use Rattle.std.proofs.lemmas.Result.{IfOk-weaker}
 use Rattle.l4_model.specs.History.{IsHistory}
 use Rattle.l4_core_model.specs.Local.{Local}
-use Rattle.l4_merge.specs.Pasts.{Past, all_events}
+use Rattle.l4_merge.specs.LocalTraces.{LocalTrace, all_events}
 use Rattle.l4_machine.specs.Homes.{EndsIn, IsAtHome}
 use Rattle.l4_machine.proofs.Cores.{handled_there}
 use Rattle.l4_merge.proofs.Rest.{rests as run_rests, rested as run_rested}
@@ -48,8 +48,8 @@ returns c =
     let run = make_whole m (pasts_of m ps) whole in
     let told_is = gathered_history m ps run.0 (steps_of c.in_ok-history.history) run.1 (whole_sorts_as_merged m (pasts_of m ps) whole) c.in_ok-history.ensures.history in
     let lawful = c.law_core_run.ensures.lawful m run.0 c.cpus.ensures.lawful run.1.core_run in
-    let locals : List Local = map (λ (past : Past). past.local) (pasts_of m ps) in
-    let at_home = subst (λ qs. IsAtHome m (map (λ (past : Past). past.local) (pasts_of m qs)) c.in_ok-at_home.at_home) c.as_slice-2.ensures.value c.in_ok-at_home.ensures in
+    let locals : List Local = map (λ (past : LocalTrace). past.local) (pasts_of m ps) in
+    let at_home = subst (λ qs. IsAtHome m (map (λ (past : LocalTrace). past.local) (pasts_of m qs)) c.in_ok-at_home.at_home) c.as_slice-2.ensures.value c.in_ok-at_home.ensures in
     let ends : EndsIn run.0 locals c.args.self.all_handled = record {
       here = run.1.ends.locals;
       handled = λ e. handled_there m ps run.0 all.of_one numbers c.requires.whole run.1.ends (c.requires.handled.0 e);

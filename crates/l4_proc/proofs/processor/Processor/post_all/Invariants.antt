@@ -1,6 +1,6 @@
 use Rattle.std.proofs.Common.{◌≡◌, ◌≤◌, ◌++◌, ℕ, length, map}
 use Rattle.std.specs.List.{AllByRecursion}
-use Rattle.l4_merge.specs.Deeds.{letters_with}
+use Rattle.l4_merge.specs.Transitions.{letters_with}
 use Rattle.l4_types.specs.LetterView.{letter_of}
 use Rattle.l4_mail.specs.Ports.{posted_to, taken_from, kept_from, room_to, place, HasWayTo}
 use Rattle.l4_proc.specs.Logs.{HasLetters}

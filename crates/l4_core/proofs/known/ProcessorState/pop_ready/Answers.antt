@@ -1,0 +1,10 @@
+use Rattle.l4_core.specs.Parts.{kept_of, local_of}
+use Rattle.l4_core.proofs.Writing.{kept-settled}
+use Rattle.l4_core.proofs.Settling.{settled-popped}
+use Rattle.l4_core.proofs.known.ProcessorState.pop_ready.Goals as goal
+
+pub invariant_of-self : goal.invariant_of-self
+invariant_of-self c =
+    let s = c.self.inside in
+    let lists = c.pop_ready.ensures.rest in
+    rw lists (kept-settled s.machine.now s.cpu s.threads.items s.lists _ s.told.items _ (kept_of s.machine.now s.owed.items) _ s.clock s.stamp _ _ c.self.invariant (settled-popped s.machine.now s.cpu (local_of s.threads.items s.lists s.told.items (kept_of s.machine.now s.owed.items) s.clock s.stamp) c.self.invariant.core.settled))

@@ -1,0 +1,35 @@
+-- Which lines may be expected of a report.
+use Rattle.std.specs.Prelude.{Bool, true, false, ◌||◌, if◌then◌else◌, ℕ, Option, None, Some, List, [], ◌∷◌}
+use Rattle.l4_words.specs.Words.{words_in}
+use Rattle.l4_lines.specs.Lines.{is_rest, line_fault}
+use Rattle.l4_lines.specs.declared.lines.LineFault.{LineFault}
+use Rattle.l4_lines.specs.declared.lines.LineFault.TheVariants as line_fault
+use Rattle.l4_expect.specs.Columns.{may_be_line}
+use Rattle.l4_expect.specs.declared.judging.Scope.{Scope}
+use Rattle.l4_expect.specs.declared.judging.Scope.TheVariants.{OneRun, Endings}
+use Rattle.l4_expect.specs.declared.judging.Wrong.{Wrong}
+use Rattle.l4_expect.specs.declared.judging.Wrong.TheVariants.{BadLine, Unknown, BadWord, Deleted, Number}
+
+-- Two dots stand for the words that are left, and so for the last one alone.
+abbrev pub has_early_rest : (asked : List (List ℕ)) → Bool
+has_early_rest [] = false
+has_early_rest (word ∷ []) = false
+has_early_rest (word ∷ next ∷ words) = is_rest word || has_early_rest (next ∷ words)
+
+-- It begins as no line does, or it is none by its words. The registers of a deleted thread and the
+-- numbers of sends are those of one run, and not those of all to its ending.
+abbrev pub wrong_by : Scope → (may_be_line : Bool) → Option LineFault → Option Wrong
+wrong_by scope may_be (Some line_fault.Unknown) = Some Unknown
+wrong_by scope false (Some line_fault.Deleted) = Some BadWord
+wrong_by scope false (Some line_fault.Number) = Some BadWord
+wrong_by scope false None = Some BadWord
+wrong_by Endings true (Some line_fault.Deleted) = Some Deleted
+wrong_by OneRun true (Some line_fault.Deleted) = None
+wrong_by Endings true (Some line_fault.Number) = Some Number
+wrong_by OneRun true (Some line_fault.Number) = None
+wrong_by scope true None = None
+
+abbrev pub wrong_asked : Scope → (asked : List ℕ) → Option Wrong
+wrong_asked scope asked =
+    if has_early_rest (words_in asked) then Some BadLine
+    else wrong_by scope (may_be_line (words_in asked)) (line_fault asked)

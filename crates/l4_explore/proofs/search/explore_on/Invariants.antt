@@ -1,0 +1,14 @@
+use Rattle.std.proofs.Common.{ℕ, ◌<◌, ◌≤◌, ◌-◌, length}
+use Rattle.l4_explore.specs.Search.{seen_at, AreWithin, IsSearched}
+use Rattle.l4_explore.proofs.search.explore_on.Given as goal
+
+abbrev pub invariant-loop-next : goal.invariant-loop-next
+invariant-loop-next g l = record {
+  searched : IsSearched (g.T.Tries.state_of l.tries) l.found l.next;
+  few : length l.found ≤ l.most;
+  deep : AreWithin l.found l.depth;
+  shallow : (i : ℕ) → i < l.next → length (seen_at l.found i).schedule < l.depth;
+}
+
+abbrev pub decreases-loop-next : goal.decreases-loop-next
+decreases-loop-next g l = l.most - l.next

@@ -1,0 +1,41 @@
+-- What is read of a machine text.
+use Rattle.std.proofs.Common.{◌≡◌, ℕ, ◌≤◌, Bool, true, false, Ok, List, length, take, refl, ap, inl, inr, ◌∙◌, arith}
+use Rattle.std.specs.Prelude.{◌⊎◌, nat_lt}
+use Rattle.std.proofs.lemmas.Bool.{lt-ltb, ltb-true}
+use Rattle.std.proofs.lemmas.Bool.Decides.{nat_tests}
+use Rattle.std.proofs.lemmas.List.{length-take, take_all}
+use Rattle.std.specs.Prelude.{Result}
+use Rattle.std.specs.declared.io.ErrorKind.{ErrorKind}
+use Rattle.l4_script.specs.Texts.{machine_of_text}
+use Rattle.l4_lint.specs.Doubts.{doubts_of}
+use Rattle.l4_lint.specs.Faults.{faults_of}
+use Rattle.l4_jobs.specs.Reading.{IsReadAs}
+
+not_below : (a b : ℕ) → nat_lt a b ≡ false → b ≤ a
+not_below a b h = grind (arith, nat_tests)
+
+as_all : (read all : List ℕ) → read ≡ all → IsReadAs read all
+as_all read all is = record { machine = ap machine_of_text is; faults = ap faults_of is; doubts = ap doubts_of is }
+
+-- Of a text that is too long nothing else is said, so its beginning is enough.
+as_beginning : (bytes : List ℕ) → IsReadAs (take 0x100001 bytes) bytes
+as_beginning bytes = by (nat_lt 0x100000 (length bytes)) refl
+  where
+    by : (b : Bool) → nat_lt 0x100000 (length bytes) ≡ b → IsReadAs (take 0x100001 bytes) bytes
+    by true long =
+        let more = ltb-true 0x100000 (length bytes) long in
+        let too = lt-ltb 0x100000 (length (take 0x100001 bytes)) (omega (arith, more, length-take 0x100001 bytes)) in
+        record { machine = rw (long, too) refl; faults = rw (long, too) refl; doubts = rw (long, too) refl }
+    by false short = as_all _ _ (take_all 0x100001 bytes (let least = not_below _ _ short in omega (arith, least)))
+
+pub read_as : (gives : Result (List ℕ) ErrorKind → Type 0) (read : List ℕ) →
+    (all : List ℕ) × gives (Ok all) × ((read ≡ all) ⊎ (read ≡ take 0x100001 all)) → (all : List ℕ) × gives (Ok all) × IsReadAs read all
+read_as gives read (all, given, inl is) = (all, given, as_all read all is)
+read_as gives read (all, given, inr is) = (all, given, by (as_beginning all))
+  where
+    by : IsReadAs (take 0x100001 all) all → IsReadAs read all
+    by same = record {
+      machine = ap machine_of_text is ∙ same.machine;
+      faults = ap faults_of is ∙ same.faults;
+      doubts = ap doubts_of is ∙ same.doubts;
+    }

@@ -1,0 +1,11 @@
+-- What is read of a machine text.
+use Rattle.std.specs.Prelude.{◌≡◌, ℕ, List}
+use Rattle.l4_script.specs.Texts.{machine_of_text}
+use Rattle.l4_lint.specs.Doubts.{doubts_of}
+use Rattle.l4_lint.specs.Faults.{faults_of}
+
+-- All that is said of this text is said of all of it.
+pub record IsReadAs (read all : List ℕ) : Type 0 where
+  pub machine : machine_of_text read ≡ machine_of_text all
+  pub faults : faults_of read ≡ faults_of all
+  pub doubts : doubts_of read ≡ doubts_of all

@@ -1,0 +1,78 @@
+//! Reading the files of a job.
+ghost use Rattle.std.specs.Prelude.{◌≡◌, ◌⊎◌, ◌+◌, ℕ, List, IfOk, IfErr, Ok, Err, take};
+ghost use Rattle.std.specs.declared.io.ErrorKind.{ErrorKind as Kind};
+ghost use Rattle.l4_schedules.specs.InFiles.{most_bytes};
+ghost use Rattle.l4_jobs.specs.Jobs.{IsUnread};
+ghost use Rattle.l4_jobs.specs.Reading.{IsReadAs};
+
+use crate::fault::{Fault, unread};
+use crate::streams::Source;
+use l4_schedules::files::MOST_FILE_BYTES;
+use l4_script::text::MOST_BYTES;
+use std::alloc::Global;
+
+// What the file of this name has, at most so many bytes of it.
+fn read_most<'a, S: Source>(
+    alloc: Global,
+    name: &'a str,
+    source: &mut S,
+    most: u64,
+) -> Result<Vec<u8>, Fault<'a>>
+    ensures ok { IfOk result (λ text.
+        (all : List ℕ) × S.gives source.old (Ok all) ×
+        ((text.items ≡ all) ⊎ (text.items ≡ take most all))) }
+    ensures err { IfErr result (λ fault.
+        (kind : Kind) × S.gives source.old (Err kind) × IsUnread name.now kind fault) }
+{
+    match source.read_beginning(alloc, most) {
+        Ok(text) => Ok(text),
+        Err(kind) => Err(unread(name, kind)),
+    }
+}
+
+// All that the file of this name has.
+pub(crate) fn read_all<'a, S: Source>(
+    alloc: Global,
+    name: &'a str,
+    source: &mut S,
+) -> Result<Vec<u8>, Fault<'a>>
+    ensures ok { IfOk result (λ text. S.gives source.old (Ok text.items)) }
+    ensures err { IfErr result (λ fault.
+        (kind : Kind) × S.gives source.old (Err kind) × IsUnread name.now kind fault) }
+{
+    match source.read_whole(alloc) {
+        Ok(text) => Ok(text),
+        Err(kind) => Err(unread(name, kind)),
+    }
+}
+
+// The machine text of this name. Of one that is too long, one byte more than a text may have is
+// read.
+pub(crate) fn read_text<'a, M: Source>(
+    alloc: Global,
+    name: &'a str,
+    machine: &mut M,
+) -> Result<Vec<u8>, Fault<'a>>
+    ensures ok { IfOk result (λ text.
+        (all : List ℕ) × M.gives machine.old (Ok all) × IsReadAs text.items all) }
+    ensures err { IfErr result (λ fault.
+        (kind : Kind) × M.gives machine.old (Err kind) × IsUnread name.now kind fault) }
+{
+    read_most(alloc, name, machine, MOST_BYTES as u64 + 1)
+}
+
+// The text of the list in the file of this name. Of one that is too long, one byte more than it may
+// have is read.
+pub(crate) fn read_list<'a, L: Source>(
+    alloc: Global,
+    name: &'a str,
+    list: &mut L,
+) -> Result<Vec<u8>, Fault<'a>>
+    ensures ok { IfOk result (λ text.
+        (all : List ℕ) × L.gives list.old (Ok all) ×
+        ((text.items ≡ all) ⊎ (text.items ≡ take (most_bytes + 1) all))) }
+    ensures err { IfErr result (λ fault.
+        (kind : Kind) × L.gives list.old (Err kind) × IsUnread name.now kind fault) }
+{
+    read_most(alloc, name, list, MOST_FILE_BYTES as u64 + 1)
+}

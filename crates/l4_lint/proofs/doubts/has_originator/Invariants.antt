@@ -1,0 +1,11 @@
+use Rattle.std.proofs.Common.{◌≡◌, drop, map}
+use Rattle.std.specs.List.{list_any}
+use Rattle.l4_script.specs.Scripts.{instr_of}
+use Rattle.l4_lint.specs.Doubts.{names_originator}
+use Rattle.l4_lint.proofs.doubts.has_originator.Given as goal
+
+-- It is to be seen of the instructions that are left.
+abbrev pub invariant-loop-instruction : goal.invariant-loop-instruction
+invariant-loop-instruction l =
+    list_any (names_originator l.machine l.sender) (map instr_of (drop l.instruction-index l.script))
+    ≡ list_any (names_originator l.machine l.sender) (map instr_of l.script)

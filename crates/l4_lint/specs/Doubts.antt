@@ -1,0 +1,182 @@
+-- What is doubtful in a text that declares a machine. Each doubt may be meant so.
+use Rattle.std.specs.Prelude.{ℕ, ◌+◌, ◌-◌, ◌/◌, ◌%◌, ◌^◌, ◌==◌, Bool, true, false, not, ◌&&◌, ◌||◌, nat_le, if◌then◌else◌, Option, Some, None, is_none, is_some, unwrap_or, Result, Ok, Err, List, [], ◌∷◌, ◌++◌, codes, flat_map, length, slice_get}
+use Rattle.std.specs.List.{list_any}
+use Rattle.std.specs.Str.{bytes_eq}
+use Rattle.l4_model.specs.Words.{GlobalId, Id, NilThread, GlobalThread, Period}
+use Rattle.l4_model.specs.Machine.{Declaration, Instr, Copy, Tag, Vs, Ipc, Machine, place_of}
+use Rattle.l4_model.specs.Rules.{permitted}
+use Rattle.l4_words.specs.Lines.{parts_of}
+use Rattle.l4_words.specs.Threads.{thread_of}
+use Rattle.l4_script.specs.Judged.{Judged}
+use Rattle.l4_script.specs.Numbers.{number_of, time_from}
+use Rattle.l4_script.specs.Texts.{machine_of_text}
+use Rattle.l4_script.specs.declared.text.fault.TextFault.{TextFault}
+use Rattle.l4_lint.specs.declared.doubts.Doubt.{Doubt}
+use Rattle.l4_lint.specs.declared.doubts.Doubt.TheVariants.{NoThread, NoLimit, NotSent, NotPropagated}
+use Rattle.l4_lint.specs.Bytes.{behind, word_of}
+use Rattle.l4_lint.specs.Faults.{faults_of}
+use Rattle.l4_lint.specs.Reading.{begins_script}
+use Rattle.l4_lint.specs.Spelling.{faults_text, place_text}
+
+-- Its line and the column of its first byte, both counted from 1, the word that stands there, and
+-- what is doubted.
+pub record Doubtful : Type 0 where
+  pub line : ℕ
+  pub column : ℕ
+  pub word : List ℕ
+  pub doubt : Doubt
+
+-- The word with which the rest of a line begins is doubted, or it is not.
+
+abbrev pub doubtful_at : (number : ℕ) → (line rest : List ℕ) → Doubt → Doubtful
+doubtful_at number line rest doubt =
+    record {
+      line = number;
+      column = length line - length rest + 1;
+      word = word_of rest;
+      doubt = doubt;
+    }
+
+abbrev pub doubted : Bool → Doubtful → List Doubtful
+doubted false d = []
+doubted true d = d ∷ []
+
+-- An id that no thread has: what is sent there is refused, and nobody is received from.
+
+abbrev pub is_no_thread : Machine → Option GlobalId → Bool
+is_no_thread m None = false
+is_no_thread m (Some t) = is_none (place_of m t)
+
+abbrev pub id_doubts : Machine → (number : ℕ) → (line rest : List ℕ) → List Doubtful
+id_doubts m number line rest =
+    doubted (is_no_thread m (thread_of (word_of rest))) (doubtful_at number line rest NoThread)
+
+-- An answer, to the last sender, whose send phase has no time limit: where the client does not wait
+-- for it, the server waits.
+
+abbrev pub is_endless : Judged Period → Bool
+is_endless (Ok None) = true
+is_endless _ = false
+
+abbrev pub answer_doubts : (number : ℕ) → (line to time : List ℕ) → List Doubtful
+answer_doubts number line to time =
+    doubted (bytes_eq (word_of to) (codes "last") && is_endless (time_from (word_of time)))
+    (doubtful_at number line time NoLimit)
+
+abbrev pub ipc_doubts : Machine → (number : ℕ) → (line to : List ℕ) → List Doubtful
+ipc_doubts m number line to =
+    id_doubts m number line to ++ id_doubts m number line (behind to)
+    ++ answer_doubts number line to (behind (behind to))
+
+-- A register that is written, where no tag of the script sends it and nothing copies it. A script
+-- that receives may send as many as its last message had.
+
+abbrev pub receives : Id → Bool
+receives NilThread = false
+receives _ = true
+
+abbrev pub uses : (register : ℕ) → Instr → Bool
+uses register (Tag word) = nat_le register (word % 64)
+uses register (Copy to from) = from == register
+uses register (Ipc to from send_period receive_period) = receives from
+uses register _ = false
+
+abbrev pub number_in : (rest : List ℕ) → ℕ
+number_in rest = unwrap_or (number_of (word_of rest)) 0
+
+abbrev pub write_doubts : Declaration → (number : ℕ) → (line rest : List ℕ) → List Doubtful
+write_doubts d number line rest =
+    doubted (not (list_any (uses (number_in rest)) d.script)) (doubtful_at number line rest NotSent)
+
+-- A tag that asks for propagation, by bit 12, where the script receives nothing and `vs` names no
+-- thread of its address space. So the message is the sender's own.
+
+abbrev pub asks_to_propagate : (word : ℕ) → Bool
+asks_to_propagate word = (word / 2 ^ 12) % 2 == 1
+
+abbrev pub names_originator : Machine → GlobalId → Instr → Bool
+names_originator m sender (Vs id) = is_some (permitted m sender id)
+names_originator m sender (Ipc to from send_period receive_period) = receives from
+names_originator m sender _ = false
+
+abbrev pub tag_doubts : Machine → Declaration → (number : ℕ) → (line rest : List ℕ) → List Doubtful
+tag_doubts m d number line rest =
+    doubted
+    (asks_to_propagate (number_in rest) && not (list_any (names_originator m d.id) d.script))
+    (doubtful_at number line rest NotPropagated)
+
+-- What is doubtful in a line, from left to right.
+
+abbrev pub is_one_of_ids : (word : List ℕ) → Bool
+is_one_of_ids word =
+    bytes_eq word (codes "exregs") || bytes_eq word (codes "delete") || bytes_eq word (codes "vs")
+
+abbrev pub is_write : (word : List ℕ) → Bool
+is_write word =
+    bytes_eq word (codes "set") || bytes_eq word (codes "copy") || bytes_eq word (codes "add")
+
+abbrev pub script_doubts : Machine → Option Declaration → (number : ℕ) → (line : List ℕ) →
+    List Doubtful
+script_doubts m None number line = []
+script_doubts m (Some d) number line =
+    if is_write (word_of line) then write_doubts d number line (behind line)
+    else if bytes_eq (word_of line) (codes "tag") then tag_doubts m d number line (behind line)
+    else []
+
+abbrev pub line_doubts : Machine → Option Declaration → (number : ℕ) → (line : List ℕ) →
+    List Doubtful
+line_doubts m d number line =
+    if bytes_eq (word_of line) (codes "ipc") then ipc_doubts m number line (behind line)
+    else if is_one_of_ids (word_of line) then id_doubts m number line (behind line)
+    else script_doubts m d number line
+
+-- The lines of a text: what stands behind the last line end of a text without a fault is empty.
+abbrev pub without_last : (parts : List (List ℕ)) → List (List ℕ)
+without_last [] = []
+without_last (last ∷ []) = []
+without_last (line ∷ next ∷ parts) = line ∷ without_last (next ∷ parts)
+
+abbrev pub lines_of : (text : List ℕ) → List (List ℕ)
+lines_of text = without_last (parts_of text)
+
+-- The thread in whose script a line stands: the last of those that so many lines have begun.
+abbrev pub thread_after : Machine → (begun : ℕ) → Option Declaration
+thread_after m begun = slice_get m.threads (begun - 1)
+
+abbrev pub begun_behind : (begun : ℕ) → (line : List ℕ) → ℕ
+begun_behind begun line = begun + (if begins_script line then 1 else 0)
+
+abbrev pub doubts_from : Machine → (lines : List (List ℕ)) → (begun number : ℕ) → List Doubtful
+doubts_from m [] begun number = []
+doubts_from m (line ∷ lines) begun number =
+    line_doubts m (thread_after m begun) number line
+    ++ doubts_from m lines (begun_behind begun line) (number + 1)
+
+-- All doubts of a text, in order of its lines. Where a line is faulty, nothing is doubted.
+abbrev pub doubts_on : Result Machine TextFault → (lines : List (List ℕ)) → List Doubtful
+doubts_on (Err fault) lines = []
+doubts_on (Ok m) lines = doubts_from m lines 0 1
+
+abbrev pub doubts_of : (text : List ℕ) → List Doubtful
+doubts_of text = doubts_on (machine_of_text text) (lines_of text)
+
+-- What is printed of them: a line for each.
+
+abbrev pub doubt_text : Doubt → List ℕ
+doubt_text NoThread = codes "no thread has this id"
+doubt_text NoLimit = codes "an answer has no time limit; a server that must not wait says zero"
+doubt_text NotSent = codes "no tag of this script sends this register, and nothing copies it"
+doubt_text NotPropagated =
+    codes "propagation is asked for, and vs names no thread of this address space"
+
+abbrev pub doubt_line : Doubtful → List ℕ
+doubt_line d =
+    place_text d.line d.column ++ codes "perhaps: `" ++ d.word ++ codes "`: " ++ doubt_text d.doubt
+    ++ codes "\n"
+
+abbrev pub doubts_text : List Doubtful → List ℕ
+doubts_text found = flat_map doubt_line found
+
+-- All that is said of a text: its faults, or its doubts.
+abbrev pub lint_text : (text : List ℕ) → List ℕ
+lint_text text = faults_text (faults_of text) ++ doubts_text (doubts_of text)

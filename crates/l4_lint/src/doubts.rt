@@ -1,0 +1,417 @@
+//! What is doubtful in a text that declares a machine.
+ghost use Rattle.std.specs.Prelude.{◌≡◌, ◌≤◌, ◌++◌, length, map, IfOk, OnOk};
+ghost use Rattle.std.specs.List.{list_any};
+ghost use Rattle.std.specs.Option.{option_copied};
+ghost use Rattle.std.specs.Str.{bytes_eq};
+ghost use Rattle.l4_script.specs.Scripts.{instr_of};
+ghost use Rattle.l4_script.specs.Numbers.{time_from};
+ghost use Rattle.l4_script.specs.Texts.{machine_of_text};
+ghost use Rattle.l4_lint.specs.Doubts.{answer_doubts, asks_to_propagate, doubt_line, doubt_text};
+ghost use Rattle.l4_lint.specs.Doubts.{doubted, doubts_text, lines_of};
+ghost use Rattle.l4_lint.specs.Doubts.{doubtful_at, doubts_from, doubts_of, id_doubts, ipc_doubts};
+ghost use Rattle.l4_lint.specs.Doubts.{is_endless, is_no_thread, is_one_of_ids, is_write};
+ghost use Rattle.l4_lint.specs.Doubts.{line_doubts, names_originator, number_in, receives};
+ghost use Rattle.l4_lint.specs.Doubts.{script_doubts, tag_doubts, thread_after, uses, write_doubts};
+ghost use Rattle.l4_lint.specs.Reading.{begins_script};
+ghost use Rattle.l4_lint.specs.Views.{doubtful_of};
+
+use crate::bytes::split_word;
+use crate::spelling::push_place;
+use l4_script::instructions::Instr;
+use l4_script::machine::{Declaration, Machine};
+use l4_script::text::{TextFaultKind, number, time};
+use l4_types::errors::NoMemory;
+use l4_types::ids::{GlobalId, ThreadId};
+use l4_types::times::Period;
+use l4_words::lines::split_line;
+use l4_words::threads::thread;
+use std::alloc::Global;
+
+/// What is doubted of a word.
+#[derive(Clone, Copy, Debug, PartialEq, Eq)]
+pub enum Doubt {
+    /// No thread has this id: what is sent there is refused, and nobody is received from.
+    NoThread,
+    /// The send phase of an answer, to the last sender, has no time limit. Where its client does
+    /// not wait for it, the server waits.
+    NoLimit,
+    /// A register is written that no tag of the script sends and nothing copies, in a script that
+    /// receives nothing.
+    NotSent,
+    /// A tag asks for propagation in a script that receives nothing and names no thread of its
+    /// address space by `vs`.
+    NotPropagated,
+}
+
+/// A word that is doubted. It may be meant so.
+#[derive(Clone, Copy, Debug)]
+pub struct Doubtful<'a> {
+    /// The line, counted from 1, skipped lines too.
+    pub line: usize,
+    /// The column of its first byte, counted from 1.
+    pub column: usize,
+    /// The word.
+    pub word: &'a [u8],
+    /// What is doubted.
+    pub doubt: Doubt,
+}
+
+fn is(word: &[u8], other: &[u8]) -> bool
+    ensures { result ≡ bytes_eq word.now other.now }
+{
+    word == other
+}
+
+// The word with which the rest of a line begins, and what is doubted of it.
+fn doubtful_at<'a>(number: usize, line: &'a [u8], rest: &'a [u8], doubt: Doubt) -> Doubtful<'a>
+    requires { length rest.now ≤ length line.now }
+    ensures { doubtful_of result ≡ doubtful_at number line.now rest.now doubt }
+{
+    Doubtful {
+        line: number,
+        column: line.len() - rest.len() + 1,
+        word: split_word(rest).0,
+        doubt,
+    }
+}
+
+// Appends a doubt where there is one.
+fn push<'a>(
+    found: &mut Vec<Doubtful<'a>>,
+    is_doubted: bool,
+    doubtful: Doubtful<'a>,
+) -> Result<(), NoMemory>
+    ensures { OnOk result (map doubtful_of found.new.items ≡
+        map doubtful_of found.old.items ++ doubted is_doubted (doubtful_of doubtful.entry)) }
+{
+    if is_doubted {
+        found.push(doubtful)?;
+    }
+    Ok(())
+}
+
+fn is_no_thread(machine: &Machine, thread: Option<GlobalId>) -> bool
+    ensures { result ≡ is_no_thread machine.now thread }
+{
+    match thread {
+        Some(thread) => machine.place_of(thread).is_none(),
+        None => false,
+    }
+}
+
+// Appends the doubt of an id.
+fn push_id<'a>(
+    machine: &Machine,
+    number: usize,
+    line: &'a [u8],
+    rest: &'a [u8],
+    found: &mut Vec<Doubtful<'a>>,
+) -> Result<(), NoMemory>
+    requires { length rest.now ≤ length line.now }
+    ensures { OnOk result (map doubtful_of found.new.items ≡
+        map doubtful_of found.old.items ++ id_doubts machine.now number line.now rest.now) }
+{
+    let is_doubted = is_no_thread(machine, thread(split_word(rest).0));
+    push(
+        found,
+        is_doubted,
+        doubtful_at(number, line, rest, Doubt::NoThread),
+    )
+}
+
+fn is_endless(word: &[u8]) -> bool
+    ensures { result ≡ is_endless (time_from word.now) }
+{
+    matches!(time(word), Ok(Period::Never))
+}
+
+// Appends the doubt of an answer.
+fn push_answer<'a>(
+    number: usize,
+    line: &'a [u8],
+    to: &'a [u8],
+    time: &'a [u8],
+    found: &mut Vec<Doubtful<'a>>,
+) -> Result<(), NoMemory>
+    requires { length time.now ≤ length line.now }
+    ensures { OnOk result (map doubtful_of found.new.items ≡
+        map doubtful_of found.old.items ++ answer_doubts number line.now to.now time.now) }
+{
+    let is_doubted = is(split_word(to).0, b"last") && is_endless(split_word(time).0);
+    push(
+        found,
+        is_doubted,
+        doubtful_at(number, line, time, Doubt::NoLimit),
+    )
+}
+
+// Appends the doubts of an ipc.
+fn push_ipc<'a>(
+    machine: &Machine,
+    number: usize,
+    line: &'a [u8],
+    to: &'a [u8],
+    found: &mut Vec<Doubtful<'a>>,
+) -> Result<(), NoMemory>
+    requires { length to.now ≤ length line.now }
+    ensures { OnOk result (map doubtful_of found.new.items ≡
+        map doubtful_of found.old.items ++ ipc_doubts machine.now number line.now to.now) }
+{
+    let from = split_word(to).1;
+    let time = split_word(from).1;
+    push_id(machine, number, line, to, found)?;
+    push_id(machine, number, line, from, found)?;
+    push_answer(number, line, to, time, found)
+}
+
+fn receives(from: ThreadId) -> bool
+    ensures { result ≡ receives from }
+{
+    from != ThreadId::NIL
+}
+
+// Whether an instruction sends what a register has, or may, or copies it.
+fn uses(register: u64, instruction: &Instr) -> bool
+    ensures { result ≡ uses register (instr_of instruction.now) }
+{
+    match *instruction {
+        Instr::Tag(tag) => register <= tag.raw() % 64,
+        Instr::Copy(_, from) => u64::from(from.number()) == register,
+        Instr::Ipc(ipc) => receives(ipc.from()),
+        _ => false,
+    }
+}
+
+fn is_used(register: u64, script: &[Instr]) -> bool
+    ensures { result ≡ list_any (uses register) (map instr_of script.now) }
+{
+    for instruction in script {
+        if uses(register, instruction) {
+            return true;
+        }
+    }
+    false
+}
+
+fn number_in(rest: &[u8]) -> u64
+    ensures { result ≡ number_in rest.now }
+{
+    number(split_word(rest).0).unwrap_or(0)
+}
+
+// Appends the doubt of a register that is written.
+fn push_write<'a>(
+    declared: &Declaration,
+    number: usize,
+    line: &'a [u8],
+    rest: &'a [u8],
+    found: &mut Vec<Doubtful<'a>>,
+) -> Result<(), NoMemory>
+    requires { length rest.now ≤ length line.now }
+    ensures { OnOk result (map doubtful_of found.new.items ≡
+        map doubtful_of found.old.items ++ write_doubts declared.now number line.now rest.now) }
+{
+    let is_doubted = !is_used(number_in(rest), declared.script());
+    push(
+        found,
+        is_doubted,
+        doubtful_at(number, line, rest, Doubt::NotSent),
+    )
+}
+
+// Whether an instruction names an originator, or may.
+fn names_originator(machine: &Machine, sender: GlobalId, instruction: &Instr) -> bool
+    ensures { result ≡ names_originator machine.now sender (instr_of instruction.now) }
+{
+    match *instruction {
+        Instr::Vs(id) => machine.may_show(sender, id),
+        Instr::Ipc(ipc) => receives(ipc.from()),
+        _ => false,
+    }
+}
+
+fn has_originator(machine: &Machine, sender: GlobalId, script: &[Instr]) -> bool
+    ensures { result ≡ list_any (names_originator machine.now sender) (map instr_of script.now) }
+{
+    for instruction in script {
+        if names_originator(machine, sender, instruction) {
+            return true;
+        }
+    }
+    false
+}
+
+fn asks_to_propagate(word: u64) -> bool
+    ensures { result ≡ asks_to_propagate word }
+{
+    (word / 4096) % 2 == 1
+}
+
+// Appends the doubt of a tag.
+fn push_tag<'a>(
+    machine: &Machine,
+    declared: &Declaration,
+    number: usize,
+    line: &'a [u8],
+    rest: &'a [u8],
+    found: &mut Vec<Doubtful<'a>>,
+) -> Result<(), NoMemory>
+    requires { length rest.now ≤ length line.now }
+    ensures { OnOk result (map doubtful_of found.new.items ≡ map doubtful_of found.old.items ++
+        tag_doubts machine.now declared.now number line.now rest.now) }
+{
+    let is_doubted = asks_to_propagate(number_in(rest))
+        && !has_originator(machine, declared.id(), declared.script());
+    push(
+        found,
+        is_doubted,
+        doubtful_at(number, line, rest, Doubt::NotPropagated),
+    )
+}
+
+fn is_one_of_ids(word: &[u8]) -> bool
+    ensures { result ≡ is_one_of_ids word.now }
+{
+    is(word, b"exregs") || is(word, b"delete") || is(word, b"vs")
+}
+
+fn is_write(word: &[u8]) -> bool
+    ensures { result ≡ is_write word.now }
+{
+    is(word, b"set") || is(word, b"copy") || is(word, b"add")
+}
+
+// Appends the doubts of a line of a script.
+fn push_of_script<'a>(
+    machine: &Machine,
+    declared: Option<&Declaration>,
+    number: usize,
+    line: &'a [u8],
+    found: &mut Vec<Doubtful<'a>>,
+) -> Result<(), NoMemory>
+    ensures { OnOk result (map doubtful_of found.new.items ≡ map doubtful_of found.old.items ++
+        script_doubts machine.now (option_copied declared.entry) number line.now) }
+{
+    let Some(declared) = declared else {
+        return Ok(());
+    };
+    let (word, rest) = split_word(line);
+    if is_write(word) {
+        return push_write(declared, number, line, rest, found);
+    }
+    if is(word, b"tag") {
+        return push_tag(machine, declared, number, line, rest, found);
+    }
+    Ok(())
+}
+
+// Appends the doubts of a line.
+fn push_line<'a>(
+    machine: &Machine,
+    declared: Option<&Declaration>,
+    number: usize,
+    line: &'a [u8],
+    found: &mut Vec<Doubtful<'a>>,
+) -> Result<(), NoMemory>
+    ensures { OnOk result (map doubtful_of found.new.items ≡ map doubtful_of found.old.items ++
+        line_doubts machine.now (option_copied declared.entry) number line.now) }
+{
+    let (word, rest) = split_word(line);
+    if is(word, b"ipc") {
+        return push_ipc(machine, number, line, rest, found);
+    }
+    if is_one_of_ids(word) {
+        return push_id(machine, number, line, rest, found);
+    }
+    push_of_script(machine, declared, number, line, found)
+}
+
+fn begins_script(line: &[u8]) -> bool
+    ensures { result ≡ begins_script line.now }
+{
+    is(split_word(line).0, b"thread")
+}
+
+// The thread in whose script a line stands, behind so many lines that begin one.
+fn thread_after(machine: &Machine, begun: usize) -> Option<&Declaration>
+    ensures { option_copied result ≡ thread_after machine.now begun }
+{
+    machine.threads().get(begun.saturating_sub(1))
+}
+
+// The doubts of the text of a machine, line by line.
+fn doubts_in<'a>(
+    alloc: Global,
+    machine: &Machine,
+    text: &'a [u8],
+) -> Result<Vec<Doubtful<'a>>, NoMemory>
+    ensures { IfOk result (λ found. map doubtful_of found.items ≡
+        doubts_from machine.now (lines_of text.now) 0 1) }
+{
+    let mut found = Vec::new(alloc);
+    let mut left = text;
+    let mut begun = 0;
+    let mut before = 0;
+    'lines: while let Some((line, rest)) = split_line(left) {
+        push_line(
+            machine,
+            thread_after(machine, begun),
+            before + 1,
+            line,
+            &mut found,
+        )?;
+        begun += usize::from(begins_script(line));
+        before += 1;
+        left = rest;
+    }
+    Ok(found)
+}
+
+/// What is doubtful in a text that declares a machine, in order of its lines and from left to
+/// right. A text with a fault has no doubts.
+pub fn doubts<'a>(alloc: Global, text: &'a [u8]) -> Result<Vec<Doubtful<'a>>, NoMemory>
+    ensures { IfOk result (λ found. map doubtful_of found.items ≡ doubts_of text.now) }
+{
+    match Machine::parse(alloc, text) {
+        Ok(machine) => doubts_in(alloc, &machine, text),
+        Err(fault) if fault.kind == TextFaultKind::NoMemory => Err(NoMemory),
+        Err(_) => Ok(Vec::new(alloc)),
+    }
+}
+
+fn doubt_text(doubt: Doubt) -> &'static str
+    ensures { result.now ≡ doubt_text doubt }
+{
+    match doubt {
+        Doubt::NoThread => "no thread has this id",
+        Doubt::NoLimit => "an answer has no time limit; a server that must not wait says zero",
+        Doubt::NotSent => "no tag of this script sends this register, and nothing copies it",
+        Doubt::NotPropagated => {
+            "propagation is asked for, and vs names no thread of this address space"
+        }
+    }
+}
+
+// Appends the line of a doubt.
+fn push_doubt(doubtful: &Doubtful<'_>, out: &mut Vec<u8>) -> Result<(), NoMemory>
+    ensures { OnOk result (out.new.items ≡ out.old.items ++ doubt_line (doubtful_of doubtful.now)) }
+{
+    push_place(doubtful.line, doubtful.column, out)?;
+    out.extend_from_slice(b"perhaps: `")?;
+    out.extend_from_slice(doubtful.word)?;
+    out.extend_from_slice(b"`: ")?;
+    out.extend_from_slice(doubt_text(doubtful.doubt).as_bytes())?;
+    out.extend_from_slice(b"\n")?;
+    Ok(())
+}
+
+/// Appends a line for each doubt.
+pub(crate) fn push_doubts(found: &[Doubtful<'_>], out: &mut Vec<u8>) -> Result<(), NoMemory>
+    ensures { OnOk result
+        (out.new.items ≡ out.old.items ++ doubts_text (map doubtful_of found.now)) }
+{
+    for doubtful in found {
+        push_doubt(doubtful, out)?;
+    }
+    Ok(())
+}

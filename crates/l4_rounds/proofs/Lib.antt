@@ -1,0 +1,5 @@
+pub mod Rounds
+pub mod GoingOn
+pub mod Ended
+pub mod Replaying
+pub mod Faults

@@ -1,0 +1,3 @@
+pub mod ThenRest
+pub mod Replays
+pub mod Ended

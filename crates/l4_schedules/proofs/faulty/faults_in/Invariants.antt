@@ -1,0 +1,18 @@
+use Rattle.std.proofs.Common.{◌≡◌, ◌≤◌, ◌+◌, ◌++◌, length, map}
+use Rattle.l4_machine.specs.Entries.{most_events}
+use Rattle.l4_schedules.specs.Faulty.{faults_from}
+use Rattle.l4_schedules.specs.Items.{items_of}
+use Rattle.l4_schedules.specs.Views.{fault_of}
+use Rattle.l4_schedules.proofs.faulty.faults_in.Given as goal
+
+-- What was found, and what the items that are left have.
+abbrev pub invariant-loop-item : goal.invariant-loop-item
+invariant-loop-item l = record {
+  whole :
+      map fault_of l.found.items ++ faults_from l.machine l.number l.items
+      ≡ faults_from l.machine 1 (items_of l.list);
+  counted : l.number + length l.items ≤ most_events + 1;
+}
+
+abbrev pub decreases-loop-item : goal.decreases-loop-item
+decreases-loop-item l = length l.items

@@ -1,0 +1,6 @@
+-- What the code keeps, as the definitions have it.
+use Rattle.l4_schedules.specs.declared.faulty.ItemFault.{ItemFault}
+use Rattle.l4_schedules.specs.Faulty.{Fault, fault}
+
+abbrev pub fault_of : ItemFault → Fault
+fault_of f = fault f.number f.word.now f.hint

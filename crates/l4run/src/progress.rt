@@ -1,0 +1,82 @@
+//! A line on a terminal that says how far a search has come.
+
+use arrayvec::ArrayString;
+use l4_explore::progress::Progress;
+use l4_jobs::streams::Sink;
+use std::fmt::Write;
+use std::time::{Clock, Instant};
+
+// A line has at most three numbers of 20 digits, and 29 other bytes.
+const MOST_BYTES: usize = 89;
+
+// What wipes the line.
+const WIPED: &[u8] = b"\r\x1b[K";
+
+/// A line on a terminal that says how far a search has come: `looked at 12000 states, depth 31,
+/// 4 s`. From the first second on it is written once in each, over what was there, and it is wiped
+/// where the search ends. It takes no memory. A write that fails is no fault.
+#[derive(Drop)]
+pub struct ProgressLine<'a, R, W> {
+    clock: &'a R,
+    out: &'a mut W,
+    is_shown: bool,
+    began: Option<Instant>,
+    // The second in which it was last written. 0 where it was not.
+    written: u64,
+}
+
+impl<'a, R: Clock, W: Sink> ProgressLine<'a, R, W> {
+    /// The line of a search that is not yet begun. Where it is not shown, nothing is ever written.
+    pub fn new(clock: &'a R, out: &'a mut W, is_shown: bool) -> Self {
+        ProgressLine {
+            clock,
+            out,
+            is_shown,
+            began: None,
+            written: 0,
+        }
+    }
+
+    // How many seconds ago the search began. None where it begins now, or no clock says so.
+    fn seconds(&mut self) -> Option<u64> {
+        let now = Instant::now(self.clock).ok()?;
+        match self.began {
+            Some(began) => Some(now.duration_since(began).as_secs()),
+            None => {
+                self.began = Some(now);
+                None
+            }
+        }
+    }
+
+    fn write(&mut self, states: usize, depth: usize, seconds: u64) {
+        let mut line = ArrayString::<MOST_BYTES>::new();
+        if write!(
+            line,
+            "\rlooked at {states} states, depth {depth}, {seconds} s"
+        )
+        .is_ok()
+        {
+            let _ = self.out.put(line.as_str().as_bytes());
+            self.written = seconds;
+        }
+    }
+}
+
+impl<R: Clock, W: Sink> Progress for ProgressLine<'_, R, W> {
+    fn looked_at(&mut self, states: usize, depth: usize) {
+        if !self.is_shown {
+            return;
+        }
+        match self.seconds() {
+            Some(seconds) if seconds > self.written => self.write(states, depth, seconds),
+            _ => {}
+        }
+    }
+
+    fn ended(&mut self) {
+        if self.written > 0 {
+            let _ = self.out.put(WIPED);
+        }
+    }
+}

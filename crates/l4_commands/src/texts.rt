@@ -1,7 +1,9 @@
 //! What the program says of itself, and what the help of each command says last.
 
-/// The version of the program.
-pub const VERSION: &str = "0.24";
+/// The version of the program, that of the kit that proves it, and what texts it knows.
+pub const VERSION: &str = "0.24
+rattle-kit-13f logic dac8208d650f15bf
+profiles 1 and 2, words of 64 and 32 bits";
 
 pub const RUN_EXAMPLE: &str = "Example: `l4run run ping.l4`, where the file ping.l4 has the lines
 
@@ -27,10 +29,18 @@ Several processors of a machine text work at the same time, each in a thread of 
 each is one that the machine can take. `l4run replay` takes turns in the order that you give: by
 `l4run replay ping.l4 --schedule @ping.list` that of a run with `--record ping.list`.
 
-A run that ends with status 0 has nothing left to do. Threads may still wait for ever: `--report` shows which.
+`--expect ping.expected` tells which lines of that file the report does not have, and has behind `never`. The name
+`-` stands for the standard input, wherever a file is read.
 
-`--expect ping.expected` tells which lines of that file the report does not have, and has behind `never`, with
-status 4. The name `-` stands for the standard input, wherever a file is read.";
+Status 0: nothing is left to do. Threads may still wait for ever: `--report` shows which. 3: turns were used up
+first. 4: `--expect` is not met. 2: wrong usage. 1: a fault, told in a line on standard error, as one of these:
+
+  l4run: line 4: BadNumber             a line of the machine text; `l4run help lint` has the kinds
+  l4run: turns out of range
+  l4run: expectation line 1: Unknown   also BadLine, BadWord, Deleted, Number
+  l4run: cannot read NAME              also cannot write, cannot write NAME, no memory
+
+docs/FORMATS.md tells each line that is printed, and each fault.";
 
 pub const REPLAY_EXAMPLE: &str =
     "Example: `l4run replay ping.l4 --schedule 0,0,0`, with the machine text that `l4run help run` shows,
@@ -44,7 +54,10 @@ step.
 
 With `--then-rest` it goes on where the list ends, so that the boring end need not be written: in rounds of one turn of
 each processor, the lowest first, and where a round does nothing, to the next deadline of all. It ends where nothing is
-left to do, or where the turns are used up.";
+left to do, or where the turns are used up.
+
+Statuses and faults are those of `run`; with status 3 the list, or the turns, were used up first. Faults are also
+`l4run: schedule item N`. docs/FORMATS.md (Schedules) tells each item.";
 
 pub const AUDIT_EXAMPLE: &str =
     "Example: `l4run audit ping.l4 ping.trace`, with the machine text that `l4run help run` shows and what
@@ -56,7 +69,10 @@ possible. Then `--explain` prints why, and which steps are possible instead, as
   possible wait 2.1
 
 and `--report` what the threads have come to before that step. Behind `passed` it prints what they have come to in
-the end. `--waits` and `--counts` tell of a trace that passes what `l4run help run` says.";
+the end. `--waits` and `--counts` tell of a trace that passes what `l4run help run` says.
+
+Status 0: the trace passed. 2: wrong usage. 1: `l4run: refused at step N`, or `l4run: trace line N` where a line
+spells no step, or a fault as of `run`. docs/FORMATS.md (Trace lines) tells each line.";
 
 pub const CHART_EXAMPLE: &str =
     "Example: `l4run chart ping.l4 ping.trace`, with the machine text that `l4run help run` shows and what
@@ -75,20 +91,28 @@ pub const CHART_EXAMPLE: &str =
 
 On a terminal that shows them there are lines in place of these characters, unless `TERM` is dumb. Without
 `--width` a text is as wide as `COLUMNS` says, else 80. Where a step is not possible, the steps before it are
-drawn, and the status is 1.";
+drawn, and the status is 1. Else it is 0, or 1 with a fault as of `audit` or `l4run: threads item N`, 2 with wrong
+usage. docs/FORMATS.md (Charts) tells each mark.";
 
 pub const ENDINGS_EXAMPLE: &str =
     "Example: `l4run endings ping.l4`, with the machine text that `l4run help run` shows, prints each ending once, a
 state in which nothing is left to do: a shortest schedule that leads there, which `l4run replay` takes, and its
 report. The last line says how many states were looked at, how long the longest schedule was, and whether that is
-the `whole` or was `cut`: then there may be more endings, and the status is 3.";
+the `whole` or was `cut`: then there may be more endings, and the status is 3.
+
+Status 4: `--none` found one, or an ending does not meet `--expect`. 0: neither, and the search was whole. 2: wrong
+usage. 1: a fault as of `run`, or `l4run: depth out of range`, `l4run: states out of range`. docs/FORMATS.md
+(Endings) tells each line.";
 
 pub const LINT_EXAMPLE: &str =
     "Example: `l4run lint ping.l4`, with the machine text that `l4run help run` shows but the line `set 64 10`,
 prints `line 4 column 5: BadNumber: `64`: wanted: a register, 1 to 63`. Each fault has such a line: where
 it is, its kind, what stands there, and what may. The status is 1 then, and 0 where nothing is wrong. Then each
 doubt has a line, with `perhaps` in the place of the kind, and it may be as it is meant. Behind that,
-`--schedule LIST` tells each faulty item of a list for this machine, with status 1.";
+`--schedule LIST` tells each faulty item of a list for this machine, with status 1.
+
+Kinds: BadLine, BadNumber, BadId, BadCpu, TypedItems, DoubleId, TooManyThreads, TooManyInstructions, BadTarget,
+TooLong. docs/FORMATS.md tells what each of them is.";
 
 pub const TWO_FORMS: &str =
     "error: only one of '--ascii', '--svg', '--html' and '--mermaid' can be given

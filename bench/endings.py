@@ -10,20 +10,17 @@ program tells them.
 
 import argparse
 import pathlib
-import re
 import sys
 
 from second import expectations, machines, model, searches, waits, words
+from second.expectations import ANY_WORD, ANY_WORDS, fits, is_name, split_lines
 from second.threads import Phase
 
 DEPTH, STATES = 1_000, 100_000
 LEAST, MOST = 1, 1_000_000
 WHOLE, USAGE, CUT, FOUND, UNMET = 0, 2, 3, 4, 4
-ANY_WORD, ANY_WORDS = "*", ".."
-ANY_SEND = "#*"
 OPEN = (words.ANY, words.ANY_LOCAL)
 BEGINNINGS = ("thread", "waiting", "ending", ANY_WORD)
-SEND = re.compile(r"\d+\.\d+#\d+")
 
 
 class Ending:
@@ -55,7 +52,7 @@ class Ending:
         return [block for processor in self.end.processors for block in processor.own.values()]
 
     def has_line(self, asked):
-        return any(fits(asked.split(" "), line.split(" ")) for line in self.report.splitlines())
+        return any(fits(asked.split(" "), words) for words in split_lines(self.report))
 
 
 def is_closed(block):
@@ -63,27 +60,12 @@ def is_closed(block):
     return not block.deleted and block.phase is Phase.RECEIVING and block.source not in OPEN
 
 
-def fits(asked, line):
-    """Whether the words of a line are those that are asked for."""
-    if asked == [ANY_WORDS]:
-        return True
-    if not asked or not line:
-        return asked == line
-    return fits_word(asked[0], line[0]) and fits(asked[1:], line[1:])
-
-
-def fits_word(asked, word):
-    """Whether a word is the one that is asked for, or a send of the thread of which any send is."""
-    thread, _, number = word.partition("#")
-    return asked in (ANY_WORD, word) or bool(number) and asked == thread + ANY_SEND
-
-
 def may_be_asked(line):
     """Whether a report may have such a line, and it asks for no register of a deleted thread and for no number of a send."""
     first, *others = line.split(" ")
     if first not in BEGINNINGS:
         return False
-    if first in ("waiting", ANY_WORD) and others and SEND.fullmatch(others[0]):
+    if first in ("waiting", ANY_WORD) and others and is_name(others[0]):
         return False
     may_be_deleted = first in ("thread", ANY_WORD) and len(others) > 1 and others[1] in ("deleted", ANY_WORD)
     return not may_be_deleted or others[2:] == [ANY_WORDS]
